@@ -1,0 +1,4 @@
+pub mod Escaping
+pub mod Fronts
+pub mod Joining
+pub mod Writing

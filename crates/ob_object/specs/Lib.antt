@@ -1,0 +1,11 @@
+pub mod Kinds
+pub mod Words
+pub mod Facets
+pub mod Fits
+pub mod Default
+pub mod Status
+pub mod Object
+pub mod WellFormed
+pub mod Pushed
+pub mod Spelled
+pub mod Write

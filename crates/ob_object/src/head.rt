@@ -1,0 +1,148 @@
+//! What an object says of itself, beside its children.
+ghost use Rattle.std.specs.Prelude.{◌≡◌, IfOk};
+ghost use Rattle.ob_object.specs.Fits.{fits_slot, fits_facets, fits_name, fits_words, fits_head, fits_if_there};
+
+use crate::copying::{copy_text, copy_words};
+use crate::facet::Facets;
+use crate::kind::Kind;
+use crate::words::Words;
+use ob_values::{Text, Value};
+use std::alloc::AllocError;
+
+/// The value of an object: not given, null, or a value.
+#[derive(Drop, Debug)]
+pub enum Slot {
+    Absent,
+    Null,
+    Is(Value),
+}
+
+/// What an object says of itself, beside its children.
+#[derive(Drop)]
+pub struct Head {
+    pub kind: Kind,
+    /// The name among its siblings, of 1 to 255 bytes.
+    pub name: Option<Text>,
+    pub href: Option<Text>,
+    /// The words of its contracts.
+    pub is: Option<Words>,
+    /// The words of its children's contracts, of a list or a feed.
+    pub of: Option<Words>,
+    /// The words of the contracts of what it is called with, of an op or a feed.
+    pub input: Option<Words>,
+    /// The words of the contracts of what it answers, of an op.
+    pub output: Option<Words>,
+    pub slot: Slot,
+    pub facets: Facets,
+}
+
+/// Whether the slot's value, if there is one, is of the kind.
+pub(crate) fn fits_slot(kind: Kind, slot: &Slot) -> bool
+    ensures { result ≡ fits_slot kind slot.now }
+{
+    match slot {
+        Slot::Is(value) => kind.fits_value(value),
+        Slot::Absent | Slot::Null => true,
+    }
+}
+
+// Whether the limit, if there is one, fits the kind.
+fn fits_if_there(kind: Kind, limit: &Option<Value>) -> bool
+    ensures { result ≡ fits_if_there kind limit.now }
+{
+    match limit {
+        Some(limit) => kind.fits_limit(limit),
+        None => true,
+    }
+}
+
+/// Whether min and max fit the kind.
+pub(crate) fn fits_facets(kind: Kind, facets: &Facets) -> bool
+    ensures { result ≡ fits_facets kind facets.now }
+{
+    fits_if_there(kind, &facets.min) && fits_if_there(kind, &facets.max)
+}
+
+/// Whether a name, where there is one, has 1 to 255 bytes.
+pub(crate) fn fits_name(name: &Option<Text>) -> bool
+    ensures { result ≡ fits_name name.now }
+{
+    match name {
+        Some(text) => {
+            let len = text.as_str().len();
+            1 <= len && len <= 255
+        }
+        None => true,
+    }
+}
+
+// Whether words may stand there, where the kind has such a list or not.
+fn fits_words(has: bool, words: &Option<Words>) -> bool
+    ensures { result ≡ fits_words has words.now }
+{
+    match words {
+        Some(words) => {
+            let _words = words.as_slice();
+            has
+        }
+        None => true,
+    }
+}
+
+impl Slot {
+    /// A copy of the slot.
+    pub fn copy(&self) -> Result<Slot, AllocError>
+        ensures { IfOk result (λ copy. copy ≡ self.now) }
+    {
+        match self {
+            Slot::Absent => Ok(Slot::Absent),
+            Slot::Null => Ok(Slot::Null),
+            Slot::Is(value) => {
+                let value = value.copy()?;
+                Ok(Slot::Is(value))
+            }
+        }
+    }
+}
+
+impl Head {
+    /// Whether each attribute fits the kind.
+    pub fn fits(&self) -> bool
+        ensures { result ≡ fits_head self.now }
+    {
+        let kind = self.kind;
+        let lists = fits_words(true, &self.is)
+            && fits_words(kind.has_of(), &self.of)
+            && fits_words(kind.has_input(), &self.input)
+            && fits_words(kind.has_output(), &self.output);
+        fits_name(&self.name)
+            && lists
+            && fits_slot(kind, &self.slot)
+            && fits_facets(kind, &self.facets)
+    }
+
+    /// A copy.
+    pub fn copy(&self) -> Result<Head, AllocError>
+        ensures { IfOk result (λ copy. copy ≡ self.now) }
+    {
+        let name = copy_text(&self.name)?;
+        let href = copy_text(&self.href)?;
+        let is = copy_words(&self.is)?;
+        let of = copy_words(&self.of)?;
+        let input = copy_words(&self.input)?;
+        let output = copy_words(&self.output)?;
+        let slot = self.slot.copy()?;
+        let facets = self.facets.copy()?;
+        Ok(Head {
+            kind: self.kind,
+            name,
+            href,
+            is,
+            of,
+            input,
+            output,
+            slot,
+            facets,
+        })
+    }
+}

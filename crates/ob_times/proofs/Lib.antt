@@ -1,0 +1,10 @@
+pub mod CivilLemmas
+pub mod DayLemmas
+pub mod FormLemmas
+pub mod FractionLemmas
+pub mod InstantLemmas
+pub mod AmountLemmas
+pub mod SpanLemmas
+pub mod CalendarLemmas
+pub mod PrintedTimesLemmas
+pub mod PrintedSpanLemmas

@@ -1,0 +1,11 @@
+pub mod Civil
+pub mod CivilText
+pub mod Clock
+pub mod Times
+pub mod InstantText
+pub mod InstantOrder
+pub mod SpanText
+pub mod SpanOrder
+pub mod Readers
+pub mod Calendar
+pub mod PrintedTimes

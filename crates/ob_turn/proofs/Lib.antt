@@ -1,0 +1,5 @@
+pub mod Numbers
+pub mod Histories
+pub mod Steps
+pub mod Sharing
+pub mod Working

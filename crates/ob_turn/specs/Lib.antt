@@ -1,0 +1,4 @@
+pub mod Callers
+pub mod Standing
+pub mod Turn
+pub mod Work

@@ -1,0 +1,13 @@
+pub mod Faults
+pub mod Times
+pub mod Integer
+pub mod Decimal
+pub mod Real
+pub mod RealReading
+pub mod Significand
+pub mod Truth
+pub mod Printed
+pub mod XmlText
+pub mod Spelled
+pub mod ReadsReal
+pub mod Readers

@@ -1,0 +1,36 @@
+//! The values of objects: texts, and the ten kinds of values, each with its one reader and its one
+//! printer. A reader answers the value that its bytes spell, or which fault they have; what is printed
+//! of a value spells that value. Moments, bytes and a request's verb are here too, so that the crates
+//! above take all of these from one place.
+#![tactic(auto)]
+
+mod bytes;
+mod decimal;
+mod fault;
+mod integer;
+mod print;
+mod reading;
+mod real;
+mod significand;
+#[cfg(test)]
+mod tests;
+mod text;
+mod truth;
+mod value;
+mod verb;
+
+pub use bytes::Bytes;
+pub use decimal::Dec;
+pub use fault::TextFault;
+pub use integer::read_int;
+pub use ob_spelling::ValueFault;
+pub use ob_times::{
+    Abstime, CivilDate, Moment, Reltime, TimeOfDay, read_abstime, read_date, read_reltime,
+    read_time,
+};
+pub use reading::one_reading;
+pub use real::read_dec;
+pub use text::Text;
+pub use truth::read_bool;
+pub use value::{Value, print_value};
+pub use verb::Verb;

@@ -1,0 +1,109 @@
+use crate::{
+    Abstime, Bytes, CivilDate, Dec, Moment, Reltime, Text, TextFault, TimeOfDay, Value, ValueFault,
+    one_reading, print_value, read_abstime, read_bool, read_date, read_dec, read_int, read_reltime,
+    read_time,
+};
+use std::test::Fail;
+
+#[test]
+fn makes_texts(rt: HostRuntime) -> Result<(), Fail> {
+    let text = Text::from_utf8(rt.alloc(), "a\tü€".as_bytes())?;
+    assert!(rt; text.is("a\tü€"));
+    assert!(rt; text.copy()?.as_str() == "a\tü€");
+    assert!(rt; text.followed_by(rt.alloc(), "/1")?.is("a\tü€/1"));
+    assert!(rt; text.into_string().as_str() == "a\tü€");
+    assert!(rt; Text::from_ascii(rt.alloc(), "obix:obj")?.is("obix:obj"));
+    assert!(rt; Text::empty(rt.alloc()).is(""));
+    let control = Text::from_utf8(rt.alloc(), "ü\u{1}x".as_bytes());
+    assert!(rt; matches!(&control, Err(TextFault::NotXmlChar { at: 2 })));
+    let cut = Text::from_utf8(rt.alloc(), b"a\xC3");
+    assert!(rt; matches!(&cut, Err(TextFault::NotUtf8)));
+    Ok(())
+}
+
+// Whether the value prints that text.
+fn prints(value: &Value, text: &str) -> bool {
+    match value {
+        Value::Str(_) => false,
+        Value::Enum(_) => false,
+        Value::Uri(_) => false,
+        _ => print_value(value).as_str() == text,
+    }
+}
+
+#[test]
+fn reads_and_prints_each_kind(rt: HostRuntime) -> Result<(), Fail> {
+    one_reading();
+    let rows = [
+        (Value::Bool(read_bool(b"1")?), "true"),
+        (Value::Int(read_int(b" +07 ")?), "7"),
+        (Value::Real(read_dec(b"72.50")?), "72.5"),
+        (
+            Value::Abstime(read_abstime(b"2026-01-05T08:00:00.250-05:00")?),
+            "2026-01-05T08:00:00.25-05:00",
+        ),
+        (
+            Value::Reltime(read_reltime(b"P1Y2M3DT4H5M6.789S")?),
+            "P14MT273906.789S",
+        ),
+        (Value::Date(read_date(b"2024-02-29")?), "2024-02-29"),
+        (Value::Time(read_time(b"23:59:59.50")?), "23:59:59.5"),
+    ];
+    for (value, text) in &rows {
+        assert!(rt; prints(value, text));
+        assert!(rt; value.copy()?.same(value));
+    }
+    Ok(())
+}
+
+#[test]
+fn tells_kinds_apart(rt: HostRuntime) -> Result<(), Fail> {
+    let text = Value::Str(Text::from_ascii(rt.alloc(), "a")?);
+    let word = Value::Enum(Text::from_ascii(rt.alloc(), "a")?);
+    let path = Value::Uri(Text::from_ascii(rt.alloc(), "a")?);
+    assert!(rt; text.copy()?.same(&text));
+    assert!(rt; word.copy()?.same(&word));
+    assert!(rt; path.copy()?.same(&path));
+    assert!(rt; !text.same(&word));
+    Ok(())
+}
+
+#[test]
+fn gives_back_what_it_was_made_of(rt: HostRuntime) -> Result<(), Fail> {
+    assert!(rt; Dec::new(-150, 4).ok_or("decimal")?.parts() == (-15, 3));
+    assert!(rt;
+        Dec::new(1, 1)
+            .ok_or("decimal")?
+            .is_below(&Dec::new(1, 0).ok_or("decimal")?)
+    );
+    let instant = Abstime::new(-1, 999_999_999, 60).ok_or("instant")?;
+    assert!(rt; instant.parts() == (-1, 999_999_999, 60));
+    assert!(rt; instant.instant() == -1);
+    assert!(rt; Reltime::new(-1, -5).ok_or("span")?.parts() == (-1, -5));
+    assert!(rt; CivilDate::new(2024, 2, 29).ok_or("date")?.parts() == (2024, 2, 29));
+    assert!(rt; TimeOfDay::new(5).ok_or("time")?.parts() == 5);
+    let moment = Moment::new(1_250).ok_or("moment")?;
+    assert!(rt; moment.ms() == 1_250);
+    assert!(rt; moment.abstime().parts() == (1, 250_000_000, 0));
+    assert!(rt; read_dec(b"NaN") == Err(ValueFault::NotFinite));
+    let bytes = Bytes::new(b"ab".to_vec(rt.alloc())?);
+    assert!(rt; bytes.as_slice() == b"ab".as_slice());
+    assert!(rt; bytes.into_vec().len() == 2);
+    Ok(())
+}
+
+fn is_send<T: Send>() {}
+
+fn is_sync<T: Sync>() {}
+
+#[test]
+fn crosses_threads() {
+    is_send::<Value>();
+    is_sync::<Value>();
+    is_send::<Text>();
+    is_sync::<Text>();
+    is_send::<Bytes>();
+    is_sync::<Bytes>();
+    is_send::<Moment>();
+    is_sync::<Moment>();
+}
