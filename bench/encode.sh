@@ -1,0 +1,13 @@
+#!/usr/bin/env bash
+# Writes the canonical text of an object with 300,000 parts, and lets Rust's standard library write the same text.
+# Prints MB a second and the ratio. Run at the top of the repository: bench/encode.sh
+set -euo pipefail
+work=$(mktemp -d)
+trap 'rm -rf "$work"' EXIT
+rustc -O -o "$work/peer" bench/encode_peer.rs
+(cd crates/ob_bench && rt run) >"$work/build" 2>&1 || true
+ours=$(crates/ob_bench/out/ob_bench encode)
+peer=$("$work/peer")
+awk -v o="$ours" -v p="$peer" 'BEGIN {
+  split(o, a, " "); split(p, b, " ")
+  printf "ob_encode %d bytes %.0f MB/s\nRust std  %d bytes %.0f MB/s\nratio of times %.2f\n", a[1], a[1] * 1000 / a[2], b[1], b[1] * 1000 / b[2], a[2] / b[2] }'

@@ -1,0 +1,398 @@
+//! Texts: bytes in hexadecimal, and what they are read as.
+pub(crate) const ROWS: &str = "\
+|ok
+00|NotXmlChar 0
+01|NotXmlChar 0
+02|NotXmlChar 0
+03|NotXmlChar 0
+04|NotXmlChar 0
+05|NotXmlChar 0
+06|NotXmlChar 0
+07|NotXmlChar 0
+08|NotXmlChar 0
+09|ok
+0A|ok
+0B|NotXmlChar 0
+0C|NotXmlChar 0
+0D|ok
+0E|NotXmlChar 0
+0F|NotXmlChar 0
+10|NotXmlChar 0
+11|NotXmlChar 0
+12|NotXmlChar 0
+13|NotXmlChar 0
+14|NotXmlChar 0
+15|NotXmlChar 0
+16|NotXmlChar 0
+17|NotXmlChar 0
+18|NotXmlChar 0
+19|NotXmlChar 0
+1A|NotXmlChar 0
+1B|NotXmlChar 0
+1C|NotXmlChar 0
+1D|NotXmlChar 0
+1E|NotXmlChar 0
+1F|NotXmlChar 0
+20|ok
+21|ok
+22|ok
+23|ok
+24|ok
+25|ok
+26|ok
+27|ok
+28|ok
+29|ok
+2A|ok
+2B|ok
+2C|ok
+2D|ok
+2E|ok
+2F|ok
+30|ok
+31|ok
+32|ok
+33|ok
+34|ok
+35|ok
+36|ok
+37|ok
+38|ok
+39|ok
+3A|ok
+3B|ok
+3C|ok
+3D|ok
+3E|ok
+3F|ok
+40|ok
+41|ok
+42|ok
+43|ok
+44|ok
+45|ok
+46|ok
+47|ok
+48|ok
+49|ok
+4A|ok
+4B|ok
+4C|ok
+4D|ok
+4E|ok
+4F|ok
+50|ok
+51|ok
+52|ok
+53|ok
+54|ok
+55|ok
+56|ok
+57|ok
+58|ok
+59|ok
+5A|ok
+5B|ok
+5C|ok
+5D|ok
+5E|ok
+5F|ok
+60|ok
+61|ok
+62|ok
+63|ok
+64|ok
+65|ok
+66|ok
+67|ok
+68|ok
+69|ok
+6A|ok
+6B|ok
+6C|ok
+6D|ok
+6E|ok
+6F|ok
+70|ok
+71|ok
+72|ok
+73|ok
+74|ok
+75|ok
+76|ok
+77|ok
+78|ok
+79|ok
+7A|ok
+7B|ok
+7C|ok
+7D|ok
+7E|ok
+7F|ok
+80|NotUtf8
+81|NotUtf8
+82|NotUtf8
+83|NotUtf8
+84|NotUtf8
+85|NotUtf8
+86|NotUtf8
+87|NotUtf8
+88|NotUtf8
+89|NotUtf8
+8A|NotUtf8
+8B|NotUtf8
+8C|NotUtf8
+8D|NotUtf8
+8E|NotUtf8
+8F|NotUtf8
+90|NotUtf8
+91|NotUtf8
+92|NotUtf8
+93|NotUtf8
+94|NotUtf8
+95|NotUtf8
+96|NotUtf8
+97|NotUtf8
+98|NotUtf8
+99|NotUtf8
+9A|NotUtf8
+9B|NotUtf8
+9C|NotUtf8
+9D|NotUtf8
+9E|NotUtf8
+9F|NotUtf8
+A0|NotUtf8
+A1|NotUtf8
+A2|NotUtf8
+A3|NotUtf8
+A4|NotUtf8
+A5|NotUtf8
+A6|NotUtf8
+A7|NotUtf8
+A8|NotUtf8
+A9|NotUtf8
+AA|NotUtf8
+AB|NotUtf8
+AC|NotUtf8
+AD|NotUtf8
+AE|NotUtf8
+AF|NotUtf8
+B0|NotUtf8
+B1|NotUtf8
+B2|NotUtf8
+B3|NotUtf8
+B4|NotUtf8
+B5|NotUtf8
+B6|NotUtf8
+B7|NotUtf8
+B8|NotUtf8
+B9|NotUtf8
+BA|NotUtf8
+BB|NotUtf8
+BC|NotUtf8
+BD|NotUtf8
+BE|NotUtf8
+BF|NotUtf8
+C0|NotUtf8
+C1|NotUtf8
+C2|NotUtf8
+C3|NotUtf8
+C4|NotUtf8
+C5|NotUtf8
+C6|NotUtf8
+C7|NotUtf8
+C8|NotUtf8
+C9|NotUtf8
+CA|NotUtf8
+CB|NotUtf8
+CC|NotUtf8
+CD|NotUtf8
+CE|NotUtf8
+CF|NotUtf8
+D0|NotUtf8
+D1|NotUtf8
+D2|NotUtf8
+D3|NotUtf8
+D4|NotUtf8
+D5|NotUtf8
+D6|NotUtf8
+D7|NotUtf8
+D8|NotUtf8
+D9|NotUtf8
+DA|NotUtf8
+DB|NotUtf8
+DC|NotUtf8
+DD|NotUtf8
+DE|NotUtf8
+DF|NotUtf8
+E0|NotUtf8
+E1|NotUtf8
+E2|NotUtf8
+E3|NotUtf8
+E4|NotUtf8
+E5|NotUtf8
+E6|NotUtf8
+E7|NotUtf8
+E8|NotUtf8
+E9|NotUtf8
+EA|NotUtf8
+EB|NotUtf8
+EC|NotUtf8
+ED|NotUtf8
+EE|NotUtf8
+EF|NotUtf8
+F0|NotUtf8
+F1|NotUtf8
+F2|NotUtf8
+F3|NotUtf8
+F4|NotUtf8
+F5|NotUtf8
+F6|NotUtf8
+F7|NotUtf8
+F8|NotUtf8
+F9|NotUtf8
+FA|NotUtf8
+FB|NotUtf8
+FC|NotUtf8
+FD|NotUtf8
+FE|NotUtf8
+FF|NotUtf8
+617F|ok
+C3BC7F7A|ok
+C280|ok
+61C280|ok
+C3BCC2807A|ok
+C285|ok
+61C285|ok
+C3BCC2857A|ok
+C29F|ok
+61C29F|ok
+C3BCC29F7A|ok
+C2A0|ok
+61C2A0|ok
+C3BCC2A07A|ok
+C3BF|ok
+61C3BF|ok
+C3BCC3BF7A|ok
+DFBF|ok
+61DFBF|ok
+C3BCDFBF7A|ok
+E0A080|ok
+61E0A080|ok
+C3BCE0A0807A|ok
+E0BFBF|ok
+61E0BFBF|ok
+C3BCE0BFBF7A|ok
+E18080|ok
+61E18080|ok
+C3BCE180807A|ok
+ECBFBF|ok
+61ECBFBF|ok
+C3BCECBFBF7A|ok
+ED8080|ok
+61ED8080|ok
+C3BCED80807A|ok
+ED9FBF|ok
+61ED9FBF|ok
+C3BCED9FBF7A|ok
+EE8080|ok
+61EE8080|ok
+C3BCEE80807A|ok
+EEBFBF|ok
+61EEBFBF|ok
+C3BCEEBFBF7A|ok
+EFB790|ok
+61EFB790|ok
+C3BCEFB7907A|ok
+EFB7AF|ok
+61EFB7AF|ok
+C3BCEFB7AF7A|ok
+EFBBBF|ok
+61EFBBBF|ok
+C3BCEFBBBF7A|ok
+EFBFBC|ok
+61EFBFBC|ok
+C3BCEFBFBC7A|ok
+EFBFBD|ok
+61EFBFBD|ok
+C3BCEFBFBD7A|ok
+EFBFBE|NotXmlChar 0
+61EFBFBE|NotXmlChar 1
+C3BCEFBFBE7A|NotXmlChar 2
+EFBFBF|NotXmlChar 0
+61EFBFBF|NotXmlChar 1
+C3BCEFBFBF7A|NotXmlChar 2
+F0908080|ok
+61F0908080|ok
+C3BCF09080807A|ok
+F09FBFBE|ok
+61F09FBFBE|ok
+C3BCF09FBFBE7A|ok
+F09FBFBF|ok
+61F09FBFBF|ok
+C3BCF09FBFBF7A|ok
+F0AFBFBF|ok
+61F0AFBFBF|ok
+C3BCF0AFBFBF7A|ok
+F0BFBFBF|ok
+61F0BFBFBF|ok
+C3BCF0BFBFBF7A|ok
+F1808080|ok
+61F1808080|ok
+C3BCF18080807A|ok
+F3BFBFBF|ok
+61F3BFBFBF|ok
+C3BCF3BFBFBF7A|ok
+F4808080|ok
+61F4808080|ok
+C3BCF48080807A|ok
+F48FBFBD|ok
+61F48FBFBD|ok
+C3BCF48FBFBD7A|ok
+F48FBFBE|ok
+61F48FBFBE|ok
+C3BCF48FBFBE7A|ok
+F48FBFBF|ok
+61F48FBFBF|ok
+C3BCF48FBFBF7A|ok
+C080|NotUtf8
+C1BF|NotUtf8
+E0A0|NotUtf8
+E080A0|NotUtf8
+E09FBF|NotUtf8
+EDA080|NotUtf8
+EDBFBF|NotUtf8
+EDB080|NotUtf8
+F08FBFBF|NotUtf8
+F4908080|NotUtf8
+F5808080|NotUtf8
+F8888080|NotUtf8
+C328|NotUtf8
+E28228|NotUtf8
+F09F98|NotUtf8
+F09F9880|ok
+61C3|NotUtf8
+C3A9C3|NotUtf8
+610062|NotXmlChar 1
+E282AC|ok
+E282AC00|NotXmlChar 3
+00E282AC|NotXmlChar 0
+E282ACFF|NotUtf8
+FF00|NotUtf8
+00FF|NotUtf8
+0061FF|NotUtf8
+6100|NotXmlChar 1
+C3BC01|NotXmlChar 2
+C3BC0178|NotXmlChar 2
+F09F988000|NotXmlChar 4
+EFBBBF00|NotXmlChar 3
+E280A8|ok
+E280A9|ok
+610161|NotXmlChar 1
+6109610A610D|ok
+FEFF|NotUtf8
+FFFE|NotUtf8
+EFBFBE00|NotXmlChar 0
+00EFBFBE|NotXmlChar 0
+E28080EFBFBF|NotXmlChar 3
+";

@@ -1,0 +1,3 @@
+pub mod Alphabet
+pub mod SiteForm
+pub mod Parts

@@ -1,0 +1,11 @@
+pub mod NameLemmas
+pub mod FramingLemmas
+pub mod PrintableLemmas
+pub mod ScanLemmas
+pub mod PathLemmas
+pub mod LoadLemmas
+pub mod ServeLemmas
+pub mod RunLemmas
+pub mod CompleteLemmas
+pub mod FramingLaws
+pub mod OutcomeLemmas

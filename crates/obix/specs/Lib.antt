@@ -1,0 +1,12 @@
+pub mod Request
+pub mod Framing
+pub mod Scan
+pub mod Kept
+pub mod Site
+pub mod Placed
+pub mod Reply
+pub mod Serve
+pub mod Answered
+pub mod Refusal
+pub mod Run
+pub mod Outcome

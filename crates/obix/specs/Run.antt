@@ -1,0 +1,55 @@
+-- The command line, and how a run's exit goes with what it met.
+use Rattle.std.specs.Prelude.{◌≡◌, ℕ, ◌==◌, not, ◌&&◌, Bool, false, if◌then◌else◌, List, [], ◌∷◌, codes, Some, None, IfSome}
+use Rattle.std.specs.declared.option.Option.{Option}
+use Rattle.std.specs.Str.{bytes_eq}
+use Rattle.ob_object.specs.Object.{Object}
+use Rattle.obix.specs.declared.serve.LinkEnd.{LinkEnd}
+use Rattle.obix.specs.declared.serve.LinkEnd.TheVariants as ends
+use Rattle.obix.specs.declared.run.Exit.{Exit}
+use Rattle.obix.specs.declared.run.Exit.TheVariants as exits
+use Rattle.obix.specs.Site.{Opens}
+use Rattle.obix.specs.Serve.{Serves}
+
+abbrev pub is_option : List ℕ → Bool
+is_option [] = false
+is_option (b ∷ bytes) = b == 45
+
+-- the site file of `stdio SITE`, the one command
+abbrev pub site_file : List (List ℕ) → Option (List ℕ)
+site_file (command ∷ name ∷ []) = if bytes_eq command (codes "stdio") && not (is_option name) then Some name else None
+site_file words = None
+
+-- what holds of the bytes of the site file, where the words name one and its content is told
+abbrev pub OnSite : List (List ℕ) → (List ℕ → Option (List ℕ)) → (List ℕ → Type 0) → Type 0
+OnSite words content P = IfSome (site_file words) (λ name. IfSome (content name) P)
+
+-- the bytes stand for no site
+abbrev pub IsRefused : List ℕ → Type 0
+IsRefused bytes = (state : Object) → Opens bytes state → ⊥
+
+abbrev pub exit_of : LinkEnd → Exit
+exit_of ends.Closed = exits.Ok
+exit_of ends.Truncated = exits.Truncated
+exit_of (ends.Malformed at) = exits.Frame
+exit_of ends.ReadFault = exits.ReadFault
+exit_of ends.WriteFault = exits.WriteFault
+exit_of ends.Budget = exits.Budget
+exit_of ends.Memory = exits.Memory
+
+-- The source's requests were answered from these state, and the run ended so.
+pub record Answers (state : Object) (left_before left_after held_before held_after : Option (List ℕ)) (exit : Exit) : Type 0 where
+  pub end : LinkEnd
+  pub is : exit ≡ exit_of end
+  pub serves : Serves state left_before left_after held_before held_after end
+
+-- the number that a program ends with
+abbrev pub status_of : Exit → ℕ
+status_of exits.Ok = 0
+status_of exits.Usage = 1
+status_of exits.Refused = 2
+status_of exits.ReadFault = 3
+status_of exits.WriteFault = 4
+status_of exits.Frame = 5
+status_of exits.Truncated = 6
+status_of exits.Budget = 11
+status_of exits.Memory = 12
