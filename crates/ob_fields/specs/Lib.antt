@@ -1,0 +1,5 @@
+pub mod Kinds
+pub mod Fields
+pub mod Statuses
+pub mod WordLists
+pub mod Parts

@@ -1,0 +1,12 @@
+pub mod Runs
+pub mod References
+pub mod Expanding
+pub mod Suffixes
+pub mod Declared
+pub mod Advance
+pub mod Meanings
+pub mod Places
+pub mod Longer
+pub mod XmlTexts
+pub mod PlainTexts
+pub mod Waits
