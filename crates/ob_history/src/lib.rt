@@ -1,0 +1,16 @@
+//! The records of a history, and what a query asks of them.
+//!
+//! A log holds the records of one history, the oldest first, and their instants never fall. It can keep
+//! the newest ones alone, and counts those that rolled off. A query is a filter on instants with a
+//! limit: `read_filter` reads it from an object, and `Log::range` lends what it asks for.
+#![tactic(auto)]
+
+mod log;
+mod reading;
+mod records;
+mod ring;
+mod slices;
+
+pub use log::Log;
+pub use reading::read_filter;
+pub use records::{Filter, Record};

@@ -1,0 +1,67 @@
+//! Records, and filters on them.
+ghost use Rattle.std.specs.Prelude.{◌≡◌};
+ghost use Rattle.ob_history.specs.Records.{is_value_kind, holds_value, is_record};
+
+use ob_object::{Kind, Slot};
+use ob_values::Abstime;
+
+/// The value that a point took at an instant.
+///
+/// The kind is that of the point, one of the ten that have values; the slot is Null or a value of it.
+/// Source: oBIX 1.1, section 14.2 (HistoryRecord).
+#[derive(Drop)]
+pub struct Record {
+    pub time: Abstime,
+    pub kind: Kind,
+    pub slot: Slot,
+}
+
+// Whether a kind is one of the ten that have values.
+fn is_value_kind(kind: Kind) -> bool
+    ensures { result ≡ is_value_kind kind }
+{
+    match kind {
+        Kind::Bool
+        | Kind::Int
+        | Kind::Real
+        | Kind::Str
+        | Kind::Enum
+        | Kind::Uri
+        | Kind::Abstime
+        | Kind::Reltime
+        | Kind::Date
+        | Kind::Time => true,
+        Kind::Obj | Kind::List | Kind::Op | Kind::Feed | Kind::Ref | Kind::Err => false,
+    }
+}
+
+// Whether a slot is Null or a value of the kind.
+fn holds_value(kind: Kind, slot: &Slot) -> bool
+    ensures { result ≡ holds_value kind slot.now }
+{
+    match slot {
+        Slot::Absent => false,
+        Slot::Null => true,
+        Slot::Is(value) => kind.fits_value(value),
+    }
+}
+
+impl Record {
+    /// Whether the kind has values, and the slot is Null or one of them, as a log asks it.
+    pub fn fits(&self) -> bool
+        ensures { result ≡ is_record self.now }
+    {
+        is_value_kind(self.kind) && holds_value(self.kind, &self.slot)
+    }
+}
+
+/// What a query asks for: so many records at most, none before `start` and none after `end`, both
+/// compared as instants, whatever their offsets.
+///
+/// Source: oBIX 1.1, section 14.3 (HistoryFilter).
+#[derive(Clone, Copy)]
+pub struct Filter {
+    pub limit: u64,
+    pub start: Option<Abstime>,
+    pub end: Option<Abstime>,
+}
