@@ -1,0 +1,10 @@
+pub mod Characters
+pub mod Texts
+pub mod Pieces
+pub mod Cutting
+pub mod Words
+pub mod Readers
+pub mod Ascii
+pub mod Told
+pub mod Spelled
+pub mod One

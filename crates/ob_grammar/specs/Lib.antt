@@ -1,0 +1,4 @@
+pub mod Attributes
+pub mod Grammar
+pub mod Spelling
+pub mod Carried

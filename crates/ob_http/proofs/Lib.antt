@@ -1,0 +1,16 @@
+pub mod AnswerLemmas
+pub mod AnsweringLemmas
+pub mod AskingLemmas
+pub mod FieldLemmas
+pub mod HeadLemmas
+pub mod MemberLemmas
+pub mod MessageLemmas
+pub mod NumberLemmas
+pub mod PlainLemmas
+pub mod RepliesLemmas
+pub mod ReplyLemmas
+pub mod RequestLemmas
+pub mod RequestsLemmas
+pub mod StreamLemmas
+pub mod TargetLemmas
+pub mod WrittenLemmas

@@ -1,0 +1,10 @@
+use Rattle.std.proofs.Common.{◌∙◌, arith, refl}
+use Rattle.ob_http.proofs.RequestLemmas.{no_body_yet, body_there}
+use Rattle.ob_http.proofs.request_head.whole_request.Goals as goal
+
+pub returns-then-len-bytes : goal.returns-then-len-bytes
+returns-then-len-bytes c = no_body_yet c.args.bytes.now c.args.place.now c.requires (omega arith)
+
+pub returns : goal.returns
+returns c =
+    body_there c.args.bytes.now _ _ _ c.args.place.now c.requires (omega arith) (c.method_text.ensures ∙ c.of.ensures) c.of-2.ensures refl

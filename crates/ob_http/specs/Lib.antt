@@ -1,0 +1,13 @@
+pub mod Fields
+pub mod Message
+pub mod Stream
+pub mod Target
+pub mod Request
+pub mod Requests
+pub mod Reply
+pub mod Replies
+pub mod Known
+pub mod Answer
+pub mod Asking
+pub mod RoundTrip
+pub mod Laws
