@@ -3,6 +3,7 @@
 #![tactic(auto)]
 
 mod encode;
+mod framing;
 mod turn;
 mod values;
 
@@ -12,10 +13,11 @@ fn main(rt: HostRuntime) -> io::Result<()> {
     let mut words = env::args(&rt)?;
     let _program = words.next();
     let Some(area) = words.next() else {
-        return println!(rt; "usage: ob_bench encode | turn | values FOLDER");
+        return println!(rt; "usage: ob_bench encode | framing | turn | values FOLDER");
     };
     match area.as_str() {
         "encode" => encode::measure(&rt),
+        "framing" => framing::measure(&rt),
         "turn" => turn::measure(&rt),
         "values" => match words.next() {
             Some(folder) => values::measure(&rt, folder.as_str()),

@@ -4,6 +4,10 @@
 #![tactic(auto)]
 
 #[cfg(test)]
+mod hrefs;
+#[cfg(test)]
+mod http;
+#[cfg(test)]
 mod objects;
 #[cfg(test)]
 mod values;
