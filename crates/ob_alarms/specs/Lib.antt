@@ -1,0 +1,7 @@
+pub mod Limits
+pub mod Lists
+pub mod States
+pub mod Changes
+pub mod AlarmObjects
+pub mod Soundness
+pub mod AsOf
