@@ -1,6 +1,6 @@
 //! Signs and decimal digits.
-ghost use Rattle.std.specs.Prelude.{◌≡◌, ◌↔◌, ℕ, ◌+◌, ◌*◌, ◌^◌, ◌<◌, [], ◌∷◌, IsTrue, IfSome, IfNone};
-ghost use Rattle.ob_spelling.specs.Numeral.{AreDigits, IsNumeral, number, capped, is_negative, after_sign, signed};
+ghost use Rattle.std.specs.Prelude.{◌≡◌, ℕ, ◌+◌, ◌*◌, ◌^◌, ◌<◌, [], ◌∷◌, IfSome, IfNone};
+ghost use Rattle.ob_spelling.specs.Numeral.{number, capped, is_negative, after_sign, signed};
 ghost use Rattle.ob_spelling.specs.DigitRun.{digits_front, after_digits};
 ghost use Rattle.ob_spelling.specs.Places.{IsPair};
 
@@ -18,13 +18,6 @@ pub fn split_sign(text: &[u8]) -> (bool, &[u8])
         [b'+', rest @ ..] => (false, rest),
         _ => (false, text),
     }
-}
-
-/// Whether the text is one or more digits.
-pub fn is_numeral(text: &[u8]) -> bool
-    ensures { IsTrue result ↔ IsNumeral text.now }
-{
-    !text.is_empty() && text.iter().all(|c| c.is_ascii_digit())
 }
 
 /// The number of this size and sign.
@@ -59,18 +52,6 @@ fn with_digit(number: u64, digit: u8) -> u64
     } else {
         CAP
     }
-}
-
-/// The number that the digits write, or `10 ^ 19` where it is larger.
-pub fn saturated(digits: &[u8]) -> u64
-    requires { AreDigits digits.now }
-    ensures { result ≡ capped (number digits.now) }
-{
-    let mut all: u64 = 0;
-    for c in digits {
-        all = with_digit(all, *c - b'0');
-    }
-    all
 }
 
 /// The number that the digits at the front of the text write, or `10 ^ 19` where it is larger, and

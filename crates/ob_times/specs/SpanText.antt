@@ -5,6 +5,7 @@ use Rattle.ob_spelling.specs.DigitRun.{digits_front, after_digits}
 use Rattle.ob_spelling.specs.Places.{minus}
 use Rattle.ob_times.specs.declared.reltime.SpanText.{SpanText}
 use Rattle.ob_times.specs.declared.reltime.ClockPart.{ClockPart}
+use Rattle.ob_times.specs.declared.reltime.Ahead.{Ahead}
 use Rattle.ob_times.specs.CivilText.{IsFraction}
 use Rattle.ob_times.specs.Times.{Span}
 
@@ -107,3 +108,9 @@ amount_at letter text = if begins_amount letter text then number (digits_front t
 
 unfoldable pub after_amount : ℕ → List ℕ → List ℕ
 after_amount letter text = if begins_amount letter text then drop 1 (after_digits text) else text
+
+-- the number of the digits at the front, where one that is too large for any span is held as 10 ^ 19, and
+-- what follows them
+pub record IsRead (a : Ahead) : Type 0 where
+  pub number_is : a.number ≡ capped (number (digits_front a.text.now))
+  pub rest_is : a.rest.now ≡ after_digits a.text.now

@@ -7,7 +7,7 @@ ghost use Rattle.ob_times.specs.declared.clock.Clock.{Clock};
 ghost use Rattle.ob_spelling.specs.Reads.{ReadsAs};
 ghost use Rattle.ob_spelling.specs.declared.fault.ValueFault.{ValueFault};
 
-use ob_spelling::{ValueFault, is_numeral, saturated, trimmed, two_digits};
+use ob_spelling::{ValueFault, split_number, trimmed, two_digits};
 use std::marker::Model;
 
 const DAY: u64 = 86_400_000_000_000;
@@ -85,10 +85,14 @@ pub(crate) fn split_fraction(text: &[u8]) -> Option<u32>
         [b'.', digits @ ..] => digits,
         _ => return None,
     };
-    if !is_numeral(digits) || digits.len() > 9 {
+    if digits.is_empty() || digits.len() > 9 {
         return None;
     }
-    Some(saturated(digits) as u32 * 10u32.pow(9 - digits.len() as u32))
+    let (number, rest) = split_number(digits);
+    if !rest.is_empty() {
+        return None;
+    }
+    Some(number as u32 * 10u32.pow(9 - digits.len() as u32))
 }
 
 // What a text in the form of a time of day shows.

@@ -1,5 +1,5 @@
 //! Spans of time.
-ghost use Rattle.std.specs.Prelude.{◌≡◌, ◌↔◌, ℕ, ◌<◌, Bool, List, ◌++◌, ◌∷◌, IsSome, IfSome, IfNone, Result, refl};
+ghost use Rattle.std.specs.Prelude.{◌≡◌, ◌↔◌, ℕ, ◌<◌, Bool, List, ◌++◌, ◌∷◌, length, IsTrue, IsSome, IfSome, IfNone, Result, refl};
 ghost use Rattle.std.specs.Cmp.{partial_order_from_agreeing_total};
 ghost use Rattle.std.specs.Ordering.{as_partial_cmp};
 ghost use Rattle.ob_times.specs.SpanOrder.{span_cmp, span_total, spans_tie};
@@ -7,14 +7,15 @@ ghost use Rattle.ob_times.specs.Times.{IsSpan, Span, span_length};
 ghost use Rattle.ob_spelling.specs.Places.{minus};
 ghost use Rattle.ob_spelling.specs.Numeral.{capped};
 ghost use Rattle.ob_times.specs.Readers.{ReadsReltime};
-ghost use Rattle.ob_times.specs.SpanText.{IsSeconds, IsClockPart, IsSpanText, FitsSpan, IsSpanOf, IsCapped, IsCappedClock, amount_at, after_amount};
+ghost use Rattle.ob_times.specs.SpanText.{IsSeconds, IsClockPart, IsSpanText, FitsSpan, IsSpanOf, IsCapped, IsCappedClock, IsRead, amount_at, after_amount};
+ghost use Rattle.ob_spelling.specs.DigitRun.{digits_front};
 ghost use Rattle.ob_times.specs.declared.reltime.ClockPart.{ClockPart};
 ghost use Rattle.ob_times.specs.declared.reltime.SpanText.{SpanText};
 ghost use Rattle.ob_spelling.specs.Reads.{ReadsAs};
 ghost use Rattle.ob_spelling.specs.declared.fault.ValueFault.{ValueFault};
 
 use crate::clock::split_fraction;
-use ob_spelling::{ValueFault, saturated, split_digits, trimmed, with_sign};
+use ob_spelling::{ValueFault, split_number, trimmed, with_sign};
 use std::cmp::Ordering;
 use std::marker::Model;
 
@@ -137,45 +138,69 @@ impl SpanText {
     }
 }
 
-// The amount that the text begins with, of the unit with that letter, and what follows it. An
-// amount above `u64::MAX` is that.
-fn split_amount(text: &[u8], letter: u8) -> (u64, &[u8])
-    requires { 57 < letter }
-    ensures amount { result.0 ≡ capped (amount_at letter text.now) }
-    ensures rest { result.1.now ≡ after_amount letter text.now }
-{
-    let (digits, rest) = split_digits(text);
-    if digits.is_empty() {
-        return (0, text);
-    }
-    let [unit, rest @ ..] = rest else {
-        return (0, text);
-    };
-    if *unit != letter {
-        return (0, text);
-    }
-    (saturated(digits), rest)
+// A text, the number that the digits at its front write, and what follows them.
+#[derive(Clone, Copy)]
+struct Ahead<'a> {
+    text: &'a [u8],
+    number: u64,
+    rest: &'a [u8],
 }
 
-// The seconds and nanoseconds that the text writes.
-fn split_seconds(text: &[u8]) -> Option<(u64, u32)>
-    ensures some { IfSome result (λ r. (n : ℕ) × IsSeconds text.now n r.1 × (r.0 ≡ capped n)) }
-    ensures small { IfSome result (λ r. r.1 < 1_000_000_000) }
-    ensures none { IfNone result ((seconds nanos : ℕ) → ¬ (IsSeconds text.now seconds nanos)) }
-{
-    match text {
-        [] => Some((0, 0)),
-        [front @ .., b'S'] => {
-            let (digits, fraction) = split_digits(front);
-            if digits.is_empty() {
-                return None;
-            }
-            let Some(nanos) = split_fraction(fraction) else {
-                return None;
-            };
-            Some((saturated(digits), nanos))
+impl<'a> Ahead<'a> {
+    // Reads the digits at the front of the text.
+    fn new(text: &'a [u8]) -> Ahead<'a>
+        ensures text { result.text.now ≡ text.now }
+        ensures read { IsRead result }
+    {
+        let (number, rest) = split_number(text);
+        Ahead { text, number, rest }
+    }
+
+    // The amount that the text begins with, of the unit with that letter, and what is ahead behind it.
+    fn take(self, letter: u8) -> (u64, Ahead<'a>)
+        requires letter { 57 < letter }
+        requires read { IsRead self }
+        ensures amount { result.0 ≡ capped (amount_at letter self.entry.text.now) }
+        ensures rest { result.1.text.now ≡ after_amount letter self.entry.text.now }
+        ensures read { IsRead result.1 }
+    {
+        let [unit, rest @ ..] = self.rest else {
+            return (0, self);
+        };
+        if *unit != letter || self.has_no_digit() {
+            return (0, self);
         }
-        _ => None,
+        (self.number, Ahead::new(rest))
+    }
+
+    // Whether no digit stands at the front.
+    fn has_no_digit(self) -> bool
+        requires { IsRead self }
+        ensures { IsTrue result ↔ (length (digits_front self.entry.text.now) ≡ 0) }
+    {
+        self.rest.len() == self.text.len()
+    }
+
+    // The seconds and nanoseconds that the text writes.
+    fn seconds(self) -> Option<(u64, u32)>
+        requires { IsRead self }
+        ensures some { IfSome result (λ r. (n : ℕ) × IsSeconds self.entry.text.now n r.1 × (r.0 ≡ capped n)) }
+        ensures small { IfSome result (λ r. r.1 < 1_000_000_000) }
+        ensures none { IfNone result ((seconds nanos : ℕ) → ¬ (IsSeconds self.entry.text.now seconds nanos)) }
+    {
+        if self.text.is_empty() {
+            return Some((0, 0));
+        }
+        let [fraction @ .., b'S'] = self.rest else {
+            return None;
+        };
+        if self.has_no_digit() {
+            return None;
+        }
+        let Some(nanos) = split_fraction(fraction) else {
+            return None;
+        };
+        Some((self.number, nanos))
     }
 }
 
@@ -199,9 +224,9 @@ fn split_clock(text: &[u8]) -> Option<ClockPart>
     if text.is_empty() {
         return None;
     }
-    let (hours, rest) = split_amount(text, b'H');
-    let (minutes, rest) = split_amount(rest, b'M');
-    let Some((seconds, nanos)) = split_seconds(rest) else {
+    let (hours, ahead) = Ahead::new(text).take(b'H');
+    let (minutes, ahead) = ahead.take(b'M');
+    let Some((seconds, nanos)) = ahead.seconds() else {
         return None;
     };
     Some(ClockPart {
@@ -235,10 +260,10 @@ fn split_span(text: &[u8]) -> Option<SpanText>
     if body.is_empty() {
         return None;
     }
-    let (years, rest) = split_amount(body, b'Y');
-    let (months, rest) = split_amount(rest, b'M');
-    let (days, rest) = split_amount(rest, b'D');
-    let Some(clock) = split_clock(rest) else {
+    let (years, ahead) = Ahead::new(body).take(b'Y');
+    let (months, ahead) = ahead.take(b'M');
+    let (days, ahead) = ahead.take(b'D');
+    let Some(clock) = split_clock(ahead.text) else {
         return None;
     };
     Some(SpanText {

@@ -32,7 +32,7 @@ fn integer_of(text: &[u8]) -> Result<i64, ValueFault>
 }
 
 // Whether the text begins with a minus, and the number that its digits write, where it has the form.
-fn split_integer(text: &[u8]) -> Option<(bool, u64)>
+pub(crate) fn split_integer(text: &[u8]) -> Option<(bool, u64)>
     ensures some { IfSome result (λ r. IsSplitInteger text.now r.0 r.1) }
     ensures none { IfNone result (¬ (IsNumeral (after_sign text.now))) }
 {

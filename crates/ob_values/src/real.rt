@@ -1,78 +1,76 @@
 //! Reals.
-ghost use Rattle.std.specs.Prelude.{◌≡◌, ◌≢◌, ◌↔◌, ◌⊎◌, ◌+◌, ◌-◌, ◌*◌, ◌%◌, ◌^◌, ◌<◌, ◌≤◌, ◌++◌, ℕ, ℤ, pos, ◌+ℤ◌, Bool, List, length, min, IsTrue, IfSome, IfNone, Result};
-ghost use Rattle.std.specs.Option.{option_map};
-ghost use Rattle.ob_values.specs.Decimal.{IsDecimal, IsDecimalSize};
-ghost use Rattle.ob_values.specs.ReadsReal.{ReadsReal};
-ghost use Rattle.ob_values.specs.Readers.{ReadsDec};
-ghost use Rattle.ob_spelling.specs.declared.fault.ValueFault.{ValueFault};
+ghost use Rattle.std.specs.Prelude.{◌≡◌, ◌≢◌, ◌↔◌, ◌⊎◌, ◌+◌, ◌-◌, ◌*◌, ◌%◌, ◌^◌, ◌<◌, ◌≤◌, ℕ, ℤ, pos, ◌+ℤ◌, ◌-ℤ◌, Bool, List, IsTrue, IfSome, IfNone, Result};
 ghost use Rattle.ob_spelling.specs.White.{trim};
-ghost use Rattle.ob_spelling.specs.Numeral.{AreDigits, IsNumeral, number, signed};
-ghost use Rattle.ob_values.specs.Real.{IsExponent, IsReal, RealParts, Denotes, IsScaled, IsAsGood, IsNotFinite, mantissa_of, power_of};
-ghost use Rattle.ob_values.specs.Significand.{Stands, IsWide};
-ghost use Rattle.ob_spelling.specs.DigitRun.{digits_front, after_digits};
-ghost use Rattle.ob_values.specs.RealReading.{mantissa_at, mantissa_view, real_view};
+ghost use Rattle.ob_spelling.specs.Numeral.{number, capped, signed};
+ghost use Rattle.ob_spelling.specs.declared.fault.ValueFault.{ValueFault};
+ghost use Rattle.ob_values.specs.Decimal.{IsDecimal, IsDecimalSize};
+ghost use Rattle.ob_values.specs.Real.{IsExponent, IsReal, RealParts, Denotes, IsScaled, IsAsGood, IsNotFinite};
+ghost use Rattle.ob_values.specs.RealReading.{Mantissa as Parts, mantissa_at, HoldsMantissa, HoldsReal};
+ghost use Rattle.ob_values.specs.Readers.{ReadsDec};
+ghost use Rattle.ob_values.specs.ReadsReal.{ReadsReal};
 
 use crate::Dec;
-use crate::significand::Significand;
-use ob_spelling::{
-    ValueFault, is_numeral, saturated, split_digits, split_sign, trimmed, with_sign,
-};
+use crate::integer::split_integer;
+use crate::significand::{Significand, read_digits};
+use ob_spelling::{ValueFault, split_sign, trimmed, with_sign};
 
 // Above the size of every decimal, in units of `10 ^ -18`.
 const LARGEST: u128 = 999_999_999_999_999_999_999_999_999_999_999_999;
 
-// The digits before the point and those behind it.
+// The digits before the point and behind it, as one number, `None` where it is too wide for a decimal;
+// how many stand behind it; and what follows.
 #[derive(Clone, Copy)]
 struct Mantissa<'a> {
-    whole: &'a [u8],
-    fraction: &'a [u8],
+    significand: Option<Significand>,
+    places: usize,
     rest: &'a [u8],
 }
 
-/// The digits before the point, those behind it, and what follows.
-#[tactic(auto, unfolding(crate::specs::RealReading::mantissa_at))]
-fn split_mantissa(text: &[u8]) -> Option<Mantissa<'_>>
-    ensures { option_map mantissa_view result ≡ mantissa_at text.now }
+/// The mantissa that the text begins with.
+fn read_mantissa(text: &[u8]) -> Option<Mantissa<'_>>
+    ensures some { IfSome result (λ held. (m : Parts) × (mantissa_at text.now ≡ Some m) × HoldsMantissa m held) }
+    ensures none { IfNone result (mantissa_at text.now ≡ None) }
 {
-    let (whole, rest) = split_digits(text);
+    let (whole, rest) = read_digits(Some(Significand::zero()), text);
     match rest {
-        [b'.', rest @ ..] => {
-            let (fraction, rest) = split_digits(rest);
-            if fraction.is_empty() {
+        [b'.', fraction @ ..] => {
+            let (significand, rest) = read_digits(whole, fraction);
+            let places = fraction.len() - rest.len();
+            if places == 0 {
                 return None;
             }
             Some(Mantissa {
-                whole,
-                fraction,
+                significand,
+                places,
                 rest,
             })
         }
         _ => {
-            if whole.is_empty() {
+            if rest.len() == text.len() {
                 return None;
             }
             Some(Mantissa {
-                whole,
-                fraction: b"",
+                significand: whole,
+                places: 0,
                 rest,
             })
         }
     }
 }
 
-/// Whether the exponent is negative, and its digits, where the text is one; no digits for no text.
-fn split_exponent(text: &[u8]) -> Option<(bool, &[u8])>
-    ensures some { IfSome result (λ e. IsExponent text.now e.0 e.1.now) }
+/// Whether the exponent is negative, and its size, `10 ^ 19` for a larger one, where the text is one;
+/// 0 for no text.
+fn read_exponent(text: &[u8]) -> Option<(bool, u64)>
+    ensures some { IfSome result (λ e. (digits : List ℕ) × IsExponent text.now e.0 digits × (e.1 ≡ capped (number digits))) }
     ensures none { IfNone result ((negative : Bool) (digits : List ℕ) → ¬ (IsExponent text.now negative digits)) }
 {
     match text {
-        [] => Some((false, b"")),
+        [] => Some((false, 0)),
         [mark, rest @ ..] => {
-            let (negative, digits) = split_sign(rest);
-            if !is_mark(*mark) || !is_numeral(digits) {
+            if !is_mark(*mark) {
                 return None;
             }
-            Some((negative, digits))
+            split_integer(rest)
         }
     }
 }
@@ -84,78 +82,65 @@ fn is_mark(byte: u8) -> bool
     matches!(byte, b'e' | b'E')
 }
 
-// The parts of a real's text.
+// What a real's text writes: its sign, its digits without the point, how many of them stand behind the
+// point, and its exponent.
 #[derive(Clone, Copy)]
-struct RealText<'a> {
+struct RealText {
     negative: bool,
-    whole: &'a [u8],
-    fraction: &'a [u8],
+    significand: Option<Significand>,
+    places: usize,
     exponent_negative: bool,
-    exponent: &'a [u8],
+    exponent: u64,
 }
 
-/// The parts of the text, where it is a real's.
-fn split_real(text: &[u8]) -> Option<RealText<'_>>
-    ensures some { IfSome result (λ r. IsReal text.now (real_view r)) }
+/// What the text writes, where it is a real's.
+fn split_real(text: &[u8]) -> Option<RealText>
+    ensures some { IfSome result (λ held. (parts : RealParts) × IsReal text.now parts × HoldsReal parts held) }
     ensures none { IfNone result ((parts : RealParts) → ¬ (IsReal text.now parts)) }
 {
     let (negative, unsigned) = split_sign(text);
     let Some(
         Mantissa {
-            whole,
-            fraction,
+            significand,
+            places,
             rest,
         },
-    ) = split_mantissa(unsigned)
+    ) = read_mantissa(unsigned)
     else {
         return None;
     };
-    let Some((exponent_negative, exponent)) = split_exponent(rest) else {
+    let Some((exponent_negative, exponent)) = read_exponent(rest) else {
         return None;
     };
     Some(RealText {
         negative,
-        whole,
-        fraction,
+        significand,
+        places,
         exponent_negative,
         exponent,
     })
 }
 
-impl RealText<'_> {
-    /// The digits without the point, as one number, or `None` where it is too wide for a decimal.
-    fn significand(&self) -> Option<Significand>
-        requires whole { AreDigits self.now.whole.now }
-        requires fraction { AreDigits self.now.fraction.now }
-        ensures some { IfSome result (λ s. Stands s (mantissa_of (real_view self.now))) }
-        ensures zeros { IfSome result (λ s. s.zeros ≤ length self.now.whole.now + length self.now.fraction.now) }
-        ensures none { IfNone result (IsWide (mantissa_of (real_view self.now))) }
-    {
-        Significand::zero()
-            .extend(self.whole)?
-            .extend(self.fraction)
-    }
-
+impl RealText {
     /// The power of ten behind a significand with that many zeros, in units of `10 ^ -18`. An
     /// exponent too large to hold is as good as any other too large for a decimal.
     fn power(&self, zeros: u64) -> i128
-        requires exponent { AreDigits self.now.exponent.now }
-        requires zeros { zeros ≤ length self.now.whole.now + length self.now.fraction.now }
-        ensures { IsAsGood ((power_of (real_view self.now) +ℤ pos 18) +ℤ pos zeros) result }
+        requires exponent { self.now.exponent ≤ 10 ^ 19 }
+        requires places { self.now.places < 2 ^ 63 }
+        requires zeros { zeros < self.now.places + 2 ^ 63 }
+        ensures { (n : ℕ) → self.now.exponent ≡ capped n → IsAsGood (((signed self.now.exponent_negative n -ℤ pos self.now.places) +ℤ pos 18) +ℤ pos zeros) result }
     {
-        let exponent = with_sign(self.exponent_negative, saturated(self.exponent) as u128);
-        exponent - self.fraction.len() as i128 + 18 + zeros as i128
+        let exponent = with_sign(self.exponent_negative, self.exponent as u128);
+        exponent - self.places as i128 + 18 + zeros as i128
     }
 
-    /// The decimal that the parts name, where there is one.
+    /// The decimal that the text names, where there is one.
     fn value(&self) -> Option<Dec>
-        requires whole { AreDigits self.now.whole.now }
-        requires fraction { AreDigits self.now.fraction.now }
-        requires exponent { AreDigits self.now.exponent.now }
-        ensures some { IfSome result (Denotes (real_view self.now)) }
-        ensures none { IfNone result ((z : ℤ) → IsDecimal z → ¬ (Denotes (real_view self.now) z)) }
+        requires { (parts : RealParts) × HoldsReal parts self.now }
+        ensures some { IfSome result (λ z. (parts : RealParts) → HoldsReal parts self.now → Denotes parts z) }
+        ensures none { IfNone result ((parts : RealParts) → HoldsReal parts self.now → (z : ℤ) → IsDecimal z → ¬ (Denotes parts z)) }
     {
-        let Some(significand) = self.significand() else {
+        let Some(significand) = self.significand else {
             return None;
         };
         let power = self.power(significand.zeros);

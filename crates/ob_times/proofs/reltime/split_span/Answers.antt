@@ -12,7 +12,7 @@ returns-in_default-split_clock-clause-none c = λ p h.
     let body = c.in-Some.body.now in
     let same = same_front_of c.in-Some.negative p.negative body _ (sym c.in-Some.ensures.some ∙ h.text_is) in
     let r = span_read c.args.text.now body p h same.bodies in
-    let rest = c.split_amount-days.ensures.rest ∙ ap (after_amount 68) (c.split_amount-months.ensures.rest ∙ ap (after_amount 77) c.split_amount-years.ensures.rest) in
+    let rest = c.take-days.ensures.rest ∙ ap (after_amount 68) (c.take-months.ensures.rest ∙ ap (after_amount 77) (c.take-years.ensures.rest ∙ ap (after_amount 89) c.new.ensures.text)) in
     c.in_default-split_clock.ensures.none p.clock (subst (λ (t : List ℕ). IsClockPart t p.clock) (sym (rest ∙ r.rest)) h.is_clock)
 
 pub returns-clause-some : goal.returns-clause-some
@@ -22,8 +22,8 @@ returns-clause-some c =
     let y = front_amount 77 (after_amount 89 body) (omega arith) in
     let z = front_amount 68 (after_amount 77 (after_amount 89 body)) (omega arith) in
     let clock = after_amount 68 (after_amount 77 (after_amount 89 body)) in
-    let years = c.split_amount-years.ensures.rest in
-    let months = c.split_amount-months.ensures.rest ∙ ap (after_amount 77) years in
+    let years = c.take-years.ensures.rest ∙ ap (after_amount 89) c.new.ensures.text in
+    let months = c.take-months.ensures.rest ∙ ap (after_amount 77) years in
     let s = c.in-Some-split_clock.ensures.some in
     let some : 0 < length body = grind (arith, nat_tests) in
     let parts : body ≡ x.taken ++ (y.taken ++ (z.taken ++ clock)) =
@@ -43,15 +43,15 @@ returns-clause-some c =
         is_years = x.is_amount;
         is_months = y.is_amount;
         is_days = z.is_amount;
-        is_clock = subst (λ (t : List ℕ). IsClockPart t s.0) (c.split_amount-days.ensures.rest ∙ ap (after_amount 68) months) s.1;
+        is_clock = subst (λ (t : List ℕ). IsClockPart t s.0) (c.take-days.ensures.rest ∙ ap (after_amount 68) months) s.1;
         some = subst (λ (t : List ℕ). 0 < length t) parts some;
         text_is = c.in-Some.ensures.some ∙ ap (λ (t : List ℕ). minus c.in-Some.negative ++ 80 ∷ t) parts;
       },
       record {
         negative = refl;
-        years = c.split_amount-years.ensures.amount;
-        months = c.split_amount-months.ensures.amount ∙ ap (λ (t : List ℕ). capped (amount_at 77 t)) years;
-        days = c.split_amount-days.ensures.amount ∙ ap (λ (t : List ℕ). capped (amount_at 68 t)) months;
+        years = c.take-years.ensures.amount ∙ ap (λ (t : List ℕ). capped (amount_at 89 t)) c.new.ensures.text;
+        months = c.take-months.ensures.amount ∙ ap (λ (t : List ℕ). capped (amount_at 77 t)) years;
+        days = c.take-days.ensures.amount ∙ ap (λ (t : List ℕ). capped (amount_at 68 t)) months;
         clock = s.2;
       },
     )
