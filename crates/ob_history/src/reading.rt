@@ -43,7 +43,7 @@ fn read_bound(child: Option<&Obj>) -> Option<Option<Abstime>>
 ///
 /// Answers `None` exactly where it is no filter: an object of another kind, a child of one of the three
 /// names with another kind, or a limit below 0.
-/// Source: oBIX 1.1, section 14.3 (HistoryFilter).
+/// Source: oBIX 1.1, section 14.2 (HistoryFilter).
 pub fn read_filter(input: Option<&Obj>) -> Option<Filter>
     ensures { result ≡ filter_of (option_map (λ o. o.now) input.entry) }
 {

@@ -58,7 +58,7 @@ impl Record {
 /// What a query asks for: so many records at most, none before `start` and none after `end`, both
 /// compared as instants, whatever their offsets.
 ///
-/// Source: oBIX 1.1, section 14.3 (HistoryFilter).
+/// Source: oBIX 1.1, section 14.2 (HistoryFilter).
 #[derive(Clone, Copy)]
 pub struct Filter {
     pub limit: u64,

@@ -259,6 +259,3 @@ module _ {M Q P : Type 0} (act : M → Q → ℕ → M × P) (opening : M) where
       f.4 0 (Some (after act opening v.seen)) (ap (λ hs. get_elem? hs 0) home.machine ∙ (λ i. some (some (Some (after act opening (sym same i)))))))
       (λ (away : Away act r.log s). absurd (nobody_else s r id v at all quiet away))
       r.turn
-
-pub took_holds : {M Q P : Type 0} {act : M → Q → ℕ → M × P} {opening : M} {me me' : Me (Option M) (Known Q P)} → Took act opening me me' → (m : Option M) × (me'.1 ≡ (0, m) ∷ rest me'.1)
-took_holds {act = act} {opening = o} {me = me} {me' = me'} t = let e = ap (λ (m : Me _ _). m.1) t.now in (Some (after act o (me.0.seen ++ t.between)), e ∙ ap (λ l. (0, Some (after act o (me.0.seen ++ t.between))) ∷ l) (sym (ap rest e)))

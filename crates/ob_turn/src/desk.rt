@@ -153,7 +153,28 @@ impl<M: Machine> Desk<M> {
         unreachable!()
     }
 
-    // Puts the machine back after one call.
+    // Has the machine do one request where it lies, while the seat has the turn.
+    fn step(
+        &self,
+        seat: &mut Seat<Option<M>, Known<M::Request, M::Reply>>,
+        request: &M::Request,
+        moment: Moment,
+    ) -> Answer<M::Reply>
+        requires of { seat.old.table_id ≡ self.now.table }
+        requires machine { seat.old.me.1 ≡ (0, Some (after M.act self.now.opening seat.old.me.0.seen)) ∷ [] }
+        ensures same { (seat.new.table_id ≡ seat.old.table_id) × (seat.new.id ≡ seat.old.id) × (seat.new.me.0 ≡ seat.old.me.0) }
+        ensures right { IsAnswer M.act (after M.act self.now.opening seat.old.me.0.seen) request.now moment result }
+        ensures left { seat.new.me.1 ≡ (0, Some (left_by M.act (after M.act self.now.opening seat.old.me.0.seen) request.now moment result)) ∷ [] }
+    {
+        let slot = seat.slot_mut(&self.table.shared, 0);
+        let Some(machine) = slot else { unreachable!() };
+        match machine.step(request, moment) {
+            Ok(reply) => Answer::Done(reply),
+            Err(_) => Answer::NoMemory,
+        }
+    }
+
+    // Ends the turn after one call.
     fn end_turn<C: Call<M, M::Request, M::Reply>>(
         &self,
         seat: &mut Seat<Option<M>, Known<M::Request, M::Reply>>,
@@ -231,12 +252,7 @@ impl<M: Machine> Desk<M> {
         ensures calls { mine pass.new ≡ mine pass.old ++ entry (own pass.old.numbers) request.now moment result ∷ [] }
     {
         self.take_turn::<Brand, R>(rt, &mut pass.seat);
-        let Some(mut machine) = self.table.shared.exchange(&mut pass.seat, 0, None) else {
-            unreachable!()
-        };
-        let answer = answer_of(&mut machine, request, moment);
-        let left = self.table.shared.exchange(&mut pass.seat, 0, Some(machine));
-        let None = left else { unreachable!() };
+        let answer = self.step(&mut pass.seat, request, moment);
         self.end_turn::<Brand>(&mut pass.seat, request, moment, &answer);
         answer
     }
@@ -255,16 +271,5 @@ impl<M: Machine> Desk<M> {
         };
         closed.free();
         machine
-    }
-}
-
-// What the machine answers, and leaves of itself.
-fn answer_of<M: Machine>(machine: &mut M, request: &M::Request, moment: Moment) -> Answer<M::Reply>
-    ensures right { IsAnswer M.act machine.old request.now moment result }
-    ensures left { machine.new ≡ left_by M.act machine.old request.now moment result }
-{
-    match machine.step(request, moment) {
-        Ok(reply) => Answer::Done(reply),
-        Err(_) => Answer::NoMemory,
     }
 }

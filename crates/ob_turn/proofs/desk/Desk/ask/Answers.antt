@@ -1,22 +1,18 @@
-use Rattle.std.proofs.Common.{rules, ◌≡◌, ◌++◌, ◌∷◌, [], ◌<◌, length, drop, true, refl, ap, ◌∙◌, arith}
+use Rattle.std.proofs.Common.{◌≡◌, ◌++◌, ◌∷◌, [], ◌<◌, length, drop, true, refl, ap, ◌∙◌, arith}
 use Rattle.ob_turn.specs.Callers.{own, calls_of}
 use Rattle.ob_machine.specs.History.{entry}
 use Rattle.ob_turn.specs.Standing.{mine}
 use Rattle.ob_turn.specs.Turn.{known}
 use Rattle.ob_turn.proofs.Histories.{mine_more}
-use Rattle.ob_turn.proofs.Steps.{took_holds}
 use Rattle.ob_turn.proofs.desk.Desk.ask.Goals as goal
-
-pub exchange-requires : goal.exchange-requires
-exchange-requires g c = (search rules, took_holds c.take_turn.ensures.took)
 
 pub returns-clause-calls : goal.returns-clause-calls
 returns-clause-calls g c =
     let v = c.pass.inside.seat.me.0 in
     let t = c.take_turn.ensures.took in
-    let q = c.args.request.now in let at = c.args.moment in let answer = c.answer_of-answer.result in
-    let now : c.exchange-left.new.seat.me.0 ≡ known v.numbers v.since (v.seen ++ t.between) true v.pasts =
-    ap (λ m. m.0) c.exchange-left.ensures.3 ∙ (ap (λ m. m.0) c.exchange.ensures.3 ∙ ap (λ m. m.0) t.now) in
+    let q = c.args.request.now in let at = c.args.moment in let answer = c.step-answer.result in
+    let now : c.step-answer.new.seat.me.0 ≡ known v.numbers v.since (v.seen ++ t.between) true v.pasts =
+    c.step-answer.ensures.same.2 ∙ ap (λ m. m.0) t.now in
     let some_numbers : 0 < length v.numbers = omega (arith, c.pass.invariant.3, c.pass.invariant.4) in
     ap (λ m. calls_of (own m.0.numbers) (drop m.0.since m.0.seen)) c.end_turn.ensures.ended
     ∙ (ap (λ a. calls_of (own a.numbers) (drop a.since (a.seen ++ entry (own a.numbers) q at answer ∷ []))) now
