@@ -1,0 +1,12 @@
+pub mod At
+pub mod Built
+pub mod Children
+pub mod Distinct
+pub mod Fitting
+pub mod Missing
+pub mod Names
+pub mod Parts
+pub mod Sources
+pub mod Added
+pub mod Tabled
+pub mod Indexed

@@ -1,0 +1,39 @@
+use Rattle.std.proofs.Common.{◌≡◌, ℕ, List, [], ◌∷◌, ◌++◌, Some, None, false, cond, length, subst, sym, ap, ◌∙◌}
+use Rattle.std.specs.Prelude.{is_some, string_bytes}
+use Rattle.std.specs.Str.{bytes_eq}
+use Rattle.std.specs.BTreeMap.{get_by_text}
+use Rattle.std.proofs.lemmas.Map.Text.{btree_map_updates_text}
+use Rattle.ob_contracts.specs.Index.{place_of}
+use Rattle.ob_contracts.specs.Inherit.{Contracts, contract_of}
+use Rattle.ob_contracts.proofs.Fitting.{AllSound-more}
+use Rattle.ob_contracts.proofs.Indexed.{without_place, place_put}
+use Rattle.ob_contracts.proofs.library.Library.put.Goals as goal
+
+pub invariant_of-self-2 : goal.invariant_of-self-2
+invariant_of-self-2 c =
+    let old = c.self.invariant in
+    let items = c.self.inside.contracts.items in
+    let places = c.self.inside.places in
+    let uri = c.args.uri in
+    let key = c.into_string-word.result in
+    let place = length c.as_slice-place.result.now in
+    let same : string_bytes key ≡ uri = c.into_string-word.ensures.value ∙ c.in_ok-copy.ensures in
+    let counted : place ≡ length items = ap length c.as_slice-place.ensures.value in
+    let absent : place_of uri items ≡ None =
+    without_place uri items (subst (λ (l : Contracts). is_some (contract_of l uri) ≡ false) (sym c.self.view_is) c.requires.new) in (
+      rw c.push_reserved.ensures.items (rw c.reserve.ensures.items (AllSound-more _ _ old.0 (record { well_formed = c.head-head.ensures.well_formed; small = c.requires.small }))),
+      old.1,
+      old.2,
+      old.3,
+      old.4,
+      old.5,
+      old.6,
+      old.7,
+      old.8,
+      λ word. btree_map_updates_text (string_bytes key) places c.insert.new.self (Some place) c.in_ok-insert.ensures.updates word
+          ∙ ap (λ (u : List ℕ). cond (bytes_eq u word) (Some place) (get_by_text places word)) same
+          ∙ ap (λ (n : ℕ). cond (bytes_eq uri word) (Some n) (get_by_text places word)) counted
+          ∙ ap (cond (bytes_eq uri word) (Some (length items))) (old.9 word)
+          ∙ place_put uri c.args.made items absent word
+          ∙ ap (place_of word) (sym (c.push_reserved.ensures.items ∙ ap (λ (l : Contracts). l ++ (uri, c.args.made) ∷ []) c.reserve.ensures.items)),
+    )

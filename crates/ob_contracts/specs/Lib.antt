@@ -1,0 +1,9 @@
+pub mod Inherit
+pub mod Sound
+pub mod Index
+pub mod Shown
+pub mod Adding
+pub mod Ancestry
+pub mod Standard
+pub mod Table
+pub mod Rows

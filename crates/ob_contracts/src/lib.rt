@@ -1,0 +1,38 @@
+//! Contracts: what objects take from them.
+//!
+//! A library maps words to contracts. An object takes defaults from the contracts of its list, an
+//! earlier one winning, and from the child that it overrides: its effective object. `effective` builds
+//! it, and a `View` lends each part of it without memory. The rules are in `specs/Inherit.antt`.
+//! Source: oBIX 1.1, chapter 7 (contracts).
+#![tactic(auto)]
+
+ghost use Rattle.ob_contracts.specs.Rows.{FirstContractWins, ChildOverrides, ItemsInherit};
+
+mod adding;
+mod ancestry;
+mod build;
+mod library;
+mod reading;
+mod standard;
+
+pub use adding::LibFault;
+pub use build::{effective, view};
+pub use library::Library;
+pub use reading::View;
+
+/// Worked rows of the inheritance rules, computed on the definition.
+pub fn worked_rows()
+    ensures first { FirstContractWins }
+    ensures overriding { ChildOverrides }
+    ensures items { ItemsInherit }
+{}
+
+/// Libraries may go to another thread, and several may read them.
+pub fn crosses_threads() {
+    is_send::<Library>();
+    is_sync::<Library>();
+}
+
+fn is_send<T: Send>() {}
+
+fn is_sync<T: Sync>() {}

@@ -1,0 +1,157 @@
+//! The contracts that words name.
+ghost use Rattle.std.specs.Prelude.{◌≡◌, ◌≤◌, false, is_some, [], ◌∷◌, ◌++◌, OnOk, OnErr};
+ghost use Rattle.std.specs.Option.{option_copied};
+ghost use Rattle.ob_object.specs.Default.{default_of};
+ghost use Rattle.ob_object.specs.Object.{parts};
+ghost use Rattle.ob_contracts.specs.Index.{at_place, place_of};
+ghost use Rattle.ob_contracts.specs.Inherit.{contract_of};
+ghost use Rattle.ob_contracts.specs.Sound.{AllSound};
+
+use ob_object::{Kind, Obj, Slot};
+use ob_values::Text;
+use std::alloc::{AllocError, Global};
+use std::collections::BTreeMap;
+use std::marker::Model;
+
+/// A library: what words stand for, each contract with all that it inherits, in the order of adding.
+/// No contract has more than 512 parts.
+#[derive(Drop)]
+pub struct Library {
+    contracts: Vec<(Text, Obj)>,
+    // Where the contract of each word stands.
+    places: BTreeMap<String, usize>,
+    defaults: Defaults,
+}
+
+// The slots of objects that give none, to be lent.
+#[derive(Drop)]
+struct Defaults {
+    absent: Slot,
+    null: Slot,
+    no: Slot,
+    zero: Slot,
+    zero_real: Slot,
+    empty: Slot,
+    empty_uri: Slot,
+    no_time: Slot,
+}
+
+impl Model for Library {
+    ghost use Rattle.std.specs.Prelude.{◌≡◌, List, ℕ};
+    ghost use Rattle.std.specs.Coded.{coded_list, coded×, coded_ℕ};
+    ghost use Rattle.ob_object.specs.contracts.object.Obj.{the_row};
+    ghost use Rattle.ob_object.specs.Default.{default_of};
+    ghost use Rattle.ob_object.specs.declared.kind.Kind.TheVariants as kind;
+    ghost use Rattle.ob_contracts.specs.Index.{IsIndex};
+    ghost use Rattle.ob_contracts.specs.Inherit.{Contracts};
+    ghost use Rattle.ob_contracts.specs.Sound.{AllSound};
+
+    ghost Value = { Contracts };
+
+    ghost coded = { coded_list (coded× (coded_list coded_ℕ) the_row.coded) };
+
+    ghost view = { λ a. a.contracts.items };
+
+    ghost invariant = { λ a. AllSound a.contracts.items
+        × (a.defaults.absent ≡ default_of kind.Obj) × (a.defaults.null ≡ default_of kind.Enum)
+        × (a.defaults.no ≡ default_of kind.Bool) × (a.defaults.zero ≡ default_of kind.Int)
+        × (a.defaults.zero_real ≡ default_of kind.Real) × (a.defaults.empty ≡ default_of kind.Str)
+        × (a.defaults.empty_uri ≡ default_of kind.Uri) × (a.defaults.no_time ≡ default_of kind.Reltime)
+        × IsIndex a.places a.contracts.items };
+}
+
+impl Library {
+    /// A library without contracts.
+    pub fn new(alloc: Global) -> Library
+        ensures { result ≡ [] }
+    {
+        Library {
+            contracts: Vec::new(alloc),
+            places: BTreeMap::new(alloc),
+            defaults: Defaults {
+                absent: Kind::Obj.default_slot(alloc),
+                null: Kind::Enum.default_slot(alloc),
+                no: Kind::Bool.default_slot(alloc),
+                zero: Kind::Int.default_slot(alloc),
+                zero_real: Kind::Real.default_slot(alloc),
+                empty: Kind::Str.default_slot(alloc),
+                empty_uri: Kind::Uri.default_slot(alloc),
+                no_time: Kind::Reltime.default_slot(alloc),
+            },
+        }
+    }
+
+    /// The allocator of the library.
+    pub(crate) fn allocator(&self) -> Global {
+        *self.contracts.allocator()
+    }
+
+    /// The words and what they stand for, in the order of adding.
+    pub fn contracts(&self) -> &[(Text, Obj)]
+        ensures value { result.now ≡ self.now }
+        ensures sound { AllSound self.now }
+    {
+        self.contracts.as_slice()
+    }
+
+    /// Puts a new word and what it stands for last.
+    pub(crate) fn put(&mut self, uri: Text, made: Obj) -> Result<(), AllocError>
+        requires small { parts made ≤ 512 }
+        requires new { is_some (contract_of self.old uri) ≡ false }
+        ensures ok { OnOk result (self.new ≡ self.old ++ (uri, made) ∷ []) }
+        ensures err { OnErr result (self.new ≡ self.old) }
+    {
+        let _head = made.head();
+        let word = uri.copy()?.into_string();
+        let place = self.contracts.as_slice().len();
+        self.contracts.reserve(1)?;
+        self.places.insert(word, place)?;
+        self.contracts.push_reserved((uri, made));
+        Ok(())
+    }
+
+    /// Where the contract of a word stands.
+    fn place_of(&self, uri: &str) -> Option<usize>
+        ensures { result ≡ place_of uri.now self.now }
+    {
+        self.places.get(uri).copied()
+    }
+
+    /// The contract that a word names.
+    pub fn get(&self, uri: &str) -> Option<&Obj>
+        ensures { option_copied result ≡ contract_of self.now uri.now }
+    {
+        let contracts = self.contracts();
+        match self.place_of(uri) {
+            Some(place) => contract_in(contracts, place),
+            None => None,
+        }
+    }
+
+    /// The slot that an object of a kind has where none is given, lent.
+    pub(crate) fn default_slot(&self, kind: Kind) -> &Slot
+        ensures { result.now ≡ default_of kind }
+    {
+        let slots = &self.defaults;
+        match kind {
+            Kind::Bool => &slots.no,
+            Kind::Int => &slots.zero,
+            Kind::Real => &slots.zero_real,
+            Kind::Str => &slots.empty,
+            Kind::Uri => &slots.empty_uri,
+            Kind::Reltime => &slots.no_time,
+            Kind::Enum | Kind::Abstime | Kind::Date | Kind::Time => &slots.null,
+            Kind::Obj | Kind::List | Kind::Op | Kind::Feed | Kind::Ref | Kind::Err => &slots.absent,
+        }
+    }
+}
+
+// The contract at a place.
+fn contract_in(contracts: &[(Text, Obj)], place: usize) -> Option<&Obj>
+    ensures { option_copied result ≡ at_place contracts.now place }
+{
+    match contracts.get(place) {
+        Some(contract) => Some(&contract.1),
+        None => None,
+    }
+}

@@ -1,0 +1,778 @@
+//! Contracts: rows that show each rule of inheritance, the built-in contracts written out, what a library
+//! refuses, and what an object is.
+use ob_contracts::{LibFault, Library, View, effective, view};
+use ob_encode::encode;
+use ob_object::{Facets, Kind, Obj, Slot, Status, Words};
+use ob_values::{Text, Value, read_int};
+use std::alloc::Global;
+use std::test::Fail;
+
+fn text(alloc: Global, said: &str) -> Result<Text, Fail> {
+    Ok(Text::from_utf8(alloc, said.as_bytes())?)
+}
+
+fn words(alloc: Global, said: &str) -> Result<Words, Fail> {
+    let mut words = Words::new(alloc);
+    for word in said.split_whitespace() {
+        let _ = words.push(text(alloc, word)?);
+    }
+    Ok(words)
+}
+
+fn int(said: &str) -> Option<Value> {
+    match read_int(said.as_bytes()) {
+        Ok(number) => Some(Value::Int(number)),
+        Err(_) => None,
+    }
+}
+
+// A facet of the rows: the limits are ints.
+fn put_facet(alloc: Global, facets: &mut Facets, name: &str, said: &str) -> Result<(), Fail> {
+    match name {
+        "display" => facets.display = Some(text(alloc, said)?),
+        "displayName" => facets.display_name = Some(text(alloc, said)?),
+        "icon" => facets.icon = Some(text(alloc, said)?),
+        "max" => facets.max = int(said),
+        "min" => facets.min = int(said),
+        "precision" => facets.precision = Some(2),
+        "range" => facets.range = Some(text(alloc, said)?),
+        "status" => facets.status = Some(Status::Fault),
+        "tz" => facets.tz = Some(text(alloc, said)?),
+        "unit" => facets.unit = Some(text(alloc, said)?),
+        "writable" => facets.writable = Some(said == "true"),
+        _ => {}
+    }
+    Ok(())
+}
+
+// An attribute of the rows: the values are ints and strs.
+fn put(alloc: Global, object: &mut Obj, name: &str, said: &str) -> Result<(), Fail> {
+    match name {
+        "name" => drop(object.put_name(Some(text(alloc, said)?))),
+        "href" => object.put_href(Some(text(alloc, said)?)),
+        "is" => drop(object.put_is(Some(words(alloc, said)?))),
+        "of" => drop(object.put_of(Some(words(alloc, said)?))),
+        "in" => drop(object.put_input(Some(words(alloc, said)?))),
+        "out" => drop(object.put_output(Some(words(alloc, said)?))),
+        "null" => drop(object.put_slot(Slot::Null)),
+        "val" => {
+            if let Some(value) = int(said) {
+                drop(object.put_slot(Slot::Is(value)));
+            } else {
+                drop(object.put_slot(Slot::Is(Value::Str(text(alloc, said)?))));
+            }
+        }
+        _ => {
+            let mut facets = object.facets().copy()?;
+            put_facet(alloc, &mut facets, name, said)?;
+            drop(object.put_facets(facets));
+        }
+    }
+    Ok(())
+}
+
+fn kind(word: &str) -> Kind {
+    match word {
+        "bool" => Kind::Bool,
+        "int" => Kind::Int,
+        "real" => Kind::Real,
+        "str" => Kind::Str,
+        "enum" => Kind::Enum,
+        "uri" => Kind::Uri,
+        "abstime" => Kind::Abstime,
+        "reltime" => Kind::Reltime,
+        "date" => Kind::Date,
+        "time" => Kind::Time,
+        "list" => Kind::List,
+        "op" => Kind::Op,
+        "feed" => Kind::Feed,
+        "ref" => Kind::Ref,
+        "err" => Kind::Err,
+        _ => Kind::Obj,
+    }
+}
+
+// The object of a tag, as `int name="x" val="1"`.
+fn read_tag(alloc: Global, tag: &str) -> Result<Obj, Fail> {
+    let mut pieces: Vec<&str> = Vec::new(alloc);
+    for piece in tag.split('"') {
+        pieces.push(piece)?;
+    }
+    let word = match tag.split_once(' ') {
+        Some((word, _)) => word,
+        None => tag,
+    };
+    let mut object = Obj::new(alloc, kind(word));
+    for pair in pieces.chunks(2) {
+        if let [before, said] = pair {
+            if let Some((_, name)) = before.rsplit_once(' ') {
+                put(alloc, &mut object, name.trim_end_matches('='), said)?;
+            }
+        }
+    }
+    Ok(object)
+}
+
+fn with_last(mut object: Obj, child: Obj) -> Obj {
+    let _ = object.push(child);
+    object
+}
+
+// The object of a text without references, whose tags stand without white space between them.
+fn read(alloc: Global, said: &str) -> Result<Obj, Fail> {
+    let mut open: Vec<Obj> = Vec::new(alloc);
+    let mut whole = Obj::new(alloc, Kind::Obj);
+    for piece in said.split('<') {
+        let done = if piece.starts_with('/') {
+            open.pop()
+        } else if let Some(tag) = piece.strip_suffix("/>") {
+            Some(read_tag(alloc, tag)?)
+        } else {
+            if let Some(tag) = piece.strip_suffix(">") {
+                open.push(read_tag(alloc, tag)?)?;
+            }
+            None
+        };
+        if let Some(object) = done {
+            match open.pop() {
+                Some(above) => open.push(with_last(above, object))?,
+                None => whole = object,
+            }
+        }
+    }
+    Ok(whole)
+}
+
+fn shown(alloc: Global, object: &Obj) -> Result<String, Fail> {
+    let bytes = encode(alloc, None, object)?;
+    match String::from_utf8(bytes) {
+        Ok(text) => Ok(text),
+        Err(_) => Err("no text")?,
+    }
+}
+
+const ADDED: &[(&str, &str)] = &[
+    ("A", r#"<obj><int name="x" val="1" min="0"/></obj>"#),
+    (
+        "B",
+        r#"<obj><int name="x" val="2" min="5" max="9"/><int name="y" val="3"/></obj>"#,
+    ),
+    ("C", r#"<obj is="B"><int name="x" val="6"/></obj>"#),
+    ("D", r#"<obj is="C"><int name="x" display="deep"/></obj>"#),
+    ("N", r#"<int val="7" min="1" unit="u"/>"#),
+    ("E", r#"<enum range="r"/>"#),
+    ("S", r#"<str val="s" max="5"/>"#),
+    ("L", r#"<list of="B" max="3"/>"#),
+    ("F", r#"<feed of="B" in="A"/>"#),
+    ("O", r#"<op in="A" out="B"/>"#),
+    (
+        "H",
+        r#"<obj href="/h" display="d"><obj name="c" href="/h/c"><ref name="r" href="/h/r"/></obj><int val="1"/></obj>"#,
+    ),
+    (
+        "W",
+        r#"<obj><list name="l" of="B"><obj name="i"/></list></obj>"#,
+    ),
+    (
+        "P",
+        r#"<obj display="p" displayName="n" icon="i" precision="2" status="fault" tz="z" writable="true"/>"#,
+    ),
+    ("R", r#"<ref href="/r" is="B" display="x"/>"#),
+];
+
+// What a row shows, an object, and its effective object.
+const ROWS: &[(&str, &str, &str)] = &[
+    (
+        "an earlier contract wins",
+        r#"<obj is="A B"/>"#,
+        r#"<obj is="A B"><int name="x" val="1" min="0"/><int name="y" val="3"/></obj>"#,
+    ),
+    (
+        "the other way round",
+        r#"<obj is="B A"/>"#,
+        r#"<obj is="B A"><int name="x" val="2" max="9" min="5"/><int name="y" val="3"/></obj>"#,
+    ),
+    (
+        "an item of a list",
+        r#"<list of="B"><obj/></list>"#,
+        r#"<list of="B"><obj><int name="x" val="2" max="9" min="5"/><int name="y" val="3"/></obj></list>"#,
+    ),
+    (
+        "an own child overrides",
+        r#"<obj is="B"><int name="x" val="6"/></obj>"#,
+        r#"<obj is="B"><int name="x" val="6" max="9" min="5"/><int name="y" val="3"/></obj>"#,
+    ),
+    ("no contract", r#"<obj/>"#, r#"<obj/>"#),
+    ("default of bool", r#"<bool/>"#, r#"<bool val="false"/>"#),
+    ("default of int", r#"<int/>"#, r#"<int val="0"/>"#),
+    ("default of real", r#"<real/>"#, r#"<real val="0"/>"#),
+    ("default of str", r#"<str/>"#, r#"<str val=""/>"#),
+    ("default of uri", r#"<uri/>"#, r#"<uri val=""/>"#),
+    (
+        "default of reltime",
+        r#"<reltime/>"#,
+        r#"<reltime val="PT0S"/>"#,
+    ),
+    (
+        "enum without default",
+        r#"<enum/>"#,
+        r#"<enum null="true"/>"#,
+    ),
+    (
+        "abstime without default",
+        r#"<abstime/>"#,
+        r#"<abstime null="true"/>"#,
+    ),
+    (
+        "date without default",
+        r#"<date/>"#,
+        r#"<date null="true"/>"#,
+    ),
+    (
+        "time without default",
+        r#"<time/>"#,
+        r#"<time null="true"/>"#,
+    ),
+    (
+        "kinds without values",
+        r#"<list><op/><feed/><ref/><err/><obj/></list>"#,
+        r#"<list><op/><feed/><ref/><err/><obj/></list>"#,
+    ),
+    (
+        "an unknown word",
+        r#"<obj is="nothing"/>"#,
+        r#"<obj is="nothing"/>"#,
+    ),
+    (
+        "an unknown word before a known one",
+        r#"<obj is="nothing A"/>"#,
+        r#"<obj is="nothing A"><int name="x" val="1" min="0"/></obj>"#,
+    ),
+    (
+        "a word twice",
+        r#"<obj is="A A"/>"#,
+        r#"<obj is="A A"><int name="x" val="1" min="0"/></obj>"#,
+    ),
+    (
+        "a value of its kind",
+        r#"<int is="N"/>"#,
+        r#"<int is="N" val="7" min="1" unit="u"/>"#,
+    ),
+    (
+        "no value of another kind",
+        r#"<real is="N"/>"#,
+        r#"<real is="N" val="0" unit="u"/>"#,
+    ),
+    (
+        "an own value",
+        r#"<int is="N" val="3"/>"#,
+        r#"<int is="N" val="3" min="1" unit="u"/>"#,
+    ),
+    (
+        "an own null",
+        r#"<int is="N" null="true"/>"#,
+        r#"<int is="N" null="true" min="1" unit="u"/>"#,
+    ),
+    (
+        "an own limit",
+        r#"<int is="N" min="2"/>"#,
+        r#"<int is="N" val="7" min="2" unit="u"/>"#,
+    ),
+    (
+        "a date takes no int",
+        r#"<date is="N"/>"#,
+        r#"<date is="N" null="true" unit="u"/>"#,
+    ),
+    (
+        "enum takes a range",
+        r#"<enum is="E"/>"#,
+        r#"<enum is="E" null="true" range="r"/>"#,
+    ),
+    (
+        "a str and its length",
+        r#"<str is="S"/>"#,
+        r#"<str is="S" val="s" max="5"/>"#,
+    ),
+    (
+        "a list takes no length of a str",
+        r#"<list is="S"/>"#,
+        r#"<list is="S"/>"#,
+    ),
+    (
+        "a list takes of",
+        r#"<list is="L"/>"#,
+        r#"<list is="L" of="B" max="3"/>"#,
+    ),
+    (
+        "items of a taken of",
+        r#"<list is="L"><obj/></list>"#,
+        r#"<list is="L" of="B" max="3"><obj><int name="x" val="2" max="9" min="5"/><int name="y" val="3"/></obj></list>"#,
+    ),
+    ("an obj takes no of", r#"<obj is="L"/>"#, r#"<obj is="L"/>"#),
+    (
+        "a feed takes of from a list",
+        r#"<feed is="L"/>"#,
+        r#"<feed is="L" of="B"/>"#,
+    ),
+    (
+        "a feed takes of and in",
+        r#"<feed is="F"/>"#,
+        r#"<feed is="F" of="B" in="A"/>"#,
+    ),
+    (
+        "an op takes in of a feed",
+        r#"<op is="F"/>"#,
+        r#"<op is="F" in="A"/>"#,
+    ),
+    (
+        "an op takes in and out",
+        r#"<op is="O"/>"#,
+        r#"<op is="O" in="A" out="B"/>"#,
+    ),
+    (
+        "a feed takes no out",
+        r#"<feed is="O"/>"#,
+        r#"<feed is="O" in="A"/>"#,
+    ),
+    (
+        "an own in",
+        r#"<op is="O" in="C"/>"#,
+        r#"<op is="O" in="C" out="B"/>"#,
+    ),
+    (
+        "in and out are not expanded",
+        r#"<op in="B" out="B"/>"#,
+        r#"<op in="B" out="B"/>"#,
+    ),
+    (
+        "no hrefs and no nameless child",
+        r#"<obj is="H"/>"#,
+        r#"<obj is="H" display="d"><obj name="c"><ref name="r"/></obj></obj>"#,
+    ),
+    (
+        "an own href",
+        r#"<obj href="/me" is="H"/>"#,
+        r#"<obj href="/me" is="H" display="d"><obj name="c"><ref name="r"/></obj></obj>"#,
+    ),
+    (
+        "an own child without href",
+        r#"<obj is="H"><obj name="c"/></obj>"#,
+        r#"<obj is="H" display="d"><obj name="c"><ref name="r"/></obj></obj>"#,
+    ),
+    (
+        "an own child with href",
+        r#"<obj is="H"><obj name="c" href="/c"/></obj>"#,
+        r#"<obj is="H" display="d"><obj name="c" href="/c"><ref name="r"/></obj></obj>"#,
+    ),
+    (
+        "a list in a contract",
+        r#"<obj is="W"/>"#,
+        r#"<obj is="W"><list name="l" of="B"><obj name="i"><int name="x" val="2" max="9" min="5"/><int name="y" val="3"/></obj></list></obj>"#,
+    ),
+    (
+        "an own list takes of and items",
+        r#"<obj is="W"><list name="l"><obj/></list></obj>"#,
+        r#"<obj is="W"><list name="l" of="B"><obj><int name="x" val="2" max="9" min="5"/><int name="y" val="3"/></obj><obj name="i"><int name="x" val="2" max="9" min="5"/><int name="y" val="3"/></obj></list></obj>"#,
+    ),
+    (
+        "a contract of a contract",
+        r#"<obj is="C"/>"#,
+        r#"<obj is="C"><int name="x" val="6" max="9" min="5"/><int name="y" val="3"/></obj>"#,
+    ),
+    (
+        "an override of an override",
+        r#"<obj is="D"/>"#,
+        r#"<obj is="D"><int name="x" val="6" display="deep" max="9" min="5"/><int name="y" val="3"/></obj>"#,
+    ),
+    (
+        "a third override",
+        r#"<obj is="D"><int name="x" min="7"/></obj>"#,
+        r#"<obj is="D"><int name="x" val="6" display="deep" max="9" min="7"/><int name="y" val="3"/></obj>"#,
+    ),
+    (
+        "all facets",
+        r#"<obj is="P"/>"#,
+        r#"<obj is="P" display="p" displayName="n" icon="i" precision="2" status="fault" tz="z" writable="true"/>"#,
+    ),
+    (
+        "own facets first",
+        r#"<obj is="P" display="own" writable="false"/>"#,
+        r#"<obj is="P" display="own" displayName="n" icon="i" precision="2" status="fault" tz="z" writable="false"/>"#,
+    ),
+    (
+        "a ref takes nothing",
+        r#"<ref is="B"/>"#,
+        r#"<ref is="B"/>"#,
+    ),
+    (
+        "a ref in a list takes nothing",
+        r#"<list of="B"><ref/></list>"#,
+        r#"<list of="B"><ref/></list>"#,
+    ),
+    (
+        "a ref as contract gives its facets",
+        r#"<obj is="R"/>"#,
+        r#"<obj is="R" display="x"/>"#,
+    ),
+    (
+        "an item with its own contract",
+        r#"<list of="B"><obj is="A"/></list>"#,
+        r#"<list of="B"><obj is="A"><int name="x" val="1" min="0"/></obj></list>"#,
+    ),
+    (
+        "an item with an empty list",
+        r#"<list of="B"><obj is=""/></list>"#,
+        r#"<list of="B"><obj is=""/></list>"#,
+    ),
+    (
+        "an item of a feed",
+        r#"<feed of="A"><obj/></feed>"#,
+        r#"<feed of="A"><obj><int name="x" val="1" min="0"/></obj></feed>"#,
+    ),
+    (
+        "two levels of lists",
+        r#"<list of="L"><list><obj/></list></list>"#,
+        r#"<list of="L"><list of="B" max="3"><obj><int name="x" val="2" max="9" min="5"/><int name="y" val="3"/></obj></list></list>"#,
+    ),
+    (
+        "two words for items",
+        r#"<list of="A B"><obj/></list>"#,
+        r#"<list of="A B"><obj><int name="x" val="1" min="0"/><int name="y" val="3"/></obj></list>"#,
+    ),
+    (
+        "items of nothing",
+        r#"<list><obj/></list>"#,
+        r#"<list><obj/></list>"#,
+    ),
+    (
+        "an empty of",
+        r#"<list is="L" of=""><obj/></list>"#,
+        r#"<list is="L" of="" max="3"><obj/></list>"#,
+    ),
+    (
+        "an own of",
+        r#"<list is="L" of="A"><obj/></list>"#,
+        r#"<list is="L" of="A" max="3"><obj><int name="x" val="1" min="0"/></obj></list>"#,
+    ),
+    (
+        "an override of another kind",
+        r#"<obj is="B"><str name="x" val="t"/></obj>"#,
+        r#"<obj is="B"><str name="x" val="t"/><int name="y" val="3"/></obj>"#,
+    ),
+    (
+        "an override of another kind without value",
+        r#"<obj is="B"><str name="x"/></obj>"#,
+        r#"<obj is="B"><str name="x" val=""/><int name="y" val="3"/></obj>"#,
+    ),
+    (
+        "a ref overrides",
+        r#"<obj is="B"><ref name="x"/></obj>"#,
+        r#"<obj is="B"><ref name="x"/><int name="y" val="3"/></obj>"#,
+    ),
+    (
+        "own children first",
+        r#"<obj is="B"><int name="y"/><int name="z"/></obj>"#,
+        r#"<obj is="B"><int name="y" val="3"/><int name="z" val="0"/><int name="x" val="2" max="9" min="5"/></obj>"#,
+    ),
+    (
+        "contracts before the overridden child",
+        r#"<obj is="A"><int name="x" is="N"/></obj>"#,
+        r#"<obj is="A"><int name="x" is="N" val="7" min="1" unit="u"/></obj>"#,
+    ),
+    (
+        "children of a contract of another kind",
+        r#"<obj is="A"><int name="x" is="B"/></obj>"#,
+        r#"<obj is="A"><int name="x" is="B" val="1" min="0"><int name="x" val="2" max="9" min="5"/><int name="y" val="3"/></int></obj>"#,
+    ),
+    (
+        "an err takes children",
+        r#"<err is="A"/>"#,
+        r#"<err is="A"><int name="x" val="1" min="0"/></err>"#,
+    ),
+    (
+        "two contracts with children",
+        r#"<obj is="A H"/>"#,
+        r#"<obj is="A H" display="d"><int name="x" val="1" min="0"/><obj name="c"><ref name="r"/></obj></obj>"#,
+    ),
+    (
+        "contracts at every depth",
+        r#"<obj is="A"><obj name="k"><obj is="B"/></obj></obj>"#,
+        r#"<obj is="A"><obj name="k"><obj is="B"><int name="x" val="2" max="9" min="5"/><int name="y" val="3"/></obj></obj><int name="x" val="1" min="0"/></obj>"#,
+    ),
+    (
+        "nameless own children stay",
+        r#"<obj is="A"><int val="4"/><int val="5"/></obj>"#,
+        r#"<obj is="A"><int val="4"/><int val="5"/><int name="x" val="1" min="0"/></obj>"#,
+    ),
+    (
+        "a list gives nothing to grandchildren",
+        r#"<list of="A"><obj is=""><obj/></obj></list>"#,
+        r#"<list of="A"><obj is=""><obj/></obj></list>"#,
+    ),
+];
+
+// The built-in contracts, each as its effective object.
+const BUILT_IN: &[(&str, &str)] = &[
+    ("obix:Nil", r#"<obj null="true"/>"#),
+    (
+        "obix:About",
+        r#"<obj><str name="obixVersion" val=""/><str name="serverName" val=""/><abstime name="serverTime" null="true"/><abstime name="serverBootTime" null="true"/><str name="vendorName" val=""/><uri name="vendorUrl" val=""/><str name="productName" val=""/><str name="productVersion" val=""/><uri name="productUrl" val=""/><str name="tz" val=""/></obj>"#,
+    ),
+    ("obix:BatchIn", r#"<list of="obix:uri"/>"#),
+    ("obix:BatchOut", r#"<list of="obix:obj"/>"#),
+    ("obix:Read", r#"<uri val=""/>"#),
+    ("obix:Write", r#"<uri val=""><obj name="in"/></uri>"#),
+    ("obix:Invoke", r#"<uri val=""><obj name="in"/></uri>"#),
+    ("obix:Point", r#"<obj/>"#),
+    ("obix:WritePointIn", r#"<obj><obj name="value"/></obj>"#),
+    (
+        "obix:WritablePoint",
+        r#"<obj is="obix:Point"><op name="writePoint" in="obix:WritePointIn" out="obix:Point"/></obj>"#,
+    ),
+    (
+        "obix:HistoryRecord",
+        r#"<obj><abstime name="timestamp" null="true"/><obj name="value" null="true"/></obj>"#,
+    ),
+    (
+        "obix:HistoryFilter",
+        r#"<obj><int name="limit" null="true"/><abstime name="start" null="true"/><abstime name="end" null="true"/></obj>"#,
+    ),
+    (
+        "obix:AlarmFilter",
+        r#"<obj><int name="limit" null="true"/><abstime name="start" null="true"/><abstime name="end" null="true"/></obj>"#,
+    ),
+    (
+        "obix:HistoryQueryOut",
+        r#"<obj><int name="count" val="0" min="0"/><abstime name="start" null="true"/><abstime name="end" null="true"/><list name="data" of="obix:HistoryRecord"/></obj>"#,
+    ),
+    (
+        "obix:History",
+        r#"<obj><int name="count" val="0" min="0"/><abstime name="start" null="true"/><abstime name="end" null="true"/><str name="tz" null="true"/><op name="query" in="obix:HistoryFilter" out="obix:HistoryQueryOut"/><feed name="feed" of="obix:HistoryRecord" in="obix:HistoryFilter"/></obj>"#,
+    ),
+    (
+        "obix:Alarm",
+        r#"<obj><ref name="source"/><abstime name="timestamp" null="true"/></obj>"#,
+    ),
+    (
+        "obix:StatefulAlarm",
+        r#"<obj is="obix:Alarm"><abstime name="normalTimestamp" null="true"/><ref name="source"/><abstime name="timestamp" null="true"/></obj>"#,
+    ),
+    (
+        "obix:AckAlarmIn",
+        r#"<obj><str name="ackUser" null="true"/></obj>"#,
+    ),
+    (
+        "obix:AckAlarm",
+        r#"<obj is="obix:Alarm"><abstime name="ackTimestamp" null="true"/><str name="ackUser" null="true"/><op name="ack" in="obix:AckAlarmIn" out="obix:AckAlarmOut"/><ref name="source"/><abstime name="timestamp" null="true"/></obj>"#,
+    ),
+    (
+        "obix:AckAlarmOut",
+        r#"<obj><obj name="alarm" is="obix:AckAlarm"><abstime name="ackTimestamp" null="true"/><str name="ackUser" null="true"/><op name="ack" in="obix:AckAlarmIn" out="obix:AckAlarmOut"/><ref name="source"/><abstime name="timestamp" null="true"/></obj></obj>"#,
+    ),
+    (
+        "obix:PointAlarm",
+        r#"<obj is="obix:Alarm"><obj name="alarmValue"/><ref name="source"/><abstime name="timestamp" null="true"/></obj>"#,
+    ),
+    (
+        "obix:AlarmQueryOut",
+        r#"<obj><int name="count" val="0" min="0"/><abstime name="start" null="true"/><abstime name="end" null="true"/><list name="data" of="obix:Alarm"/></obj>"#,
+    ),
+    (
+        "obix:AlarmSubject",
+        r#"<obj><int name="count" val="0" min="0"/><op name="query" in="obix:AlarmFilter" out="obix:AlarmQueryOut"/><feed name="feed" of="obix:Alarm" in="obix:AlarmFilter"/></obj>"#,
+    ),
+    ("obix:WatchInItem", r#"<uri val=""><obj name="in"/></uri>"#),
+    (
+        "obix:WatchIn",
+        r#"<obj><list name="hrefs" of="obix:WatchInItem"/></obj>"#,
+    ),
+    (
+        "obix:WatchOut",
+        r#"<obj><list name="values" of="obix:obj"/></obj>"#,
+    ),
+    (
+        "obix:Watch",
+        r#"<obj><reltime name="lease" val="PT0S" min="PT0S" writable="true"/><op name="add" in="obix:WatchIn" out="obix:WatchOut"/><op name="remove" in="obix:WatchIn" out="obix:Nil"/><op name="pollChanges" in="obix:Nil" out="obix:WatchOut"/><op name="pollRefresh" in="obix:Nil" out="obix:WatchOut"/><op name="delete" in="obix:Nil" out="obix:Nil"/></obj>"#,
+    ),
+    (
+        "obix:WatchService",
+        r#"<obj><op name="make" in="obix:Nil" out="obix:Watch"/></obj>"#,
+    ),
+    (
+        "obix:Lobby",
+        r#"<obj><ref name="about" is="obix:About"/><op name="batch" in="obix:BatchIn" out="obix:BatchOut"/><ref name="watchService" is="obix:WatchService"/></obj>"#,
+    ),
+    ("obix:BadUriErr", r#"<err/>"#),
+    ("obix:UnsupportedErr", r#"<err/>"#),
+    ("obix:PermissionErr", r#"<err/>"#),
+];
+
+fn library(alloc: Global) -> Result<Library, Fail> {
+    let mut library = Library::standard(alloc)?;
+    for (word, contract) in ADDED {
+        let contract = read(alloc, contract)?;
+        if library.add(text(alloc, word)?, contract).is_err() {
+            Err("refused")?;
+        }
+    }
+    Ok(library)
+}
+
+fn same_slot(one: &Slot, other: &Slot) -> bool {
+    match (one, other) {
+        (Slot::Is(one), Slot::Is(other)) => one.same(other),
+        (Slot::Null, Slot::Null) => true,
+        (Slot::Absent, Slot::Absent) => true,
+        _ => false,
+    }
+}
+
+// Whether a view shows this object, as far as its own kind and slot go and those of its children, by place and by name.
+fn shows(seen: &View, made: &Obj) -> bool {
+    let mut place = 0u64;
+    for child in made.children() {
+        match seen.next_child(place) {
+            Some(shown) => {
+                if !shown.kind().same(child.kind()) || !same_slot(shown.slot(), child.slot()) {
+                    return false;
+                }
+            }
+            None => return false,
+        }
+        if let Some(name) = child.name() {
+            match seen.child(name.as_str()) {
+                Some(shown) => {
+                    if !same_slot(shown.slot(), child.slot()) {
+                        return false;
+                    }
+                }
+                None => return false,
+            }
+        }
+        place = place.saturating_add(1);
+    }
+    seen.next_child(place).is_none() && same_slot(seen.slot(), made.slot())
+}
+
+#[test]
+fn objects_inherit_as_the_rules_say(rt: HostRuntime) -> Result<(), Fail> {
+    let alloc = rt.alloc();
+    let library = library(alloc)?;
+    for (row, object, want) in ROWS {
+        let object = read(alloc, object)?;
+        let made = effective(alloc, &library, &object, None, None)?;
+        let told = shown(alloc, &made)?;
+        assert_eq!(rt; told.as_str(), *want, "{row}");
+        assert!(rt; shows(&view(&library, &object, None, None), &made), "{row}");
+    }
+    Ok(())
+}
+
+#[test]
+fn built_in_contracts_are_those_of_the_profile(rt: HostRuntime) -> Result<(), Fail> {
+    let alloc = rt.alloc();
+    let library = Library::standard(alloc)?;
+    assert_eq!(rt; library.contracts().len(), BUILT_IN.len());
+    for ((word, contract), (known, want)) in library.contracts().iter().zip(BUILT_IN) {
+        assert_eq!(rt; word.as_str(), *known);
+        let made = effective(alloc, &library, contract, None, None)?;
+        let told = shown(alloc, &made)?;
+        assert_eq!(rt; told.as_str(), *want, "{known}");
+    }
+    Ok(())
+}
+
+// An obj with so many named children.
+fn wide(alloc: Global, children: u32) -> Result<Obj, Fail> {
+    let mut object = Obj::new(alloc, Kind::Obj);
+    for number in 0..children {
+        let name = format!(in alloc; "c{number}")?;
+        let mut child = Obj::new(alloc, Kind::Int);
+        let _ = child.put_name(Some(text(alloc, name.as_str())?));
+        object = with_last(object, child);
+    }
+    Ok(object)
+}
+
+#[test]
+fn libraries_refuse_in_their_order(rt: HostRuntime) -> Result<(), Fail> {
+    let alloc = rt.alloc();
+    let mut library = library(alloc)?;
+    let itself = read(alloc, r#"<obj is="/a"/>"#)?;
+    assert!(rt;
+        matches!(
+            library.add(text(alloc, "/a")?, itself),
+            Err(LibFault::Later { uri: _ })
+        )
+    );
+    let twice = read(alloc, r#"<obj is="A"/>"#)?;
+    assert!(rt;
+        matches!(
+            library.add(text(alloc, "A")?, twice),
+            Err(LibFault::Twice { uri: _ })
+        )
+    );
+    let early = read(alloc, r#"<obj><obj><list of="z"/></obj></obj>"#)?;
+    assert!(rt; library.add(text(alloc, "early")?, early).is_ok());
+    let named = wide(alloc, 600)?;
+    assert!(rt;
+        matches!(
+            library.add(text(alloc, "z")?, named),
+            Err(LibFault::Later { uri: _ })
+        )
+    );
+    let large = wide(alloc, 512)?;
+    assert!(rt;
+        matches!(
+            library.add(text(alloc, "/l")?, large),
+            Err(LibFault::Large { uri: _ })
+        )
+    );
+    assert!(rt; library.get("/l").is_none());
+    let most = wide(alloc, 511)?;
+    assert!(rt; library.add(text(alloc, "/l")?, most).is_ok());
+    match library.get("/l") {
+        Some(most) => assert_eq!(rt; most.parts(), 512),
+        None => Err("no contract")?,
+    }
+    Ok(())
+}
+
+// Words, a word, and whether what has the words is one.
+const KIN: &[(&str, &str, bool)] = &[
+    ("obix:AckAlarm", "obix:Alarm", true),
+    ("obix:AckAlarm obix:PointAlarm", "obix:PointAlarm", true),
+    ("obix:PointAlarm", "obix:AckAlarm", false),
+    ("obix:Alarm", "obix:AckAlarm", false),
+    ("D", "B", true),
+    ("D", "C", true),
+    ("nothing D", "D", true),
+    ("A", "B", false),
+    ("nothing", "nothing", true),
+    ("", "A", false),
+    ("H obix:WritablePoint", "obix:Point", true),
+];
+
+#[test]
+fn contracts_of_contracts_count(rt: HostRuntime) -> Result<(), Fail> {
+    let alloc = rt.alloc();
+    let library = library(alloc)?;
+    for (has, asked, want) in KIN {
+        let has = words(alloc, has)?;
+        assert!(rt; library.is_a(&has, asked) == *want, "{asked}");
+    }
+    Ok(())
+}
+
+#[test]
+fn words_and_a_child_come_from_outside(rt: HostRuntime) -> Result<(), Fail> {
+    let alloc = rt.alloc();
+    let library = library(alloc)?;
+    let item = read(alloc, "<int/>")?;
+    let over = read(alloc, r#"<int name="o" href="/o" val="8" max="9" is="A"/>"#)?;
+    let given = words(alloc, "N")?;
+    let made = effective(alloc, &library, &item, Some(&given), Some(&over))?;
+    let told = shown(alloc, &made)?;
+    assert_eq!(rt; told.as_str(), r#"<int val="7" max="9" min="1" unit="u"/>"#);
+    Ok(())
+}
