@@ -1,5 +1,10 @@
-pub mod WordLemmas
-pub mod PartsLemmas
-pub mod PrintableLemmas
-pub mod RowsLemmas
-pub mod SiteLemmas
+pub mod Ends
+pub mod Turns
+pub mod Unique
+pub mod NameSets
+pub mod Leadings
+pub mod Runs
+pub mod Takings
+pub mod Frees
+pub mod Indexing
+pub mod Feeding

@@ -1,3 +1,10 @@
-pub mod Alphabet
-pub mod SiteForm
-pub mod Parts
+pub mod Indexes
+pub mod Meanings
+pub mod Outcomes
+pub mod Structure
+pub mod Views
+pub mod Judged
+pub mod Leading
+pub mod Turning
+pub mod Refusals
+pub mod Decoding

@@ -1,11 +1,25 @@
-//! Documents of XML and the objects that they stand for.
+//! Documents: from bytes that come in pieces to an object, and back to its canonical text.
 //!
-//! `encode` writes an object as its canonical text. `read_site` reads the form of a site file that is read so far: a
-//! root with rows, each a bool, an int or a str with an href.
+//! A `Decoder` is fed the bytes of a document, cut anywhere, and gives the object that they spell, or
+//! the place and the cause of the first construct that is refused. It keeps only the bytes of the
+//! construct that isn't whole yet. What is refused, and where, is `Judged` of `specs/Judged.antt`.
+//! `encode` and `write` give an object's canonical text.
 #![tactic(auto)]
 
-mod reader;
-mod site_form;
+mod decoder;
+mod doc;
+mod going;
+mod judge;
+mod laws;
+mod meaning;
+mod names;
+mod open;
+mod reading;
+mod refused;
+mod state;
 
+pub use decoder::Decoder;
+pub use doc::Doc;
+pub use laws::{fault_stays, one_verdict};
 pub use ob_encode::{encode, write};
-pub use site_form::{SiteFault, read_site};
+pub use refused::{Refused, Why};

@@ -2,7 +2,7 @@
 use Rattle.std.proofs.Common.{◌≡◌, ◌≢◌, ℕ, ◌^◌, ◌<◌, List, [], ◌∷◌, ◌++◌, ◌⊎◌, inl, inr, refl, sym, ap, subst, ◌∙◌, length, arith, append_assoc, append-nil, length-append, Option, Some, None, true, false}
 use Rattle.std.proofs.lemmas.List.{append_cancel_left}
 use Rattle.obix.specs.declared.request.Request.{Request}
-use Rattle.ob_object.specs.Object.{Object}
+use Rattle.ob_xml.specs.declared.doc.Doc.{Doc}
 use Rattle.obix.specs.declared.serve.LinkEnd.{LinkEnd}
 use Rattle.obix.specs.declared.serve.LinkEnd.TheVariants as ends
 use Rattle.obix.specs.Request.{request_for, start, closing}
@@ -49,7 +49,7 @@ no_fault rest left [] b fault =
 no_fault rest left (request ∷ more) b fault = fault left request b.0 b.1
 
 -- A run over a source that is framed to its end ends there, or in a fault or want of memory.
-pub ends_there : (state : Object) (all : List ℕ) (v w x : Option (List ℕ)) (end : LinkEnd) (requests : List Request) → Serves state (Some all) v w x end → length all < 2 ^ 40 → BeginsWithAll all requests []
+pub ends_there : (state : Doc) (all : List ℕ) (v w x : Option (List ℕ)) (end : LinkEnd) (requests : List Request) → Serves state (Some all) v w x end → length all < 2 ^ 40 → BeginsWithAll all requests []
     → (end ≢ ends.ReadFault) → (end ≢ ends.WriteFault) → (end ≡ ends.Closed) ⊎ (end ≡ ends.Memory)
 ends_there state all None w x end requests s short whole r k = absurd s.consumed
 ends_there state all (Some left) w x ends.Closed requests s short whole r k = inl refl

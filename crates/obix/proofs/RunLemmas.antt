@@ -3,7 +3,7 @@ use Rattle.std.proofs.Common.{◌≡◌, ◌≢◌, ℕ, ◌+◌, ◌-◌, ◌^�
 use Rattle.std.specs.Io.KnownBytes.{Consumes, Keeps, IsAtEnd}
 use Rattle.ob_io.specs.Told.{Gains, Gains-then, Gains-none, Consumes-then, Consumes-none, Consumes-kept}
 use Rattle.obix.specs.declared.request.Request.{Request}
-use Rattle.ob_object.specs.Object.{Object}
+use Rattle.ob_xml.specs.declared.doc.Doc.{Doc}
 use Rattle.obix.specs.declared.serve.Stop.{Stop}
 use Rattle.obix.specs.declared.serve.Stop.TheVariants as stops
 use Rattle.obix.specs.declared.serve.LinkEnd.{LinkEnd}
@@ -16,16 +16,16 @@ use Rattle.obix.proofs.FramingLemmas.{BeginsWithAll-append, BeginsWithAll-more}
 use Rattle.obix.proofs.ServeLemmas.{spoken-append}
 
 -- The requests so far are answered, and these bytes are kept. So many more may be taken.
-pub record Serving (state : Object) (u v w x : Option (List ℕ)) (kept : List ℕ) (place room : ℕ) : Type 0 where
+pub record Serving (state : Doc) (u v w x : Option (List ℕ)) (kept : List ℕ) (place room : ℕ) : Type 0 where
   pub taken : List ℕ
   pub requests : List Request
   pub consumed : Consumes u v taken
   pub whole : BeginsWithAll taken requests kept
-  pub written : Gains w (spoken (replies_of state requests)) x
+  pub written : Gains w (spoken state.ns (replies_of state requests)) x
   pub place_is : place + length kept ≡ length taken
   pub total : length taken + room ≡ 2 ^ 40
 
-pub first_read : (state : Object) (u w : Option (List ℕ)) (kept : List ℕ) (place : ℕ) → kept ≡ [] → place ≡ 0 → Serving state u u w w kept place (2 ^ 40)
+pub first_read : (state : Doc) (u w : Option (List ℕ)) (kept : List ℕ) (place : ℕ) → kept ≡ [] → place ≡ 0 → Serving state u u w w kept place (2 ^ 40)
 first_read state u w kept place none zeroth = record {
   taken = [];
   requests = [];
@@ -37,7 +37,7 @@ first_read state u w kept place none zeroth = record {
 }
 
 -- a read that gave this piece, which is kept
-pub fed : (state : Object) (u v w x y : Option (List ℕ)) (kept piece front next : List ℕ) (place here room count : ℕ) → Serving state u v w x kept place room → Consumes v y front → piece ≡ front → length front ≡ count → count ≤ room
+pub fed : (state : Doc) (u v w x y : Option (List ℕ)) (kept piece front next : List ℕ) (place here room count : ℕ) → Serving state u v w x kept place room → Consumes v y front → piece ≡ front → length front ≡ count → count ≤ room
     → next ≡ kept ++ piece → here ≡ place → Serving state u y w x next here (room - count)
 fed state u v w x y kept piece front next place here room count s read same is le grown stays = record {
   taken = s.taken ++ front;
@@ -50,7 +50,7 @@ fed state u v w x y kept piece front next place here room count s read same is l
 }
 
 -- a read that took nothing
-pub read_nothing : (state : Object) (u v w x y : Option (List ℕ)) (kept : List ℕ) (place room : ℕ) → Serving state u v w x kept place room → Consumes v y [] → Serving state u y w x kept place room
+pub read_nothing : (state : Doc) (u v w x y : Option (List ℕ)) (kept : List ℕ) (place room : ℕ) → Serving state u v w x kept place room → Consumes v y [] → Serving state u y w x kept place room
 read_nothing state u v w x y kept place room s read = record {
   taken = s.taken;
   requests = s.requests;
@@ -61,7 +61,7 @@ read_nothing state u v w x y kept place room s read = record {
   total = s.total;
 }
 
-pub read_failed : (state : Object) (u v w x y : Option (List ℕ)) (kept : List ℕ) (place room : ℕ) → Serving state u v w x kept place room → Keeps v y → Serving state u y w x kept place room
+pub read_failed : (state : Doc) (u v w x y : Option (List ℕ)) (kept : List ℕ) (place room : ℕ) → Serving state u v w x kept place room → Keeps v y → Serving state u y w x kept place room
 read_failed state u v w x y kept place room s keeps = record {
   taken = s.taken;
   requests = s.requests;
@@ -72,19 +72,19 @@ read_failed state u v w x y kept place room s keeps = record {
   total = s.total;
 }
 
-pub answered_ok : (state : Object) (u v w x y : Option (List ℕ)) (kept rest : List ℕ) (place room next : ℕ) (done : Unit {0}) → Serving state u v w x kept place room → AnswersKept state kept rest x y (Ok done)
+pub answered_ok : (state : Doc) (u v w x y : Option (List ℕ)) (kept rest : List ℕ) (place room next : ℕ) (done : Unit {0}) → Serving state u v w x kept place room → AnswersKept state kept rest x y (Ok done)
     → next + length rest ≡ place + length kept → Serving state u v w y rest next room
 answered_ok state u v w x y kept rest place room next done s a moved = record {
   taken = s.taken;
   requests = s.requests ++ a.requests;
   consumed = s.consumed;
   whole = BeginsWithAll-append s.requests a.requests s.taken kept rest s.whole a.whole;
-  written = subst (λ (t : List ℕ). Gains w t y) (ap (λ t. spoken (replies_of state s.requests) ++ t) a.answered ∙ sym (spoken-append state s.requests a.requests)) (Gains-then w x y _ a.written s.written a.gained);
+  written = subst (λ (t : List ℕ). Gains w t y) (ap (λ t. spoken state.ns (replies_of state s.requests) ++ t) a.answered ∙ sym (spoken-append state s.requests a.requests)) (Gains-then w x y _ a.written s.written a.gained);
   place_is = omega (arith, moved, s.place_is);
   total = s.total;
 }
 
-framed : (state : Object) (u v w x : Option (List ℕ)) (kept : List ℕ) (place room : ℕ) (end : End) (s : Serving state u v w x kept place room) → StopsAt place kept end → Framed s.taken s.requests end
+framed : (state : Doc) (u v w x : Option (List ℕ)) (kept : List ℕ) (place room : ℕ) (end : End) (s : Serving state u v w x kept place room) → StopsAt place kept end → Framed s.taken s.requests end
 framed state u v w x kept place room end s stops = record {
   rest = kept;
   whole = s.whole;
@@ -92,42 +92,42 @@ framed state u v w x kept place room end s stops = record {
 }
 
 -- an end where each request is answered
-whole_end : (state : Object) (u v w x : Option (List ℕ)) (kept : List ℕ) (place room : ℕ) (end : LinkEnd) (s : Serving state u v w x kept place room) → is_broken end ≡ false → EndsAs end s.taken s.requests v → Serves state u v w x end
+whole_end : (state : Doc) (u v w x : Option (List ℕ)) (kept : List ℕ) (place room : ℕ) (end : LinkEnd) (s : Serving state u v w x kept place room) → is_broken end ≡ false → EndsAs end s.taken s.requests v → Serves state u v w x end
 whole_end state u v w x kept place room end s whole ending = record {
   taken = s.taken;
-  written = spoken (replies_of state s.requests);
+  written = spoken state.ns (replies_of state s.requests);
   requests = s.requests;
   consumed = s.consumed;
   gained = s.written;
   ends = ending;
-  answered = subst (λ b. Writes b (spoken (replies_of state s.requests)) (spoken (replies_of state s.requests))) (sym whole) refl;
+  answered = subst (λ b. Writes b (spoken state.ns (replies_of state s.requests)) (spoken state.ns (replies_of state s.requests))) (sym whole) refl;
 }
 
-pub ends_closed : (state : Object) (u v w x : Option (List ℕ)) (kept : List ℕ) (place room : ℕ) → Serving state u v w x kept place room → IsUnfinished kept → IsAtEnd v → kept ≡ [] → Serves state u v w x ends.Closed
+pub ends_closed : (state : Doc) (u v w x : Option (List ℕ)) (kept : List ℕ) (place room : ℕ) → Serving state u v w x kept place room → IsUnfinished kept → IsAtEnd v → kept ≡ [] → Serves state u v w x ends.Closed
 ends_closed state u v w x kept place room s unfinished end none =
     whole_end state u v w x kept place room ends.Closed s refl (framed state u v w x kept place room (Rest []) s (sym none, unfinished), end)
 
-pub ends_truncated : (state : Object) (u v w x : Option (List ℕ)) (kept : List ℕ) (place room : ℕ) → Serving state u v w x kept place room → IsUnfinished kept → IsAtEnd v → kept ≢ [] → Serves state u v w x ends.Truncated
+pub ends_truncated : (state : Doc) (u v w x : Option (List ℕ)) (kept : List ℕ) (place room : ℕ) → Serving state u v w x kept place room → IsUnfinished kept → IsAtEnd v → kept ≢ [] → Serves state u v w x ends.Truncated
 ends_truncated state u v w x kept place room s unfinished end some =
     whole_end state u v w x kept place room ends.Truncated s refl (kept, some, framed state u v w x kept place room (Rest kept) s (refl, unfinished), end)
 
-pub ends_read_fault : (state : Object) (u v w x : Option (List ℕ)) (kept : List ℕ) (place room : ℕ) → Serving state u v w x kept place room → IsUnfinished kept → Serves state u v w x ends.ReadFault
+pub ends_read_fault : (state : Doc) (u v w x : Option (List ℕ)) (kept : List ℕ) (place room : ℕ) → Serving state u v w x kept place room → IsUnfinished kept → Serves state u v w x ends.ReadFault
 ends_read_fault state u v w x kept place room s unfinished =
     whole_end state u v w x kept place room ends.ReadFault s refl (kept, framed state u v w x kept place room (Rest kept) s (refl, unfinished))
 
-pub ends_budget : (state : Object) (u v w x : Option (List ℕ)) (kept : List ℕ) (place room : ℕ) → Serving state u v w x kept place room → IsUnfinished kept → room ≤ 0 → Serves state u v w x ends.Budget
+pub ends_budget : (state : Doc) (u v w x : Option (List ℕ)) (kept : List ℕ) (place room : ℕ) → Serving state u v w x kept place room → IsUnfinished kept → room ≤ 0 → Serves state u v w x ends.Budget
 ends_budget state u v w x kept place room s unfinished none =
     whole_end state u v w x kept place room ends.Budget s refl (kept, framed state u v w x kept place room (Rest kept) s (refl, unfinished), omega (arith, s.total))
 
-pub ends_malformed : (state : Object) (u v w x y : Option (List ℕ)) (kept rest : List ℕ) (place room next : ℕ) → Serving state u v w x kept place room → AnswersKept state kept rest x y (Err stops.Malformed)
+pub ends_malformed : (state : Doc) (u v w x y : Option (List ℕ)) (kept rest : List ℕ) (place room next : ℕ) → Serving state u v w x kept place room → AnswersKept state kept rest x y (Err stops.Malformed)
     → next + length rest ≡ place + length kept → Serves state u v w y (ends.Malformed next)
 ends_malformed state u v w x y kept rest place room next s a moved =
     record {
       taken = s.taken;
-      written = spoken (replies_of state (s.requests ++ a.requests));
+      written = spoken state.ns (replies_of state (s.requests ++ a.requests));
       requests = s.requests ++ a.requests;
       consumed = s.consumed;
-      gained = subst (λ (t : List ℕ). Gains w t y) (ap (λ t. spoken (replies_of state s.requests) ++ t) a.answered ∙ sym (spoken-append state s.requests a.requests)) (Gains-then w x y _ a.written s.written a.gained);
+      gained = subst (λ (t : List ℕ). Gains w t y) (ap (λ t. spoken state.ns (replies_of state s.requests) ++ t) a.answered ∙ sym (spoken-append state s.requests a.requests)) (Gains-then w x y _ a.written s.written a.gained);
       ends = record {
         rest = rest;
         whole = BeginsWithAll-append s.requests a.requests s.taken kept rest s.whole a.whole;
@@ -136,11 +136,11 @@ ends_malformed state u v w x y kept rest place room next s a moved =
       answered = refl;
     }
 
-pub ends_broken : (state : Object) (u v w x y : Option (List ℕ)) (kept rest : List ℕ) (place room : ℕ) (end : LinkEnd) (stop : Result (Unit {0}) Stop) → Serving state u v w x kept place room → AnswersKept state kept rest x y stop
+pub ends_broken : (state : Doc) (u v w x y : Option (List ℕ)) (kept rest : List ℕ) (place room : ℕ) (end : LinkEnd) (stop : Result (Unit {0}) Stop) → Serving state u v w x kept place room → AnswersKept state kept rest x y stop
     → breaks_off stop ≡ true → is_broken end ≡ true → ((taken : List ℕ) (requests : List Request) → BeginsWithAll taken requests rest → EndsAs end taken requests v) → Serves state u v w y end
 ends_broken state u v w x y kept rest place room end stop s a off broken ending =
-    let half : Writes true (spoken (replies_of state a.requests)) a.written = subst (λ b. Writes b (spoken (replies_of state a.requests)) a.written) off a.answered in
-    let before = spoken (replies_of state s.requests) in
+    let half : Writes true (spoken state.ns (replies_of state a.requests)) a.written = subst (λ b. Writes b (spoken state.ns (replies_of state a.requests)) a.written) off a.answered in
+    let before = spoken state.ns (replies_of state s.requests) in
     record {
       taken = s.taken;
       written = before ++ a.written;
@@ -148,18 +148,18 @@ ends_broken state u v w x y kept rest place room end stop s a off broken ending 
       consumed = s.consumed;
       gained = Gains-then w x y before a.written s.written a.gained;
       ends = ending s.taken (s.requests ++ a.requests) (BeginsWithAll-append s.requests a.requests s.taken kept rest s.whole a.whole);
-      answered = subst (λ b. Writes b (spoken (replies_of state (s.requests ++ a.requests))) (before ++ a.written)) (sym broken)
+      answered = subst (λ b. Writes b (spoken state.ns (replies_of state (s.requests ++ a.requests))) (before ++ a.written)) (sym broken)
           (half.0, spoken-append state s.requests a.requests ∙ ap (λ t. before ++ t) half.1 ∙ sym (append_assoc before a.written half.0));
     }
 
 -- memory ran out before the piece was kept
-pub ends_memory : (state : Object) (u v w x : Option (List ℕ)) (kept : List ℕ) (place room : ℕ) → Serving state u v w x kept place room → Serves state u v w x ends.Memory
+pub ends_memory : (state : Doc) (u v w x : Option (List ℕ)) (kept : List ℕ) (place room : ℕ) → Serving state u v w x kept place room → Serves state u v w x ends.Memory
 ends_memory state u v w x kept place room s = record {
   taken = s.taken;
-  written = spoken (replies_of state s.requests);
+  written = spoken state.ns (replies_of state s.requests);
   requests = s.requests;
   consumed = s.consumed;
   gained = s.written;
   ends = (kept, s.whole);
-  answered = ([], sym (append-nil (spoken (replies_of state s.requests))));
+  answered = ([], sym (append-nil (spoken state.ns (replies_of state s.requests))));
 }

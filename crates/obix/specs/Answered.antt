@@ -3,7 +3,7 @@ use Rattle.std.specs.Prelude.{◌≡◌, Bool, true, false, ℕ, List, ◌++◌,
 use Rattle.std.specs.declared.option.Option.{Option}
 use Rattle.ob_io.specs.Told.{Gains, IsFront}
 use Rattle.obix.specs.declared.request.Request.{Request}
-use Rattle.ob_object.specs.Object.{Object}
+use Rattle.ob_xml.specs.declared.doc.Doc.{Doc}
 use Rattle.obix.specs.declared.serve.Stop.{Stop}
 use Rattle.obix.specs.declared.serve.Stop.TheVariants as stops
 use Rattle.obix.specs.Framing.{BeginsWithAll, IsUnfinished, IsFault}
@@ -21,13 +21,13 @@ Leaves (Err stops.Malformed) rest = IsFault rest
 Leaves (Err stops.WriteFault) rest = Unit {0}
 Leaves (Err stops.Memory) rest = Unit {0}
 
-pub record AnswersKept (state : Object) (kept rest : List ℕ) (held_before held_after : Option (List ℕ)) (result : Result (Unit {0}) Stop) : Type 0 where
+pub record AnswersKept (state : Doc) (kept rest : List ℕ) (held_before held_after : Option (List ℕ)) (result : Result (Unit {0}) Stop) : Type 0 where
   pub written : List ℕ
   pub requests : List Request
   pub gained : Gains held_before written held_after
   pub whole : BeginsWithAll kept requests rest
   pub leaves : Leaves result rest
-  pub answered : Writes (breaks_off result) (spoken (replies_of state requests)) written
+  pub answered : Writes (breaks_off result) (spoken state.ns (replies_of state requests)) written
 
 -- A front of the bytes was gained, and the rest is still to be sent; where it broke off, some of the rest may be gained too.
 pub record Flushes {T E : Type 0} (held_before held_after : Option (List ℕ)) (result : Result T E) (old new : List ℕ) : Type 0 where

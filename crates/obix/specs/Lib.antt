@@ -1,12 +1,16 @@
+pub mod Command
+pub mod CommandWords
+pub mod Reading
 pub mod Request
 pub mod Framing
 pub mod Scan
 pub mod Kept
+pub mod Form
 pub mod Site
 pub mod Placed
 pub mod Reply
 pub mod Serve
 pub mod Answered
-pub mod Refusal
 pub mod Run
 pub mod Outcome
+pub mod Check

@@ -6,6 +6,7 @@ use Rattle.std.specs.declared.alloc.Global.{Global}
 use Rattle.std.specs.declared.hash.FoldHasher.{FoldHasher}
 use Rattle.std.specs.declared.hash.BuildHasherDefault.{BuildHasherDefault}
 use Rattle.ob_object.specs.Object.{Object, children}
+use Rattle.ob_xml.specs.declared.doc.Doc.{Doc}
 use Rattle.obix.specs.Site.{is_at}
 use Rattle.obix.specs.Reply.{no_such_object}
 
@@ -13,6 +14,6 @@ abbrev pub Rows : Type 0
 Rows = HashMap (String Global) Object (BuildHasherDefault FoldHasher)
 
 -- each path leads to the object there
-pub record IsPlaced (state : Object) (rows : Rows) (missing : Object) : Type 0 where
-  pub placed : (path : List ℕ) → get_by_text rows path ≡ find (is_at path) (children state)
+pub record IsPlaced (state : Doc) (rows : Rows) (missing : Object) : Type 0 where
+  pub placed : (path : List ℕ) → get_by_text rows path ≡ find (is_at path) (children state.root)
   pub missing_is : missing ≡ no_such_object

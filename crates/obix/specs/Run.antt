@@ -1,8 +1,7 @@
--- The command line, and how a run's exit goes with what it met.
-use Rattle.std.specs.Prelude.{◌≡◌, ℕ, ◌==◌, not, ◌&&◌, Bool, false, if◌then◌else◌, List, [], ◌∷◌, codes, Some, None, IfSome}
+-- How a run's exit goes with what it met.
+use Rattle.std.specs.Prelude.{◌≡◌, ℕ, List, IfSome}
 use Rattle.std.specs.declared.option.Option.{Option}
-use Rattle.std.specs.Str.{bytes_eq}
-use Rattle.ob_object.specs.Object.{Object}
+use Rattle.ob_xml.specs.declared.doc.Doc.{Doc}
 use Rattle.obix.specs.declared.serve.LinkEnd.{LinkEnd}
 use Rattle.obix.specs.declared.serve.LinkEnd.TheVariants as ends
 use Rattle.obix.specs.declared.run.Exit.{Exit}
@@ -10,22 +9,13 @@ use Rattle.obix.specs.declared.run.Exit.TheVariants as exits
 use Rattle.obix.specs.Site.{Opens}
 use Rattle.obix.specs.Serve.{Serves}
 
-abbrev pub is_option : List ℕ → Bool
-is_option [] = false
-is_option (b ∷ bytes) = b == 45
-
--- the site file of `stdio SITE`, the one command
-abbrev pub site_file : List (List ℕ) → Option (List ℕ)
-site_file (command ∷ name ∷ []) = if bytes_eq command (codes "stdio") && not (is_option name) then Some name else None
-site_file words = None
-
--- what holds of the bytes of the site file, where the words name one and its content is told
-abbrev pub OnSite : List (List ℕ) → (List ℕ → Option (List ℕ)) → (List ℕ → Type 0) → Type 0
-OnSite words content P = IfSome (site_file words) (λ name. IfSome (content name) P)
+-- what holds of the bytes of a file, where the words name one and its content is told
+abbrev pub OnFile : Option (List ℕ) → (List ℕ → Option (List ℕ)) → (List ℕ → Type 0) → Type 0
+OnFile file content P = IfSome file (λ name. IfSome (content name) P)
 
 -- the bytes stand for no site
 abbrev pub IsRefused : List ℕ → Type 0
-IsRefused bytes = (state : Object) → Opens bytes state → ⊥
+IsRefused bytes = (state : Doc) → Opens bytes state → ⊥
 
 abbrev pub exit_of : LinkEnd → Exit
 exit_of ends.Closed = exits.Ok
@@ -36,8 +26,8 @@ exit_of ends.WriteFault = exits.WriteFault
 exit_of ends.Budget = exits.Budget
 exit_of ends.Memory = exits.Memory
 
--- The source's requests were answered from these state, and the run ended so.
-pub record Answers (state : Object) (left_before left_after held_before held_after : Option (List ℕ)) (exit : Exit) : Type 0 where
+-- The source's requests were answered from this state, and the run ended so.
+pub record Answers (state : Doc) (left_before left_after held_before held_after : Option (List ℕ)) (exit : Exit) : Type 0 where
   pub end : LinkEnd
   pub is : exit ≡ exit_of end
   pub serves : Serves state left_before left_after held_before held_after end

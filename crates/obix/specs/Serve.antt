@@ -4,7 +4,7 @@ use Rattle.std.specs.declared.option.Option.{Option}
 use Rattle.std.specs.Io.KnownBytes.{Consumes, IsAtEnd}
 use Rattle.ob_io.specs.Told.{Gains}
 use Rattle.obix.specs.declared.request.Request.{Request}
-use Rattle.ob_object.specs.Object.{Object}
+use Rattle.ob_xml.specs.declared.doc.Doc.{Doc}
 use Rattle.obix.specs.declared.serve.LinkEnd.{LinkEnd}
 use Rattle.obix.specs.declared.serve.LinkEnd.TheVariants as ends
 use Rattle.obix.specs.Framing.{BeginsWithAll, Framed, Rest, Fault}
@@ -31,11 +31,11 @@ EndsAs ends.WriteFault taken requests left = (rest : List ℕ) × BeginsWithAll 
 EndsAs ends.Memory taken requests left = (rest : List ℕ) × BeginsWithAll taken requests rest
 
 -- The bytes that were written are the site's answers to the requests that the bytes taken begin with.
-pub record Serves (state : Object) (left_before left_after held_before held_after : Option (List ℕ)) (end : LinkEnd) : Type 0 where
+pub record Serves (state : Doc) (left_before left_after held_before held_after : Option (List ℕ)) (end : LinkEnd) : Type 0 where
   pub taken : List ℕ
   pub written : List ℕ
   pub requests : List Request
   pub consumed : Consumes left_before left_after taken
   pub gained : Gains held_before written held_after
   pub ends : EndsAs end taken requests left_after
-  pub answered : Writes (is_broken end) (spoken (replies_of state requests)) written
+  pub answered : Writes (is_broken end) (spoken state.ns (replies_of state requests)) written

@@ -1,11 +1,17 @@
 //! The program `obix`.
 //!
-//! `obix stdio SITE` reads a site file and answers the requests of standard input on standard output. `run` is the
-//! whole program over an outside that is handed in, and its contract is about bytes; `main` hands it the real one.
+//! `obix stdio SITE` reads a site file and answers the requests of standard input on standard output. `obix check FILE`
+//! reads a document and writes its canonical text. `run` is the whole program over an outside that is handed in, and its
+//! contract is about bytes; `main` hands it the real one.
 #![tactic(auto)]
 
+mod check;
+mod command;
+mod document;
+mod form;
 mod framing;
 mod load;
+mod outcome;
 mod reply;
 mod request;
 mod run;

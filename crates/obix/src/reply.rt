@@ -30,9 +30,9 @@ pub fn answer(
     body: &mut Vec<u8>,
     out: &mut Vec<u8>,
 ) -> Result<(), AllocError>
-    ensures { OnOk result (out.new.items ≡ out.old.items ++ spoken_one (reply_of site.now request.now)) }
+    ensures { OnOk result (out.new.items ≡ out.old.items ++ spoken_one site.now.ns (reply_of site.now request.now)) }
 {
     body.clear();
-    write(None, site.reply(request), body)?;
+    write(site.ns(), site.reply(request), body)?;
     push_answer(body, out)
 }

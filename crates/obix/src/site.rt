@@ -2,18 +2,21 @@
 ghost use Rattle.std.specs.Prelude.{◌≡◌, List, ℕ, IfOk, IsErrOf};
 ghost use Rattle.std.specs.List.{find};
 ghost use Rattle.std.specs.HashMap.{get_by_text};
+ghost use Rattle.std.specs.Option.{option_copied};
 ghost use Rattle.ob_object.specs.Object.{Object, children};
+ghost use Rattle.ob_xml.specs.declared.doc.Doc.{Doc};
 ghost use Rattle.obix.specs.Site.{PathsDiffer, is_at};
 ghost use Rattle.obix.specs.Reply.{no_such_object, reply_of};
 
 use crate::request::Request;
 use ob_object::{Facets, Head, Kind, Obj, Slot, Words};
 use ob_values::Text;
+use ob_xml::Doc;
 use std::alloc::{AllocError, Global};
 use std::collections::HashMap;
 use std::marker::Model;
 
-/// Why an object is no site.
+/// Why a document is no site.
 #[derive(Drop)]
 pub enum SiteFault {
     /// Two of its children have this path.
@@ -21,26 +24,26 @@ pub enum SiteFault {
     Memory,
 }
 
-/// A site: its root, the objects of the root by their paths, and the err for a path at which nothing stands.
+/// A site: its document, the objects of the root by their paths, and the err for a path at which nothing stands.
 #[derive(Drop)]
 pub struct Site {
-    root: Obj,
+    file: Doc,
     rows: HashMap<String, Obj>,
     missing: Obj,
 }
 
 impl Model for Site {
-    ghost use Rattle.ob_object.specs.Object.{Object, object_code};
-    ghost use Rattle.ob_object.specs.contracts.head.Head.{the_row};
+    ghost use Rattle.ob_xml.specs.declared.doc.Doc.{Doc};
+    ghost use Rattle.ob_xml.specs.contracts.doc.Doc.{the_row};
     ghost use Rattle.obix.specs.Placed.{IsPlaced};
 
-    ghost Value = { Object };
+    ghost Value = { Doc };
 
-    ghost coded = { object_code the_row.coded };
+    ghost coded = { the_row.coded };
 
-    ghost view = { λ s. s.root };
+    ghost view = { λ s. s.file };
 
-    ghost invariant = { λ s. IsPlaced s.root s.rows s.missing };
+    ghost invariant = { λ s. IsPlaced s.file s.rows s.missing };
 }
 
 fn is_at(object: &Obj, path: &str) -> bool
@@ -111,24 +114,31 @@ fn by_path(alloc: Global, objects: &[Obj]) -> Result<HashMap<String, Obj>, SiteF
 
 impl Site {
     /// The site of a root and its children.
-    pub fn open(alloc: Global, root: Obj) -> Result<Site, SiteFault>
-        ensures ok { IfOk result (λ site. (site ≡ root) × PathsDiffer (children root)) }
-        ensures twice { (path : List ℕ) → IsErrOf result (SiteFault.PathTwice path) → PathsDiffer (children root) → ⊥ }
+    pub fn open(alloc: Global, file: Doc) -> Result<Site, SiteFault>
+        ensures ok { IfOk result (λ site. (site ≡ file) × PathsDiffer (children file.root)) }
+        ensures twice { (path : List ℕ) → IsErrOf result (SiteFault.PathTwice path) → PathsDiffer (children file.root) → ⊥ }
     {
         let missing = match no_such_object(alloc) {
             Ok(missing) => missing,
             Err(AllocError) => return Err(SiteFault::Memory),
         };
-        let rows = match by_path(alloc, root.children()) {
+        let rows = match by_path(alloc, file.root.children()) {
             Ok(rows) => rows,
             Err(SiteFault::PathTwice(path)) => return Err(SiteFault::PathTwice(path)),
             Err(SiteFault::Memory) => return Err(SiteFault::Memory),
         };
         Ok(Site {
-            root,
+            file,
             rows,
             missing,
         })
+    }
+
+    /// The xmlns of its document, which each answer has.
+    pub fn ns(&self) -> Option<&Text>
+        ensures { option_copied result ≡ self.now.ns }
+    {
+        self.file.ns.as_ref()
     }
 
     /// The object that a request is answered with: the one at its target, or the err.
@@ -136,8 +146,8 @@ impl Site {
         ensures { result.now ≡ reply_of self.now request.now }
     {
         let path = request.target.as_str();
-        if is_at(&self.root, path) {
-            return &self.root;
+        if is_at(&self.file.root, path) {
+            return &self.file.root;
         }
         match self.rows.get(path) {
             Some(row) => row,

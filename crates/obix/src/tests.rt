@@ -55,10 +55,11 @@ struct Came {
     errors: Vec<u8>,
 }
 
-// A run of `stdio` over this site and input, in pieces of this length.
-fn served(
+// A run of a command over the file `file.xml` and this input, in pieces of this length.
+fn ran(
     alloc: Global,
-    site: &[u8],
+    command: &str,
+    file: &[u8],
     input: &[u8],
     piece: usize,
     failing: Failing,
@@ -67,16 +68,16 @@ fn served(
 {
     let mut list = Vec::new(alloc);
     list.push(NamedFile {
-        name: String::from_str(alloc, "site.xml")?,
-        bytes: site.to_vec(alloc)?,
+        name: String::from_str(alloc, "file.xml")?,
+        bytes: file.to_vec(alloc)?,
     })?;
     let mut files = MemFiles::new(list, failing.files);
     let mut source = MemSource::new(input.to_vec(alloc)?, piece, failing.reads);
     let mut sink = MemSink::new(alloc, piece, failing.writes);
     let mut errors = MemSink::new(alloc, piece, failing.errors);
     let mut words = Vec::new(alloc);
-    words.push(String::from_str(alloc, "stdio")?)?;
-    words.push(String::from_str(alloc, "site.xml")?)?;
+    words.push(String::from_str(alloc, command)?)?;
+    words.push(String::from_str(alloc, "file.xml")?)?;
     let exit = run(
         alloc,
         &words,
@@ -95,10 +96,23 @@ fn served(
     })
 }
 
+// A run of `stdio` over this site and input, in pieces of this length.
+fn served(
+    alloc: Global,
+    site: &[u8],
+    input: &[u8],
+    piece: usize,
+    failing: Failing,
+) -> Result<Came, AllocError>
+    requires { 0 < piece }
+{
+    ran(alloc, "stdio", site, input, piece, failing)
+}
+
 #[test]
 fn answers_and_ends(rt: HostRuntime) -> Result<(), Fail> {
     let alloc = rt.alloc();
-    let rows: [(&str, &[u8], &[u8], Exit, &[u8], &[u8]); 9] = [
+    let rows: [(&str, &[u8], &[u8], Exit, &[u8], &[u8]); 10] = [
         ("a row", SITE, GET_N, Exit::Ok, SEVEN, b""),
         (
             "two requests",
@@ -148,6 +162,14 @@ fn answers_and_ends(rt: HostRuntime) -> Result<(), Fail> {
             Exit::Refused,
             b"",
             b"obix: refused: LaterForm\n",
+        ),
+        (
+            "no document",
+            b"<obj href=\"http://h/obix/\"><int val=\"x\"/></obj>",
+            GET_N,
+            Exit::Refused,
+            b"",
+            b"obix: refused: Value NotNumber at 32\n",
         ),
         (
             "two rows of one name",
@@ -293,12 +315,19 @@ fn faults_of_errors_change_nothing(rt: HostRuntime) -> Result<(), Fail> {
 #[test]
 fn other_words_are_usage(rt: HostRuntime) -> Result<(), Fail> {
     let alloc = rt.alloc();
-    let rows: [&[&str]; 5] = [
+    let rows: [&[&str]; 12] = [
         &[],
         &["stdio"],
         &["stdio", "-x"],
         &["stdio", "a", "b"],
+        &["stdio", "a\u{1}"],
         &["serve", "a"],
+        &["check"],
+        &["check", "-x"],
+        &["check", "--", "a"],
+        &["check", "a", "b"],
+        &["check", "a\u{FFFE}"],
+        &["-x", "check", "a"],
     ];
     for row in rows {
         let mut words = Vec::new(alloc);
@@ -320,6 +349,213 @@ fn other_words_are_usage(rt: HostRuntime) -> Result<(), Fail> {
         assert_eq!(rt; exit, Exit::Usage);
         assert!(rt; errors.bytes() == Some(b"obix: usage\n".as_slice()));
         assert_eq!(rt; exit.status(), 1);
+    }
+    Ok(())
+}
+
+// The bytes of these texts, one after the other.
+fn joined(alloc: Global, parts: &[&[u8]]) -> Result<Vec<u8>, AllocError> {
+    let mut bytes = Vec::new(alloc);
+    for part in parts {
+        bytes.extend_from_slice(part)?;
+    }
+    Ok(bytes)
+}
+
+const DEEP: &[u8] =
+    b"<obj><obj><obj><obj><obj><obj><obj><obj><obj><obj><obj><obj><obj><obj><obj><obj><obj><obj><obj><obj><obj><obj><obj><obj><obj><obj><obj><obj><obj><obj><obj><obj><obj>";
+
+const MARKED: &[u8] =
+    b"\xEF\xBB\xBF<?xml version=\"1.0\" encoding=\"UTF-8\"?><?xml-stylesheet type='text/xsl' href='/x'?>\n<real name='t' val='72.50' unit='obix:units/fahrenheit' xmlns='http://obix.org/ns/schema/1.0' xmlns:xsi='u' xsi:schemaLocation='a b'/>";
+
+const MARKED_PRINTED: &[u8] =
+    b"<real xmlns=\"http://obix.org/ns/schema/1.0\" name=\"t\" val=\"72.5\" unit=\"obix:units/fahrenheit\"/>\n";
+
+#[test]
+fn prints_the_canonical_document(rt: HostRuntime) -> Result<(), Fail> {
+    let alloc = rt.alloc();
+    let rows: [(&str, &[u8], &[u8]); 5] = [
+        (
+            "a mark, a declaration, a stylesheet",
+            MARKED,
+            MARKED_PRINTED,
+        ),
+        (
+            "references",
+            b"<str val=\"&#x20AC;\xE2\x82\xAC&#10;\"/>",
+            b"<str val=\"\xE2\x82\xAC\xE2\x82\xAC&#10;\"/>\n",
+        ),
+        ("an attribute of no object", b"<obj a0=\"\"/>", b"<obj/>\n"),
+        (
+            "an xmlns within",
+            b"<obj xmlns='u'><int xmlns='v' val=' +07 '/></obj>",
+            b"<obj xmlns=\"u\"><int val=\"7\"/></obj>\n",
+        ),
+        (
+            "comments and white space",
+            b" <!-- c --> <obj > <!-- d --> <bool val='1' /> </obj > ",
+            b"<obj><bool val=\"true\"/></obj>\n",
+        ),
+    ];
+    for (name, file, printed) in rows {
+        let came = ran(alloc, "check", file, b"", 65_536, Failing::none(alloc))?;
+        assert_eq!(rt; came.exit, Exit::Ok, "{name}");
+        assert_eq!(rt; came.output.as_slice(), printed, "{name}");
+        assert_eq!(rt; came.errors.len(), 0, "{name}");
+    }
+    Ok(())
+}
+
+#[test]
+fn says_why_a_document_is_refused(rt: HostRuntime) -> Result<(), Fail> {
+    let alloc = rt.alloc();
+    let rows: [(&[u8], &[u8]); 18] = [
+        (b"<real val=\"NaN\"/>", b"Value NotFinite at 6"),
+        (b"<real val=\"1000000000000000000\"/>", b"Value Digits at 6"),
+        (b"<int val=\"-9223372036854775809\"/>", b"Value Range at 5"),
+        (b"<int val=\"x\"/>", b"Value NotNumber at 5"),
+        (b"<bool val=\"x\"/>", b"Value NotBool at 6"),
+        (b"<date val=\"x\"/>", b"Value NotTime at 6"),
+        (b"<obj status=\"x\"/>", b"Value NotStatus at 5"),
+        (b"<obj name=\"\"/>", b"Value NotName at 5"),
+        (b"<int val=\"1\" val=\"2\"/>", b"Twice at 13"),
+        (
+            b"<obj><int name=\"a\"/><int name=\"a\"/></obj>",
+            b"SameName at 25",
+        ),
+        (b"<obj></int>", b"Mismatch at 5"),
+        (b"<foo/>", b"Element at 0"),
+        (b"<obj>x</obj>", b"Text at 5"),
+        (b"<obj>", b"Ended at 5"),
+        (b"", b"Ended at 0"),
+        (b"<!DOCTYPE obj>", b"Markup at 0"),
+        (b"<str val=\"&x;\"/>", b"Markup at 10"),
+        (DEEP, b"Deep at 160"),
+    ];
+    for (file, words) in rows {
+        let line = joined(alloc, &[b"obix: refused: ", words, b"\n"])?;
+        for command in ["check", "stdio"] {
+            let came = ran(alloc, command, file, GET_N, 65_536, Failing::none(alloc))?;
+            assert_eq!(rt; came.exit, Exit::Refused, "{words:?}");
+            assert_eq!(rt; came.exit.status(), 2);
+            assert_eq!(rt; came.output.len(), 0, "{words:?}");
+            assert_eq!(rt; came.errors.as_slice(), line.as_slice(), "{words:?}");
+        }
+    }
+    Ok(())
+}
+
+#[test]
+fn a_file_of_more_than_16_777_216_bytes_is_big(rt: HostRuntime) -> Result<(), Fail> {
+    let alloc = rt.alloc();
+    let file = vec![in alloc; b' '; 16_777_217]?;
+    let came = ran(alloc, "check", &file, b"", 65_536, Failing::none(alloc))?;
+    assert_eq!(rt; came.exit, Exit::Refused);
+    assert_eq!(rt;
+        came.errors.as_slice(),
+        b"obix: refused: Big at 16777216\n".as_slice()
+    );
+    Ok(())
+}
+
+#[test]
+fn each_call_of_a_check_fails_in_turn(rt: HostRuntime) -> Result<(), Fail> {
+    let alloc = rt.alloc();
+    let mut failing = Failing::none(alloc);
+    failing.files = vec![in alloc; 0u64]?;
+    let came = ran(alloc, "check", MARKED, b"", 10, failing)?;
+    assert_eq!(rt; came.exit, Exit::ReadFault);
+    assert_eq!(rt; came.output.len(), 0);
+    assert_eq!(rt; came.errors.as_slice(), b"obix: read fault\n".as_slice());
+    let mut calls = 0;
+    for n in 0..100u64 {
+        let mut failing = Failing::none(alloc);
+        failing.writes = vec![in alloc; n]?;
+        let came = ran(alloc, "check", MARKED, b"", 10, failing)?;
+        if came.exit == Exit::Ok {
+            assert_eq!(rt; came.output.as_slice(), MARKED_PRINTED);
+            calls = n;
+            break;
+        }
+        assert_eq!(rt; came.exit, Exit::WriteFault, "write {n} fails");
+        assert!(rt; MARKED_PRINTED.starts_with(&came.output), "write {n} fails");
+        assert_eq!(rt; came.errors.as_slice(), b"obix: write fault\n".as_slice());
+    }
+    assert_eq!(rt; calls, 10);
+    let mut failing = Failing::none(alloc);
+    failing.reads = vec![in alloc; 0u64]?;
+    failing.errors = vec![in alloc; 0u64]?;
+    let came = ran(alloc, "check", MARKED, b"", 65_536, failing)?;
+    assert_eq!(rt; came.exit, Exit::Ok, "it reads no source and says nothing");
+    Ok(())
+}
+
+#[test]
+fn a_site_is_a_document(rt: HostRuntime) -> Result<(), Fail> {
+    let alloc = rt.alloc();
+    let site: &[u8] =
+        b"<?xml version='1.0'?>\n<!-- a site --><obj xmlns='u' href='http://h/obix/' more=''>\n <int val='+07' href='/obix/n'/>\n</obj>\n";
+    let came = served(alloc, site, GET_N, 65_536, Failing::none(alloc))?;
+    assert_eq!(rt; came.exit, Exit::Ok);
+    assert_eq!(rt;
+        came.output.as_slice(),
+        b"HTTP/1.1 200 OK\r\nContent-Type: text/xml\r\nContent-Length: 39\r\n\r\n<int xmlns=\"u\" href=\"/obix/n\" val=\"7\"/>".as_slice()
+    );
+    let missing = served(
+        alloc,
+        site,
+        b"GET /obix/x HTTP/1.1\r\n\r\n",
+        65_536,
+        Failing::none(alloc),
+    )?;
+    assert_eq!(rt;
+        missing.output.as_slice(),
+        b"HTTP/1.1 200 OK\r\nContent-Type: text/xml\r\nContent-Length: 61\r\n\r\n<err xmlns=\"u\" is=\"obix:BadUriErr\" display=\"no such object\"/>".as_slice()
+    );
+    Ok(())
+}
+
+#[test]
+fn other_documents_are_of_a_later_form(rt: HostRuntime) -> Result<(), Fail> {
+    let alloc = rt.alloc();
+    let roots: [&[u8]; 8] = [
+        b"<int href=\"http://h/obix/\"/>",
+        b"<obj/>",
+        b"<obj href=\"http:///obix/\"/>",
+        b"<obj href=\"http://H/obix/\"/>",
+        b"<obj href=\"http://h/obix\"/>",
+        b"<obj href=\"https://h/obix/\"/>",
+        b"<obj href=\"http://h/obix/\" is=\"obix:Lobby\"/>",
+        b"<obj href=\"http://h/obix/\" null=\"true\"/>",
+    ];
+    for root in roots {
+        let came = served(alloc, root, GET_N, 65_536, Failing::none(alloc))?;
+        assert_eq!(rt;
+            came.errors.as_slice(),
+            b"obix: refused: LaterForm\n".as_slice(),
+            "{root:?}"
+        );
+    }
+    let rows: [&[u8]; 10] = [
+        b"<real href=\"/obix/n\" val=\"7\"/>",
+        b"<int val=\"7\"/>",
+        b"<int href=\"/obix/n\"/>",
+        b"<int href=\"/obix/n\" null=\"true\"/>",
+        b"<int href=\"/obix/\" val=\"7\"/>",
+        b"<int href=\"/obix/N\" val=\"7\"/>",
+        b"<int href=\"n\" val=\"7\"/>",
+        b"<int href=\"/obix/n\" val=\"7\" name=\"n\"/>",
+        b"<int href=\"/obix/n\" val=\"7\" min=\"0\"/>",
+        b"<int href=\"/obix/n\" val=\"7\"><obj/></int>",
+    ];
+    for row in rows {
+        let site = joined(alloc, &[b"<obj href=\"http://h/obix/\">", row, b"</obj>"])?;
+        let came = served(alloc, &site, GET_N, 65_536, Failing::none(alloc))?;
+        assert_eq!(rt;
+            came.errors.as_slice(),
+            b"obix: refused: LaterForm\n".as_slice(),
+            "{row:?}"
+        );
     }
     Ok(())
 }

@@ -14,7 +14,7 @@ requests-init g c = record {
 pub returns-in_default-clause-answers : goal.returns-in_default-clause-answers
 returns-in_default-clause-answers g c =
     let begins = rw c.in-Ok-Some.field-0-is at c.in-Ok-Some.ensures.request in
-    let grown = c.requests.out.items ++ spoken_one (reply_of c.args.site.now c.in-Ok-Some.request) in
+    let grown = c.requests.out.items ++ spoken_one c.args.site.now.ns (reply_of c.args.site.now c.in-Ok-Some.request) in
     broken_off _ _ _ _ _ grown _ (one_taken _ _ _ _ _ _ c.requests.out.items grown c.in-Ok-Some.request c.requests.invariant.answering begins refl) refl tt
 
 pub returns-in_default-flush_full-clause-answers : goal.returns-in_default-flush_full-clause-answers

@@ -1,0 +1,4 @@
+pub mod Fitting
+pub mod Accepted
+pub mod Backwards
+pub mod Verdicts

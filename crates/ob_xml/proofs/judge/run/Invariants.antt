@@ -1,0 +1,19 @@
+use Rattle.std.proofs.Common.{◌≡◌, ℕ, ◌+◌, ◌-◌, ◌≤◌, List, ◌++◌, length, true}
+use Rattle.ob_xml.specs.Structure.{IsSound}
+use Rattle.ob_xml.specs.Judged.{is_open}
+use Rattle.ob_xml.specs.Leading.{Leads}
+use Rattle.ob_xml.specs.Views.{state_of}
+use Rattle.ob_xml.proofs.judge.run.Given as goal
+
+abbrev pub invariant-turns : goal.invariant-turns
+invariant-turns l = record {
+  inside : l.at ≤ length l.bytes;
+  begins : l.from ≤ l.at;
+  unfinished : is_open (state_of l.state) ≡ true;
+  sound : IsSound (state_of l.state);
+  leads : (gone : List ℕ) → l.base ≡ length gone → Leads l.end (gone ++ l.bytes) (state_of l.fn.state) (l.base + l.fn.at) l.base
+      → Leads l.end (gone ++ l.bytes) (state_of l.state) (l.base + l.at) (l.base + l.from);
+}
+
+abbrev pub decreases-turns : goal.decreases-turns
+decreases-turns l = length l.bytes - l.at

@@ -1,0 +1,99 @@
+//! An element that is open.
+
+ghost use Rattle.std.specs.Prelude.{◌≡◌, false, Some, IfOk};
+ghost use Rattle.ob_object.specs.Fits.{fits_head};
+ghost use Rattle.ob_object.specs.Object.{none, children};
+ghost use Rattle.ob_object.specs.WellFormed.{is_taken, with_child};
+ghost use Rattle.ob_xml.specs.Indexes.{with_name};
+ghost use Rattle.std.specs.Prelude.{IsTrue};
+
+use crate::names::Names;
+use ob_object::{Head, Kind, Obj};
+use std::alloc::{AllocError, Global};
+use std::marker::Model;
+
+/// An element whose end tag hasn't come, with the names of its children. It is seen as the object so far.
+#[derive(Drop)]
+pub struct Open {
+    obj: Obj,
+    names: Names,
+}
+
+impl Model for Open {
+    ghost use Rattle.ob_object.specs.Object.{Object, children};
+    ghost use Rattle.ob_object.specs.contracts.object.Obj.{the_row};
+    ghost use Rattle.ob_xml.specs.Indexes.{IsIndex};
+
+    ghost Value = { Object };
+
+    ghost coded = { the_row.coded };
+
+    ghost view = { λ o. o.obj };
+
+    ghost invariant = { λ o. IsIndex o.names (children o.obj) };
+}
+
+/// The names with that of an object, if it has one.
+fn with_name_of(alloc: Global, names: Names, child: &Obj) -> Result<Names, AllocError>
+    ensures { IfOk result (λ n. n ≡ with_name child.now.head.name names) }
+{
+    match child.name() {
+        Some(name) => names.with(alloc, name.as_str().as_bytes()),
+        None => Ok(names),
+    }
+}
+
+/// Want of memory, after which these aren't needed.
+fn lost<T: Drop>(_parts: T) -> Result<Open, AllocError>
+    ensures { IfOk result (λ _. ⊥) }
+{
+    Err(AllocError)
+}
+
+impl Open {
+    pub fn new(alloc: Global, head: Head) -> Open
+        requires { IsTrue (fits_head head) }
+        ensures { result ≡ record { head = head; inner = none } }
+    {
+        Open {
+            obj: Obj::from_head(alloc, head),
+            names: Names::new(alloc),
+        }
+    }
+
+    pub fn kind(&self) -> Kind
+        ensures { result ≡ self.now.head.kind }
+    {
+        self.obj.kind()
+    }
+
+    /// Whether a child has the name.
+    pub fn has(&self, name: &[u8]) -> bool
+        ensures { result ≡ is_taken (Some name.now) (children self.now) }
+    {
+        self.names.has(name)
+    }
+
+    /// The element with one more child, whose name no child has.
+    pub fn with_child(self, alloc: Global, child: Obj) -> Result<Open, AllocError>
+        requires { is_taken child.head.name (children self) ≡ false }
+        ensures { IfOk result (λ o. o ≡ with_child self child) }
+    {
+        let Open { mut obj, names } = self;
+        match with_name_of(alloc, names, &child) {
+            Ok(names) => match obj.push_new(child) {
+                Ok(()) => Ok(Open { obj, names }),
+                Err(child) => lost((obj, names, child)),
+            },
+            Err(_) => lost((obj, child)),
+        }
+    }
+
+    /// The whole element.
+    pub fn into_obj(self) -> Obj
+        ensures { result ≡ self }
+    {
+        let Open { obj, names: _ } = self;
+        obj
+    }
+}
