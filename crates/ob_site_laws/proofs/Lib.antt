@@ -1,0 +1,11 @@
+pub mod Same
+pub mod Boards
+pub mod Growth
+pub mod Rolling
+pub mod Nameless
+pub mod Heard
+pub mod Told
+pub mod Answerable
+pub mod Lawful
+pub mod Endless
+pub mod SiteHistories

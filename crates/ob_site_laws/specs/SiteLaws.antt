@@ -1,0 +1,87 @@
+-- The laws of the watches of the whole site, over every legal history from any sound state.
+use Rattle.std.specs.Prelude.{◌≡◌, ◌≢◌, ℕ, ◌^◌, ◌<◌, List, ◌++◌, Option, Some, None}
+use Rattle.std.specs.List.{AllByRecursion}
+use Rattle.ob_machine.specs.History.{left_by, after, IsLegal}
+use Rattle.ob_machine.specs.declared.call.Entry.{Entry}
+use Rattle.ob_object.specs.Object.{Object}
+use Rattle.ob_watching.specs.Sites.{Site}
+use Rattle.ob_watching.specs.Tables.{lookup}
+use Rattle.ob_watching.specs.Watches.{Object as ObjectItem, Feed as FeedItem, Tracked, Watch, IsSound}
+use Rattle.ob_watching.specs.Clients.{calls, replay, watched}
+use Rattle.ob_watching.specs.Laws.{Begins, Ends, Holds, WasMade, IsMake, IsOn, IsNotFound, standing_after}
+use Rattle.ob_watching.specs.Laws as watches
+use Rattle.ob_site_rules.specs.declared.request.Request.{Request}
+use Rattle.ob_site_rules.specs.Locating.{locate}
+use Rattle.ob_site_rules.specs.Build.{Path}
+use Rattle.ob_site_rules.specs.State.{Plan, Log, State, at}
+use Rattle.ob_site_rules.specs.Places.{Place, FeedOf, event_places}
+use Rattle.ob_site_rules.specs.Sites.{SiteState, site, step}
+
+-- what a request at a moment leaves of the whole site, and the reply
+abbrev pub acts : SiteState → Request → ℕ → SiteState × Object
+acts = step locate
+
+-- the site of a plan, as its watches see it
+abbrev pub of_plan : Plan → Site
+of_plan plan = site locate plan
+
+abbrev pub Call : Type 0
+Call = Entry Request Object
+
+-- numbers of watches rise and stay below the next one, no watch has an href twice, each history is within its capacity
+abbrev pub IsSoundSite : SiteState → Type 0
+IsSoundSite st = IsSound (of_plan st.plan) st.world
+
+-- a state that a legal history leads to is sound, of the same plan, and is what the watches' step leaves
+abbrev pub Stays : Type 0
+Stays = (start : SiteState) → IsSoundSite start → (es : List Call) →
+    (after acts start es ≡ record { plan = start.plan; world = watches.after (of_plan start.plan) start.world es }) × IsSoundSite (after acts start es)
+
+-- A client that replays the calls on a watch from its make on, or from any pollRefresh on, holds after each answered
+-- poll what is watched.
+abbrev pub ClientsHold : ℕ → Type 0
+ClientsHold n = n < 2 ^ 64 → (start : SiteState) → IsSoundSite start →
+    (before part : List Call) → IsLegal acts start (before ++ part) →
+    Begins (of_plan start.plan) n part → Ends (of_plan start.plan) n part →
+    Holds (of_plan start.plan) n (after acts start before).world part
+
+-- A watch that was made and is gone, deleted or lapsed, never comes back; no make answers with its number again, and
+-- each request for it is answered with BadUriErr or for want of memory.
+abbrev pub GoneForGood : ℕ → Type 0
+GoneForGood n = n < 2 ^ 64 → (start : SiteState) → IsSoundSite start →
+    (before later : List Call) → IsLegal acts start (before ++ later) →
+    WasMade (of_plan start.plan) start.world n before → lookup n (after acts start before).world.watches ≡ None →
+    (lookup n (after acts start (before ++ later)).world.watches ≡ None)
+    × AllByRecursion (λ e. (IsMake (of_plan start.plan) n e → ⊥) × (IsOn (of_plan start.plan) n e → IsNotFound (of_plan start.plan) e.answer)) later
+
+-- A request for one watch leaves every other as it was; but an answered one drops those that have lapsed.
+abbrev pub OthersStay : ℕ → Type 0
+OthersStay n = (st : SiteState) → IsSoundSite st → (e : Call) → IsOn (of_plan st.plan) n e →
+    (k : ℕ) → k ≢ n →
+    let next = (left_by acts st e.request e.moment e.answer).world in
+    lookup k next.watches ≡ standing_after (of_plan st.plan) e.answer next.time (lookup k st.world.watches)
+
+-- how many records a history keeps at most, if not all
+abbrev pub capacity_in : Option Log → Option ℕ
+capacity_in None = None
+capacity_in (Some l) = l.capacity
+
+-- the feed keeps all its events: of a history, it has no capacity
+abbrev pub KeepsAll : State → Option Place → Type 0
+KeepsAll s (Some (FeedOf h)) = capacity_in (at h s.logs) ≡ None
+KeepsAll s place = Unit {0}
+
+abbrev pub KeepsAllOf : (plan : Plan) → State → Path → Tracked (of_plan plan) → Type 0
+KeepsAllOf plan s path (ObjectItem changed) = Unit {0}
+KeepsAllOf plan s path (FeedItem bounds given) = KeepsAll s (at path (event_places plan))
+
+-- Where the feeds of a watch have no capacity, what a client holds equals as a list what a pollRefresh would give:
+-- each object, and each feed with all its events that pass, each once.
+abbrev pub ClientsHoldAll : ℕ → Type 0
+ClientsHoldAll n = n < 2 ^ 64 → (start : SiteState) → IsSoundSite start →
+    (before part : List Call) → IsLegal acts start (before ++ part) →
+    Begins (of_plan start.plan) n part → Ends (of_plan start.plan) n part →
+    let end = watches.after (of_plan start.plan) (after acts start before).world part in
+    (v : Watch (of_plan start.plan)) → lookup n end.watches ≡ Some v →
+    AllByRecursion (λ item. KeepsAllOf start.plan start.world.site item.path item.tracked) v.items →
+    Some (replay (of_plan start.plan) (calls (of_plan start.plan) n part)) ≡ watched (of_plan start.plan) n end

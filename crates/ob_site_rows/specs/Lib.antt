@@ -1,0 +1,3 @@
+pub mod Printing
+pub mod Worked
+pub mod Rows

@@ -1,0 +1,16 @@
+pub mod Build
+pub mod Faults
+pub mod State
+pub mod Paths
+pub mod Sameness
+pub mod Shown
+pub mod Entries
+pub mod Computed
+pub mod Places
+pub mod Writes
+pub mod Posts
+pub mod Actions
+pub mod Watched
+pub mod Replies
+pub mod Sites
+pub mod Locating

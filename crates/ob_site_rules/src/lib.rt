@@ -1,0 +1,6 @@
+//! What the site is, as definitions.
+#![tactic(auto)]
+
+mod request;
+
+pub use request::Request;

@@ -1,0 +1,14 @@
+//! What is asked of a site.
+use ob_object::Obj;
+use ob_values::{Text, Verb};
+
+/// A request: what is to be done, to the object that a text names, with an object as input.
+///
+/// Source: oBIX 1.1, chapter 10 (Networking): Read, Write and Invoke.
+#[derive(Drop)]
+pub struct Request {
+    pub verb: Verb,
+    /// The href of the target, as it was asked.
+    pub target: Text,
+    pub body: Option<Obj>,
+}

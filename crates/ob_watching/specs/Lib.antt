@@ -1,0 +1,8 @@
+pub mod Asked
+pub mod Sites
+pub mod Tables
+pub mod Watches
+pub mod Clients
+pub mod Laws
+pub mod Small
+pub mod Rows

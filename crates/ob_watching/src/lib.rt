@@ -1,0 +1,67 @@
+//! Watches over any site: their state and their step, and their laws over every legal history.
+//!
+//! A site is a record of parameters (`specs/Sites.antt`); watches are a layer over it
+//! (`specs/Watches.antt`), and the laws (`specs/Laws.antt`) are proved once, for any site that is lawful
+//! (`proofs/Laws.antt`). The functions here state them of a small closed site (`specs/Small.antt`), with
+//! worked rows (`specs/Rows.antt`); they do nothing.
+#![tactic(auto)]
+
+ghost use Rattle.ob_watching.specs.Laws.{LeavesOthers, WatchReplays, WatchStaysGone};
+ghost use Rattle.ob_watching.specs.Rows.{AddedAnew, AfterNoMemory, BackInOneBatch, DeletedIsGone, DroppedAlone, DroppedIsTold, EventOnce, FirstOfEqual, FromThen, HeldAfterRolling, LapsesThen, LastMoment, LastNumber, LastOfBatch, NextNumber, NoNumber, NotByOthers, NotInABatch, NotOneItemMore, NotOneMore, NothingNew, OnceTheyLapsed, OthersStand, RenewedByOwn, RolledAfterTold, StillMarked, ThenNothing, ThereAndBack, TimeStays, TouchedAtLatest};
+ghost use Rattle.ob_watching.specs.Small.{small};
+
+/// After each answered poll a client that has replayed the replies on the watch, from its make on or from
+/// any pollRefresh on, holds what is watched: the same hrefs in the same order, each object as it is shown,
+/// each kept event of a feed once, and what rolled off unreported counted.
+///
+/// Source: oBIX 1.1, chapter Watches; rolling feeds are this project's own.
+pub fn watch_replay(watch: u64)
+    ensures { WatchReplays small watch }
+{}
+
+/// A watch that was deleted or has lapsed never comes back, its number isn't given again, and each later
+/// request for it is answered with BadUriErr or for want of memory.
+///
+/// Source: oBIX 1.1, chapter Watches (Watch.lease, Watch.delete).
+pub fn watch_gone(watch: u64)
+    ensures { WatchStaysGone small watch }
+{}
+
+/// A request for this watch leaves every other watch as it was, but drops those that have lapsed.
+pub fn others_stay(watch: u64)
+    ensures { LeavesOthers small watch }
+{}
+
+/// Worked rows, each a reply that is computed from the definitions.
+pub fn worked_rows()
+    ensures there_and_back { ThereAndBack }
+    ensures still_marked { StillMarked }
+    ensures nothing_new { NothingNew }
+    ensures back_in_one_batch { BackInOneBatch }
+    ensures last_of_batch { LastOfBatch }
+    ensures last_moment { LastMoment }
+    ensures lapses_then { LapsesThen }
+    ensures renewed_by_own { RenewedByOwn }
+    ensures not_by_others { NotByOthers }
+    ensures others_stand { OthersStand }
+    ensures time_stays { TimeStays }
+    ensures touched_at_latest { TouchedAtLatest }
+    ensures next_number { NextNumber }
+    ensures deleted_is_gone { DeletedIsGone }
+    ensures event_once { EventOnce }
+    ensures added_anew { AddedAnew }
+    ensures then_nothing { ThenNothing }
+    ensures from_then { FromThen }
+    ensures first_of_equal { FirstOfEqual }
+    ensures not_in_a_batch { NotInABatch }
+    ensures dropped_is_told { DroppedIsTold }
+    ensures rolled_after_told { RolledAfterTold }
+    ensures dropped_alone { DroppedAlone }
+    ensures held_after_rolling { HeldAfterRolling }
+    ensures after_no_memory { AfterNoMemory }
+    ensures last_number { LastNumber }
+    ensures no_number { NoNumber }
+    ensures not_one_more { NotOneMore }
+    ensures once_they_lapsed { OnceTheyLapsed }
+    ensures not_one_item_more { NotOneItemMore }
+{}
