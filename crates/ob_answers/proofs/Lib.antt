@@ -1,0 +1,3 @@
+pub mod Printable
+pub mod Nameless
+pub mod Ends

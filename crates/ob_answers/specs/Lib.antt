@@ -1,0 +1,4 @@
+pub mod Told
+pub mod Plans
+pub mod Abouts
+pub mod WatchChildren

@@ -1,0 +1,36 @@
+//! What is fixed when a site is opened.
+use ob_alarms::Num;
+use ob_href::Base;
+use ob_values::{Moment, Text};
+
+/// Values of the source outside these limits raise an alarm.
+#[derive(Drop)]
+pub struct PointRule {
+    /// The path of the point.
+    pub source: Text,
+    pub low: Num,
+    pub high: Num,
+    pub needs_ack: bool,
+}
+
+/// What is fixed when a site is opened.
+#[derive(Drop)]
+pub struct Plan {
+    /// The URL of the root.
+    pub base: Base,
+    /// The path of the root.
+    pub root: Text,
+    /// The moment of opening.
+    pub boot: Moment,
+    /// Whether the root is a lobby.
+    pub lobby: bool,
+    /// The paths of the writable points.
+    pub points: Vec<Text>,
+    /// The path of each history, with that of its source, if it has one.
+    pub histories: Vec<(Text, Option<Text>)>,
+    /// The path of the alarm subject.
+    pub subject: Option<Text>,
+    pub rules: Vec<PointRule>,
+    /// The texts of the About object that the site replaces, each behind its name.
+    pub about: Vec<(Text, Text)>,
+}

@@ -1,0 +1,173 @@
+//! Watches, and what they answer.
+ghost use Rattle.std.specs.Prelude.{◌≡◌, ◌<◌, ◌^◌, ◌++◌, ◌∷◌, [], Some, codes, pos, true, is_none, IsTrue, IfOk};
+ghost use Rattle.std.specs.List.{list_all};
+ghost use Rattle.ob_values.specs.XmlText.{is_printable};
+ghost use Rattle.ob_object.specs.Object.{children, in_row, empty_head};
+ghost use Rattle.ob_object.specs.Fits.{fits_head};
+ghost use Rattle.ob_object.specs.Words.{is_word};
+ghost use Rattle.ob_site_rules.specs.Build.{op_at, under_href};
+ghost use Rattle.ob_site_rules.specs.Computed.{watch_object, watch_part_object, watch_out};
+ghost use Rattle.ob_answers.specs.WatchChildren.{span_value, lease_at, child_at};
+ghost use Rattle.ob_answers.specs.Plans.{plan as plan_of};
+ghost use Rattle.ob_answers.specs.Told as told;
+
+use crate::build::{head_of, nameless, obj_with, op_at, put_last, put_nameless};
+use crate::paths::watch_path;
+use crate::plan::Plan;
+use ob_object::{Kind, Obj, Slot};
+use ob_times::Reltime;
+use ob_values::{Text, Value};
+use std::alloc::{AllocError, Global};
+
+const SECOND: u64 = 1_000_000_000;
+
+const DAY: u64 = 86_400_000_000_000;
+
+/// A watch, its lease, or one of its ops.
+#[derive(Clone, Copy, PartialEq, Eq, Debug)]
+pub enum WatchPart {
+    Whole,
+    Lease,
+    Add,
+    Remove,
+    PollChanges,
+    PollRefresh,
+    Delete,
+}
+
+/// A span without months.
+fn span(nanos: u64) -> Value
+    requires { nanos < 2 ^ 63 }
+    ensures { result ≡ span_value nanos }
+{
+    match Reltime::new(0, nanos as i64) {
+        Some(span) => Value::Reltime(span),
+        None => unreachable!(),
+    }
+}
+
+/// The lease of a watch in nanoseconds, from a second to a day, as it stands in the watch.
+fn lease_child(alloc: Global, path: &Text, lease: u64) -> Result<Obj, AllocError>
+    requires { lease < 2 ^ 63 }
+    ensures { IfOk result (λ o. o ≡ lease_at path.now lease) }
+{
+    let name = Text::from_ascii(alloc, "lease")?;
+    let href = path.followed_by(alloc, "lease")?;
+    let mut head = head_of(Kind::Reltime);
+    head.name = Some(name);
+    head.href = Some(href);
+    head.slot = Slot::Is(span(lease));
+    head.facets.min = Some(span(SECOND));
+    head.facets.max = Some(span(DAY));
+    head.facets.writable = Some(true);
+    Ok(Obj::from_head(alloc, head))
+}
+
+/// An op of a watch.
+fn watch_op(
+    alloc: Global,
+    path: &Text,
+    name: &str,
+    takes: &str,
+    gives: &str,
+) -> Result<Obj, AllocError>
+    requires printable { IsTrue (is_printable name.now) }
+    requires printable_input { IsTrue (is_printable takes.now) }
+    requires printable_output { IsTrue (is_printable gives.now) }
+    requires input { IsTrue (is_word takes.now) }
+    requires output { IsTrue (is_word gives.now) }
+    requires fits { IsTrue (fits_head (op_at name.now (path.now ++ name.now) takes.now gives.now).head) }
+    ensures { IfOk result (λ o. o ≡ op_at name.now (path.now ++ name.now) takes.now gives.now) }
+{
+    let href = path.followed_by(alloc, name)?;
+    op_at(alloc, name, href, takes, gives)
+}
+
+/// A part of a watch at a path, as it stands in the watch.
+fn child(alloc: Global, path: &Text, lease: u64, part: WatchPart) -> Result<Obj, AllocError>
+    requires { lease < 2 ^ 63 }
+    ensures { IfOk result (λ o. o ≡ child_at path.now lease (told.part part)) }
+{
+    match part {
+        WatchPart::Whole => Ok(Obj::new(alloc, Kind::Obj)),
+        WatchPart::Lease => lease_child(alloc, path, lease),
+        WatchPart::Add => watch_op(alloc, path, "add", "obix:WatchIn", "obix:WatchOut"),
+        WatchPart::Remove => watch_op(alloc, path, "remove", "obix:WatchIn", "obix:Nil"),
+        WatchPart::PollChanges => watch_op(alloc, path, "pollChanges", "obix:Nil", "obix:WatchOut"),
+        WatchPart::PollRefresh => watch_op(alloc, path, "pollRefresh", "obix:Nil", "obix:WatchOut"),
+        WatchPart::Delete => watch_op(alloc, path, "delete", "obix:Nil", "obix:Nil"),
+    }
+}
+
+/// A watch, with its lease in nanoseconds.
+///
+/// Source: oBIX 1.1, chapter 12 (Watch).
+pub fn watch(alloc: Global, plan: &Plan, number: u64, lease: u64) -> Result<Obj, AllocError>
+    requires { lease < 2 ^ 63 }
+    ensures { IfOk result (λ o. o ≡ watch_object (plan_of plan.now) number lease) }
+{
+    let path = watch_path(alloc, &plan.root, number)?;
+    let href = path.copy()?;
+    let mut object = obj_with(alloc, Some(href), "obix:Watch")?;
+    put_last(&mut object, child(alloc, &path, lease, WatchPart::Lease)?)?;
+    put_last(&mut object, child(alloc, &path, lease, WatchPart::Add)?)?;
+    put_last(&mut object, child(alloc, &path, lease, WatchPart::Remove)?)?;
+    put_last(
+        &mut object,
+        child(alloc, &path, lease, WatchPart::PollChanges)?,
+    )?;
+    put_last(
+        &mut object,
+        child(alloc, &path, lease, WatchPart::PollRefresh)?,
+    )?;
+    put_last(&mut object, child(alloc, &path, lease, WatchPart::Delete)?)?;
+    Ok(object)
+}
+
+/// What is seen of a watch: the whole, or one of its children.
+///
+/// Source: oBIX 1.1, chapter 12 (Watch).
+pub fn watch_part(
+    alloc: Global,
+    plan: &Plan,
+    number: u64,
+    lease: u64,
+    part: WatchPart,
+) -> Result<Obj, AllocError>
+    requires { lease < 2 ^ 63 }
+    ensures { IfOk result (λ o. o ≡ watch_part_object (plan_of plan.now) number lease (told.part part)) }
+{
+    if part == WatchPart::Whole {
+        return watch(alloc, plan, number, lease);
+    }
+    let path = watch_path(alloc, &plan.root, number)?;
+    let object = child(alloc, &path, lease, part)?;
+    Ok(nameless(object))
+}
+
+/// WatchOut, of its entries, which have no names.
+///
+/// Source: oBIX 1.1, chapter 12 (WatchOut).
+pub fn watch_out(alloc: Global, entries: Vec<Obj>) -> Result<Obj, AllocError>
+    requires { list_all (λ o. is_none o.head.name) entries.items ≡ true }
+    ensures { IfOk result (λ o. o ≡ watch_out entries.items) }
+{
+    let name = Text::from_ascii(alloc, "values")?;
+    let mut head = head_of(Kind::List);
+    head.name = Some(name);
+    let mut values = Obj::from_head(alloc, head);
+    put_nameless(&mut values, entries)?;
+    let mut object = obj_with(alloc, None, "obix:WatchOut")?;
+    put_last(&mut object, values)?;
+    Ok(object)
+}
+
+/// An entry of WatchOut: the object under the href that was asked.
+///
+/// Source: oBIX 1.1, chapter 12 (WatchOut).
+pub fn entry(mut object: Obj, text: Text) -> Obj
+    ensures { result ≡ under_href (Some text) object }
+{
+    object.put_href(Some(text));
+    object
+}

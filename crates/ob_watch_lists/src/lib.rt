@@ -1,0 +1,18 @@
+//! The watches of a site as plain lists: their items, leases and numbers.
+//!
+//! Each call makes of the list what the definitions of the watches of a site say (`specs/Lists.antt`;
+//! that these are the definitions of `ob_watching` is the law `as_the_site_says`). Nothing here is fast:
+//! a watch is found by going through the list.
+#![tactic(auto)]
+
+mod item;
+mod laws;
+mod table;
+#[cfg(test)]
+mod tests;
+mod watch;
+
+pub use item::{Item, Tracked};
+pub use laws::as_the_site_says;
+pub use table::Watches;
+pub use watch::Watch;
