@@ -4,6 +4,7 @@
 
 mod encode;
 mod framing;
+mod logs;
 mod turn;
 mod values;
 
@@ -13,11 +14,12 @@ fn main(rt: HostRuntime) -> io::Result<()> {
     let mut words = env::args(&rt)?;
     let _program = words.next();
     let Some(area) = words.next() else {
-        return println!(rt; "usage: ob_bench encode | framing | turn | values FOLDER");
+        return println!(rt; "usage: ob_bench encode | framing | logs | turn | values FOLDER");
     };
     match area.as_str() {
         "encode" => encode::measure(&rt),
         "framing" => framing::measure(&rt),
+        "logs" => logs::measure(&rt),
         "turn" => turn::measure(&rt),
         "values" => match words.next() {
             Some(folder) => values::measure(&rt, folder.as_str()),
