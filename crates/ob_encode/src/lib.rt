@@ -9,6 +9,3 @@ mod names;
 
 pub use element::{encode, write};
 pub use names::{kind_name, status_word};
-
-#[cfg(test)]
-mod tests;

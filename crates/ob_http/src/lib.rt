@@ -21,8 +21,6 @@ mod request_head;
 mod request_text;
 mod seen;
 mod target;
-#[cfg(test)]
-mod tests;
 
 pub use answer::{StatusLine, refusal_bytes, write_answer};
 pub use asked::Asked;

@@ -12,8 +12,6 @@ mod print;
 mod reading;
 mod real;
 mod significand;
-#[cfg(test)]
-mod tests;
 mod text;
 mod truth;
 mod value;
@@ -34,3 +32,19 @@ pub use text::Text;
 pub use truth::read_bool;
 pub use value::{Value, print_value};
 pub use verb::Verb;
+
+/// Texts, values, bytes and moments may go to another thread, and several may read them.
+pub fn crosses_threads() {
+    is_send::<Value>();
+    is_sync::<Value>();
+    is_send::<Text>();
+    is_sync::<Text>();
+    is_send::<Bytes>();
+    is_sync::<Bytes>();
+    is_send::<Moment>();
+    is_sync::<Moment>();
+}
+
+fn is_send<T: Send>() {}
+
+fn is_sync<T: Sync>() {}

@@ -1,4 +1,5 @@
-use crate::{
+//! Each call of the values once, with ample memory.
+use ob_values::{
     Abstime, Bytes, CivilDate, Dec, Moment, Reltime, Text, TextFault, TimeOfDay, Value, ValueFault,
     one_reading, print_value, read_abstime, read_bool, read_date, read_dec, read_int, read_reltime,
     read_time,
@@ -90,20 +91,4 @@ fn gives_back_what_it_was_made_of(rt: HostRuntime) -> Result<(), Fail> {
     assert!(rt; bytes.as_slice() == b"ab".as_slice());
     assert!(rt; bytes.into_vec().len() == 2);
     Ok(())
-}
-
-fn is_send<T: Send>() {}
-
-fn is_sync<T: Sync>() {}
-
-#[test]
-fn crosses_threads() {
-    is_send::<Value>();
-    is_sync::<Value>();
-    is_send::<Text>();
-    is_sync::<Text>();
-    is_send::<Bytes>();
-    is_sync::<Bytes>();
-    is_send::<Moment>();
-    is_sync::<Moment>();
 }

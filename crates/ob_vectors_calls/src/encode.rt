@@ -1,5 +1,5 @@
 //! Expected bytes are typed from the rules of the canonical text.
-use super::*;
+use ob_encode::*;
 use ob_object::{Facets, Kind, Obj, Slot, Status, Words};
 use ob_values::{Abstime, CivilDate, Dec, Reltime, Text, TimeOfDay, Value};
 use std::alloc::Global;

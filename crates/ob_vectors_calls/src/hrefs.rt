@@ -1,5 +1,5 @@
 //! Each call once, with ample memory.
-use super::*;
+use ob_href::*;
 use std::test::Fail;
 
 #[test]

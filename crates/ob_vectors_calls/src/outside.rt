@@ -1,6 +1,5 @@
-ghost use Rattle.std.specs.Prelude.{◌<◌};
-
-use crate::{
+//! The objects in memory by example: pieces, and calls that fail.
+use ob_io::{
     Failed, FileFault, Files, MemFiles, MemSink, MemSource, NamedFile, Sink, Source, write_all,
 };
 use std::test::Fail;

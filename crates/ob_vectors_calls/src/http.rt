@@ -1,5 +1,5 @@
 //! Each call with ample memory, and the same requests whatever the pieces.
-use super::*;
+use ob_http::*;
 use ob_values::{Text, Verb};
 use std::process::Abort;
 use std::test::Fail;
