@@ -14,7 +14,7 @@ ghost use Rattle.ob_scan.specs.Reading.{
   behind_pair,
 };
 
-use crate::character::{Progress, next_progress};
+use crate::character::{Progress, is_single, next_progress};
 use crate::stop::Stop;
 
 /// What ends a run of characters.
@@ -108,8 +108,13 @@ pub(crate) fn read_run(bytes: &[u8], ends: Ends) -> Result<(&[u8], &[u8]), Stop>
 {
     let mut progress = Progress::Whole;
     for (i, byte) in bytes.iter().enumerate() {
-        if whole(progress) && ends.holds_at(*byte) {
-            return Ok(bytes.split_at(i));
+        if whole(progress) {
+            if ends.holds_at(*byte) {
+                return Ok(bytes.split_at(i));
+            }
+            if is_single(*byte) {
+                continue;
+            }
         }
         progress = next_progress(progress, *byte)?;
     }
@@ -135,7 +140,9 @@ pub(crate) fn skip_pair(bytes: &[u8], first: u8, second: u8) -> Result<&[u8], St
         if seen && *byte == second {
             return Ok(&bytes[i + 1..]);
         }
-        progress = next_progress(progress, *byte)?;
+        if !whole(progress) || !is_single(*byte) {
+            progress = next_progress(progress, *byte)?;
+        }
         seen = *byte == first;
     }
     Err(Stop::Want)

@@ -9,7 +9,7 @@ ghost use Rattle.ob_scan.specs.declared.value.RawFault.TheVariants.{Memory};
 ghost use Rattle.ob_scan.specs.Items.{item_text, IsItem, Expanded};
 
 use crate::attribute::read_reference;
-use crate::character::{Progress, next_progress};
+use crate::character::{Progress, is_single, next_progress};
 use crate::reading::whole;
 use ob_values::Text;
 use std::alloc::{AllocError, Global};
@@ -136,6 +136,9 @@ fn plain_bytes(raw: &[u8]) -> bool
     for byte in raw {
         if *byte == b'&' || *byte == b'\t' || *byte == b'\n' || *byte == b'\r' {
             return false;
+        }
+        if whole(progress) && is_single(*byte) {
+            continue;
         }
         match next_progress(progress, *byte) {
             Err(_) => return false,

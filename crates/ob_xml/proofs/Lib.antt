@@ -1,6 +1,7 @@
 pub mod Ends
 pub mod Turns
 pub mod Unique
+pub mod Codes
 pub mod NameSets
 pub mod Leadings
 pub mod Runs

@@ -109,10 +109,10 @@ stepped_turn well ended s t bytes base at first next place piece m (turns.On u n
     )
 stepped_turn well ended s t bytes base at first next place piece m (turns.Waiting u wait) still q a adv means e h = absurd h
 stepped_turn well ended s t bytes base at first next place piece m (turns.Document root) still q a adv means e h =
-    let w : step (state_of s) m ≡ Ok (whole root) = e ∙ ap Ok h in
-    let on = leads_on ended (state_of s) (whole root) bytes at next place (construct_of piece) m still q a.0 means w in (
-      only_at_end well ended (state_of s) (drop at bytes) (drop next bytes) (construct_of piece) m root on.stands means w,
-      goes_on (state_of s) (whole root) (base + at) (drop at bytes) (drop next bytes) (construct_of piece) m (document root) still on.stands means w (complete root _ (drop next bytes)),
+    let w : step (state_of s) m ≡ Ok (whole root.value) = e ∙ ap Ok h in
+    let on = leads_on ended (state_of s) (whole root.value) bytes at next place (construct_of piece) m still q a.0 means w in (
+      only_at_end well ended (state_of s) (drop at bytes) (drop next bytes) (construct_of piece) m root.value on.stands means w,
+      goes_on (state_of s) (whole root.value) (base + at) (drop at bytes) (drop next bytes) (construct_of piece) m (document root.value) still on.stands means w (complete root.value _ (drop next bytes)),
     )
 stepped_turn well ended s t bytes base at first next place piece m (turns.Fault told) still q a adv means e h = absurd h
 

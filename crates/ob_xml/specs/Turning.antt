@@ -23,7 +23,7 @@ Turned ended bytes base s at (turns.On t next) =
     × LeadsOn ended (state_of s) (drop at bytes) (state_of t) (drop next bytes)
 Turned ended bytes base s at (turns.Waiting t wait) =
     (state_of t ≡ state_of s) × (scan (place_of (state_of s)) ended (drop at bytes) ≡ more) × IsWaiting (place_of (state_of s)) (drop at bytes) wait
-Turned ended bytes base s at (turns.Document doc) = (ended ≡ true) × Judges ended (state_of s) (base + at) (drop at bytes) (document doc)
+Turned ended bytes base s at (turns.Document doc) = (ended ≡ true) × Judges ended (state_of s) (base + at) (drop at bytes) (document doc.value)
 Turned ended bytes base s at (turns.Fault refused) = Judges ended (state_of s) (base + at) (drop at bytes) (fault refused.at refused.why)
 
 -- what a turn tells of a construct that is refused for what stands before it
@@ -37,7 +37,7 @@ Refuses place why (turns.Fault refused) = (why ≢ Memory) × (refused.at ≡ pl
 abbrev pub Settles : structure.State → ℕ → Turn → Type 0
 Settles s next (turns.On t place) = (state_of t ≡ s) × (place ≡ next) × (is_open s ≡ true) × IsSound (state_of t)
 Settles s next (turns.Waiting t wait) = ⊥
-Settles s next (turns.Document doc) = s ≡ structure.whole doc
+Settles s next (turns.Document doc) = s ≡ structure.whole doc.value
 Settles s next (turns.Fault refused) = ⊥
 
 -- the construct at a place of the bytes isn't whole, and it or the tag that it is in begins at `from`
@@ -58,5 +58,5 @@ Shaped ended bytes (outcomes.Fault refused) = Unit {0}
 -- what all constructs tell of the whole text
 abbrev pub Ran : Bool → List ℕ → List ℕ → Outcome → Type 0
 Ran ended gone bytes (outcomes.Waiting s at from wait) = Leads ended (gone ++ bytes) (state_of s) (length gone + at) (length gone + from)
-Ran ended gone bytes (outcomes.Document doc) = Judges ended beginning 0 (gone ++ bytes) (document doc)
+Ran ended gone bytes (outcomes.Document doc) = Judges ended beginning 0 (gone ++ bytes) (document doc.value)
 Ran ended gone bytes (outcomes.Fault refused) = Judges ended beginning 0 (gone ++ bytes) (fault refused.at refused.why)

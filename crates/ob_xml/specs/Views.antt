@@ -25,9 +25,9 @@ abbrev pub state_of : State → structure.State
 state_of code.Start = structure.start
 state_of code.Marked = structure.marked
 state_of (code.Between ns outer) = structure.between ns (reverse outer.items)
-state_of (code.InTag ns names head outer) = structure.in_tag ns names head (reverse outer.items)
-state_of (code.Behind doc) = structure.behind doc
-state_of (code.Whole doc) = structure.whole doc
+state_of (code.InTag ns names head outer) = structure.in_tag ns names head.value (reverse outer.items)
+state_of (code.Behind doc) = structure.behind doc.value
+state_of (code.Whole doc) = structure.whole doc.value
 
 -- the value of an attribute stands for a text
 abbrev pub HasMeaning : Piece → Type 0

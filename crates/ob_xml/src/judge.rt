@@ -24,7 +24,7 @@ pub enum Turn {
     /// It isn't whole, and more may come; the state, and what it waits for.
     Waiting(State, Wait),
     /// It is the end of the document.
-    Document(Doc),
+    Document(Box<Doc>),
     Fault(Refused),
 }
 
@@ -38,7 +38,7 @@ pub enum Outcome {
         from: usize,
         wait: Wait,
     },
-    Document(Doc),
+    Document(Box<Doc>),
     Fault(Refused),
 }
 

@@ -12,10 +12,11 @@ use ob_object::{Head, Kind, Obj};
 use std::alloc::{AllocError, Global};
 use std::marker::Model;
 
-/// An element whose end tag hasn't come, with the names of its children. It is seen as the object so far.
+/// An element whose end tag hasn't come, with the names of its children. It is seen as the object so far, which stands in
+/// a box, so that the element is moved at little cost.
 #[derive(Drop)]
 pub struct Open {
-    obj: Obj,
+    obj: Box<Obj>,
     names: Names,
 }
 
@@ -28,9 +29,9 @@ impl Model for Open {
 
     ghost coded = { the_row.coded };
 
-    ghost view = { λ o. o.obj };
+    ghost view = { λ o. o.obj.value };
 
-    ghost invariant = { λ o. IsIndex o.names (children o.obj) };
+    ghost invariant = { λ o. IsIndex o.names (children o.obj.value) };
 }
 
 /// The names with that of an object, if it has one.
@@ -51,13 +52,16 @@ fn lost<T: Drop>(_parts: T) -> Result<Open, AllocError>
 }
 
 impl Open {
-    pub fn new(alloc: Global, head: Head) -> Open
+    pub fn new(alloc: Global, head: Head) -> Result<Open, AllocError>
         requires { IsTrue (fits_head head) }
-        ensures { result ≡ record { head = head; inner = none } }
+        ensures { IfOk result (λ o. o ≡ record { head = head; inner = none }) }
     {
-        Open {
-            obj: Obj::from_head(alloc, head),
-            names: Names::new(alloc),
+        match Box::new(alloc, Obj::from_head(alloc, head)) {
+            Ok(obj) => Ok(Open {
+                obj,
+                names: Names::new(alloc),
+            }),
+            Err(failed) => lost(failed),
         }
     }
 
@@ -94,6 +98,6 @@ impl Open {
         ensures { result ≡ self }
     {
         let Open { obj, names: _ } = self;
-        obj
+        Box::into_inner(obj)
     }
 }

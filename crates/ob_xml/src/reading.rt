@@ -114,7 +114,7 @@ impl Reading {
         ob_scan::judged_once();
         ob_scan::well_found();
         match run(alloc, &kept, base, true, state, at) {
-            Ok(Outcome::Document(doc)) => Ok(doc),
+            Ok(Outcome::Document(doc)) => Ok(Box::into_inner(doc)),
             Ok(Outcome::Fault(refused)) => Err(refused),
             Ok(Outcome::Waiting { .. }) => unreachable!(),
             Err(_) => Err(Refused {

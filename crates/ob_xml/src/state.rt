@@ -1,6 +1,6 @@
 //! The open elements, and what each construct makes of them.
 
-ghost use Rattle.std.specs.Prelude.{◌≡◌, false, Result, Ok, IfOk, IsTrue, reverse};
+ghost use Rattle.std.specs.Prelude.{◌≡◌, ◌∷◌, false, Result, Ok, IfOk, IsTrue, reverse};
 ghost use Rattle.std.specs.FinSet as set;
 ghost use Rattle.ob_object.specs.Fits.{fits_head};
 ghost use Rattle.ob_object.specs.Object.{empty_head};
@@ -9,7 +9,7 @@ ghost use Rattle.ob_fields.specs.Kinds.{kind_of};
 ghost use Rattle.ob_xml.specs.Outcomes.{Fails, Gives};
 ghost use Rattle.ob_xml.specs.Structure.{State as Next};
 ghost use Rattle.ob_xml.specs.declared.refused.Why.{Why};
-ghost use Rattle.ob_xml.specs.Structure.{closed, end_tag, opened_as, siblings, with_ns, is_twice, kept, told, step_between, step_attribute, step_in_tag, step_behind, step_start, step, beginning, place_of, kind_in, AreFree, IsSound};
+ghost use Rattle.ob_xml.specs.Structure.{bare, closed, end_tag, opened_as, siblings, with_ns, is_twice, kept, told, step_between, step_attribute, step_in_tag, step_behind, step_start, step, beginning, place_of, kind_in, AreFree, IsSound};
 ghost use Rattle.ob_xml.specs.Views.{meaning_of, state_of};
 
 use crate::doc::Doc;
@@ -26,7 +26,7 @@ use std::alloc::Global;
 /// Levels of elements.
 const MAX_DEPTH: usize = 32;
 
-/// What has been read so far.
+/// What has been read so far. What is large stands in a box, so that a state is moved at little cost.
 #[derive(Drop)]
 pub enum State {
     Start,
@@ -41,14 +41,14 @@ pub enum State {
     InTag {
         ns: Option<Text>,
         names: Names,
-        head: Head,
+        head: Box<Head>,
         outer: Vec<Open>,
     },
     Behind {
-        doc: Doc,
+        doc: Box<Doc>,
     },
     Whole {
-        doc: Doc,
+        doc: Box<Doc>,
     },
 }
 
@@ -67,9 +67,10 @@ fn close(alloc: Global, ns: Option<Text>, mut outer: Vec<Open>, obj: Obj) -> Res
     ensures sound { IfOk result (λ s. IsSound (state_of s)) }
 {
     match outer.pop() {
-        None => Ok(State::Behind {
-            doc: Doc { ns, root: obj },
-        }),
+        None => match Box::new(alloc, Doc { ns, root: obj }) {
+            Ok(doc) => Ok(State::Behind { doc }),
+            Err(failed) => refused((outer, failed), Why::Memory),
+        },
         Some(parent) => match parent.with_child(alloc, obj) {
             Ok(parent) => match outer.push(parent) {
                 Ok(()) => Ok(State::Between { ns, outer }),
@@ -80,6 +81,7 @@ fn close(alloc: Global, ns: Option<Text>, mut outer: Vec<Open>, obj: Obj) -> Res
     }
 }
 
+#[inline(never)]
 fn close_named(
     alloc: Global,
     ns: Option<Text>,
@@ -123,6 +125,24 @@ fn new_head(kind: Kind) -> Head
     }
 }
 
+/// The start of a tag of the kind.
+#[inline(never)]
+fn begin(alloc: Global, ns: Option<Text>, outer: Vec<Open>, kind: Kind) -> Result<State, Why>
+    requires { AreFree (reverse outer.items) }
+    ensures exact { Gives state_of result (Ok (Rattle.ob_xml.specs.Structure.in_tag ns set.empty (empty_head kind) (reverse outer.items))) }
+    ensures sound { IfOk result (λ s. IsSound (state_of s)) }
+{
+    match Box::new(alloc, new_head(kind)) {
+        Ok(head) => Ok(State::InTag {
+            ns,
+            names: Names::new(alloc),
+            head,
+            outer,
+        }),
+        Err(failed) => refused((ns, outer, failed), Why::Memory),
+    }
+}
+
 fn open(alloc: Global, ns: Option<Text>, outer: Vec<Open>, name: &[u8]) -> Result<State, Why>
     requires { AreFree (reverse outer.items) }
     ensures exact { Gives state_of result (opened_as (kind_of name.now) ns (reverse outer.items)) }
@@ -134,12 +154,7 @@ fn open(alloc: Global, ns: Option<Text>, outer: Vec<Open>, name: &[u8]) -> Resul
             if outer.len() >= MAX_DEPTH {
                 refused((ns, outer), Why::Deep)
             } else {
-                Ok(State::InTag {
-                    ns,
-                    names: Names::new(alloc),
-                    head: new_head(kind),
-                    outer,
-                })
+                begin(alloc, ns, outer, kind)
             }
         }
     }
@@ -188,14 +203,14 @@ fn keep_head(
     alloc: Global,
     ns: Option<Text>,
     names: Names,
-    head: Head,
+    head: Box<Head>,
     outer: Vec<Open>,
     name: &[u8],
     twice: bool,
 ) -> Result<State, Why>
     requires free { AreFree (reverse outer.items) }
-    requires named { twice ≡ false → is_taken head.name (siblings (reverse outer.items)) ≡ false }
-    ensures exact { Gives state_of result (kept ns (set.insert names name.now) head (reverse outer.items) twice) }
+    requires named { twice ≡ false → is_taken head.value.name (siblings (reverse outer.items)) ≡ false }
+    ensures exact { Gives state_of result (kept ns (set.insert names name.now) head.value (reverse outer.items) twice) }
     ensures sound { IfOk result (λ s. IsSound (state_of s)) }
 {
     if !head.fits() {
@@ -219,17 +234,17 @@ fn keep_part(
     alloc: Global,
     ns: Option<Text>,
     names: Names,
-    mut head: Head,
+    mut head: Box<Head>,
     outer: Vec<Open>,
     name: &[u8],
     part: Part,
 ) -> Result<State, Why>
-    requires { IsSound (Rattle.ob_xml.specs.Structure.in_tag ns names head (reverse outer.items)) }
-    ensures exact { Gives state_of result (told ns names head (reverse outer.items) name.now (Ok (Said.Part part))) }
+    requires { IsSound (Rattle.ob_xml.specs.Structure.in_tag ns names head.value (reverse outer.items)) }
+    ensures exact { Gives state_of result (told ns names head.value (reverse outer.items) name.now (Ok (Said.Part part))) }
     ensures sound { IfOk result (λ s. IsSound (state_of s)) }
 {
     let twice = is_named_twice(&outer, &part);
-    part.put(&mut head);
+    part.put(&mut *head);
     keep_head(alloc, ns, names, head, outer, name, twice)
 }
 
@@ -237,13 +252,13 @@ fn keep_other(
     alloc: Global,
     ns: Option<Text>,
     names: Names,
-    head: Head,
+    head: Box<Head>,
     outer: Vec<Open>,
     name: &[u8],
     text: Text,
 ) -> Result<State, Why>
-    requires { IsSound (Rattle.ob_xml.specs.Structure.in_tag ns names head (reverse outer.items)) }
-    ensures exact { Gives state_of result (told ns names head (reverse outer.items) name.now (Ok (Said.Other text))) }
+    requires { IsSound (Rattle.ob_xml.specs.Structure.in_tag ns names head.value (reverse outer.items)) }
+    ensures exact { Gives state_of result (told ns names head.value (reverse outer.items) name.now (Ok (Said.Other text))) }
     ensures sound { IfOk result (λ s. IsSound (state_of s)) }
 {
     let ns = put_ns(ns, &outer, name, text);
@@ -262,13 +277,13 @@ fn attribute(
     alloc: Global,
     ns: Option<Text>,
     names: Names,
-    head: Head,
+    head: Box<Head>,
     outer: Vec<Open>,
     name: &[u8],
     said: Result<Said, ValueFault>,
 ) -> Result<State, Why>
-    requires { IsSound (Rattle.ob_xml.specs.Structure.in_tag ns names head (reverse outer.items)) }
-    ensures exact { Gives state_of result (step_attribute ns names head (reverse outer.items) name.now said) }
+    requires { IsSound (Rattle.ob_xml.specs.Structure.in_tag ns names head.value (reverse outer.items)) }
+    ensures exact { Gives state_of result (step_attribute ns names head.value (reverse outer.items) name.now said) }
     ensures sound { IfOk result (λ s. IsSound (state_of s)) }
 {
     if names.has(name) {
@@ -281,31 +296,73 @@ fn attribute(
     }
 }
 
+/// The end of a start tag: the element is open. Apart, so that a step that ends no tag makes no room for an object.
+#[inline(never)]
+fn end_start(
+    alloc: Global,
+    ns: Option<Text>,
+    head: Box<Head>,
+    mut outer: Vec<Open>,
+) -> Result<State, Why>
+    requires fits { IsTrue (fits_head head.value) }
+    requires named { is_taken head.value.name (siblings (reverse outer.items)) ≡ false }
+    requires free { AreFree (reverse outer.items) }
+    ensures exact { Gives state_of result (Ok (Rattle.ob_xml.specs.Structure.between ns (bare head.value ∷ reverse outer.items))) }
+    ensures sound { IfOk result (λ s. IsSound (state_of s)) }
+{
+    match Open::new(alloc, Box::into_inner(head)) {
+        Ok(open) => match outer.push(open) {
+            Ok(()) => Ok(State::Between { ns, outer }),
+            Err(failed) => refused((ns, outer, failed), Why::Memory),
+        },
+        Err(_) => refused((ns, outer), Why::Memory),
+    }
+}
+
+/// The end of a tag that is an element by itself.
+#[inline(never)]
+fn end_empty(
+    alloc: Global,
+    ns: Option<Text>,
+    head: Box<Head>,
+    outer: Vec<Open>,
+) -> Result<State, Why>
+    requires named { is_taken head.value.name (siblings (reverse outer.items)) ≡ false }
+    requires free { AreFree (reverse outer.items) }
+    requires fits { IsTrue (fits_head head.value) }
+    ensures exact { Gives state_of result (Ok (closed ns (bare head.value) (reverse outer.items))) }
+    ensures sound { IfOk result (λ s. IsSound (state_of s)) }
+{
+    close(
+        alloc,
+        ns,
+        outer,
+        Obj::from_head(alloc, Box::into_inner(head)),
+    )
+}
+
 fn in_tag(
     alloc: Global,
     ns: Option<Text>,
     names: Names,
-    head: Head,
-    mut outer: Vec<Open>,
+    head: Box<Head>,
+    outer: Vec<Open>,
     meaning: Meaning<'_>,
 ) -> Result<State, Why>
-    requires { IsSound (Rattle.ob_xml.specs.Structure.in_tag ns names head (reverse outer.items)) }
-    ensures exact { Gives state_of result (step_in_tag ns names head (reverse outer.items) (meaning_of meaning.entry)) }
+    requires { IsSound (Rattle.ob_xml.specs.Structure.in_tag ns names head.value (reverse outer.items)) }
+    ensures exact { Gives state_of result (step_in_tag ns names head.value (reverse outer.items) (meaning_of meaning.entry)) }
     ensures sound { IfOk result (λ s. IsSound (state_of s)) }
 {
     match meaning {
         Meaning::Attr { name, said } => attribute(alloc, ns, names, head, outer, name, said),
-        Meaning::TagEnd => match outer.push(Open::new(alloc, head)) {
-            Ok(()) => Ok(State::Between { ns, outer }),
-            Err(failed) => refused((ns, outer, failed), Why::Memory),
-        },
-        Meaning::EmptyEnd => close(alloc, ns, outer, Obj::from_head(alloc, head)),
+        Meaning::TagEnd => end_start(alloc, ns, head, outer),
+        Meaning::EmptyEnd => end_empty(alloc, ns, head, outer),
         other => refused((ns, names, head, outer, other), Why::Markup),
     }
 }
 
-fn behind(doc: Doc, meaning: Meaning<'_>) -> Result<State, Why>
-    ensures exact { Gives state_of result (step_behind doc (meaning_of meaning.entry)) }
+fn behind(doc: Box<Doc>, meaning: Meaning<'_>) -> Result<State, Why>
+    ensures exact { Gives state_of result (step_behind doc.value (meaning_of meaning.entry)) }
     ensures sound { IfOk result (λ s. IsSound (state_of s)) }
 {
     match meaning {

@@ -35,7 +35,7 @@ turns-preserved c =
 pub returns-in-Document-clause-ran : goal.returns-in-Document-clause-ran
 returns-in-Document-clause-ran c = λ gone e l.
     let h : Turned c.args.end c.args.bytes.now c.args.base c.turns.state c.turns.at (turns.Document c.in-Document.doc) = rw c.in-Document.is at c.in_ok-after.ensures in
-    judges_gone c.args.end gone c.args.bytes.now (state_of c.turns.state) c.args.base c.turns.at c.turns.from (document c.in-Document.doc) e (c.turns.invariant.leads gone e l) h.1
+    judges_gone c.args.end gone c.args.bytes.now (state_of c.turns.state) c.args.base c.turns.at c.turns.from (document c.in-Document.doc.value) e (c.turns.invariant.leads gone e l) h.1
 
 pub returns-in-Fault-clause-ran : goal.returns-in-Fault-clause-ran
 returns-in-Fault-clause-ran c = λ gone e l.

@@ -3,6 +3,7 @@ use Rattle.std.specs.Prelude.{reverse}
 use Rattle.ob_object.specs.declared.head.Head.{Head}
 use Rattle.ob_object.specs.Object.{Object}
 use Rattle.ob_object.specs.WellFormed.{is_taken}
+use Rattle.ob_fields.specs.Parts.{put_part}
 use Rattle.ob_xml.specs.Structure.{siblings, is_twice}
 use Rattle.ob_xml.proofs.Frees.{still_free}
 use Rattle.ob_xml.proofs.state.keep_part.Goals as goal
@@ -10,4 +11,5 @@ use Rattle.ob_xml.proofs.state.keep_part.Goals as goal
 pub keep_head-requires-clause-named : goal.keep_head-requires-clause-named
 keep_head-requires-clause-named c = λ e.
     subst (λ (h : Head). is_taken h.name (siblings (reverse c.args.outer.items)) ≡ false) (sym c.put.ensures)
-    (still_free c.args.part c.args.head (siblings (reverse c.args.outer.items)) c.requires.1.0 (ap (λ (xs : List Object). is_twice c.args.part (siblings (reverse xs))) (sym c.deref.ensures.value) ∙ sym c.is_named_twice-twice.ensures ∙ e))
+    (subst (λ (h : Head). is_taken (put_part c.args.part h).name (siblings (reverse c.args.outer.items)) ≡ false) (sym c.deref_mut.ensures.value)
+    (still_free c.args.part c.args.head.value (siblings (reverse c.args.outer.items)) c.requires.1.0 (ap (λ (xs : List Object). is_twice c.args.part (siblings (reverse xs))) (sym c.deref.ensures.value) ∙ sym c.is_named_twice-twice.ensures ∙ e)))

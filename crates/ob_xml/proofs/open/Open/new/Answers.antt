@@ -1,4 +1,4 @@
-use Rattle.std.proofs.Common.{sym, subst}
+use Rattle.std.proofs.Common.{sym, subst, ◌∙◌}
 use Rattle.std.specs.FinSet as set
 use Rattle.ob_object.specs.Object.{Object, children}
 use Rattle.ob_xml.specs.Indexes.{NameSet, IsIndex}
@@ -7,4 +7,5 @@ use Rattle.ob_xml.proofs.open.Open.new.Goals as goal
 
 pub invariant_of-result : goal.invariant_of-result
 invariant_of-result c =
-    subst (λ (names : NameSet). IsIndex names (children c.from_head.result)) (sym c.new.ensures) (subst (λ (o : Object). IsIndex set.empty (children o)) (sym c.from_head.ensures) index_none)
+    subst (λ (names : NameSet). IsIndex names (children c.in-Ok.obj.value)) (sym c.new-in-Ok.ensures)
+    (subst (λ (o : Object). IsIndex set.empty (children o)) (sym (c.in-Ok.ensures.ok ∙ c.from_head.ensures)) index_none)
