@@ -1,5 +1,5 @@
 //! The alarms that rules raise.
-ghost use Rattle.std.specs.Prelude.{◌≡◌, ◌↔◌, ◌+◌, ◌≤◌, ◌<◌, length, Option, Some, None, slice_get, drop, option_map, option_copied, not, is_some, IsTrue, IfOk, OnOk, OnErr, All, []};
+ghost use Rattle.std.specs.Prelude.{◌≡◌, ◌↔◌, ◌+◌, ◌≤◌, ◌<◌, ◌^◌, length, Option, Some, None, slice_get, drop, option_map, option_copied, not, is_some, IsTrue, IfOk, OnOk, OnErr, All, []};
 ghost use Rattle.ob_alarms.specs.AlarmObjects.{alarm_obj, event_obj};
 ghost use Rattle.ob_alarms.specs.AsOf.{told_event};
 ghost use Rattle.ob_alarms.specs.Limits.{IsRule, Takes};
@@ -9,6 +9,7 @@ ghost use Rattle.ob_alarms.specs.States.{status_of, is_in_alarm, is_acked};
 ghost use Rattle.ob_alarms.specs.Soundness.{At, AtMostOne, CanGoBack, SourcesDiffer, AreFound, rule_of};
 
 use crate::alarm::{Ack, Alarm, Event, Turn, What};
+use crate::copying::{copy_events, copy_rules};
 use crate::objects::{ack_up_to, alarm_object, up_to};
 use crate::rule::{Num, Rule};
 use crate::tracking::Tracking;
@@ -104,6 +105,26 @@ impl Alarms {
         })
     }
 
+    /// A copy: the same root, rules, alarms and events, with room for no more events.
+    pub fn copy(&self) -> Result<Alarms, AllocError>
+        ensures { IfOk result (λ copy. copy ≡ record self.now { spare = 0 }) }
+    {
+        let root = self.root.copy()?;
+        let rules = copy_rules(self.alloc, &self.rules)?;
+        let places = places_of(self.alloc, &self.rules)?;
+        let mut list = self.list.copy()?;
+        list.reserve(self.events.len())?;
+        let events = copy_events(self.alloc, &self.events)?;
+        Ok(Alarms {
+            alloc: self.alloc,
+            root,
+            rules,
+            places,
+            list,
+            events,
+        })
+    }
+
     /// Makes room for so many more events, each of which may raise an alarm. Want of memory leaves all
     /// as it was.
     pub fn reserve(&mut self, additional: u32) -> Result<(), AllocError>
@@ -139,7 +160,8 @@ impl Alarms {
 
     /// The number of alarms.
     pub fn len(&self) -> u64
-        ensures { result ≡ length self.now.alarms }
+        ensures len { result ≡ length self.now.alarms }
+        ensures few { result < 2 ^ 63 }
     {
         self.list.len()
     }
@@ -222,8 +244,8 @@ impl Alarms {
         self.places.get(&source).copied()
     }
 
-    /// The alarm of a number.
-    fn alarm(&self, number: u64) -> Option<&Alarm>
+    /// The alarm of a number, the first being 1, or `None` for an unknown one.
+    pub fn alarm(&self, number: u64) -> Option<&Alarm>
         ensures { option_copied result ≡ alarm_of number self.now.alarms }
     {
         if number == 0 {

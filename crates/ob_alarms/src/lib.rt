@@ -8,6 +8,7 @@
 
 mod alarm;
 mod board;
+mod copying;
 mod objects;
 mod rule;
 mod tracking;

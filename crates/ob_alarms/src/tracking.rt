@@ -7,6 +7,7 @@ ghost use Rattle.ob_alarms.specs.States.{is_in_alarm, is_acked, state, worst};
 ghost use Rattle.ob_alarms.specs.Soundness.{At, AtMostOne};
 
 use crate::alarm::{Ack, Alarm, Turn};
+use crate::copying::copy_alarms;
 use ob_object::Status;
 use std::alloc::{AllocError, Global};
 use std::marker::Model;
@@ -92,6 +93,16 @@ impl Tracking {
         })
     }
 
+    /// A copy: the same alarms, for as many rules.
+    pub fn copy(&self) -> Result<Tracking, AllocError>
+        ensures { IfOk result (λ copy. (copy.alarms ≡ self.now.alarms) × (copy.rules ≡ self.now.rules)) }
+    {
+        let alloc = *self.alarms.allocator();
+        let alarms = copy_alarms(alloc, &self.alarms)?;
+        let running = Vec::from_slice(alloc, &self.running)?;
+        Ok(Tracking { alarms, running })
+    }
+
     /// Makes room for so many alarms in all.
     pub fn reserve(&mut self, capacity: usize) -> Result<(), AllocError>
         ensures stays { self.new ≡ record self.old { capacity = self.new.capacity } }
@@ -104,7 +115,8 @@ impl Tracking {
 
     /// The number of alarms.
     pub fn len(&self) -> u64
-        ensures { result ≡ length self.now.alarms }
+        ensures len { result ≡ length self.now.alarms }
+        ensures few { result < 2 ^ 63 }
     {
         self.alarms.len() as u64
     }

@@ -1,9 +1,9 @@
 -- Records in order: parts of them, where a bound cuts them, and what a filter takes.
-use Rattle.std.proofs.Common.{◌≡◌, ◌+◌, ◌-◌, ◌≤◌, Bool, true, false, not, ◌&&◌, cond, List, [], ◌∷◌, ◌++◌, ℕ, zero, suc, ℤ, ◌≤ℤ◌, length, take, drop, refl, sym, ap, ◌∙◌, subst, true≢false, arith}
-use Rattle.std.specs.Prelude.{filter, int_lt, slice_get}
+use Rattle.std.proofs.Common.{◌≡◌, ◌+◌, ◌-◌, ◌<◌, ◌≤◌, Bool, true, false, not, ◌&&◌, cond, List, [], ◌∷◌, ◌++◌, ℕ, zero, suc, ℤ, ◌≤ℤ◌, length, take, drop, refl, sym, ap, ◌∙◌, subst, true≢false, arith}
+use Rattle.std.specs.Prelude.{filter, int_lt, slice_get, slice_index_or}
 use Rattle.std.specs.List.{AllByRecursion}
 use Rattle.std.specs.List.Sorted.{IsPartitionedBy, IsPartitionPoint}
-use Rattle.std.proofs.lemmas.List.{length-append}
+use Rattle.std.proofs.lemmas.List.{length-append, get_or_default}
 use Rattle.std.proofs.lemmas.Int.{ints}
 use Rattle.std.proofs.lemmas.List.Elements.{All-from_recursion}
 use Rattle.ob_times.specs.Times.{instant}
@@ -47,6 +47,22 @@ module _ (p : ℤ → Bool) (low : IsLow p) where
   partitioned (x ∷ xs) o (suc i) zero d le lt h = absurd (omega arith)
   partitioned (x ∷ xs) o (suc i) (suc j) d le lt h = partitioned xs o.1 i j d (omega arith) (omega arith) h
 
+  -- what holds of a place holds of all in front of it, and what fails of it fails of all behind
+  pub holds_up_to : (xs : List Record) → InOrder xs → (place : ℕ) (x : Record) → place < length xs → x ≡ slice_index_or xs place x → p (instant x.time) ≡ true
+      → (k : ℕ) (d : Record) → 0 ≤ k → k < place + 1 → p (instant (slice_index_or xs k d).time) ≡ true
+  holds_up_to xs o place x lt e h k d from below =
+      let same : x ≡ slice_index_or xs place d = e ∙ get_or_default xs place x d lt in
+      partitioned xs o k place d (omega arith) lt (subst (λ (r : Record). p (instant r.time) ≡ true) same h)
+
+  pub fails_behind : (xs : List Record) → InOrder xs → (place : ℕ) (x : Record) → place < length xs → x ≡ slice_index_or xs place x → p (instant x.time) ≡ false
+      → (k : ℕ) (d : Record) → place ≤ k → k < length xs → p (instant (slice_index_or xs k d).time) ≡ false
+  fails_behind xs o place x lt e h k d from below =
+      let same : x ≡ slice_index_or xs place d = e ∙ get_or_default xs place x d lt in
+      let no : p (instant (slice_index_or xs place d).time) ≡ false = subst (λ (r : Record). p (instant r.time) ≡ false) same h in
+      let go : (b : Bool) → p (instant (slice_index_or xs k d).time) ≡ b → b ≡ false =
+      λ b. elim b as (λ b. p (instant (slice_index_or xs k d).time) ≡ b → b ≡ false) [ true ↦ λ e. absurd (true≢false (sym (partitioned xs o place k d from below e) ∙ no)) | false ↦ λ e. refl ] in
+      go (p (instant (slice_index_or xs k d).time)) refl
+
 -- once a test fails it fails of all that follow
 abbrev pub Ends : (Record → Bool) → List Record → Type 0
 Ends p [] = Unit {0}
@@ -60,33 +76,64 @@ pub filter_none : (p : Record → Bool) (xs : List Record) → AllByRecursion (�
 filter_none p [] h = refl
 filter_none p (x ∷ xs) h = rw h.0 (filter_none p xs h.1)
 
-filter_high : (low high : Record → Bool) (xs : List Record) → AllByRecursion (λ y. high y ≡ false) xs → filter (λ r. not (low r) && high r) xs ≡ []
-filter_high low high [] h = refl
-filter_high low high (x ∷ xs) h =
-    elim (low x) as (λ b. cond (not b && high x) (x ∷ filter (λ r. not (low r) && high r) xs) (filter (λ r. not (low r) && high r) xs) ≡ [])
-    [ true ↦ filter_high low high xs h.1 | false ↦ rw h.0 (filter_high low high xs h.1) ]
-
--- What is neither low nor past the high ones stands between: as many low ones dropped, and no more than
--- the high ones taken.
-pub filter_between : (low high : Record → Bool) (xs : List Record) → Ends low xs → Ends high xs → filter (λ r. not (low r) && high r) xs ≡ drop (length (filter low xs)) (take (length (filter high xs)) xs)
-filter_between low high [] l h = refl
-filter_between low high (x ∷ xs) l h =
-    let rest = filter_between low high xs l.1 h.1 in
-    let go : (a b : Bool) → low x ≡ a → high x ≡ b → cond (not a && b) (x ∷ filter (λ r. not (low r) && high r) xs) (filter (λ r. not (low r) && high r) xs) ≡ drop (length (cond a (x ∷ filter low xs) (filter low xs))) (take (length (cond b (x ∷ filter high xs) (filter high xs))) (x ∷ xs)) =
-    λ a b. elim a as (λ a. low x ≡ a → high x ≡ b → cond (not a && b) (x ∷ filter (λ r. not (low r) && high r) xs) (filter (λ r. not (low r) && high r) xs) ≡ drop (length (cond a (x ∷ filter low xs) (filter low xs))) (take (length (cond b (x ∷ filter high xs) (filter high xs))) (x ∷ xs))) [
-      | true ↦ elim b as (λ b. low x ≡ true → high x ≡ b → filter (λ r. not (low r) && high r) xs ≡ drop (length (x ∷ filter low xs)) (take (length (cond b (x ∷ filter high xs) (filter high xs))) (x ∷ xs))) [
-        | true ↦ λ e f. rest
-        | false ↦ λ e f. filter_high low high xs (h.0 f) ∙ sym (ap (λ (n : List Record). drop (length (x ∷ filter low xs)) (take (length n) (x ∷ xs))) (filter_none high xs (h.0 f)))
-      ]
-      | false ↦ elim b as (λ b. low x ≡ false → high x ≡ b → cond b (x ∷ filter (λ r. not (low r) && high r) xs) (filter (λ r. not (low r) && high r) xs) ≡ drop (length (filter low xs)) (take (length (cond b (x ∷ filter high xs) (filter high xs))) (x ∷ xs))) [
-        | true ↦ λ e f. let none = filter_none low xs (l.0 e) in
-            ap (λ t. x ∷ t) (rest ∙ ap (λ (n : List Record). drop (length n) (take (length (filter high xs)) xs)) none)
-            ∙ sym (ap (λ (n : List Record). drop (length n) (x ∷ take (length (filter high xs)) xs)) none)
-        | false ↦ λ e f. filter_high low high xs (h.0 f) ∙ sym (ap (λ (n : List Record). drop (length (filter low xs)) (take (length n) (x ∷ xs))) (filter_none high xs (h.0 f))
-            ∙ ap (λ (n : List Record). drop (length n) []) (filter_none low xs (l.0 e)))
-      ]
+-- What isn't low, once a test of the low ones fails it fails of all that follow: it is behind as many as
+-- are low.
+pub filter_from : (low high : Record → Bool) (xs : List Record) → Ends low xs → filter (λ r. not (low r) && high r) xs ≡ filter high (drop (length (filter low xs)) xs)
+filter_from low high [] l = refl
+filter_from low high (x ∷ xs) l =
+    let rest = filter_from low high xs l.1 in
+    let go : (a : Bool) → low x ≡ a → cond (not a && high x) (x ∷ filter (λ r. not (low r) && high r) xs) (filter (λ r. not (low r) && high r) xs) ≡ filter high (drop (length (cond a (x ∷ filter low xs) (filter low xs))) (x ∷ xs)) =
+    λ a. elim a as (λ a. low x ≡ a → cond (not a && high x) (x ∷ filter (λ r. not (low r) && high r) xs) (filter (λ r. not (low r) && high r) xs) ≡ filter high (drop (length (cond a (x ∷ filter low xs) (filter low xs))) (x ∷ xs))) [
+      | true ↦ λ e. rest
+      | false ↦ λ e. let none = filter_none low xs (l.0 e) in
+          ap (λ (zs : List Record). cond (high x) (x ∷ zs) zs) (rest ∙ ap (λ (n : List Record). filter high (drop (length n) xs)) none)
+          ∙ sym (ap (λ (n : List Record). filter high (drop (length n) (x ∷ xs))) none)
     ] in
-    go (low x) (high x) refl refl
+    go (low x) refl
+
+-- the first so many of what passes are what passes of the first so many
+pub take_filter : (p : Record → Bool) (n : ℕ) (xs : List Record) → Ends p xs → take n (filter p xs) ≡ filter p (take n xs)
+take_filter p zero xs h = refl
+take_filter p (suc n) [] h = refl
+take_filter p (suc n) (x ∷ xs) h =
+    let rest = take_filter p n xs h.1 in
+    let go : (a : Bool) → p x ≡ a → take (suc n) (cond a (x ∷ filter p xs) (filter p xs)) ≡ cond a (x ∷ filter p (take n xs)) (filter p (take n xs)) =
+    λ a. elim a as (λ a. p x ≡ a → take (suc n) (cond a (x ∷ filter p xs) (filter p xs)) ≡ cond a (x ∷ filter p (take n xs)) (filter p (take n xs))) [
+      | true ↦ λ e. ap (λ t. x ∷ t) rest
+      | false ↦ λ e. let none = filter_none p xs (h.0 e) in ap (take (suc n)) none ∙ nothing n ∙ sym (ap (take n) none) ∙ rest
+    ] in
+    go (p x) refl
+  where
+    nothing : (n : ℕ) → take (suc n) [] ≡ take {A = Record} n []
+    nothing zero = refl
+    nothing (suc n) = refl
+
+-- what passes stands in front
+pub filter_front : (p : Record → Bool) (xs : List Record) → Ends p xs → filter p xs ≡ take (length (filter p xs)) xs
+filter_front p [] h = refl
+filter_front p (x ∷ xs) h =
+    let rest = filter_front p xs h.1 in
+    let go : (a : Bool) → p x ≡ a → cond a (x ∷ filter p xs) (filter p xs) ≡ take (length (cond a (x ∷ filter p xs) (filter p xs))) (x ∷ xs) =
+    λ a. elim a as (λ a. p x ≡ a → cond a (x ∷ filter p xs) (filter p xs) ≡ take (length (cond a (x ∷ filter p xs) (filter p xs))) (x ∷ xs)) [
+      | true ↦ λ e. ap (λ t. x ∷ t) rest
+      | false ↦ λ e. let none = filter_none p xs (h.0 e) in none ∙ sym (ap (λ (n : List Record). take (length n) (x ∷ xs)) none)
+    ] in
+    go (p x) refl
+
+-- where one of the first list fails a test, none of the second passes it
+pub none_behind : (p : Record → Bool) (xs ys : List Record) → Ends p (xs ++ ys) → length (filter p xs) < length xs → filter p ys ≡ []
+none_behind p [] ys h lt = absurd (omega arith)
+none_behind p (x ∷ xs) ys h lt =
+    let go : (a : Bool) → p x ≡ a → length (cond a (x ∷ filter p xs) (filter p xs)) < length (x ∷ xs) → filter p ys ≡ [] =
+    λ a. elim a as (λ a. p x ≡ a → length (cond a (x ∷ filter p xs) (filter p xs)) < length (x ∷ xs) → filter p ys ≡ []) [
+      | true ↦ λ e l. none_behind p xs ys h.1 (omega arith)
+      | false ↦ λ e l. filter_none p ys (right xs (h.0 e))
+    ] in
+    go (p x) refl lt
+  where
+    right : (zs : List Record) → AllByRecursion (λ y. p y ≡ false) (zs ++ ys) → AllByRecursion (λ y. p y ≡ false) ys
+    right [] h = h
+    right (z ∷ zs) h = right zs h.1
 
 -- the number that pass a test is where a search for the first that fails ends
 pub count_point : (p : Record → Bool) (xs : List Record) (i : ℕ) → i ≤ length xs → IsPartitionPoint (λ y. p y ≡ true) (λ y. p y ≡ false) xs i → i ≡ length (filter p xs)

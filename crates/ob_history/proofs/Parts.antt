@@ -10,16 +10,6 @@ module _ {X : Type 0} where
   take_of_take (suc m) (suc n) [] = let e : min (suc m) (suc n) ≡ suc (min m n) = omega arith in rw e refl
   take_of_take (suc m) (suc n) (x ∷ xs) = let e : min (suc m) (suc n) ≡ suc (min m n) = omega arith in rw e (ap (λ t. x ∷ t) (take_of_take m n xs))
 
-  nothing : (n : ℕ) (xs : List X) → xs ≡ [] → xs ≡ take n xs
-  nothing zero xs e = e
-  nothing (suc n) xs e = rw e refl
-
-  pub drop_of_take : (from to : ℕ) (xs : List X) → drop from (take to xs) ≡ take (to - from) (drop from xs)
-  drop_of_take zero to xs = let e : to - 0 ≡ to = omega arith in rw e refl
-  drop_of_take (suc from) zero xs = let e : 0 - suc from ≡ 0 = omega arith in rw e refl
-  drop_of_take (suc from) (suc to) [] = let e : suc to - suc from ≡ to - from = omega arith in rw e (nothing (to - from) [] refl)
-  drop_of_take (suc from) (suc to) (x ∷ xs) = let e : suc to - suc from ≡ to - from = omega arith in rw e (drop_of_take from to xs)
-
   -- a part of two lists that begins behind the first one
   pub part_behind : (xs ys : List X) (from to : ℕ) → length xs ≤ from → take (to - length xs - (from - length xs)) (drop (from - length xs) ys) ++ [] ≡ take (to - from) (drop from (xs ++ ys))
   part_behind xs ys from to le =

@@ -1,5 +1,6 @@
 -- Records in order, and those that a filter asks for.
-use Rattle.std.specs.Prelude.{Bool, true, false, not, ◌&&◌, IsTrue, List, [], ◌∷◌, take, filter, Option, Some, None, ◌≤ℤ◌, int_lt}
+use Rattle.std.specs.Prelude.{◌≡◌, ℕ, length, Bool, true, false, not, ◌&&◌, IsTrue, List, [], ◌∷◌, take, filter, Option, Some, None, ◌≤ℤ◌, int_lt}
+use Rattle.std.specs.List.{AllWithin}
 use Rattle.circular_buffer.specs.Buffer.{last_item}
 use Rattle.ob_times.specs.Times.{Instant, instant}
 use Rattle.ob_object.specs.declared.kind.Kind.{Kind}
@@ -70,3 +71,11 @@ is_record r = is_value_kind r.kind && holds_value r.kind r.slot
 
 abbrev pub IsRecord : Record → Type 0
 IsRecord r = IsTrue (is_record r)
+
+-- the records in front of a place are before an instant
+abbrev pub AreBefore : Instant → List Record → ℕ → Type 0
+AreBefore start rs place = AllWithin (λ (r : Record). is_before (Some start) r ≡ true) rs 0 place
+
+-- none of the records from a place on is
+abbrev pub AreNotBefore : Instant → List Record → ℕ → Type 0
+AreNotBefore start rs place = AllWithin (λ (r : Record). is_before (Some start) r ≡ false) rs place (length rs)

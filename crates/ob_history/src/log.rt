@@ -160,8 +160,10 @@ impl Log {
     {
         let (front, back) = self.slices();
         let from = first_from(front, back, &filter.start);
+        let last = limited(from, front.len() + back.len(), filter.limit);
+        let (front, back) = between((front, back), from, last);
         let to = end_until(front, back, &filter.end);
-        between((front, back), from, limited(from, to, filter.limit))
+        between((front, back), 0, to)
     }
 
     /// The kept records from an event number on, the first event ever being 0, in two slices.

@@ -26,7 +26,7 @@ invariant_of-self c =
     let len : c.len.result ≡ length c.self.inside.events.items = search rules in
     let event : c.len.result ≡ length (reverse c.self.inside.events.items) = len ∙ sym (length-reverse c.self.inside.events.items) in
     let number : c.len-number.result ≡ length c.self.inside.list.alarms + 1 =
-    c.len-number.ensures ∙ ap (λ (t : Tracking). length t.alarms) c.push_reserved.ensures.value ∙ sym (length_more _ _) in
+    c.len-number.ensures.len ∙ ap (λ (t : Tracking). length t.alarms) c.push_reserved.ensures.value ∙ sym (length_more _ _) in
     rw (c.push_reserved.ensures.value, c.push_reserved-2.ensures.items, c.push_reserved-2.ensures.capacity) (record {
       sources_differ = c.self.invariant.sources_differ;
       are_rules = c.self.invariant.are_rules;
