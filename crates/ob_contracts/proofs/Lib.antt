@@ -10,3 +10,6 @@ pub mod Sources
 pub mod Added
 pub mod Tabled
 pub mod Indexed
+pub mod Copied
+pub mod Found
+pub mod Views

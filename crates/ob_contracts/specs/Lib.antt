@@ -3,6 +3,8 @@ pub mod Sound
 pub mod Index
 pub mod Shown
 pub mod Adding
+pub mod Found
+pub mod HandedDown
 pub mod Ancestry
 pub mod Standard
 pub mod Table

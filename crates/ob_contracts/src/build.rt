@@ -1,6 +1,8 @@
 //! The effective object, built.
-ghost use Rattle.std.specs.Prelude.{◌≡◌, IfOk};
+ghost use Rattle.std.specs.Prelude.{◌≡◌, false, IfOk, OnOk};
 ghost use Rattle.std.specs.Option.{option_copied};
+ghost use Rattle.ob_object.specs.Object.{children};
+ghost use Rattle.ob_object.specs.WellFormed.{is_taken, with_child};
 ghost use Rattle.ob_contracts.specs.Inherit.{effective_of};
 ghost use Rattle.ob_contracts.specs.Shown.{shown, shown_as};
 
@@ -36,25 +38,28 @@ pub fn effective(
     build(alloc, &view(library, object, implied, over), true)
 }
 
+/// Puts a child with a new name last.
+fn with_last(made: &mut Obj, child: Obj) -> Result<(), AllocError>
+    requires { is_taken child.head.name (children made.old) ≡ false }
+    ensures { OnOk result (made.new ≡ with_child made.old child) }
+{
+    match made.push_new(child) {
+        Ok(()) => Ok(()),
+        Err(_) => Err(AllocError),
+    }
+}
+
 /// The object that a view shows, or its result, without the defaults of the kinds.
 pub(crate) fn build(alloc: Global, view: &View, defaults: bool) -> Result<Obj, AllocError>
     ensures { IfOk result (λ made. made ≡ shown_as defaults view.now) }
 {
     view.know_names();
     let head = view.copy_head(defaults)?;
+    let views = view.children(alloc)?;
     let mut made = Obj::from_head(alloc, head);
-    for place in 0..usize::MAX {
-        match view.child_at(place) {
-            Some(child) => {
-                let child = build(alloc, &child, defaults)?;
-                match made.push_new(child) {
-                    Ok(()) => {}
-                    Err(_) => return Err(AllocError),
-                }
-            }
-            None => return Ok(made),
-        }
+    for below in &views {
+        let child = build(alloc, below, defaults)?;
+        with_last(&mut made, child)?;
     }
-    let _children = made.children();
-    unreachable!()
+    Ok(made)
 }

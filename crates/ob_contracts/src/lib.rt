@@ -11,6 +11,7 @@ ghost use Rattle.ob_contracts.specs.Rows.{FirstContractWins, ChildOverrides, Ite
 mod adding;
 mod ancestry;
 mod build;
+mod inherited;
 mod library;
 mod reading;
 mod standard;

@@ -1,5 +1,5 @@
 //! The contracts that words name.
-ghost use Rattle.std.specs.Prelude.{◌≡◌, ◌≤◌, false, is_some, [], ◌∷◌, ◌++◌, OnOk, OnErr};
+ghost use Rattle.std.specs.Prelude.{◌≡◌, ◌≤◌, false, is_some, [], ◌∷◌, ◌++◌, IfOk, OnOk, OnErr};
 ghost use Rattle.std.specs.Option.{option_copied};
 ghost use Rattle.ob_object.specs.Default.{default_of};
 ghost use Rattle.ob_object.specs.Object.{parts};
@@ -94,6 +94,18 @@ impl Library {
         self.contracts.as_slice()
     }
 
+    /// A copy: the same words for the same contracts, in the same order.
+    pub fn copy(&self) -> Result<Library, AllocError>
+        ensures { IfOk result (λ copy. copy ≡ self.now) }
+    {
+        let mut copy = Library::new(self.allocator());
+        let contracts = copy_contracts(self.contracts.as_slice(), self.allocator())?;
+        let places = self.places.clone()?;
+        copy.contracts = contracts;
+        copy.places = places;
+        Ok(copy)
+    }
+
     /// Puts a new word and what it stands for last.
     pub(crate) fn put(&mut self, uri: Text, made: Obj) -> Result<(), AllocError>
         requires small { parts made ≤ 512 }
@@ -144,6 +156,19 @@ impl Library {
             Kind::Obj | Kind::List | Kind::Op | Kind::Feed | Kind::Ref | Kind::Err => &slots.absent,
         }
     }
+}
+
+// Words and what they stand for, copied.
+fn copy_contracts(contracts: &[(Text, Obj)], alloc: Global) -> Result<Vec<(Text, Obj)>, AllocError>
+    ensures { IfOk result (λ copies. copies.items ≡ contracts.now) }
+{
+    let mut copies = Vec::new(alloc);
+    for contract in contracts {
+        let word = contract.0.copy()?;
+        let object = contract.1.copy()?;
+        copies.push((word, object))?;
+    }
+    Ok(copies)
 }
 
 // The contract at a place.

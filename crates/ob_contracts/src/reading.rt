@@ -42,11 +42,11 @@ pub(crate) enum Part<'n> {
 /// The effective object of an object in a library.
 #[derive(Drop)]
 pub struct View<'a> {
-    library: &'a Library,
-    own: &'a Obj,
-    implied: Option<&'a Words>,
-    over: Option<&'a Obj>,
-    as_it_stands: bool,
+    pub(crate) library: &'a Library,
+    pub(crate) own: &'a Obj,
+    pub(crate) implied: Option<&'a Words>,
+    pub(crate) over: Option<&'a Obj>,
+    pub(crate) as_it_stands: bool,
 }
 
 /// Whether an object has a part itself.
@@ -155,7 +155,7 @@ impl<'a> View<'a> {
 
     /// How many places for sources it has: one for each word, and one for the overridden child.
     #[tactic(auto, unfolding(crate::specs::Shown::view_places))]
-    fn place_count(&self) -> usize
+    pub(crate) fn place_count(&self) -> usize
         ensures { result ≡ length (view_places self.now) }
     {
         if self.as_it_stands || self.own.kind().is_ref() {
@@ -167,7 +167,7 @@ impl<'a> View<'a> {
 
     /// The source at a place, if one is there.
     #[tactic(auto, unfolding(crate::specs::Shown::view_places))]
-    fn source_at(&self, place: usize) -> Option<&'a Obj>
+    pub(crate) fn source_at(&self, place: usize) -> Option<&'a Obj>
         requires { place < length (view_places self.now) }
         ensures { option_copied result ≡ source_in (view_places self.now) place }
     {
@@ -346,7 +346,7 @@ impl<'a> View<'a> {
     }
 
     /// The words that it gives to its own children that have none.
-    fn implied_by(&self) -> Option<&'a Words>
+    pub(crate) fn implied_by(&self) -> Option<&'a Words>
         ensures { option_copied result ≡ implied_by (shown_result self.now).head }
     {
         if self.kind().has_of() {
@@ -391,7 +391,7 @@ impl<'a> View<'a> {
 
     /// A child of a source.
     #[tactic(auto, unfolding(crate::specs::Shown::shown_result))]
-    fn inherited_child(&self, child: &'a Obj) -> View<'a>
+    pub(crate) fn inherited_child(&self, child: &'a Obj) -> View<'a>
         ensures { shown_result result ≡ bare child.now }
     {
         View {

@@ -1,4 +1,4 @@
-use Rattle.std.proofs.Common.{◌≡◌, length, take}
+use Rattle.std.proofs.Common.{◌≡◌, take}
 use Rattle.ob_object.specs.Object.{parts, children}
 use Rattle.ob_contracts.specs.Shown.{shown_as}
 use Rattle.ob_contracts.proofs.build.+build.Given as goal
@@ -6,9 +6,8 @@ use Rattle.ob_contracts.proofs.build.+build.Given as goal
 abbrev pub decreases-build : goal.decreases-build
 decreases-build l = parts (shown_as l.defaults l.view.now)
 
-abbrev pub invariant-loop-place : goal.invariant-loop-place
-invariant-loop-place l = record {
+abbrev pub invariant-loop-below : goal.invariant-loop-below
+invariant-loop-below l = record {
   head : l.made.head ≡ (shown_as l.defaults l.view).head;
-  counted : length (children l.made) ≡ l.place;
-  children : children l.made ≡ take l.place (children (shown_as l.defaults l.view));
+  children : children l.made ≡ take l.below-index (children (shown_as l.defaults l.view));
 }
