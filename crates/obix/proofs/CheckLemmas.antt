@@ -2,6 +2,7 @@
 use Rattle.std.proofs.Common.{◌≡◌, ◌≢◌, ℕ, true, ◌⊎◌, inl, inr, refl, sym, ◌∙◌, ap, subst, List, Option, Some, None, Result, Ok, Err}
 use Rattle.std.specs.Prelude.{IfSome}
 use Rattle.ob_io.specs.Told.{Gains, IsFront}
+use Rattle.ob_grammar.specs.Spelling.{Spells}
 use Rattle.ob_xml.specs.declared.doc.Doc.{Doc}
 use Rattle.ob_xml.specs.declared.refused.Refused as refused
 use Rattle.ob_xml.specs.declared.refused.Why.{Why}
@@ -78,3 +79,13 @@ write_failed (Refused r) e = cc
 write_failed ReadFault e = cc
 write_failed WriteFault e = refl
 write_failed Memory e = cc
+
+-- what the bytes are judged to be, they spell
+pub spells_check : (spelled : (bytes : List ℕ) (d : Doc) → Judged bytes true (document d) → Spells bytes d.ns d.root) (content before after : Option (List ℕ)) (end : CheckEnd) (exit : Exit) → exit ≡ exit_of_check end
+    → IfSome content (λ bytes. Checks bytes before after (exit_of_check end)) → IfSome content (λ bytes. exit ≡ exits.Ok → (doc : Doc) × Spells bytes doc.ns doc.root × Gains before (printed doc) after)
+spells_check spelled None before after end exit e c = tt
+spells_check spelled (Some bytes) before after Printed exit e c = λ ok. (c.0, spelled bytes c.0 c.1, c.2)
+spells_check spelled (Some bytes) before after (Refused r) exit e c = λ ok. (let f = sym ok ∙ e in cc)
+spells_check spelled (Some bytes) before after ReadFault exit e c = λ ok. (let f = sym ok ∙ e in cc)
+spells_check spelled (Some bytes) before after WriteFault exit e c = λ ok. (let f = sym ok ∙ e in cc)
+spells_check spelled (Some bytes) before after Memory exit e c = λ ok. (let f = sym ok ∙ e in cc)

@@ -1,13 +1,15 @@
 // The top call: the words of a command line, done over the outside that is handed in.
 ghost use Rattle.std.specs.Prelude.{◌≡◌, ◌≢◌, ◌⊎◌, ◌≤◌, ◌<◌, ◌^◌, ◌↔◌, ℕ, List, [], length, map, string_bytes, None, Some, IfSome, true};
 ghost use Rattle.ob_io.specs.Faults.{Rose};
+ghost use Rattle.ob_io.specs.Told.{Gains};
+ghost use Rattle.ob_grammar.specs.Spelling.{Spells};
 ghost use Rattle.ob_xml.specs.declared.doc.Doc.{Doc};
 ghost use Rattle.ob_xml.specs.Judged.{Judged, document};
 ghost use Rattle.obix.specs.Command.{command, site_file, checked_file};
 ghost use Rattle.obix.specs.Reading.{IsFaulty};
 ghost use Rattle.obix.specs.Site.{Opens};
 ghost use Rattle.obix.specs.Run.{OnFile, IsRefused, Answers};
-ghost use Rattle.obix.specs.Check.{Checks};
+ghost use Rattle.obix.specs.Check.{Checks, printed};
 ghost use Rattle.obix.specs.Framing.{Framed, Rest};
 ghost use Rattle.obix.specs.declared.request.Request.{Request};
 
@@ -100,6 +102,10 @@ pub fn run<F: Files, S: Source, K: Sink, E: Sink>(
     ensures checks { OnFile (checked_file (command (map string_bytes words.now))) (F.content files.old)
         (λ bytes. Checks bytes (K.held sink.old) (K.held sink.new) result) }
 
+    // Status 0: it is the document that the bytes spell by the grammar.
+    ensures check_spells { OnFile (checked_file (command (map string_bytes words.now))) (F.content files.old) (λ bytes. result ≡ Exit.Ok
+        → (doc : Doc) × Spells bytes doc.ns doc.root × Gains (K.held sink.old) (printed doc) (K.held sink.new)) }
+
     // Whatever the file is, an exit has its cause in some bytes.
     ensures some_bytes { IfSome (checked_file (command (map string_bytes words.now)))
         (λ _. (bytes : List ℕ) × Checks bytes (K.held sink.old) (K.held sink.new) result) }
@@ -113,6 +119,7 @@ pub fn run<F: Files, S: Source, K: Sink, E: Sink>(
         → (Rose (K.faults sink.old) (K.faults sink.new) → ⊥) → (result ≡ Exit.Ok) ⊎ (result ≡ Exit.Memory)) }
 {
     ob_xml::one_verdict();
+    ob_documents::spelled();
     let Some(command) = read_command(words) else {
         let _ = write_all(errors, b"obix: usage\n");
         return Exit::Usage;

@@ -2,7 +2,7 @@ use Rattle.std.proofs.Common.{◌≡◌, Some, map, sym}
 use Rattle.std.specs.String.{string_bytes}
 use Rattle.obix.specs.Command.{stdio, check, command}
 use Rattle.obix.proofs.OutcomeLemmas.{answers_told, some_answers, refuses_told, complete_told}
-use Rattle.obix.proofs.CheckLemmas.{refuses_check, complete_check}
+use Rattle.obix.proofs.CheckLemmas.{refuses_check, complete_check, spells_check}
 use Rattle.obix.proofs.run.run.Goals as goal
 
 pub returns-in-Stdio-clause-answers : goal.returns-in-Stdio-clause-answers
@@ -37,3 +37,8 @@ returns-in-Check-clause-check_complete g c =
     let e : command (map string_bytes c.args.words.now) ≡ Some (check c.in-Check.name.now) = sym (rw c.in-Check.is at c.in-Some.ensures) in
     rw e
     (complete_check c.one_verdict.ensures _ _ _ c.check-end.result c.exit-in-Check.result _ _ c.exit-in-Check.ensures c.check-end.ensures.read_fault c.check-end.ensures.write_fault c.check-end.ensures.checks.told)
+
+pub returns-in-Check-clause-check_spells : goal.returns-in-Check-clause-check_spells
+returns-in-Check-clause-check_spells g c =
+    let e : command (map string_bytes c.args.words.now) ≡ Some (check c.in-Check.name.now) = sym (rw c.in-Check.is at c.in-Some.ensures) in
+    rw e (spells_check c.spelled.ensures _ _ _ c.check-end.result c.exit-in-Check.result c.exit-in-Check.ensures c.check-end.ensures.checks.told)
