@@ -1,3 +1,4 @@
 pub mod Printable
-pub mod Nameless
+pub mod Fits
+pub mod New
 pub mod Ends

@@ -1,23 +1,21 @@
 //! Objects put together from their parts.
-ghost use Rattle.std.specs.Prelude.{◌≡◌, ◌++◌, ◌∷◌, [], Some, None, length, true, false, is_none, IsTrue, IfOk};
-ghost use Rattle.std.specs.List.{list_all};
-ghost use Rattle.ob_values.specs.XmlText.{is_printable};
-ghost use Rattle.ob_object.specs.Object.{children, empty_head, in_row, none};
-ghost use Rattle.ob_object.specs.Facets.{no_facets};
-ghost use Rattle.ob_object.specs.Fits.{fits_head};
+ghost use Rattle.std.specs.Prelude.{◌≡◌, ◌++◌, ◌∷◌, [], Some, None, false, IsTrue, IfOk};
+ghost use Rattle.ob_object.specs.Object.{children, empty_head};
+ghost use Rattle.ob_object.specs.Fits.{fits_head, fits_slot};
 ghost use Rattle.ob_object.specs.WellFormed.{is_taken, with_child};
-ghost use Rattle.ob_object.specs.Words.{is_word};
-ghost use Rattle.ob_object.specs.declared.head.Slot.TheVariants.{Absent, Null};
 ghost use Rattle.ob_object.specs.declared.kind.Kind.TheVariants as kind;
-ghost use Rattle.ob_site_rules.specs.Build.{leaf, word, valued, time_slot, text_slot, ref_to, op_at, feed_at, nameless, under_name, under_href};
+ghost use Rattle.ob_site_rules.specs.Build.{whole, word, valued, time_slot, ref_to, op_at, feed_at, nameless, under_name};
+ghost use Rattle.ob_answers.specs.Names.{is_name, are_new};
+ghost use Rattle.ob_answers.specs.Told as told;
 
-use ob_object::{Facets, Head, Kind, Obj, Slot, WordFault, Words};
+use crate::contract::Contract;
+use ob_object::{Facets, Head, Kind, Obj, Slot};
 use ob_times::Abstime;
 use ob_values::{Text, Value};
 use std::alloc::{AllocError, Global};
 
 /// A kind, and nothing else.
-pub(crate) fn head_of(kind: Kind) -> Head
+pub fn head_of(kind: Kind) -> Head
     ensures { result ≡ empty_head kind }
 {
     Head {
@@ -33,23 +31,29 @@ pub(crate) fn head_of(kind: Kind) -> Head
     }
 }
 
-/// A list of one word.
-pub(crate) fn one_word(alloc: Global, text: &str) -> Result<Words, AllocError>
-    requires printable { IsTrue (is_printable text.now) }
-    requires word { IsTrue (is_word text.now) }
-    ensures { IfOk result (λ words. Some words ≡ word text.now) }
+/// An obj's head with one contract, and its path if one is given.
+pub fn obj_head(alloc: Global, href: Option<Text>, is: Contract) -> Result<Head, AllocError>
+    ensures { IfOk result (λ h. h ≡ record (empty_head kind.Obj) { href = href; is = word (told.contract is) }) }
 {
-    let text = Text::from_ascii(alloc, text)?;
-    let mut words = Words::new(alloc);
-    match words.push(text) {
-        Ok(()) => Ok(words),
-        Err(WordFault::NotWord { word: _word }) => unreachable!(),
-        Err(WordFault::Memory { word: _word }) => Err(AllocError),
+    let words = is.words(alloc)?;
+    let mut head = head_of(Kind::Obj);
+    head.href = href;
+    head.is = Some(words);
+    Ok(head)
+}
+
+/// Puts an object last.
+pub fn put(objects: &mut Vec<Obj>, object: Obj) -> Result<(), AllocError>
+    ensures { IfOk result (λ _. objects.new.items ≡ objects.old.items ++ object ∷ []) }
+{
+    match objects.push(object) {
+        Ok(()) => Ok(()),
+        Err(_object) => Err(AllocError),
     }
 }
 
 /// Puts a child last that has no name, or one that no child has.
-pub(crate) fn put_last(object: &mut Obj, child: Obj) -> Result<(), AllocError>
+fn put_last(object: &mut Obj, child: Obj) -> Result<(), AllocError>
     requires { is_taken child.head.name (children object.old) ≡ false }
     ensures { IfOk result (λ _. object.new ≡ with_child object.old child) }
 {
@@ -59,10 +63,35 @@ pub(crate) fn put_last(object: &mut Obj, child: Obj) -> Result<(), AllocError>
     }
 }
 
+/// An object of a head and children, none of which has the name of one before it.
+pub fn whole(alloc: Global, head: Head, children: Vec<Obj>) -> Result<Obj, AllocError>
+    requires fits { IsTrue (fits_head head) }
+    requires differ { IsTrue (are_new [] children.items) }
+    ensures { IfOk result (λ o. o ≡ whole head children.items) }
+{
+    let mut object = Obj::from_head(alloc, head);
+    for child in children {
+        put_last(&mut object, child)?;
+    }
+    Ok(object)
+}
+
+/// An object of a head and one child.
+#[tactic(auto, using(crate::proofs::New::one_new))]
+pub fn one_child(alloc: Global, head: Head, child: Obj) -> Result<Obj, AllocError>
+    requires { IsTrue (fits_head head) }
+    ensures { IfOk result (λ o. o ≡ whole head (child ∷ [])) }
+{
+    let mut children = Vec::new(alloc);
+    put(&mut children, child)?;
+    whole(alloc, head, children)
+}
+
 /// A child of a value kind.
-pub(crate) fn valued(alloc: Global, kind: Kind, name: &str, slot: Slot) -> Result<Obj, AllocError>
-    requires printable { IsTrue (is_printable name.now) }
-    requires fits { IsTrue (fits_head (valued kind name.now slot).head) }
+#[tactic(auto, using(crate::proofs::Fits::valued_fits, crate::proofs::Fits::name_printable))]
+pub fn valued(alloc: Global, kind: Kind, name: &str, slot: Slot) -> Result<Obj, AllocError>
+    requires name { IsTrue (is_name name.now) }
+    requires slot { IsTrue (fits_slot kind slot) }
     ensures { IfOk result (λ o. o ≡ valued kind name.now slot) }
 {
     let name = Text::from_ascii(alloc, name)?;
@@ -72,24 +101,8 @@ pub(crate) fn valued(alloc: Global, kind: Kind, name: &str, slot: Slot) -> Resul
     Ok(Obj::from_head(alloc, head))
 }
 
-/// Puts a child of a value kind last, whose name no child has.
-pub(crate) fn put_valued(
-    alloc: Global,
-    object: &mut Obj,
-    kind: Kind,
-    name: &str,
-    slot: Slot,
-) -> Result<(), AllocError>
-    requires printable { IsTrue (is_printable name.now) }
-    requires fits { IsTrue (fits_head (valued kind name.now slot).head) }
-    requires free { is_taken (Some name.now) (children object.old) ≡ false }
-    ensures { IfOk result (λ _. object.new ≡ with_child object.old (valued kind name.now slot)) }
-{
-    put_last(object, valued(alloc, kind, name, slot)?)
-}
-
 /// A time as a slot, or null.
-pub(crate) fn time_slot(time: Option<Abstime>) -> Slot
+fn time_slot(time: Option<Abstime>) -> Slot
     ensures { result ≡ time_slot time }
 {
     match time {
@@ -98,42 +111,45 @@ pub(crate) fn time_slot(time: Option<Abstime>) -> Slot
     }
 }
 
+/// A child that is a time, or null.
+#[tactic(auto, using(crate::proofs::Fits::time_fits))]
+pub fn timed(alloc: Global, name: &str, time: Option<Abstime>) -> Result<Obj, AllocError>
+    requires { IsTrue (is_name name.now) }
+    ensures { IfOk result (λ o. o ≡ valued kind.Abstime name.now (time_slot time)) }
+{
+    valued(alloc, Kind::Abstime, name, time_slot(time))
+}
+
 /// A ref to a path, with one contract.
-pub(crate) fn ref_to(alloc: Global, name: &str, path: Text, is: &str) -> Result<Obj, AllocError>
-    requires printable { IsTrue (is_printable name.now) }
-    requires printable_word { IsTrue (is_printable is.now) }
-    requires word { IsTrue (is_word is.now) }
-    requires fits { IsTrue (fits_head (ref_to name.now path (word is.now)).head) }
-    ensures { IfOk result (λ o. o ≡ ref_to name.now path (word is.now)) }
+#[tactic(auto, using(crate::proofs::Fits::ref_fits, crate::proofs::Fits::name_printable))]
+pub fn ref_to(alloc: Global, name: &str, path: Text, is: Contract) -> Result<Obj, AllocError>
+    requires { IsTrue (is_name name.now) }
+    ensures { IfOk result (λ o. o ≡ ref_to name.now path (word (told.contract is))) }
 {
     let name = Text::from_ascii(alloc, name)?;
-    let is = one_word(alloc, is)?;
+    let words = is.words(alloc)?;
     let mut head = head_of(Kind::Ref);
     head.name = Some(name);
     head.href = Some(path);
-    head.is = Some(is);
+    head.is = Some(words);
     Ok(Obj::from_head(alloc, head))
 }
 
 /// An op at a path, with what it takes and what it gives.
-pub(crate) fn op_at(
+#[tactic(auto, using(crate::proofs::Fits::op_fits, crate::proofs::Fits::name_printable))]
+pub fn op_at(
     alloc: Global,
     name: &str,
     path: Text,
-    takes: &str,
-    gives: &str,
+    takes: Contract,
+    gives: Contract,
 ) -> Result<Obj, AllocError>
-    requires printable { IsTrue (is_printable name.now) }
-    requires printable_input { IsTrue (is_printable takes.now) }
-    requires printable_output { IsTrue (is_printable gives.now) }
-    requires input { IsTrue (is_word takes.now) }
-    requires output { IsTrue (is_word gives.now) }
-    requires fits { IsTrue (fits_head (op_at name.now path takes.now gives.now).head) }
-    ensures { IfOk result (λ o. o ≡ op_at name.now path takes.now gives.now) }
+    requires { IsTrue (is_name name.now) }
+    ensures { IfOk result (λ o. o ≡ op_at name.now path (told.contract takes) (told.contract gives)) }
 {
     let name = Text::from_ascii(alloc, name)?;
-    let input = one_word(alloc, takes)?;
-    let output = one_word(alloc, gives)?;
+    let input = takes.words(alloc)?;
+    let output = gives.words(alloc)?;
     let mut head = head_of(Kind::Op);
     head.name = Some(name);
     head.href = Some(path);
@@ -143,24 +159,20 @@ pub(crate) fn op_at(
 }
 
 /// A feed at a path, with the contract of its events and what it takes.
-pub(crate) fn feed_at(
+#[tactic(auto, using(crate::proofs::Fits::feed_fits, crate::proofs::Fits::name_printable))]
+pub fn feed_at(
     alloc: Global,
     name: &str,
     path: Text,
-    of: &str,
-    takes: &str,
+    of: Contract,
+    takes: Contract,
 ) -> Result<Obj, AllocError>
-    requires printable { IsTrue (is_printable name.now) }
-    requires printable_of { IsTrue (is_printable of.now) }
-    requires printable_input { IsTrue (is_printable takes.now) }
-    requires events { IsTrue (is_word of.now) }
-    requires input { IsTrue (is_word takes.now) }
-    requires fits { IsTrue (fits_head (feed_at name.now path of.now takes.now).head) }
-    ensures { IfOk result (λ o. o ≡ feed_at name.now path of.now takes.now) }
+    requires { IsTrue (is_name name.now) }
+    ensures { IfOk result (λ o. o ≡ feed_at name.now path (told.contract of) (told.contract takes)) }
 {
     let name = Text::from_ascii(alloc, name)?;
-    let of = one_word(alloc, of)?;
-    let input = one_word(alloc, takes)?;
+    let of = of.words(alloc)?;
+    let input = takes.words(alloc)?;
     let mut head = head_of(Kind::Feed);
     head.name = Some(name);
     head.href = Some(path);
@@ -169,36 +181,25 @@ pub(crate) fn feed_at(
     Ok(Obj::from_head(alloc, head))
 }
 
-/// An obj without children, with one contract, and its path if one is given.
-pub(crate) fn obj_with(alloc: Global, href: Option<Text>, is: &str) -> Result<Obj, AllocError>
-    requires printable { IsTrue (is_printable is.now) }
-    requires word { IsTrue (is_word is.now) }
-    ensures { IfOk result (λ o. o ≡ leaf (record (empty_head kind.Obj) { href = href; is = word is.now })) }
+/// The object under a name.
+#[tactic(auto, using(crate::proofs::Fits::name_printable, crate::proofs::Fits::name_fits))]
+pub fn named(alloc: Global, mut object: Obj, name: &str) -> Result<Obj, AllocError>
+    requires { IsTrue (is_name name.now) }
+    ensures { IfOk result (λ o. o ≡ under_name name.now object) }
 {
-    let is = one_word(alloc, is)?;
-    let mut head = head_of(Kind::Obj);
-    head.href = href;
-    head.is = Some(is);
-    Ok(Obj::from_head(alloc, head))
+    let name = Text::from_ascii(alloc, name)?;
+    match object.put_name(Some(name)) {
+        Ok(()) => Ok(object),
+        Err(_name) => unreachable!(),
+    }
 }
 
 /// The object without its name.
-pub(crate) fn nameless(mut object: Obj) -> Obj
+pub fn nameless(mut object: Obj) -> Obj
     ensures { result ≡ nameless object }
 {
     match object.put_name(None) {
         Ok(()) => object,
         Err(_name) => unreachable!(),
     }
-}
-
-/// Puts objects last, in their order, which have no names.
-pub(crate) fn put_nameless(object: &mut Obj, others: Vec<Obj>) -> Result<(), AllocError>
-    requires { list_all (λ o. is_none o.head.name) others.items ≡ true }
-    ensures { IfOk result (λ _. object.new ≡ record object.old { inner = in_row (children object.old ++ others.items) }) }
-{
-    for other in others {
-        put_last(object, other)?;
-    }
-    Ok(())
 }

@@ -3,7 +3,8 @@ ghost use Rattle.std.specs.Prelude.{◌≡◌, IfOk, Some, option_map};
 ghost use Rattle.ob_site_rules.specs.Faults.{err, fault_is, fault_display};
 ghost use Rattle.ob_answers.specs.Told as told;
 
-use crate::build::{head_of, one_word};
+use crate::build::head_of;
+use crate::contract::Contract;
 use ob_object::{Kind, Obj, Words};
 use ob_values::Text;
 use std::alloc::{AllocError, Global};
@@ -53,13 +54,14 @@ impl Fault {
         ensures { IfOk result (λ words. words ≡ fault_is (told.fault self)) }
     {
         let contract = match self {
-            Fault::NoSuchObject => "obix:BadUriErr",
-            Fault::NotSupported | Fault::OtherShape | Fault::NotWatchable | Fault::NotInBatch =>
-                "obix:UnsupportedErr",
-            Fault::NotWritable => "obix:PermissionErr",
+            Fault::NoSuchObject => Contract::BadUriErr,
+            Fault::NotSupported | Fault::OtherShape | Fault::NotWatchable | Fault::NotInBatch => {
+                Contract::UnsupportedErr
+            }
+            Fault::NotWritable => Contract::PermissionErr,
             _ => return Ok(None),
         };
-        Ok(Some(one_word(alloc, contract)?))
+        Ok(Some(contract.words(alloc)?))
     }
 
     fn display(self, alloc: Global) -> Result<Text, AllocError>

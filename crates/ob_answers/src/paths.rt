@@ -1,8 +1,11 @@
 //! The paths that a site computes.
 ghost use Rattle.std.specs.Prelude.{◌≡◌, ◌++◌, ◌∷◌, [], codes, decimal, IfOk, IsTrue};
 ghost use Rattle.ob_values.specs.XmlText.{is_printable};
-ghost use Rattle.ob_site_rules.specs.Paths.{below, ends_with_slash};
+ghost use Rattle.ob_alarms.specs.AlarmObjects.{alarm_path};
+ghost use Rattle.ob_site_rules.specs.Paths.{below, ends_with_slash, ack_path};
+ghost use Rattle.ob_answers.specs.Plans.{plan as plan_of};
 
+use crate::plan::Plan;
 use ob_values::Text;
 use std::alloc::{AllocError, Global};
 
@@ -18,7 +21,7 @@ fn ends_with_slash(path: &str) -> bool
 }
 
 /// The path of a derived child of this name.
-pub(crate) fn below(alloc: Global, path: &Text, name: &str) -> Result<Text, AllocError>
+pub fn below(alloc: Global, path: &Text, name: &str) -> Result<Text, AllocError>
     requires { IsTrue (is_printable name.now) }
     ensures { IfOk result (λ under. under ≡ below path.now name.now) }
 {
@@ -38,4 +41,21 @@ pub(crate) fn watch_path(alloc: Global, root: &Text, number: u64) -> Result<Text
     let watches = root.followed_by(alloc, "watch/")?;
     let watch = watches.followed_by(alloc, digits.as_str())?;
     watch.followed_by(alloc, "/")
+}
+
+/// The path of an alarm.
+#[tactic(auto, using(ob_alarms::proofs::Paths::tail_printable))]
+pub fn alarm_path(alloc: Global, plan: &Plan, number: u64) -> Result<Text, AllocError>
+    ensures { IfOk result (λ path. path ≡ alarm_path (plan_of plan.now).root number) }
+{
+    let tail = format!(in alloc; "alarm/{number}/")?;
+    plan.root.followed_by(alloc, tail.as_str())
+}
+
+/// The path of the op that acknowledges an alarm.
+pub fn ack_path(alloc: Global, plan: &Plan, number: u64) -> Result<Text, AllocError>
+    ensures { IfOk result (λ path. path ≡ ack_path (plan_of plan.now) number) }
+{
+    let alarm = alarm_path(alloc, plan, number)?;
+    alarm.followed_by(alloc, "ack")
 }

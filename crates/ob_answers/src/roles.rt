@@ -4,7 +4,8 @@ ghost use Rattle.ob_site_rules.specs.Build.{time_slot};
 ghost use Rattle.ob_site_rules.specs.Shown.{lobby_children, write_point_op, count_child, subject_children};
 ghost use Rattle.ob_answers.specs.Plans.{plan as plan_of};
 
-use crate::build::{feed_at, head_of, op_at, ref_to};
+use crate::build::{feed_at, head_of, op_at, put, ref_to};
+use crate::contract::Contract;
 use crate::fixed::batch_op;
 use crate::paths::below;
 use crate::plan::Plan;
@@ -18,12 +19,19 @@ use std::alloc::{AllocError, Global};
 pub fn lobby_children(alloc: Global, plan: &Plan) -> Result<Vec<Obj>, AllocError>
     ensures { IfOk result (λ os. os.items ≡ lobby_children (plan_of plan.now)) }
 {
-    let about_path = plan.root.followed_by(alloc, "about")?;
-    let about = ref_to(alloc, "about", about_path, "obix:About")?;
-    let batch = batch_op(alloc, plan)?;
-    let service_path = plan.root.followed_by(alloc, "watchService")?;
-    let service = ref_to(alloc, "watchService", service_path, "obix:WatchService")?;
-    Ok(vec![in alloc; about, batch, service]?)
+    let mut children = Vec::new(alloc);
+    let about = plan.root.followed_by(alloc, "about")?;
+    put(
+        &mut children,
+        ref_to(alloc, "about", about, Contract::About)?,
+    )?;
+    put(&mut children, batch_op(alloc, plan)?)?;
+    let service = plan.root.followed_by(alloc, "watchService")?;
+    put(
+        &mut children,
+        ref_to(alloc, "watchService", service, Contract::WatchService)?,
+    )?;
+    Ok(children)
 }
 
 /// The op of a writable point.
@@ -33,11 +41,17 @@ pub fn write_point_op(alloc: Global, point: &Text) -> Result<Obj, AllocError>
     ensures { IfOk result (λ o. o ≡ write_point_op point.now) }
 {
     let path = below(alloc, point, "writePoint")?;
-    op_at(alloc, "writePoint", path, "obix:WritePointIn", "obix:Point")
+    op_at(
+        alloc,
+        "writePoint",
+        path,
+        Contract::WritePointIn,
+        Contract::Point,
+    )
 }
 
 /// How many records or alarms there are, which is never below 0.
-pub(crate) fn count_child(alloc: Global, count: u64) -> Result<Obj, AllocError>
+pub fn count_child(alloc: Global, count: u64) -> Result<Obj, AllocError>
     requires { count < 2 ^ 63 }
     ensures { IfOk result (λ o. o ≡ count_child count) }
 {
@@ -56,16 +70,18 @@ pub fn subject_children(alloc: Global, path: &Text, alarms: u64) -> Result<Vec<O
     requires { alarms < 2 ^ 63 }
     ensures { IfOk result (λ os. os.items ≡ subject_children path.now alarms) }
 {
-    let count = count_child(alloc, alarms)?;
-    let query_path = below(alloc, path, "query")?;
-    let query = op_at(
-        alloc,
-        "query",
-        query_path,
-        "obix:AlarmFilter",
-        "obix:AlarmQueryOut",
+    let mut children = Vec::new(alloc);
+    put(&mut children, count_child(alloc, alarms)?)?;
+    let query = below(alloc, path, "query")?;
+    let filter = Contract::AlarmFilter;
+    put(
+        &mut children,
+        op_at(alloc, "query", query, filter, Contract::AlarmQueryOut)?,
     )?;
-    let feed_path = below(alloc, path, "feed")?;
-    let feed = feed_at(alloc, "feed", feed_path, "obix:Alarm", "obix:AlarmFilter")?;
-    Ok(vec![in alloc; count, query, feed]?)
+    let feed = below(alloc, path, "feed")?;
+    put(
+        &mut children,
+        feed_at(alloc, "feed", feed, Contract::Alarm, filter)?,
+    )?;
+    Ok(children)
 }

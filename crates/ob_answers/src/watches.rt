@@ -1,17 +1,15 @@
 //! Watches, and what they answer.
-ghost use Rattle.std.specs.Prelude.{◌≡◌, ◌<◌, ◌^◌, ◌++◌, ◌∷◌, [], Some, codes, pos, true, is_none, IsTrue, IfOk};
+ghost use Rattle.std.specs.Prelude.{◌≡◌, ◌<◌, ◌^◌, ◌++◌, Some, true, is_none, IsTrue, IfOk};
 ghost use Rattle.std.specs.List.{list_all};
-ghost use Rattle.ob_values.specs.XmlText.{is_printable};
-ghost use Rattle.ob_object.specs.Object.{children, in_row, empty_head};
-ghost use Rattle.ob_object.specs.Fits.{fits_head};
-ghost use Rattle.ob_object.specs.Words.{is_word};
 ghost use Rattle.ob_site_rules.specs.Build.{op_at, under_href};
 ghost use Rattle.ob_site_rules.specs.Computed.{watch_object, watch_part_object, watch_out};
 ghost use Rattle.ob_answers.specs.WatchChildren.{span_value, lease_at, child_at};
+ghost use Rattle.ob_answers.specs.Names.{is_name};
 ghost use Rattle.ob_answers.specs.Plans.{plan as plan_of};
 ghost use Rattle.ob_answers.specs.Told as told;
 
-use crate::build::{head_of, nameless, obj_with, op_at, put_last, put_nameless};
+use crate::build::{head_of, nameless, obj_head, one_child, op_at, put, whole};
+use crate::contract::Contract;
 use crate::paths::watch_path;
 use crate::plan::Plan;
 use ob_object::{Kind, Obj, Slot};
@@ -64,20 +62,16 @@ fn lease_child(alloc: Global, path: &Text, lease: u64) -> Result<Obj, AllocError
 }
 
 /// An op of a watch.
+#[tactic(auto, using(crate::proofs::Fits::name_printable))]
 fn watch_op(
     alloc: Global,
     path: &Text,
     name: &str,
-    takes: &str,
-    gives: &str,
+    takes: Contract,
+    gives: Contract,
 ) -> Result<Obj, AllocError>
-    requires printable { IsTrue (is_printable name.now) }
-    requires printable_input { IsTrue (is_printable takes.now) }
-    requires printable_output { IsTrue (is_printable gives.now) }
-    requires input { IsTrue (is_word takes.now) }
-    requires output { IsTrue (is_word gives.now) }
-    requires fits { IsTrue (fits_head (op_at name.now (path.now ++ name.now) takes.now gives.now).head) }
-    ensures { IfOk result (λ o. o ≡ op_at name.now (path.now ++ name.now) takes.now gives.now) }
+    requires { IsTrue (is_name name.now) }
+    ensures { IfOk result (λ o. o ≡ op_at name.now (path.now ++ name.now) (told.contract takes) (told.contract gives)) }
 {
     let href = path.followed_by(alloc, name)?;
     op_at(alloc, name, href, takes, gives)
@@ -88,14 +82,17 @@ fn child(alloc: Global, path: &Text, lease: u64, part: WatchPart) -> Result<Obj,
     requires { lease < 2 ^ 63 }
     ensures { IfOk result (λ o. o ≡ child_at path.now lease (told.part part)) }
 {
+    let nothing = Contract::Nil;
+    let asked = Contract::WatchIn;
+    let report = Contract::WatchOut;
     match part {
         WatchPart::Whole => Ok(Obj::new(alloc, Kind::Obj)),
         WatchPart::Lease => lease_child(alloc, path, lease),
-        WatchPart::Add => watch_op(alloc, path, "add", "obix:WatchIn", "obix:WatchOut"),
-        WatchPart::Remove => watch_op(alloc, path, "remove", "obix:WatchIn", "obix:Nil"),
-        WatchPart::PollChanges => watch_op(alloc, path, "pollChanges", "obix:Nil", "obix:WatchOut"),
-        WatchPart::PollRefresh => watch_op(alloc, path, "pollRefresh", "obix:Nil", "obix:WatchOut"),
-        WatchPart::Delete => watch_op(alloc, path, "delete", "obix:Nil", "obix:Nil"),
+        WatchPart::Add => watch_op(alloc, path, "add", asked, report),
+        WatchPart::Remove => watch_op(alloc, path, "remove", asked, nothing),
+        WatchPart::PollChanges => watch_op(alloc, path, "pollChanges", nothing, report),
+        WatchPart::PollRefresh => watch_op(alloc, path, "pollRefresh", nothing, report),
+        WatchPart::Delete => watch_op(alloc, path, "delete", nothing, nothing),
     }
 }
 
@@ -107,21 +104,27 @@ pub fn watch(alloc: Global, plan: &Plan, number: u64, lease: u64) -> Result<Obj,
     ensures { IfOk result (λ o. o ≡ watch_object (plan_of plan.now) number lease) }
 {
     let path = watch_path(alloc, &plan.root, number)?;
-    let href = path.copy()?;
-    let mut object = obj_with(alloc, Some(href), "obix:Watch")?;
-    put_last(&mut object, child(alloc, &path, lease, WatchPart::Lease)?)?;
-    put_last(&mut object, child(alloc, &path, lease, WatchPart::Add)?)?;
-    put_last(&mut object, child(alloc, &path, lease, WatchPart::Remove)?)?;
-    put_last(
-        &mut object,
+    let head = obj_head(alloc, Some(path.copy()?), Contract::Watch)?;
+    let mut children = Vec::new(alloc);
+    put(&mut children, child(alloc, &path, lease, WatchPart::Lease)?)?;
+    put(&mut children, child(alloc, &path, lease, WatchPart::Add)?)?;
+    put(
+        &mut children,
+        child(alloc, &path, lease, WatchPart::Remove)?,
+    )?;
+    put(
+        &mut children,
         child(alloc, &path, lease, WatchPart::PollChanges)?,
     )?;
-    put_last(
-        &mut object,
+    put(
+        &mut children,
         child(alloc, &path, lease, WatchPart::PollRefresh)?,
     )?;
-    put_last(&mut object, child(alloc, &path, lease, WatchPart::Delete)?)?;
-    Ok(object)
+    put(
+        &mut children,
+        child(alloc, &path, lease, WatchPart::Delete)?,
+    )?;
+    whole(alloc, head, children)
 }
 
 /// What is seen of a watch: the whole, or one of its children.
@@ -148,6 +151,7 @@ pub fn watch_part(
 /// WatchOut, of its entries, which have no names.
 ///
 /// Source: oBIX 1.1, chapter 12 (WatchOut).
+#[tactic(auto, using(crate::proofs::New::nameless_new))]
 pub fn watch_out(alloc: Global, entries: Vec<Obj>) -> Result<Obj, AllocError>
     requires { list_all (λ o. is_none o.head.name) entries.items ≡ true }
     ensures { IfOk result (λ o. o ≡ watch_out entries.items) }
@@ -155,11 +159,9 @@ pub fn watch_out(alloc: Global, entries: Vec<Obj>) -> Result<Obj, AllocError>
     let name = Text::from_ascii(alloc, "values")?;
     let mut head = head_of(Kind::List);
     head.name = Some(name);
-    let mut values = Obj::from_head(alloc, head);
-    put_nameless(&mut values, entries)?;
-    let mut object = obj_with(alloc, None, "obix:WatchOut")?;
-    put_last(&mut object, values)?;
-    Ok(object)
+    let values = whole(alloc, head, entries)?;
+    let head = obj_head(alloc, None, Contract::WatchOut)?;
+    one_child(alloc, head, values)
 }
 
 /// An entry of WatchOut: the object under the href that was asked.

@@ -1,9 +1,11 @@
 -- The plain lists of watches: what each call makes of them. They are the definitions of the watches of a site, told
 -- without the site.
-use Rattle.std.specs.Prelude.{ℕ, ◌+◌, ◌*◌, Bool, false, cond, not, ◌||◌, List, [], ◌∷◌, ◌++◌, length, nat_le, nat_lt, Option, Some, None}
-use Rattle.std.specs.List.{filter}
+use Rattle.std.specs.Prelude.{ℕ, ◌+◌, ◌*◌, ◌==◌, Bool, false, cond, not, ◌||◌, List, [], ◌∷◌, ◌++◌, length, nat_le, nat_lt, Option, Some, None}
+use Rattle.std.specs.List.{filter, list_any}
+use Rattle.std.specs.Str.{bytes_eq}
 use Rattle.ob_history.specs.declared.records.Filter.{Filter}
-use Rattle.ob_watching.specs.Watches.{TrackedOf, Object, Feed, ItemOf, WatchOf, max_watches, last_number, first_lease}
+use Rattle.ob_watching.specs.Tables.{put}
+use Rattle.ob_watching.specs.Watches.{TrackedOf, Object, Feed, ItemOf, WatchOf, max_watches, max_items, last_number, first_lease}
 
 abbrev pub Text : Type 0
 Text = List ℕ
@@ -33,6 +35,30 @@ report events (Feed bounds given) = Feed bounds events
 abbrev pub reported_to : ℕ → Watched → Watched
 reported_to events i = record { text = i.text; path = i.path; tracked = report events i.tracked }
 
+-- a text is one of these
+abbrev pub among : List Text → Text → Bool
+among texts text = list_any (bytes_eq text) texts
+
+-- an item is of this href
+abbrev pub has_text : List Watched → Text → Bool
+has_text items text = list_any (λ i. bytes_eq i.text text) items
+
+-- an item in the place of the one of its href, or last
+abbrev pub put_item : Watched → List Watched → List Watched
+put_item new items = put (λ old. bytes_eq old.text new.text) (λ _. new) new items
+
+-- a watch with other items
+abbrev pub watching : List Watched → Leased → Leased
+watching items w = record { lease = w.lease; touched = w.touched; items = items }
+
+-- no new href can be added
+abbrev pub is_full_watch : Leased → Bool
+is_full_watch w = nat_le max_items (length w.items)
+
+-- a day in nanoseconds
+abbrev pub longest_lease : ℕ
+longest_lease = 86_400_000_000_000
+
 -- the lease has run out, compared in nanoseconds
 abbrev pub is_over : ℕ → Leased → Bool
 is_over now w = nat_le (w.touched * 1_000_000 + w.lease) (now * 1_000_000)
@@ -42,6 +68,10 @@ touched_at now w = record { lease = w.lease; touched = now; items = w.items }
 
 abbrev pub leased_for : ℕ → Leased → Leased
 leased_for lease w = record { lease = lease; touched = w.touched; items = w.items }
+
+-- another watch under this number
+abbrev pub put_under : ℕ → Leased → ℕ × Leased → ℕ × Leased
+put_under n w e = (e.0, cond (e.0 == n) w e.1)
 
 -- the watches that stand by their numbers, the oldest first, and the number of the next one
 pub record Table : Type 0 where

@@ -1,16 +1,18 @@
 //! One item of a watch.
-ghost use Rattle.std.specs.Prelude.{◌≡◌, false};
+ghost use Rattle.std.specs.Prelude.{◌≡◌, false, IfOk};
+ghost use Rattle.std.specs.Str.{bytes_eq};
 ghost use Rattle.ob_watching.specs.Watches.{Object, Feed};
 ghost use Rattle.ob_watch_lists.specs.Kept.{tracks};
 ghost use Rattle.ob_watch_lists.specs.Lists.{marked, reported_to};
 
 use ob_history::Filter;
 use ob_values::Text;
+use std::alloc::AllocError;
 use std::marker::Model;
 
 /// What is kept of what is watched: of an object, whether it has changed since it was last reported; of a
 /// feed, its filter and how many of its events were reported, counted from the first event ever.
-#[derive(Drop)]
+#[derive(Clone, Copy)]
 pub enum Tracked {
     Object(bool),
     Feed(Filter, u64),
@@ -77,6 +79,26 @@ impl Item {
         ensures { tracks result.now ≡ self.now.tracked }
     {
         &self.tracked
+    }
+
+    /// Whether the item is of this href.
+    pub fn is_of(&self, text: &Text) -> bool
+        ensures { result ≡ bytes_eq self.now.text text.now }
+    {
+        self.text.as_str() == text.as_str()
+    }
+
+    /// A copy of the item. An error only for want of memory.
+    pub fn copy(&self) -> Result<Item, AllocError>
+        ensures { IfOk result (λ copy. copy ≡ self.now) }
+    {
+        let text = self.text.copy()?;
+        let path = self.path.copy()?;
+        Ok(Item {
+            text,
+            path,
+            tracked: self.tracked,
+        })
     }
 
     /// Marks an object that isn't shown as before.

@@ -6,6 +6,7 @@
 #![tactic(auto)]
 
 mod item;
+mod items;
 mod laws;
 mod table;
 #[cfg(test)]
@@ -13,6 +14,7 @@ mod tests;
 mod watch;
 
 pub use item::{Item, Tracked};
+pub use items::is_among;
 pub use laws::as_the_site_says;
-pub use table::Watches;
+pub use table::{Numbered, Watches};
 pub use watch::Watch;

@@ -1,17 +1,17 @@
 //! The watches of a site.
-ghost use Rattle.std.specs.Prelude.{◌≡◌, ◌==◌, find, not, None, IfOk, OnErr};
+ghost use Rattle.std.specs.Prelude.{◌≡◌, ◌==◌, find, not, None, Some, IfOk, OnErr};
 ghost use Rattle.std.specs.List.{filter};
 ghost use Rattle.std.specs.Option.{option_copied};
-ghost use Rattle.ob_watching.specs.Tables.{lookup, replace};
-ghost use Rattle.ob_watch_lists.specs.Lists.{after_make, given_number, has_no_place, is_over, lapsed_at, no_watches};
+ghost use Rattle.ob_watching.specs.Tables.{lookup, numbers_of, replace};
+ghost use Rattle.ob_watch_lists.specs.Lists.{after_make, given_number, has_no_place, is_over, lapsed_at, no_watches, put_under};
 
 use crate::watch::Watch;
 use std::alloc::{AllocError, Global};
 use std::marker::Model;
 
-// A watch under its number.
+/// A watch under its number.
 #[derive(Drop)]
-struct Numbered {
+pub struct Numbered {
     number: u64,
     watch: Watch,
 }
@@ -23,6 +23,29 @@ impl Model for Numbered {
     ghost Value = { ℕ × Leased };
 
     ghost view = { λ n. (n.number, n.watch) };
+}
+
+impl Numbered {
+    /// A watch under a number.
+    pub fn new(number: u64, watch: Watch) -> Numbered
+        ensures { result ≡ (number, watch) }
+    {
+        Numbered { number, watch }
+    }
+
+    /// The number.
+    pub fn number(&self) -> u64
+        ensures { result ≡ self.now.0 }
+    {
+        self.number
+    }
+
+    /// The watch.
+    pub fn watch(&self) -> &Watch
+        ensures { result.now ≡ self.now.1 }
+    {
+        &self.watch
+    }
 }
 
 /// The watches that stand, by their numbers, the oldest first.
@@ -101,6 +124,101 @@ impl Watches {
     {
         take_away(&mut self.list, number);
     }
+
+    /// Puts a copy of a watch in the place of the one of this number, if it stands. Want of memory leaves
+    /// all as it was.
+    pub fn replace(&mut self, number: u64, watch: &Watch) -> Result<(), AllocError>
+        ensures done { IfOk result (λ _. self.new ≡ record self.old { watches = replace number (Some watch.now) self.old.watches }) }
+        ensures err { OnErr result (self.new ≡ self.old) }
+    {
+        self.list = replaced(self.alloc, &self.list, number, watch)?;
+        Ok(())
+    }
+
+    /// The watches, each under its number.
+    pub fn entries(&self) -> &[Numbered]
+        ensures { result.now ≡ self.now.watches }
+    {
+        &self.list
+    }
+
+    /// Lets these watches stand instead.
+    pub fn put_entries(&mut self, entries: Vec<Numbered>)
+        ensures { self.new ≡ record self.old { watches = entries.items } }
+    {
+        self.list = entries;
+    }
+
+    /// The numbers of the watches.
+    pub fn numbers(&self) -> Result<Vec<u64>, AllocError>
+        ensures { IfOk result (λ numbers. numbers.items ≡ numbers_of self.now.watches) }
+    {
+        numbers_in(self.alloc, &self.list)
+    }
+
+    /// A copy of the watches. An error only for want of memory.
+    pub fn copy(&self) -> Result<Watches, AllocError>
+        ensures { IfOk result (λ copy. copy ≡ self.now) }
+    {
+        let list = copied(self.alloc, &self.list)?;
+        Ok(Watches {
+            alloc: self.alloc,
+            list,
+            next: self.next,
+        })
+    }
+}
+
+// Copies of the entries.
+fn copied(alloc: Global, list: &[Numbered]) -> Result<Vec<Numbered>, AllocError>
+    ensures { IfOk result (λ copies. copies.items ≡ list.now) }
+{
+    let mut copies = Vec::new(alloc);
+    for entry in list {
+        let watch = entry.watch.copy()?;
+        copies.push(Numbered::new(entry.number, watch))?;
+    }
+    Ok(copies)
+}
+
+// Copies of the entries, with a copy of a watch in the place of that of a number.
+#[tactic(auto, using(crate::proofs::Taken::replace_map))]
+fn replaced(
+    alloc: Global,
+    list: &[Numbered],
+    number: u64,
+    watch: &Watch,
+) -> Result<Vec<Numbered>, AllocError>
+    ensures { IfOk result (λ entries. entries.items ≡ replace number (Some watch.now) list.now) }
+{
+    let mut entries = Vec::new(alloc);
+    for entry in list {
+        entries.push(with_watch(entry, number, watch)?)?;
+    }
+    Ok(entries)
+}
+
+// A copy of an entry, with another watch where it has this number.
+fn with_watch(entry: &Numbered, number: u64, watch: &Watch) -> Result<Numbered, AllocError>
+    ensures { IfOk result (λ copy. copy ≡ put_under number watch.now entry.now) }
+{
+    let watch = if entry.number == number {
+        watch.copy()?
+    } else {
+        entry.watch.copy()?
+    };
+    Ok(Numbered::new(entry.number, watch))
+}
+
+// The numbers of the entries.
+fn numbers_in(alloc: Global, list: &[Numbered]) -> Result<Vec<u64>, AllocError>
+    ensures { IfOk result (λ numbers. numbers.items ≡ numbers_of list.now) }
+{
+    let mut numbers = Vec::new(alloc);
+    for entry in list {
+        numbers.push(entry.number())?;
+    }
+    Ok(numbers)
 }
 
 // The entry of this number.

@@ -17,6 +17,9 @@ pub returns : goal.returns
 returns c plan = record {
   marks = λ before after i j. record { text = i.text; path = i.path; tracked = mark_so plan ((of_plan plan).same ((of_plan plan).shown before i.path) ((of_plan plan).shown after i.path)) i.tracked j };
   reports = λ s i j. record { text = i.text; path = i.path; tracked = report_so plan s i.path i.tracked j };
+  puts = λ i items. refl;
+  has = λ items text. refl;
+  removes = λ s numbers w texts. refl;
   lapses = λ now w. refl;
   touches = λ now w. refl;
   leases = λ lease w. refl;

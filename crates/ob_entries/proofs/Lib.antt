@@ -1,0 +1,4 @@
+pub mod Asked
+pub mod Nameless
+pub mod Passing
+pub mod Numbered
