@@ -2,7 +2,7 @@
 # Reads a document of 16 MB with 300,000 objects by `obix check`, which also writes its canonical text, and by
 # `xmllint --noout` (the Debian package libxml2-utils), which builds its tree and writes nothing. Prints processor
 # seconds, MB a second, the peak memory of each and the ratios, the best of RUNS runs in turns. Then the same of documents
-# that are hostile.
+# that are hostile, and of the decoder alone when the document comes in pieces.
 # usage: bench/decode.sh [RUNS]      (default 5)
 # A Rust reader over quick-xml is left out: its Debian package isn't installed here.
 set -euo pipefail
@@ -50,3 +50,11 @@ for document in ("points", "ints", "siblings", "comment"):
         ratio = seconds / best["xmllint"][0] if "xmllint" in best else float("nan")
         print(f"{document:10} {size:6.1f} {name:12} {seconds:7.2f} {size / seconds:7.1f} {memory:8.0f} {status:6} {ratio:11.2f}")
 PY
+(cd crates/ob_bench && rt run -- none) >"$work/build" 2>&1 || true
+for document in points comment; do
+  echo "$document in pieces, by the decoder alone:"
+  crates/ob_bench/out/ob_bench decode "$work/$document.xml" | awk '
+    { ns[$1] = $2; order[NR] = $1; bytes = $3; objects = $4 }
+    END { whole = ns[order[NR]]
+      for (i = 1; i <= NR; i++) printf "  pieces of %10d  %8.1f MB/s  %6.2f times the whole  (%d objects)\n", order[i], bytes * 1000 / ns[order[i]], ns[order[i]] / whole, objects }'
+done

@@ -2,6 +2,8 @@
 //! and each area's own words follow it. Only safety is proved of them.
 #![tactic(auto)]
 
+mod decode;
+mod effective;
 mod encode;
 mod framing;
 mod logs;
@@ -14,9 +16,16 @@ fn main(rt: HostRuntime) -> io::Result<()> {
     let mut words = env::args(&rt)?;
     let _program = words.next();
     let Some(area) = words.next() else {
-        return println!(rt; "usage: ob_bench encode | framing | logs | turn | values FOLDER");
+        return println!(rt;
+            "usage: ob_bench decode FILE | effective | encode | framing | logs | turn | values FOLDER"
+        );
     };
     match area.as_str() {
+        "decode" => match words.next() {
+            Some(file) => decode::measure(&rt, file.as_str()),
+            None => println!(rt; "usage: ob_bench decode FILE"),
+        },
+        "effective" => effective::measure(&rt),
         "encode" => encode::measure(&rt),
         "framing" => framing::measure(&rt),
         "logs" => logs::measure(&rt),

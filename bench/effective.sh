@@ -1,0 +1,15 @@
+#!/usr/bin/env bash
+# Effective objects: of lists of 1,000 and 10,000 items that are each of a contract of 500 parts, of one such item, and of
+# an object at the end of a chain of 16 contracts; and a walk by View over one item of a list of 10 and of 10,000. Each is
+# done three times, and the best counts. Takes about 5 GB of memory.
+# usage: bench/effective.sh
+set -euo pipefail
+cd "$(dirname "$0")/.."
+work=$(mktemp -d)
+trap 'rm -rf "$work"' EXIT
+(cd crates/ob_bench && rt run -- effective >"$work/times" 2>"$work/build") || { cat "$work/build" "$work/times"; exit 1; }
+program=$(ls -t crates/ob_bench/out/ob_bench crates/ob_bench/out/*/ob_bench 2>/dev/null | head -1 || true)
+if [ -n "$program" ]; then "$program" effective >"$work/times"; fi
+awk '$3 ~ /^[0-9]+$/ { parts[$1] = $2; time[$1] = $3; printf "%-10s %8d parts %12.3f ms %7.3f us a part\n", $1, $2, $3 / 1e6, $3 / 1e3 / $2 }
+  END { printf "list ten times as long: %.2f times the time a part\n", (time["list10000"] / parts["list10000"]) / (time["list1000"] / parts["list1000"])
+        printf "view in a list a thousand times as long: %.2f times the time\n", time["view10000"] / time["view10"] }' "$work/times"

@@ -1,0 +1,156 @@
+//! How long it takes to build the effective object of a list of items that are each of a contract of 500 parts, of one
+//! such item, and of an object at the end of a chain of 16 contracts; and to walk over one item of the list by `View`.
+use ob_contracts::{Library, View, effective, view};
+use ob_object::{Kind, Obj, Words};
+use ob_values::Text;
+use std::alloc::{AllocError, Global};
+use std::io;
+use std::rt::Clock;
+use std::time::Instant;
+
+// Children of the contract of 500 parts, and of each contract of the chain.
+const CHILDREN: u64 = 499;
+
+const LINKS: u64 = 16;
+
+const EACH: u64 = 30;
+
+// Times that each object is built or walked over, of which the quickest counts.
+const ROUNDS: u64 = 3;
+
+fn text(alloc: Global, letter: &str, number: u64) -> Result<Text, AllocError> {
+    let name = format!(in alloc; "{letter}{number}")?;
+    match Text::from_utf8(alloc, name.as_bytes()) {
+        Ok(name) => Ok(name),
+        Err(_) => Err(AllocError),
+    }
+}
+
+fn one(alloc: Global, word: Text) -> Option<Words> {
+    let mut words = Words::new(alloc);
+    match words.push(word) {
+        Ok(()) => Some(words),
+        Err(_) => None,
+    }
+}
+
+fn with_last(mut object: Obj, child: Obj) -> Obj {
+    let _ = object.push(child);
+    object
+}
+
+fn with_children(
+    alloc: Global,
+    mut object: Obj,
+    letter: &str,
+    count: u64,
+) -> Result<Obj, AllocError> {
+    for number in 0..count {
+        let mut child = Obj::new(alloc, Kind::Int);
+        let _ = child.put_name(Some(text(alloc, letter, number)?));
+        object = with_last(object, child);
+    }
+    Ok(object)
+}
+
+// The contract `c0` of 500 parts, and the chain `k0` to `k15`, each of the one before it.
+fn library(alloc: Global) -> Result<Library, AllocError> {
+    let mut library = Library::standard(alloc)?;
+    let contract = with_children(alloc, Obj::new(alloc, Kind::Obj), "p", CHILDREN)?;
+    let _ = library.add(text(alloc, "c", 0)?, contract);
+    for link in 0..LINKS {
+        let mut contract = Obj::new(alloc, Kind::Obj);
+        if link > 0 {
+            let _ = contract.put_is(one(alloc, text(alloc, "k", link - 1)?));
+        }
+        let letter = format!(in alloc; "k{link}p")?;
+        let contract = with_children(alloc, contract, letter.as_str(), EACH)?;
+        let _ = library.add(text(alloc, "k", link)?, contract);
+    }
+    Ok(library)
+}
+
+fn list(alloc: Global, items: u64) -> Result<Obj, AllocError> {
+    let mut list = Obj::new(alloc, Kind::List);
+    let _ = list.put_of(one(alloc, text(alloc, "c", 0)?));
+    for _ in 0..items {
+        list = with_last(list, Obj::new(alloc, Kind::Obj));
+    }
+    Ok(list)
+}
+
+// The parts of the effective object, and the nanoseconds of the quickest build.
+fn build(
+    rt: &impl Clock,
+    alloc: Global,
+    library: &Library,
+    object: &Obj,
+    given: Option<&Words>,
+) -> io::Result<(u64, u128)> {
+    let mut best = u128::MAX;
+    let mut parts = 0;
+    for _ in 0..ROUNDS {
+        let start = Instant::now(rt)?;
+        let made = effective(alloc, library, object, given, None)?;
+        best = best.min(start.elapsed(rt)?.as_nanos());
+        parts = made.parts();
+    }
+    Ok((parts, best))
+}
+
+// The children of an item that `View` shows.
+fn walk(item: &View) -> u64 {
+    let mut seen = 0u64;
+    for place in 0..CHILDREN {
+        if let Some(child) = item.next_child(place) {
+            if child.kind().same(Kind::Int) {
+                seen = seen.saturating_add(1);
+            }
+        }
+    }
+    seen
+}
+
+fn walked<'x>(
+    rt: &impl Clock,
+    library: &'x Library,
+    list: &'x Obj,
+    place: u64,
+) -> io::Result<(u64, u128)> {
+    let mut best = u128::MAX;
+    let mut seen = 0;
+    let shown = view(library, list, None, None);
+    for _ in 0..ROUNDS {
+        let start = Instant::now(rt)?;
+        if let Some(item) = shown.next_child(place) {
+            seen = walk(&item);
+        }
+        best = best.min(start.elapsed(rt)?.as_nanos());
+    }
+    Ok((seen, best))
+}
+
+/// Prints a line for each object: its name, the parts that were built or seen, and the nanoseconds.
+pub fn measure(rt: &(impl Clock + Print + AllocGlobal)) -> io::Result<()> {
+    let alloc = rt.alloc();
+    let library = library(alloc)?;
+    let given = one(alloc, text(alloc, "c", 0)?);
+    let item = Obj::new(alloc, Kind::Obj);
+    let (parts, time) = build(rt, alloc, &library, &item, given.as_ref())?;
+    println!(rt; "item {parts} {time}")?;
+    let mut last = Obj::new(alloc, Kind::Obj);
+    let _ = last.put_is(one(alloc, text(alloc, "k", LINKS - 1)?));
+    let (parts, time) = build(rt, alloc, &library, &last, None)?;
+    println!(rt; "chain {parts} {time}")?;
+    let short = list(alloc, 10)?;
+    let (seen, time) = walked(rt, &library, &short, 9)?;
+    println!(rt; "view10 {seen} {time}")?;
+    let middle = list(alloc, 1_000)?;
+    let (parts, time) = build(rt, alloc, &library, &middle, None)?;
+    println!(rt; "list1000 {parts} {time}")?;
+    let long = list(alloc, 10_000)?;
+    let (seen, time) = walked(rt, &library, &long, 9_999)?;
+    println!(rt; "view10000 {seen} {time}")?;
+    let (parts, time) = build(rt, alloc, &library, &long, None)?;
+    println!(rt; "list10000 {parts} {time}")
+}
