@@ -39,7 +39,6 @@ pub enum AckResult {
 }
 
 /// The alarms of a site in the order of their numbers, the first being 1, and their events.
-#[derive(Drop)]
 pub struct Alarms {
     alloc: Global,
     root: Text,
@@ -47,6 +46,25 @@ pub struct Alarms {
     places: BTreeMap<u64, u64>,
     list: Tracking,
     events: Vec<Event>,
+}
+
+impl Drop for Alarms {
+    // By one call for each part, so that to drop alarms is one call to whoever may have to.
+    fn drop(self) {
+        let Alarms {
+            alloc: _,
+            root,
+            rules,
+            places,
+            list,
+            events,
+        } = self;
+        drop(root);
+        drop(rules);
+        drop(places);
+        drop(list);
+        drop(events);
+    }
 }
 
 impl Model for Alarms {

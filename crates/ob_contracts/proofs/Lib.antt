@@ -13,3 +13,4 @@ pub mod Indexed
 pub mod Copied
 pub mod Found
 pub mod Views
+pub mod Bare

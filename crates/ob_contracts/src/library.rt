@@ -15,12 +15,25 @@ use std::marker::Model;
 
 /// A library: what words stand for, each contract with all that it inherits, in the order of adding.
 /// No contract has more than 512 parts.
-#[derive(Drop)]
 pub struct Library {
     contracts: Vec<(Text, Obj)>,
     // Where the contract of each word stands.
     places: BTreeMap<String, usize>,
     defaults: Defaults,
+}
+
+impl Drop for Library {
+    // By one call for each part, so that to drop a library is one call to whoever may have to.
+    fn drop(self) {
+        let Library {
+            contracts,
+            places,
+            defaults,
+        } = self;
+        drop(contracts);
+        drop(places);
+        drop(defaults);
+    }
 }
 
 // The slots of objects that give none, to be lent.

@@ -40,7 +40,7 @@ pub enum FacetRef<'a> {
 
 /// The facets of an object.
 /// Source: oBIX 1.1, section 4.2.7.
-#[derive(Drop, Debug)]
+#[derive(Debug)]
 pub struct Facets {
     /// Text for people, of the object's state.
     pub display: Option<Text>,
@@ -63,6 +63,33 @@ pub struct Facets {
     pub unit: Option<Text>,
     /// Whether clients may write the value.
     pub writable: Option<bool>,
+}
+
+impl Drop for Facets {
+    // By one call for each part, as a head.
+    fn drop(self) {
+        let Facets {
+            display,
+            display_name,
+            icon,
+            min,
+            max,
+            precision: _,
+            range,
+            status: _,
+            tz,
+            unit,
+            writable: _,
+        } = self;
+        drop(display);
+        drop(display_name);
+        drop(icon);
+        drop(min);
+        drop(max);
+        drop(range);
+        drop(tz);
+        drop(unit);
+    }
 }
 
 fn lent_words(text: &Option<Text>) -> Option<FacetRef<'_>>

@@ -18,7 +18,6 @@ pub enum Slot {
 }
 
 /// What an object says of itself, beside its children.
-#[derive(Drop)]
 pub struct Head {
     pub kind: Kind,
     /// The name among its siblings, of 1 to 255 bytes.
@@ -34,6 +33,31 @@ pub struct Head {
     pub output: Option<Words>,
     pub slot: Slot,
     pub facets: Facets,
+}
+
+impl Drop for Head {
+    // By one call for each part, so that to drop a head is one call to whoever may have to.
+    fn drop(self) {
+        let Head {
+            kind: _,
+            name,
+            href,
+            is,
+            of,
+            input,
+            output,
+            slot,
+            facets,
+        } = self;
+        drop(name);
+        drop(href);
+        drop(is);
+        drop(of);
+        drop(input);
+        drop(output);
+        drop(slot);
+        drop(facets);
+    }
 }
 
 /// Whether the slot's value, if there is one, is of the kind.

@@ -18,10 +18,18 @@ use std::marker::Model;
 
 /// An object: its head and its children, in order.
 /// Source: oBIX 1.1, chapter 4.
-#[derive(Drop)]
 pub struct Obj {
     head: Head,
     children: Vec<Obj>,
+}
+
+impl Drop for Obj {
+    // By one call for each part, as a head.
+    fn drop(self) {
+        let Obj { head, children } = self;
+        drop(head);
+        drop(children);
+    }
 }
 
 impl Model for Obj {

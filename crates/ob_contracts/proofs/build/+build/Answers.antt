@@ -1,11 +1,12 @@
-use Rattle.std.proofs.Common.{◌≡◌, ◌<◌, ℕ, List, IsTrue, false, Some, sym, ap, ◌∙◌, subst}
+use Rattle.std.proofs.Common.{◌≡◌, ◌<◌, ℕ, List, IsTrue, false, Some, sym, ap, ◌∙◌, subst, IfOk}
 use Rattle.std.specs.Prelude.{slice_get}
 use Rattle.ob_object.specs.declared.head.Head.{Head}
 use Rattle.ob_object.specs.Fits.{fits_head}
 use Rattle.ob_object.specs.Object.{Object, parts, children}
 use Rattle.ob_object.specs.WellFormed.{is_taken}
-use Rattle.ob_contracts.specs.Shown.{shown_as}
+use Rattle.ob_contracts.specs.Shown.{shown_as, finish}
 use Rattle.ob_contracts.proofs.At.{fewer_parts}
+use Rattle.ob_contracts.proofs.Bare.{shown_standing}
 use Rattle.ob_contracts.proofs.Built.{one_more, all_there}
 use Rattle.ob_contracts.proofs.Distinct.{free_at}
 use Rattle.ob_contracts.proofs.Views.{lent_children, view_at, view_end}
@@ -48,3 +49,7 @@ loop-below-preserved t c =
 pub returns : goal.returns
 returns t c =
     all_there (shown_as c.args.defaults c.args.view.now) c.loop-below.made c.loop-below.below-index c.loop-below.invariant.head c.loop-below.invariant.children (view_end c.args.defaults c.args.view.now _ _ (lent_children c.args.view.now _ _ c.deref-below-items.ensures.value c.in_ok-views.ensures) c.loop-below-test.false)
+
+pub returns-then-view : goal.returns-then-view
+returns-then-view t c =
+    subst (λ (o : Object). IfOk c.copy_bare.result (λ made. made ≡ finish c.args.defaults o)) (shown_standing c.args.view.now c.if-view.true) c.copy_bare.ensures
