@@ -15,6 +15,3 @@ pub use desk::Desk;
 pub use ob_machine::{Answer, Entry, Machine};
 pub use pass::Pass;
 pub use worker::{Job, Worker, cross_threads};
-
-#[cfg(test)]
-mod tests;

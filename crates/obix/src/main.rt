@@ -1,28 +1,12 @@
-//! The program `obix`.
-//!
-//! `obix stdio SITE` reads a site file and answers the requests of standard input on standard output. `obix check FILE`
-//! reads a document and writes its canonical text. `run` is the whole program over an outside that is handed in, and its
-//! contract is about bytes; `main` hands it the real one.
+//! The program `obix`: hands `ob_program`'s `run` the words of the command line, the disk and the three standard streams, and
+//! ends with its status.
 #![tactic(auto)]
 
-mod check;
-mod command;
-mod document;
-mod form;
-mod framing;
-mod load;
-mod outcome;
-mod reply;
-mod request;
-mod run;
-mod scan;
-mod serve;
-mod site;
 #[cfg(test)]
 mod tests;
 
 use ob_io::{DiskFiles, StdSink, StdSource};
-use run::run;
+use ob_program::run;
 use std::process::ExitCode;
 use std::{env, io};
 

@@ -1,7 +1,7 @@
 ghost use Rattle.std.specs.Prelude.{◌<◌};
 
-use crate::run::{Exit, run};
 use ob_io::{MemFiles, MemSink, MemSource, NamedFile};
+use ob_program::{Exit, run};
 use std::alloc::{AllocError, Global};
 use std::process::Abort;
 use std::test::Fail;

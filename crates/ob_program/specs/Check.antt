@@ -1,0 +1,39 @@
+-- What checking a document's file comes to.
+use Rattle.std.specs.Prelude.{◌≡◌, ℕ, true, List, [], ◌∷◌, ◌++◌, IfSome}
+use Rattle.std.specs.declared.option.Option.{Option}
+use Rattle.ob_encode.specs.Canonical.{canonical_text}
+use Rattle.ob_io.specs.Told.{Gains, IsFront}
+use Rattle.ob_xml.specs.declared.doc.Doc.{Doc}
+use Rattle.ob_xml.specs.Judged.{Judged, document}
+use Rattle.ob_program.specs.declared.check.CheckEnd.{CheckEnd}
+use Rattle.ob_program.specs.declared.check.CheckEnd.TheVariants as ends
+use Rattle.ob_program.specs.declared.program.Exit.{Exit}
+use Rattle.ob_program.specs.declared.program.Exit.TheVariants as exits
+use Rattle.ob_program.specs.Reading.{IsFaulty}
+
+-- the canonical document and a line feed
+abbrev pub printed : Doc → List ℕ
+printed doc = canonical_text doc.ns doc.root ++ 10 ∷ []
+
+-- How the file's bytes and what was written go with the exit.
+abbrev pub Checks : List ℕ → (before after : Option (List ℕ)) → Exit → Type 0
+Checks bytes before after exits.Ok = (doc : Doc) × Judged bytes true (document doc) × Gains before (printed doc) after
+Checks bytes before after exits.Refused = IsFaulty bytes × (after ≡ before)
+Checks bytes before after exits.WriteFault =
+    (doc : Doc) × Judged bytes true (document doc) × ((written : List ℕ) × IsFront written (printed doc) × Gains before written after)
+Checks bytes before after exits.ReadFault = after ≡ before
+Checks bytes before after exits.Memory = after ≡ before
+Checks bytes before after _ = ⊥
+
+abbrev pub exit_of_check : CheckEnd → Exit
+exit_of_check ends.Printed = exits.Ok
+exit_of_check (ends.Refused r) = exits.Refused
+exit_of_check ends.ReadFault = exits.ReadFault
+exit_of_check ends.WriteFault = exits.WriteFault
+exit_of_check ends.Memory = exits.Memory
+
+-- The same of a file, whose bytes are its content where that is told.
+pub record ChecksFile (content before after : Option (List ℕ)) (end : CheckEnd) : Type 0 where
+  pub bytes : List ℕ
+  pub checks : Checks bytes before after (exit_of_check end)
+  pub told : IfSome content (λ whole. Checks whole before after (exit_of_check end))

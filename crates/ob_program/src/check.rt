@@ -1,0 +1,88 @@
+// Checking the document of a file.
+ghost use Rattle.std.specs.Prelude.{◌≡◌, ◌≢◌, ◌≤◌, ◌++◌, IfOk};
+ghost use Rattle.ob_io.specs.Faults.{Rose};
+ghost use Rattle.ob_xml.specs.declared.doc.Doc.{Doc};
+ghost use Rattle.ob_program.specs.Check.{printed, ChecksFile};
+
+use crate::document::{DocumentFault, read_file};
+use crate::outcome::refusal_line;
+use crate::program::Exit;
+use ob_io::{Files, Sink, write_all};
+use ob_xml::{Doc, Refused, encode};
+use std::alloc::{AllocError, Global};
+
+/// How a check ends.
+#[derive(Clone, Copy, Debug, PartialEq, Eq)]
+pub enum CheckEnd {
+    /// The canonical document was written.
+    Printed,
+    /// The file's bytes are no document.
+    Refused(Refused),
+    ReadFault,
+    WriteFault,
+    Memory,
+}
+
+impl CheckEnd {
+    ghost use Rattle.ob_program.specs.Check.{exit_of_check};
+
+    /// The exit that it leads to.
+    pub fn exit(&self) -> Exit
+        ensures { result ≡ exit_of_check self.now }
+    {
+        match self {
+            CheckEnd::Printed => Exit::Ok,
+            CheckEnd::Refused(_) => Exit::Refused,
+            CheckEnd::ReadFault => Exit::ReadFault,
+            CheckEnd::WriteFault => Exit::WriteFault,
+            CheckEnd::Memory => Exit::Memory,
+        }
+    }
+
+    /// What is printed of it; nothing where all is well.
+    pub fn line(&self, alloc: Global) -> Result<Vec<u8>, AllocError> {
+        match self {
+            CheckEnd::Printed => Ok(Vec::new(alloc)),
+            CheckEnd::Refused(refused) => refusal_line(alloc, refused),
+            CheckEnd::ReadFault => b"obix: read fault\n".to_vec(alloc),
+            CheckEnd::WriteFault => b"obix: write fault\n".to_vec(alloc),
+            CheckEnd::Memory => b"obix: out of memory\n".to_vec(alloc),
+        }
+    }
+}
+
+/// What isn't needed any more.
+fn let_go<T: Drop>(_printed: T) {}
+
+/// The canonical text of a document, and a line feed.
+fn print(alloc: Global, doc: Doc) -> Result<Vec<u8>, AllocError>
+    ensures { IfOk result (λ text. text.items ≡ printed doc) }
+{
+    let encoded = encode(alloc, doc.ns.as_ref(), &doc.root);
+    let_go(doc);
+    let mut text = encoded?;
+    text.extend_from_slice(b"\n")?;
+    Ok(text)
+}
+
+/// Writes the canonical text of a file's document and a line feed.
+pub fn check<F: Files, K: Sink>(alloc: Global, name: &str, files: &mut F, sink: &mut K) -> CheckEnd
+    ensures checks { ChecksFile (F.content files.old name.now) (K.held sink.old) (K.held sink.new) result }
+    ensures read_fault { result ≡ CheckEnd.ReadFault → Rose (F.faults files.old) (F.faults files.new) }
+    ensures write_fault { result ≡ CheckEnd.WriteFault → Rose (K.faults sink.old) (K.faults sink.new) }
+    ensures unwritten { result ≢ CheckEnd.Printed → result ≢ CheckEnd.WriteFault → sink.new ≡ sink.old }
+{
+    let doc = match read_file(alloc, name, files) {
+        Ok(doc) => doc,
+        Err(DocumentFault::Refused(refused)) => return CheckEnd::Refused(refused),
+        Err(DocumentFault::Failed) => return CheckEnd::ReadFault,
+        Err(DocumentFault::Memory) => return CheckEnd::Memory,
+    };
+    let Ok(text) = print(alloc, doc) else {
+        return CheckEnd::Memory;
+    };
+    match write_all(sink, &text) {
+        Ok(()) => CheckEnd::Printed,
+        Err(_) => CheckEnd::WriteFault,
+    }
+}
