@@ -9,8 +9,6 @@ mod item;
 mod items;
 mod laws;
 mod table;
-#[cfg(test)]
-mod tests;
 mod watch;
 
 pub use item::{Item, Tracked};

@@ -1,0 +1,5 @@
+pub mod Wholes
+pub mod Dresses
+pub mod Finds
+pub mod Rules
+pub mod Placed

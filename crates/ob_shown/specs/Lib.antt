@@ -1,0 +1,3 @@
+pub mod Dressed
+pub mod Named
+pub mod Parts

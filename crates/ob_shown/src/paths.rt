@@ -1,0 +1,35 @@
+//! Paths of nodes, and lists of paths.
+ghost use Rattle.std.specs.Prelude.{◌≡◌};
+ghost use Rattle.std.specs.Option.{option_copied};
+ghost use Rattle.ob_site_rules.specs.Shown.{node_path};
+ghost use Rattle.ob_site_rules.specs.State.{is_among, is_path};
+
+use ob_object::{Head, Kind};
+use ob_values::Text;
+
+/// The path of a node: its href, unless it is a ref or an err.
+pub fn node_path(head: &Head) -> Option<&Text>
+    ensures { option_copied result ≡ node_path head.now }
+{
+    match head.kind {
+        Kind::Ref | Kind::Err => None,
+        _ => head.href.as_ref(),
+    }
+}
+
+/// Whether a path is that of a node, which may have none.
+pub fn is_path(path: &Text, other: Option<&Text>) -> bool
+    ensures { result ≡ is_path path.now (option_copied other.entry) }
+{
+    match other {
+        Some(other) => other.as_str() == path.as_str(),
+        None => false,
+    }
+}
+
+/// Whether a path is among these.
+pub(crate) fn is_among(path: &Text, paths: &[Text]) -> bool
+    ensures { result ≡ is_among path.now paths.now }
+{
+    paths.iter().any(|other| other.as_str() == path.as_str())
+}

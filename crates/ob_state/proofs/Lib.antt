@@ -1,0 +1,7 @@
+pub mod Copies
+pub mod Spares
+pub mod Keeping
+pub mod Slots
+pub mod ShownKinds
+pub mod Kept
+pub mod Points

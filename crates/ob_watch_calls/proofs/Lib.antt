@@ -1,0 +1,4 @@
+mod Spelling
+mod Slashes
+mod Parted
+mod Asking
