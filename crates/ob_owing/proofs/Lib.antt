@@ -1,0 +1,6 @@
+pub mod Rest
+pub mod Rows
+pub mod Lows
+pub mod Taking
+pub mod Numbered
+pub mod Among
