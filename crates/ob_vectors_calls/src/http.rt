@@ -35,16 +35,20 @@ fn take_into(framer: &mut Framer, asked: &mut Vec<Asked>) -> Result<(), Fail> {
     Ok(())
 }
 
-/// The two requests that `TWO` begins with, fed in pieces of this length.
-fn take_two(rt: &(impl Abort + AllocGlobal), length: usize) -> Result<(), Fail> {
-    let mut framer = Framer::new(rt.alloc())?;
-    let mut asked = Vec::new(rt.alloc());
+/// Feeds `TWO` in pieces of this length, and takes the requests as they are whole.
+fn feed_two(framer: &mut Framer, asked: &mut Vec<Asked>, length: usize) -> Result<(), Fail> {
     for piece in TWO.chunks(length.max(1)) {
-        feed(&mut framer, piece)?;
-        take_into(&mut framer, &mut asked)?;
+        feed(framer, piece)?;
+        take_into(framer, asked)?;
     }
-    assert_eq!(rt; asked.len(), 2);
-    let (get, put) = (&asked[0], &asked[1]);
+    Ok(())
+}
+
+/// These are the two requests that `TWO` begins with, and the framer keeps what is behind them.
+fn are_two(rt: &impl Abort, framer: &Framer, asked: &[Asked]) -> Result<(), Fail> {
+    let [get, put] = asked else {
+        return Err(Fail::from("not two requests"));
+    };
     assert_eq!(rt; get.method.as_str(), "GET");
     assert_eq!(rt; get.target.as_slice(), b"/a".as_slice());
     assert!(rt; !get.close && get.media == Media::Absent && get.body.as_slice().is_empty());
@@ -57,6 +61,16 @@ fn take_two(rt: &(impl Abort + AllocGlobal), length: usize) -> Result<(), Fail> 
     Ok(())
 }
 
+/// The two requests that `TWO` begins with, fed in pieces of this length.
+fn take_two(rt: &(impl Abort + AllocGlobal), length: usize) -> Result<(), Fail> {
+    let mut framer = Framer::new(rt.alloc())?;
+    let mut asked = Vec::new(rt.alloc());
+    match feed_two(&mut framer, &mut asked, length) {
+        Ok(()) => are_two(rt, &framer, &asked),
+        Err(fault) => Err(fault),
+    }
+}
+
 #[test]
 fn the_pieces_do_not_matter(rt: HostRuntime) -> Result<(), Fail> {
     for length in 1..130 {
@@ -65,10 +79,8 @@ fn the_pieces_do_not_matter(rt: HostRuntime) -> Result<(), Fail> {
     Ok(())
 }
 
-#[test]
-fn a_look_lends_what_take_gives(rt: HostRuntime) -> Result<(), Fail> {
-    let mut framer = Framer::new(rt.alloc())?;
-    feed(&mut framer, TWO)?;
+/// Looks at the first request that the framer holds, drops it, and takes the second.
+fn look_then_take(rt: &impl Abort, framer: &mut Framer) -> Result<(), Fail> {
     let seen = framer.look()?.ok_or("nothing")?;
     assert_eq!(rt; seen.method, "GET");
     assert_eq!(rt; seen.target, b"/a".as_slice());
@@ -78,6 +90,15 @@ fn a_look_lends_what_take_gives(rt: HostRuntime) -> Result<(), Fail> {
     let asked = framer.take()?.ok_or("nothing")?;
     assert_eq!(rt; asked.body.as_slice(), b"abc".as_slice());
     Ok(())
+}
+
+#[test]
+fn a_look_lends_what_take_gives(rt: HostRuntime) -> Result<(), Fail> {
+    let mut framer = Framer::new(rt.alloc())?;
+    match feed(&mut framer, TWO) {
+        Ok(()) => look_then_take(&rt, &mut framer),
+        Err(fault) => Err(fault),
+    }
 }
 
 #[test]
@@ -125,27 +146,44 @@ fn answers_are_written(rt: HostRuntime) -> Result<(), Fail> {
     Ok(())
 }
 
-#[test]
-fn requests_are_written_and_replies_read(rt: HostRuntime) -> Result<(), Fail> {
+/// The request of this verb and body for `/obix/n` at `h:81` is written so.
+fn written(
+    rt: &(impl Abort + AllocGlobal),
+    verb: Verb,
+    body: &[u8],
+    want: &[u8],
+) -> Result<(), Fail> {
     let target = Text::from_utf8(rt.alloc(), b"/obix/n")?;
     let host = Text::from_utf8(rt.alloc(), b"h:81")?;
-    let text = write_request(rt.alloc(), Verb::Get, &target, &host, b"x")?;
-    assert_eq!(rt;
-        text.as_slice(),
-        b"GET /obix/n HTTP/1.1\r\nHost: h:81\r\n\r\n".as_slice()
-    );
-    let text = write_request(rt.alloc(), Verb::Put, &target, &host, b"<int/>")?;
-    assert_eq!(rt;
-        text.as_slice(),
-        b"PUT /obix/n HTTP/1.1\r\nHost: h:81\r\nContent-Type: text/xml\r\nContent-Length: 6\r\n\r\n<int/>".as_slice()
-    );
+    let text = write_request(rt.alloc(), verb, &target, &host, body)?;
+    assert_eq!(rt; text.as_slice(), want);
+    Ok(())
+}
+
+#[test]
+fn requests_are_written(rt: HostRuntime) -> Result<(), Fail> {
+    written(
+        &rt,
+        Verb::Get,
+        b"x",
+        b"GET /obix/n HTTP/1.1\r\nHost: h:81\r\n\r\n",
+    )?;
+    written(
+        &rt,
+        Verb::Put,
+        b"<int/>",
+        b"PUT /obix/n HTTP/1.1\r\nHost: h:81\r\nContent-Type: text/xml\r\nContent-Length: 6\r\n\r\n<int/>",
+    )
+}
+
+#[test]
+fn replies_are_read(rt: HostRuntime) -> Result<(), Fail> {
     let mut framer = ReplyFramer::new(rt.alloc())?;
     framer.feed(b"HTTP/1.1 404 Not Found\r\nContent-Length: 2\r\n\r\na")?;
     assert!(rt; framer.take()?.is_none());
     framer.feed(b"bHTTP/1.1 200 OK\r\n\r\n")?;
     let reply = framer.take()?.ok_or("nothing")?;
-    assert_eq!(rt; reply.status, 404);
-    assert_eq!(rt; reply.body.as_slice(), b"ab".as_slice());
+    assert!(rt; reply.status == 404 && reply.body.as_slice() == b"ab".as_slice());
     assert_eq!(rt; framer.take().err(), Some(FrameFault::NoLength));
     Ok(())
 }

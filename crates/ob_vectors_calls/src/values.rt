@@ -4,6 +4,7 @@ use ob_values::{
     one_reading, print_value, read_abstime, read_bool, read_date, read_dec, read_int, read_reltime,
     read_time,
 };
+use std::process::Abort;
 use std::test::Fail;
 
 #[test]
@@ -32,28 +33,39 @@ fn prints(value: &Value, text: &str) -> bool {
     }
 }
 
+// The value prints that text, and is the same as its copy.
+fn is_printed(rt: &impl Abort, value: &Value, text: &str) -> Result<(), Fail> {
+    assert!(rt; prints(value, text), "{text}");
+    assert!(rt; value.copy()?.same(value), "{text}");
+    Ok(())
+}
+
 #[test]
 fn reads_and_prints_each_kind(rt: HostRuntime) -> Result<(), Fail> {
     one_reading();
-    let rows = [
-        (Value::Bool(read_bool(b"1")?), "true"),
-        (Value::Int(read_int(b" +07 ")?), "7"),
-        (Value::Real(read_dec(b"72.50")?), "72.5"),
-        (
-            Value::Abstime(read_abstime(b"2026-01-05T08:00:00.250-05:00")?),
-            "2026-01-05T08:00:00.25-05:00",
-        ),
-        (
-            Value::Reltime(read_reltime(b"P1Y2M3DT4H5M6.789S")?),
-            "P14MT273906.789S",
-        ),
-        (Value::Date(read_date(b"2024-02-29")?), "2024-02-29"),
-        (Value::Time(read_time(b"23:59:59.50")?), "23:59:59.5"),
-    ];
-    for (value, text) in &rows {
-        assert!(rt; prints(value, text));
-        assert!(rt; value.copy()?.same(value));
-    }
+    is_printed(&rt, &Value::Bool(read_bool(b"1")?), "true")?;
+    is_printed(&rt, &Value::Int(read_int(b" +07 ")?), "7")?;
+    is_printed(&rt, &Value::Real(read_dec(b"72.50")?), "72.5")?;
+    is_printed(
+        &rt,
+        &Value::Abstime(read_abstime(b"2026-01-05T08:00:00.250-05:00")?),
+        "2026-01-05T08:00:00.25-05:00",
+    )?;
+    is_printed(
+        &rt,
+        &Value::Reltime(read_reltime(b"P1Y2M3DT4H5M6.789S")?),
+        "P14MT273906.789S",
+    )?;
+    is_printed(&rt, &Value::Date(read_date(b"2024-02-29")?), "2024-02-29")?;
+    is_printed(&rt, &Value::Time(read_time(b"23:59:59.50")?), "23:59:59.5")
+}
+
+// A str, an enum and a uri of one text are told apart, and each from none of its copies.
+fn are_apart(rt: &impl Abort, text: &Value, word: &Value, path: &Value) -> Result<(), Fail> {
+    assert!(rt; text.copy()?.same(text));
+    assert!(rt; word.copy()?.same(word));
+    assert!(rt; path.copy()?.same(path));
+    assert!(rt; !text.same(word));
     Ok(())
 }
 
@@ -62,11 +74,7 @@ fn tells_kinds_apart(rt: HostRuntime) -> Result<(), Fail> {
     let text = Value::Str(Text::from_ascii(rt.alloc(), "a")?);
     let word = Value::Enum(Text::from_ascii(rt.alloc(), "a")?);
     let path = Value::Uri(Text::from_ascii(rt.alloc(), "a")?);
-    assert!(rt; text.copy()?.same(&text));
-    assert!(rt; word.copy()?.same(&word));
-    assert!(rt; path.copy()?.same(&path));
-    assert!(rt; !text.same(&word));
-    Ok(())
+    are_apart(&rt, &text, &word, &path)
 }
 
 #[test]
