@@ -1,5 +1,6 @@
 ghost use Rattle.std.specs.Prelude.{◌≡◌, ℕ, ◌+◌, ◌-◌, ◌^◌, ◌≤◌, length};
 
+use crate::counter::{Add, Counter, counted};
 use ob_times::Moment;
 use ob_turn::{Answer, Desk, Job, Machine, Pass, Worker, cross_threads};
 use std::alloc::{AllocError, Global};
@@ -10,30 +11,6 @@ use std::thread::join;
 
 mod owned;
 mod threads;
-
-/// A sum, which is told as it grows.
-#[derive(Drop)]
-struct Counter {
-    sum: u64,
-}
-
-#[derive(Drop)]
-struct Add(u64);
-
-impl Machine for Counter {
-    ghost use Rattle.std.specs.Prelude.{◌+◌, ◌-◌, ◌^◌, min};
-
-    type Request = Add;
-
-    type Reply = u64;
-
-    ghost act = { λ s request moment. (record { sum = min (s.sum + request.0) (2 ^ 64 - 1) }, min (s.sum + request.0) (2 ^ 64 - 1)) };
-
-    fn step(&mut self, request: &Add, _moment: Moment) -> Result<u64, AllocError> {
-        self.sum = self.sum.saturating_add(request.0);
-        Ok(self.sum)
-    }
-}
 
 fn at(ms: u64) -> Moment
     requires { ms ≤ 1_000_000 }
@@ -143,5 +120,12 @@ fn sixty_four_passes_have_all_shares(rt: HostRuntime) -> Result<(), Fail> {
     assert_eq!(&rt; pass.shares(), 4_294_967_296);
     let Counter { sum } = desk.close(pass);
     assert_eq!(&rt; sum, 64);
+    Ok(())
+}
+
+#[test]
+fn a_closed_desk_gives_its_counter_back(rt: HostRuntime) -> Result<(), Fail> {
+    let sum = counted(&rt, rt.alloc(), 5, at(0))?;
+    assert_eq!(&rt; sum, 5);
     Ok(())
 }
