@@ -1,5 +1,5 @@
 //! Copies of parts that may be there.
-ghost use Rattle.std.specs.Prelude.{◌≡◌, IfOk};
+ghost use Rattle.std.specs.Prelude.{◌≡◌, None, IfOk, OnOk};
 
 use crate::words::Words;
 use ob_values::{Text, Value};
@@ -42,4 +42,37 @@ pub fn copy_value(value: &Option<Value>) -> Result<Option<Value>, AllocError>
         }
         None => Ok(None),
     }
+}
+
+/// Puts a copy of a text that may be there into an empty place.
+pub(crate) fn put_text(place: &mut Option<Text>, text: &Option<Text>) -> Result<(), AllocError>
+    requires { place.old ≡ None }
+    ensures { OnOk result (place.new ≡ text.now) }
+{
+    if let Some(text) = text {
+        *place = Some(text.copy()?);
+    }
+    Ok(())
+}
+
+/// Puts a copy of words that may be there into an empty place.
+pub(crate) fn put_words(place: &mut Option<Words>, words: &Option<Words>) -> Result<(), AllocError>
+    requires { place.old ≡ None }
+    ensures { OnOk result (place.new ≡ words.now) }
+{
+    if let Some(words) = words {
+        *place = Some(words.copy()?);
+    }
+    Ok(())
+}
+
+/// Puts a copy of a value that may be there into an empty place.
+pub(crate) fn put_value(place: &mut Option<Value>, value: &Option<Value>) -> Result<(), AllocError>
+    requires { place.old ≡ None }
+    ensures { OnOk result (place.new ≡ value.now) }
+{
+    if let Some(value) = value {
+        *place = Some(value.copy()?);
+    }
+    Ok(())
 }

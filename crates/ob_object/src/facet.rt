@@ -1,8 +1,8 @@
 //! Facets: what an object says of its value.
-ghost use Rattle.std.specs.Prelude.{◌≡◌, IfOk, option_map};
+ghost use Rattle.std.specs.Prelude.{◌≡◌, IfOk, OnOk, option_map};
 ghost use Rattle.ob_object.specs.Facets.{no_facets, facet_value, facet_of, words, limit};
 
-use crate::copying::{copy_text, copy_value};
+use crate::copying::{put_text, put_value};
 use crate::status::Status;
 use ob_values::{Text, Value};
 use std::alloc::AllocError;
@@ -158,30 +158,31 @@ impl Facets {
         }
     }
 
+    /// Takes a copy of each facet of another. It has none before.
+    pub(crate) fn fill(&mut self, from: &Facets) -> Result<(), AllocError>
+        requires { self.old ≡ no_facets }
+        ensures { OnOk result (self.new ≡ from.now) }
+    {
+        put_text(&mut self.display, &from.display)?;
+        put_text(&mut self.display_name, &from.display_name)?;
+        put_text(&mut self.icon, &from.icon)?;
+        put_value(&mut self.min, &from.min)?;
+        put_value(&mut self.max, &from.max)?;
+        put_text(&mut self.range, &from.range)?;
+        put_text(&mut self.tz, &from.tz)?;
+        put_text(&mut self.unit, &from.unit)?;
+        self.precision = from.precision;
+        self.status = from.status;
+        self.writable = from.writable;
+        Ok(())
+    }
+
     /// A copy of the facets.
     pub fn copy(&self) -> Result<Facets, AllocError>
         ensures { IfOk result (λ copy. copy ≡ self.now) }
     {
-        let display = copy_text(&self.display)?;
-        let display_name = copy_text(&self.display_name)?;
-        let icon = copy_text(&self.icon)?;
-        let min = copy_value(&self.min)?;
-        let max = copy_value(&self.max)?;
-        let range = copy_text(&self.range)?;
-        let tz = copy_text(&self.tz)?;
-        let unit = copy_text(&self.unit)?;
-        Ok(Facets {
-            display,
-            display_name,
-            icon,
-            min,
-            max,
-            precision: self.precision,
-            range,
-            status: self.status,
-            tz,
-            unit,
-            writable: self.writable,
-        })
+        let mut copy = Facets::none();
+        copy.fill(self)?;
+        Ok(copy)
     }
 }

@@ -1,8 +1,9 @@
 //! What an object says of itself, beside its children.
-ghost use Rattle.std.specs.Prelude.{◌≡◌, IfOk};
+ghost use Rattle.std.specs.Prelude.{◌≡◌, None, IfOk, OnOk};
+ghost use Rattle.ob_object.specs.Object.{empty_head};
 ghost use Rattle.ob_object.specs.Fits.{fits_slot, fits_facets, fits_name, fits_words, fits_head, fits_if_there};
 
-use crate::copying::{copy_text, copy_words};
+use crate::copying::{put_text, put_words};
 use crate::facet::Facets;
 use crate::kind::Kind;
 use crate::words::Words;
@@ -145,28 +146,53 @@ impl Head {
             && fits_facets(kind, &self.facets)
     }
 
+    /// A kind, and nothing else.
+    pub(crate) fn empty(kind: Kind) -> Head
+        ensures { result ≡ empty_head kind }
+    {
+        Head {
+            kind,
+            name: None,
+            href: None,
+            is: None,
+            of: None,
+            input: None,
+            output: None,
+            slot: Slot::Absent,
+            facets: Facets::none(),
+        }
+    }
+
+    /// Takes a copy of each part of another but the href, and of a slot. It is empty before.
+    pub(crate) fn fill(&mut self, from: &Head, slot: &Slot) -> Result<(), AllocError>
+        requires { self.old ≡ empty_head from.now.kind }
+        ensures { OnOk result (self.new ≡ record from.now { href = None; slot = slot.now }) }
+    {
+        put_text(&mut self.name, &from.name)?;
+        put_words(&mut self.is, &from.is)?;
+        put_words(&mut self.of, &from.of)?;
+        put_words(&mut self.input, &from.input)?;
+        put_words(&mut self.output, &from.output)?;
+        self.slot = slot.copy()?;
+        self.facets.fill(&from.facets)
+    }
+
     /// A copy.
     pub fn copy(&self) -> Result<Head, AllocError>
         ensures { IfOk result (λ copy. copy ≡ self.now) }
     {
-        let name = copy_text(&self.name)?;
-        let href = copy_text(&self.href)?;
-        let is = copy_words(&self.is)?;
-        let of = copy_words(&self.of)?;
-        let input = copy_words(&self.input)?;
-        let output = copy_words(&self.output)?;
-        let slot = self.slot.copy()?;
-        let facets = self.facets.copy()?;
-        Ok(Head {
-            kind: self.kind,
-            name,
-            href,
-            is,
-            of,
-            input,
-            output,
-            slot,
-            facets,
-        })
+        let mut copy = Head::empty(self.kind);
+        copy.fill(self, &self.slot)?;
+        put_text(&mut copy.href, &self.href)?;
+        Ok(copy)
+    }
+
+    /// A copy without the href, and with another slot.
+    pub fn copy_with(&self, slot: &Slot) -> Result<Head, AllocError>
+        ensures { IfOk result (λ copy. copy ≡ record self.now { href = None; slot = slot.now }) }
+    {
+        let mut copy = Head::empty(self.kind);
+        copy.fill(self, slot)?;
+        Ok(copy)
     }
 }

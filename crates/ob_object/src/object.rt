@@ -1,5 +1,5 @@
 //! Objects as trees.
-ghost use Rattle.std.specs.Prelude.{◌≡◌, ◌↔◌, ◌<◌, ◌^◌, ◌-◌, min, None, true, false, length, IsTrue, IfOk, MatchResult, option_map, slice_get};
+ghost use Rattle.std.specs.Prelude.{◌≡◌, ◌↔◌, ◌<◌, ◌^◌, ◌-◌, min, None, true, false, length, IsTrue, IfOk, OnOk, OnErr, MatchResult, option_map, slice_get};
 ghost use Rattle.std.specs.Option.{option_copied};
 ghost use Rattle.ob_object.specs.Fits.{fits_name, fits_slot, fits_facets, fits_head};
 ghost use Rattle.ob_object.specs.Kinds.{has_of, has_input, has_output};
@@ -120,17 +120,7 @@ impl Obj {
         ensures { result ≡ record { head = empty_head kind; inner = none } }
     {
         Obj {
-            head: Head {
-                kind,
-                name: None,
-                href: None,
-                is: None,
-                of: None,
-                input: None,
-                output: None,
-                slot: Slot::Absent,
-                facets: Facets::none(),
-            },
+            head: Head::empty(kind),
             children: Vec::new(alloc),
         }
     }
@@ -392,6 +382,32 @@ impl Obj {
         }
     }
 
+    /// Puts last an object without children, whose name no child has: a copy of a head without its href, and
+    /// of a slot in place of the head's, which must fit the kind. Where it finds no memory the object is as it was.
+    ///
+    /// It looks at no other child, and takes less time than to make the child and to push it.
+    pub fn push_leaf(&mut self, head: &Head, slot: &Slot) -> Result<(), AllocError>
+        requires free { is_taken head.now.name (children self.old) ≡ false }
+        requires fits { IsTrue (fits_head (record head.now { href = None; slot = slot.now })) }
+        ensures ok { OnOk result (self.new ≡ with_child self.old (record { head = record head.now { href = None; slot = slot.now }; inner = none })) }
+        ensures err { OnErr result (self.new ≡ self.old) }
+    {
+        let mut own = Head::empty(head.kind);
+        own.fill(head, slot)?;
+        let child = Obj::from_head(*self.children.allocator(), own);
+        match self.push_new(child) {
+            Ok(()) => Ok(()),
+            Err(_) => Err(AllocError),
+        }
+    }
+
+    /// Makes room for so many children more. The object stays as it is.
+    pub fn reserve(&mut self, more: usize) -> Result<(), AllocError>
+        ensures { self.new ≡ self.old }
+    {
+        self.children.reserve(more)
+    }
+
     /// Takes the children out, in their order.
     pub fn take_children(&mut self) -> Vec<Obj>
         ensures children { result.items ≡ children self.old }
@@ -417,7 +433,7 @@ impl Obj {
         ensures { IfOk result (λ copy. copy ≡ self.now) }
     {
         let head = self.head.copy()?;
-        let mut children = Vec::new(*self.children.allocator());
+        let mut children = Vec::with_capacity(*self.children.allocator(), self.children.len())?;
         for child in &self.children {
             children.push(child.copy()?)?;
         }
