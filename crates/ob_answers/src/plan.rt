@@ -14,7 +14,6 @@ pub struct PointRule {
 }
 
 /// What is fixed when a site is opened.
-#[derive(Drop)]
 pub struct Plan {
     /// The URL of the root.
     pub base: Base,
@@ -33,4 +32,28 @@ pub struct Plan {
     pub rules: Vec<PointRule>,
     /// The texts of the About object that the site replaces, each behind its name.
     pub about: Vec<(Text, Text)>,
+}
+
+impl Drop for Plan {
+    // By one call for each part, so that to drop it is one call to whoever may have to.
+    fn drop(self) {
+        let Plan {
+            base,
+            root,
+            boot: _,
+            lobby: _,
+            points,
+            histories,
+            subject,
+            rules,
+            about,
+        } = self;
+        drop(base);
+        drop(root);
+        drop(points);
+        drop(histories);
+        drop(subject);
+        drop(rules);
+        drop(about);
+    }
 }

@@ -17,17 +17,32 @@ use ob_site_rules::Request;
 use ob_state::State;
 use ob_times::Moment;
 use ob_watch_calls::{Target, target_at};
-use ob_watch_lists::Watches;
+use ob_watch_lists::{FIRST_LEASE, Watches};
 use std::alloc::{AllocError, Global};
 
 /// A site: what is fixed when it is opened, the time of its last step, its state, and its watches.
-#[derive(Drop)]
 pub struct Site {
     alloc: Global,
     plan: Plan,
     time: Moment,
     state: State,
     watches: Watches,
+}
+
+impl Drop for Site {
+    // By one call for each part, so that to drop it is one call to whoever may have to.
+    fn drop(self) {
+        let Site {
+            alloc: _,
+            plan,
+            time: _,
+            state,
+            watches,
+        } = self;
+        drop(plan);
+        drop(state);
+        drop(watches);
+    }
 }
 
 // The later of two moments.
@@ -62,7 +77,7 @@ fn make(alloc: Global, plan: &Plan, now: Moment, watches: &mut Watches) -> Resul
     ensures { IfOk result (IsMade (plan_of plan.now) now watches.old watches.new) }
 {
     match watches.make(now.ms())? {
-        Some(number) => watch_part(alloc, plan, number, 60_000_000_000, WatchPart::Whole),
+        Some(number) => watch_part(alloc, plan, number, FIRST_LEASE, WatchPart::Whole),
         None => refusal(alloc, Fault::TooManyWatches),
     }
 }

@@ -5,10 +5,22 @@ use ob_values::{Text, Verb};
 /// A request: what is to be done, to the object that a text names, with an object as input.
 ///
 /// Source: oBIX 1.1, chapter 10 (Networking): Read, Write and Invoke.
-#[derive(Drop)]
 pub struct Request {
     pub verb: Verb,
     /// The href of the target, as it was asked.
     pub target: Text,
     pub body: Option<Obj>,
+}
+
+impl Drop for Request {
+    // By one call for each part, so that to drop it is one call to whoever may have to.
+    fn drop(self) {
+        let Request {
+            verb: _,
+            target,
+            body,
+        } = self;
+        drop(target);
+        drop(body);
+    }
 }

@@ -15,4 +15,4 @@ pub use item::{Item, Tracked};
 pub use items::is_among;
 pub use laws::as_the_site_says;
 pub use table::{Numbered, Watches};
-pub use watch::Watch;
+pub use watch::{FIRST_LEASE, Watch};

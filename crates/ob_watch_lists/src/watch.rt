@@ -9,6 +9,9 @@ use ob_values::Text;
 use std::alloc::{AllocError, Global};
 use std::marker::Model;
 
+/// The lease of a new watch, a minute, in nanoseconds.
+pub const FIRST_LEASE: u64 = 60_000_000_000;
+
 /// A watch: its lease in nanoseconds, of a day at most, the moment of the last request to it in milliseconds since 1970, and
 /// its items in the order in which their hrefs were first added.
 ///
@@ -37,7 +40,7 @@ impl Watch {
         ensures { result ≡ new_watch now }
     {
         Watch {
-            lease: 60_000_000_000,
+            lease: FIRST_LEASE,
             touched: now,
             items: Vec::new(alloc),
         }
