@@ -1,7 +1,8 @@
 #!/usr/bin/env bash
 # Effective objects: of lists of 1,000 and 10,000 items that are each of a contract of 500 parts, of one such item, and of
 # an object at the end of a chain of 16 contracts; and a walk by View over one item of a list of 10 and of 10,000. Each is
-# done three times, and the best counts. Takes about 5 GB of memory.
+# done four times, and the best counts. An effective object stays until the next one is built, so the first two lie in memory
+# that the system gives page by page; what the first took is printed beside the best. Takes about 7 GB of memory.
 # usage: bench/effective.sh
 set -euo pipefail
 cd "$(dirname "$0")/.."
@@ -10,6 +11,14 @@ trap 'rm -rf "$work"' EXIT
 (cd crates/ob_bench && rt run -- effective >"$work/times" 2>"$work/build") || { cat "$work/build" "$work/times"; exit 1; }
 program=$(ls -t crates/ob_bench/out/ob_bench crates/ob_bench/out/*/ob_bench 2>/dev/null | head -1 || true)
 if [ -n "$program" ]; then "$program" effective >"$work/times"; fi
-awk '$3 ~ /^[0-9]+$/ { parts[$1] = $2; time[$1] = $3; printf "%-10s %8d parts %12.3f ms %7.3f us a part\n", $1, $2, $3 / 1e6, $3 / 1e3 / $2 }
-  END { printf "list ten times as long: %.2f times the time a part\n", (time["list10000"] / parts["list10000"]) / (time["list1000"] / parts["list1000"])
-        printf "view in a list a thousand times as long: %.2f times the time\n", time["view10000"] / time["view10"] }' "$work/times"
+awk '$3 ~ /^[0-9]+$/ {
+    parts[$1] = $2; time[$1] = $3
+    printf "%-10s %8d parts %12.3f ms %7.3f us a part", $1, $2, $3 / 1e6, $3 / 1e3 / $2
+    if (NF > 3) { first[$1] = $4; printf "   (first %7.3f)", $4 / 1e3 / $2 }
+    printf "\n"
+  }
+  END {
+    a = parts["list1000"]; b = parts["list10000"]
+    printf "list ten times as long: %.2f times the time a part (first %.2f)\n", (time["list10000"] / b) / (time["list1000"] / a), (first["list10000"] / b) / (first["list1000"] / a)
+    printf "view in a list a thousand times as long: %.2f times the time\n", time["view10000"] / time["view10"]
+  }' "$work/times"

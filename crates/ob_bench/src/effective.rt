@@ -15,8 +15,8 @@ const LINKS: u64 = 16;
 
 const EACH: u64 = 30;
 
-// Times that each object is built or walked over, of which the quickest counts.
-const ROUNDS: u64 = 3;
+// Times that each object is built or walked over.
+const ROUNDS: u64 = 4;
 
 fn text(alloc: Global, letter: &str, number: u64) -> Result<Text, AllocError> {
     let name = format!(in alloc; "{letter}{number}")?;
@@ -79,23 +79,41 @@ fn list(alloc: Global, items: u64) -> Result<Obj, AllocError> {
     Ok(list)
 }
 
-// The parts of the effective object, and the nanoseconds of the quickest build.
+// How long an object took to build, in nanoseconds, and its parts.
+#[derive(Clone, Copy)]
+struct Built {
+    parts: u64,
+    first: u128,
+    quickest: u128,
+}
+
+// Builds the effective object of each round while that of the round before is still there, as where one that is shown is
+// replaced. The first builds lie in memory that the system gives, page by page; a later one lies where an earlier one lay.
 fn build(
     rt: &impl Clock,
     alloc: Global,
     library: &Library,
     object: &Obj,
     given: Option<&Words>,
-) -> io::Result<(u64, u128)> {
-    let mut best = u128::MAX;
-    let mut parts = 0;
-    for _ in 0..ROUNDS {
+) -> io::Result<Built> {
+    let mut built = Built {
+        parts: 0,
+        first: 0,
+        quickest: u128::MAX,
+    };
+    let mut shown = Obj::new(alloc, Kind::Obj);
+    for round in 0..ROUNDS {
         let start = Instant::now(rt)?;
         let made = effective(alloc, library, object, given, None)?;
-        best = best.min(start.elapsed(rt)?.as_nanos());
-        parts = made.parts();
+        let time = start.elapsed(rt)?.as_nanos();
+        if round == 0 {
+            built.first = time;
+        }
+        built.quickest = built.quickest.min(time);
+        built.parts = made.parts();
+        drop(std::mem::replace(&mut shown, made));
     }
-    Ok((parts, best))
+    Ok(built)
 }
 
 // The children of an item that `View` shows.
@@ -130,27 +148,32 @@ fn walked<'x>(
     Ok((seen, best))
 }
 
-/// Prints a line for each object: its name, the parts that were built or seen, and the nanoseconds.
+fn print(rt: &impl Print, name: &str, built: Built) -> io::Result<()> {
+    println!(rt; "{name} {} {} {}", built.parts, built.quickest, built.first)
+}
+
+/// Prints a line for each object: its name, the parts that were built or seen, the nanoseconds of the quickest round, and
+/// those of the first build.
 pub fn measure(rt: &(impl Clock + Print + AllocGlobal)) -> io::Result<()> {
     let alloc = rt.alloc();
     let library = library(alloc)?;
     let given = one(alloc, text(alloc, "c", 0)?);
     let item = Obj::new(alloc, Kind::Obj);
-    let (parts, time) = build(rt, alloc, &library, &item, given.as_ref())?;
-    println!(rt; "item {parts} {time}")?;
+    let built = build(rt, alloc, &library, &item, given.as_ref())?;
+    print(rt, "item", built)?;
     let mut last = Obj::new(alloc, Kind::Obj);
     let _ = last.put_is(one(alloc, text(alloc, "k", LINKS - 1)?));
-    let (parts, time) = build(rt, alloc, &library, &last, None)?;
-    println!(rt; "chain {parts} {time}")?;
+    let built = build(rt, alloc, &library, &last, None)?;
+    print(rt, "chain", built)?;
     let short = list(alloc, 10)?;
     let (seen, time) = walked(rt, &library, &short, 9)?;
     println!(rt; "view10 {seen} {time}")?;
     let middle = list(alloc, 1_000)?;
-    let (parts, time) = build(rt, alloc, &library, &middle, None)?;
-    println!(rt; "list1000 {parts} {time}")?;
+    let built = build(rt, alloc, &library, &middle, None)?;
+    print(rt, "list1000", built)?;
     let long = list(alloc, 10_000)?;
     let (seen, time) = walked(rt, &library, &long, 9_999)?;
     println!(rt; "view10000 {seen} {time}")?;
-    let (parts, time) = build(rt, alloc, &library, &long, None)?;
-    println!(rt; "list10000 {parts} {time}")
+    let built = build(rt, alloc, &library, &long, None)?;
+    print(rt, "list10000", built)
 }

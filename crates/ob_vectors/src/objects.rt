@@ -1,6 +1,7 @@
 //! Objects: each public call with ample memory, and trees as large as a document may make them.
 use ob_object::{
-    Facet, FacetRef, Facets, Kind, Obj, PushFault, Slot, Status, Words, WriteFault, check_write,
+    Facet, FacetRef, Facets, Head, Kind, Obj, PushFault, Slot, Status, Words, WriteFault,
+    check_write,
 };
 use ob_values::{Text, Value};
 use std::alloc::Global;
@@ -115,6 +116,44 @@ fn writes_are_checked_in_order(rt: HostRuntime) -> Result<(), Fail> {
         check_write(Kind::Str, None, None, &e_acute, false),
         Err(WriteFault::NotInRange)
     );
+    Ok(())
+}
+
+// An object with a copy of another one's head as its child, made in the object's place.
+fn with_leaf(alloc: Global, of: &Obj) -> Result<Obj, Fail> {
+    let mut object = Obj::new(alloc, Kind::Obj);
+    object.reserve(1)?;
+    let head = of.head();
+    object.push_leaf(head, &head.slot)?;
+    Ok(object)
+}
+
+// Whether it is an int `count` of 5 with that href, or with none.
+fn is_five(count: &Head, has_href: bool) -> bool {
+    let is_named = match &count.name {
+        Some(name) => name.as_str() == "count",
+        None => false,
+    };
+    is_named
+        && count.href.is_some() == has_href
+        && matches!(count.slot, Slot::Is(Value::Int(5)))
+        && matches!(count.facets.precision, Some(2))
+}
+
+#[test]
+fn leaves_and_copies_of_heads_have_no_href(rt: HostRuntime) -> Result<(), Fail> {
+    let alloc = rt.alloc();
+    let mut count = named(alloc, Kind::Int, b"count")?;
+    count.put_href(Some(text(alloc, b"/count")?));
+    let _ = count.put_slot(Slot::Is(Value::Int(5)));
+    let mut facets = Facets::none();
+    facets.precision = Some(2);
+    let _ = count.put_facets(facets);
+    let object = with_leaf(alloc, &count)?;
+    assert!(rt; matches!(object.at(0), Some(leaf) if is_five(leaf.head(), false)));
+    let head = count.head();
+    assert!(rt; is_five(&head.copy()?, true));
+    assert!(rt; is_five(&head.copy_with(&head.slot)?, false));
     Ok(())
 }
 
