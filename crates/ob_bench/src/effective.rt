@@ -152,28 +152,57 @@ fn print(rt: &impl Print, name: &str, built: Built) -> io::Result<()> {
     println!(rt; "{name} {} {} {}", built.parts, built.quickest, built.first)
 }
 
+// An item whose list gives it the contract `c0`.
+fn measure_item<R: Clock + Print>(rt: &R, alloc: Global, library: &Library) -> io::Result<()> {
+    let given = one(alloc, text(alloc, "c", 0)?);
+    let item = Obj::new(alloc, Kind::Obj);
+    let built = build(rt, alloc, library, &item, given.as_ref())?;
+    print(rt, "item", built)
+}
+
+// An object of the last contract of the chain.
+fn measure_chain<R: Clock + Print>(rt: &R, alloc: Global, library: &Library) -> io::Result<()> {
+    let mut last = Obj::new(alloc, Kind::Obj);
+    let _ = last.put_is(one(alloc, text(alloc, "k", LINKS - 1)?));
+    let built = build(rt, alloc, library, &last, None)?;
+    print(rt, "chain", built)
+}
+
+fn measure_list<R: Clock + Print>(
+    rt: &R,
+    alloc: Global,
+    library: &Library,
+    items: u64,
+) -> io::Result<()> {
+    let list = list(alloc, items)?;
+    let built = build(rt, alloc, library, &list, None)?;
+    let name = format!(in alloc; "list{items}")?;
+    print(rt, name.as_str(), built)
+}
+
+fn measure_view<R: Clock + Print>(
+    rt: &R,
+    alloc: Global,
+    library: &Library,
+    items: u64,
+) -> io::Result<()> {
+    let list = list(alloc, items)?;
+    let (seen, time) = walked(rt, library, &list, items.saturating_sub(1))?;
+    println!(rt; "view{items} {seen} {time}")
+}
+
 /// Prints a line for each object: its name, the parts that were built or seen, the nanoseconds of the quickest round, and
 /// those of the first build.
 pub fn measure(rt: &(impl Clock + Print + AllocGlobal)) -> io::Result<()> {
     let alloc = rt.alloc();
     let library = library(alloc)?;
-    let given = one(alloc, text(alloc, "c", 0)?);
-    let item = Obj::new(alloc, Kind::Obj);
-    let built = build(rt, alloc, &library, &item, given.as_ref())?;
-    print(rt, "item", built)?;
-    let mut last = Obj::new(alloc, Kind::Obj);
-    let _ = last.put_is(one(alloc, text(alloc, "k", LINKS - 1)?));
-    let built = build(rt, alloc, &library, &last, None)?;
-    print(rt, "chain", built)?;
-    let short = list(alloc, 10)?;
-    let (seen, time) = walked(rt, &library, &short, 9)?;
-    println!(rt; "view10 {seen} {time}")?;
-    let middle = list(alloc, 1_000)?;
-    let built = build(rt, alloc, &library, &middle, None)?;
-    print(rt, "list1000", built)?;
-    let long = list(alloc, 10_000)?;
-    let (seen, time) = walked(rt, &library, &long, 9_999)?;
-    println!(rt; "view10000 {seen} {time}")?;
-    let built = build(rt, alloc, &library, &long, None)?;
-    print(rt, "list10000", built)
+    measure_item(rt, alloc, &library)?;
+    measure_chain(rt, alloc, &library)?;
+    for items in [10, 10_000] {
+        measure_view(rt, alloc, &library, items)?;
+    }
+    for items in [1_000, 10_000] {
+        measure_list(rt, alloc, &library, items)?;
+    }
+    Ok(())
 }

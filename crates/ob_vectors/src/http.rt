@@ -194,36 +194,63 @@ fn is_told(answer: &Result<Option<Asked>, FrameFault>, told: &str) -> bool {
     }
 }
 
+// Whether the framer answers as told when it is fed one piece more.
+fn answers(framer: &mut Framer, piece: &[u8], told: &str) -> Result<bool, Fail> {
+    feed(framer, piece)?;
+    Ok(is_told(&framer.take(), told))
+}
+
+fn feed_bytes(framer: &mut Framer, bytes: &[u8]) -> Result<(), Fail> {
+    for byte in bytes {
+        feed(framer, &[*byte])?;
+    }
+    Ok(())
+}
+
+// Whether bytes that come whole are answered as told.
+fn is_told_whole(alloc: Global, bytes: &[u8], told: &str) -> Result<bool, Fail> {
+    let mut framer = Framer::new(alloc)?;
+    answers(&mut framer, bytes, told)
+}
+
+// Whether bytes that come one by one are answered as told.
+fn is_told_cut(alloc: Global, bytes: &[u8], told: &str) -> Result<bool, Fail> {
+    let mut framer = Framer::new(alloc)?;
+    match feed_bytes(&mut framer, bytes) {
+        Ok(()) => Ok(is_told(&framer.take(), told)),
+        Err(fault) => Err(fault),
+    }
+}
+
 #[test]
 fn heads_are_framed_as_told(rt: HostRuntime) -> Result<(), Fail> {
+    let alloc = rt.alloc();
     let mut count = 0u32;
     for row in ROWS.lines() {
         let (cell, told) = row.split_once(" => ").ok_or("a row without =>")?;
-        let bytes = bytes_of(rt.alloc(), cell)?;
-        let mut whole = Framer::new(rt.alloc())?;
-        feed(&mut whole, bytes.as_slice())?;
-        assert!(rt; is_told(&whole.take(), told), "whole: {row}");
-        let mut cut = Framer::new(rt.alloc())?;
-        for byte in &bytes {
-            feed(&mut cut, &[*byte])?;
-        }
-        assert!(rt; is_told(&cut.take(), told), "in bytes: {row}");
+        let bytes = bytes_of(alloc, cell)?;
+        assert!(rt; is_told_whole(alloc, &bytes, told)?, "whole: {row}");
+        assert!(rt; is_told_cut(alloc, &bytes, told)?, "in bytes: {row}");
         count = count.saturating_add(1);
     }
     assert!(rt; count >= 80);
     Ok(())
 }
 
+fn feed_fields(framer: &mut Framer, count: u32) -> Result<(), Fail> {
+    feed(framer, b"GET / HTTP/1.1\r\n")?;
+    for _ in 0..count {
+        feed(framer, b"A:\r\n")?;
+    }
+    Ok(())
+}
+
 // The answer for a head of so many fields, without its empty line and with it.
 fn fields(rt: &(impl Abort + AllocGlobal), count: u32, told: &str) -> Result<(), Fail> {
     let mut framer = Framer::new(rt.alloc())?;
-    feed(&mut framer, b"GET / HTTP/1.1\r\n")?;
-    for _ in 0..count {
-        feed(&mut framer, b"A:\r\n")?;
-    }
+    feed_fields(&mut framer, count)?;
     assert!(rt; is_told(&framer.take(), "None"));
-    feed(&mut framer, b"\r\n")?;
-    assert!(rt; is_told(&framer.take(), told));
+    assert!(rt; answers(&mut framer, b"\r\n", told)?);
     assert!(rt; is_told(&framer.take(), if told == "Head" { told } else { "None" }));
     Ok(())
 }
@@ -237,10 +264,8 @@ fn a_head_has_at_most_64_fields(rt: HostRuntime) -> Result<(), Fail> {
 #[test]
 fn a_head_has_at_most_8192_bytes(rt: HostRuntime) -> Result<(), Fail> {
     let mut framer = Framer::new(rt.alloc())?;
-    feed(&mut framer, &[b'A'; 8191])?;
-    assert!(rt; is_told(&framer.take(), "None"));
-    feed(&mut framer, b"A")?;
-    assert!(rt; is_told(&framer.take(), "HeadBig"));
+    assert!(rt; answers(&mut framer, &[b'A'; 8191], "None")?);
+    assert!(rt; answers(&mut framer, b"A", "HeadBig")?);
     assert!(rt; is_told(&framer.take(), "HeadBig"));
     Ok(())
 }
@@ -258,19 +283,32 @@ fn take_into(framer: &mut Framer, asked: &mut Vec<Asked>) -> Result<(), Fail> {
     Ok(())
 }
 
+// Feeds a piece, and takes the requests that are whole.
+fn feed_into(framer: &mut Framer, asked: &mut Vec<Asked>, piece: &[u8]) -> Result<(), Fail> {
+    feed(framer, piece)?;
+    take_into(framer, asked)
+}
+
+// Whether these are the requests of `TWO`, and the framer keeps the byte behind them.
+fn are_two(framer: &Framer, asked: &[Asked]) -> bool {
+    match asked {
+        [get, put] => {
+            is_request(get, "GET /a open absent 0")
+                && is_request(put, "PUT /b open absent 3")
+                && framer.kept() == 1
+                && framer.place() == TWO.len() as u64 - 1
+        }
+        _ => false,
+    }
+}
+
 // The two requests of `TWO`, which comes in two pieces.
 fn take_two(rt: &(impl Abort + AllocGlobal), first: &[u8], second: &[u8]) -> Result<(), Fail> {
     let mut framer = Framer::new(rt.alloc())?;
     let mut asked = Vec::new(rt.alloc());
-    feed(&mut framer, first)?;
-    take_into(&mut framer, &mut asked)?;
-    feed(&mut framer, second)?;
-    take_into(&mut framer, &mut asked)?;
-    assert_eq!(rt; asked.len(), 2);
-    assert!(rt; is_request(&asked[0], "GET /a open absent 0"));
-    assert!(rt; is_request(&asked[1], "PUT /b open absent 3"));
-    assert_eq!(rt; framer.kept(), 1);
-    assert_eq!(rt; framer.place(), TWO.len() as u64 - 1);
+    feed_into(&mut framer, &mut asked, first)?;
+    feed_into(&mut framer, &mut asked, second)?;
+    assert!(rt; are_two(&framer, &asked));
     Ok(())
 }
 

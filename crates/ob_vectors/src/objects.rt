@@ -17,105 +17,123 @@ fn named(alloc: Global, kind: Kind, name: &[u8]) -> Result<Obj, Fail> {
     Ok(object)
 }
 
+// Whether an int takes five as its slot, and no truth value.
+fn takes_five(count: &mut Obj) -> bool {
+    count.put_slot(Slot::Is(Value::Int(5))).is_ok()
+        && count.put_slot(Slot::Is(Value::Bool(true))).is_err()
+        && matches!(count.slot(), Slot::Is(Value::Int(5)))
+}
+
+// Whether an int takes contracts, none for its children, and no empty name.
+fn takes_contracts(alloc: Global, count: &mut Obj) -> bool {
+    count.put_name(Some(Text::empty(alloc))).is_err()
+        && count.put_of(Some(Words::new(alloc))).is_err()
+        && count.put_is(Some(Words::new(alloc))).is_ok()
+}
+
+// Whether an int takes limits that are ints, and no other.
+fn takes_limits(count: &mut Obj) -> bool {
+    let mut facets = Facets::none();
+    facets.min = Some(Value::Int(0));
+    facets.status = Some(Status::Alarm);
+    let mut wrong = Facets::none();
+    wrong.max = Some(Value::Bool(true));
+    count.put_facets(facets).is_ok() && count.put_facets(wrong).is_err()
+}
+
 #[test]
 fn puts_take_what_fits_the_kind(rt: HostRuntime) -> Result<(), Fail> {
     let alloc = rt.alloc();
     let mut count = named(alloc, Kind::Int, b"count")?;
     assert!(rt; count.is_named("count"));
-    assert!(rt; count.put_slot(Slot::Is(Value::Int(5))).is_ok());
-    assert!(rt; count.put_slot(Slot::Is(Value::Bool(true))).is_err());
-    assert!(rt; matches!(count.slot(), Slot::Is(Value::Int(5))));
-    assert!(rt; count.put_name(Some(Text::empty(alloc))).is_err());
-    assert!(rt; count.put_of(Some(Words::new(alloc))).is_err());
-    assert!(rt; count.put_is(Some(Words::new(alloc))).is_ok());
-    let mut facets = Facets::none();
-    facets.min = Some(Value::Int(0));
-    facets.status = Some(Status::Alarm);
-    assert!(rt; count.put_facets(facets).is_ok());
+    assert!(rt; takes_five(&mut count));
+    assert!(rt; takes_contracts(alloc, &mut count));
+    assert!(rt; takes_limits(&mut count));
     assert!(rt;
         matches!(
             count.facets().get(Facet::Status),
             Some(FacetRef::Word(Status::Alarm))
         )
     );
-    let mut wrong = Facets::none();
-    wrong.max = Some(Value::Bool(true));
-    assert!(rt; count.put_facets(wrong).is_err());
     Ok(())
+}
+
+// Whether words take a word.
+fn takes(alloc: Global, words: &mut Words, word: &[u8]) -> Result<bool, Fail> {
+    let word = text(alloc, word)?;
+    Ok(words.push(word).is_ok())
 }
 
 #[test]
 fn words_have_no_white_space(rt: HostRuntime) -> Result<(), Fail> {
     let alloc = rt.alloc();
     let mut words = Words::new(alloc);
-    assert!(rt; words.push(text(alloc, b"obix:Point")?).is_ok());
-    assert!(rt; words.push(text(alloc, b"a b")?).is_err());
-    assert!(rt; words.push(Text::empty(alloc)).is_err());
-    assert_eq!(rt; words.as_slice().len(), 1);
+    assert!(rt; takes(alloc, &mut words, b"obix:Point")?);
+    assert!(rt; !takes(alloc, &mut words, b"a b")?);
+    assert!(rt; !takes(alloc, &mut words, b"")?);
     let copy = words.copy()?;
-    assert_eq!(rt; copy.as_slice().len(), 1);
+    assert!(rt; words.as_slice().len() == 1 && copy.as_slice().len() == 1);
     Ok(())
+}
+
+// Whether an object takes a child, or refuses it for its name.
+fn takes_child(object: &mut Obj, child: Obj) -> Option<bool> {
+    match object.push(child) {
+        Ok(()) => Some(true),
+        Err(PushFault::SameName { child: _ }) => Some(false),
+        Err(PushFault::Memory { child: _ }) => None,
+    }
+}
+
+// Whether it has the children that were taken, and what is asked of them is so.
+fn has_three(object: &Obj) -> bool {
+    object.parts() == 4
+        && object.child("x").is_some()
+        && object.child("y").is_none()
+        && object.at(3).is_none()
 }
 
 #[test]
 fn siblings_have_different_names(rt: HostRuntime) -> Result<(), Fail> {
     let alloc = rt.alloc();
     let mut object = Obj::new(alloc, Kind::Obj);
-    assert!(rt; object.push(named(alloc, Kind::Int, b"x")?).is_ok());
-    assert!(rt;
-        matches!(
-            object.push(named(alloc, Kind::Str, b"x")?),
-            Err(PushFault::SameName { child: _ })
-        )
-    );
-    assert!(rt; object.push(Obj::new(alloc, Kind::Obj)).is_ok());
-    assert!(rt; object.push(Obj::new(alloc, Kind::Obj)).is_ok());
-    assert_eq!(rt; object.parts(), 4);
-    assert!(rt; object.child("x").is_some());
-    assert!(rt; object.child("y").is_none());
-    assert!(rt; object.at(3).is_none());
+    assert!(rt; takes_child(&mut object, named(alloc, Kind::Int, b"x")?) == Some(true));
+    assert!(rt; takes_child(&mut object, named(alloc, Kind::Str, b"x")?) == Some(false));
+    assert!(rt; takes_child(&mut object, Obj::new(alloc, Kind::Obj)) == Some(true));
+    assert!(rt; takes_child(&mut object, Obj::new(alloc, Kind::Obj)) == Some(true));
+    assert!(rt; has_three(&object));
     let copy = object.copy()?;
     assert!(rt; copy.same(&object));
     let children = object.take_children();
-    assert_eq!(rt; children.len(), 3);
-    assert!(rt; !copy.same(&object));
+    assert!(rt; children.len() == 3 && !copy.same(&object));
     Ok(())
+}
+
+// What a write to an int between five and seven comes to.
+fn written(value: &Value) -> Result<(), WriteFault> {
+    check_write(
+        Kind::Int,
+        Some(&Value::Int(5)),
+        Some(&Value::Int(7)),
+        value,
+        true,
+    )
 }
 
 #[test]
 fn writes_are_checked_in_order(rt: HostRuntime) -> Result<(), Fail> {
-    let alloc = rt.alloc();
     let five = Value::Int(5);
-    let seven = Value::Int(7);
-    let e_acute = Value::Str(text(alloc, "ééééé".as_bytes())?);
-    assert_eq!(rt;
-        check_write(Kind::Int, Some(&five), Some(&seven), &five, true),
-        Ok(())
+    let e_acute = Value::Str(text(rt.alloc(), "ééééé".as_bytes())?);
+    assert!(rt; written(&five) == Ok(()));
+    assert!(rt; written(&Value::Int(4)) == Err(WriteFault::Below));
+    assert!(rt; written(&Value::Int(8)) == Err(WriteFault::Above));
+    assert!(rt; written(&e_acute) == Err(WriteFault::WrongKind));
+    assert!(rt; check_write(Kind::Str, Some(&five), Some(&five), &e_acute, true) == Ok(()));
+    assert!(rt;
+        check_write(Kind::Str, Some(&Value::Int(7)), None, &e_acute, false)
+            == Err(WriteFault::Below)
     );
-    assert_eq!(rt;
-        check_write(Kind::Int, Some(&five), Some(&seven), &Value::Int(4), true),
-        Err(WriteFault::Below)
-    );
-    assert_eq!(rt;
-        check_write(Kind::Int, Some(&five), Some(&seven), &Value::Int(8), true),
-        Err(WriteFault::Above)
-    );
-    assert_eq!(rt;
-        check_write(Kind::Int, None, None, &e_acute, false),
-        Err(WriteFault::WrongKind)
-    );
-    assert_eq!(rt;
-        check_write(Kind::Str, Some(&five), Some(&five), &e_acute, true),
-        Ok(())
-    );
-    assert_eq!(rt;
-        check_write(Kind::Str, Some(&seven), None, &e_acute, false),
-        Err(WriteFault::Below)
-    );
-    assert_eq!(rt;
-        check_write(Kind::Str, None, None, &e_acute, false),
-        Err(WriteFault::NotInRange)
-    );
+    assert!(rt; check_write(Kind::Str, None, None, &e_acute, false) == Err(WriteFault::NotInRange));
     Ok(())
 }
 
@@ -175,7 +193,7 @@ fn deep_and_wide_trees_stay_within_the_stack(rt: HostRuntime) -> Result<(), Fail
         let _ = above.push(tree);
         tree = above;
     }
-    assert_eq!(rt; tree.parts(), 199_982);
+    assert!(rt; tree.parts() == 199_982);
     let copy = tree.copy()?;
     assert!(rt; copy.same(&tree));
     drop(copy);

@@ -15,13 +15,19 @@ fn feed(framer: &mut Framer, piece: &[u8]) -> Result<(), Fail> {
     Ok(())
 }
 
-/// What the bytes begin with, asked twice, since a fault stays.
-fn first_fault(rt: &(impl Abort + AllocGlobal), bytes: &[u8]) -> Result<Option<FrameFault>, Fail> {
+/// The bytes begin with this fault, or with none, asked twice, since a fault stays.
+fn begins_with(
+    rt: &(impl Abort + AllocGlobal),
+    bytes: &[u8],
+    fault: Option<FrameFault>,
+) -> Result<(), Fail> {
     let mut framer = Framer::new(rt.alloc())?;
     feed(&mut framer, bytes)?;
-    let first = framer.take().err();
-    assert_eq!(rt; framer.take().err(), first);
-    Ok(first)
+    for _ in 0..2 {
+        let found = framer.take().err();
+        assert!(rt; found == fault, "{bytes:?}");
+    }
+    Ok(())
 }
 
 /// Takes the whole requests that the framer holds, of which there are few.
@@ -44,20 +50,23 @@ fn feed_two(framer: &mut Framer, asked: &mut Vec<Asked>, length: usize) -> Resul
     Ok(())
 }
 
+/// Whether it is this request.
+fn is(asked: &Asked, method: &str, target: &[u8], close: bool, media: Media, body: &[u8]) -> bool {
+    asked.method.as_str() == method
+        && asked.target.as_slice() == target
+        && asked.close == close
+        && asked.media == media
+        && asked.body.as_slice() == body
+}
+
 /// These are the two requests that `TWO` begins with, and the framer keeps what is behind them.
 fn are_two(rt: &impl Abort, framer: &Framer, asked: &[Asked]) -> Result<(), Fail> {
     let [get, put] = asked else {
         return Err(Fail::from("not two requests"));
     };
-    assert_eq!(rt; get.method.as_str(), "GET");
-    assert_eq!(rt; get.target.as_slice(), b"/a".as_slice());
-    assert!(rt; !get.close && get.media == Media::Absent && get.body.as_slice().is_empty());
-    assert_eq!(rt; put.method.as_str(), "PUT");
-    assert_eq!(rt; put.target.as_slice(), b"/b".as_slice());
-    assert!(rt; put.close && put.media == Media::Xml);
-    assert_eq!(rt; put.body.as_slice(), b"abc".as_slice());
-    assert_eq!(rt; framer.kept(), 3);
-    assert_eq!(rt; framer.place(), TWO.len() as u64 - 3);
+    assert!(rt; is(get, "GET", b"/a", false, Media::Absent, b""));
+    assert!(rt; is(put, "PUT", b"/b", true, Media::Xml, b"abc"));
+    assert!(rt; framer.kept() == 3 && framer.place() == TWO.len() as u64 - 3);
     Ok(())
 }
 
@@ -82,13 +91,12 @@ fn the_pieces_do_not_matter(rt: HostRuntime) -> Result<(), Fail> {
 /// Looks at the first request that the framer holds, drops it, and takes the second.
 fn look_then_take(rt: &impl Abort, framer: &mut Framer) -> Result<(), Fail> {
     let seen = framer.look()?.ok_or("nothing")?;
-    assert_eq!(rt; seen.method, "GET");
-    assert_eq!(rt; seen.target, b"/a".as_slice());
+    assert!(rt; seen.method == "GET" && seen.target == b"/a".as_slice());
     let len = seen.len;
     assert!(rt; len <= framer.kept());
     framer.drop_front(len);
     let asked = framer.take()?.ok_or("nothing")?;
-    assert_eq!(rt; asked.body.as_slice(), b"abc".as_slice());
+    assert!(rt; asked.body.as_slice() == b"abc".as_slice());
     Ok(())
 }
 
@@ -103,45 +111,68 @@ fn a_look_lends_what_take_gives(rt: HostRuntime) -> Result<(), Fail> {
 
 #[test]
 fn each_fault_stays(rt: HostRuntime) -> Result<(), Fail> {
-    assert_eq!(rt; first_fault(&rt, b"GET /n HT")?, None);
-    assert_eq!(rt; first_fault(&rt, b"GET /\xff")?, None);
-    assert_eq!(rt;
-        first_fault(&rt, b"GET /\xff HTTP/1.1\r\n")?,
-        Some(FrameFault::Head)
-    );
-    assert_eq!(rt; first_fault(&rt, &[b'A'; 8191])?, None);
-    assert_eq!(rt; first_fault(&rt, &[b'A'; 8192])?, Some(FrameFault::HeadBig));
-    assert_eq!(rt;
-        first_fault(&rt, b"GET / HTTP/1.1\nTransfer-Encoding: chunked\n\n")?,
-        Some(FrameFault::NoLength)
-    );
-    assert_eq!(rt;
-        first_fault(&rt, b"GET / HTTP/1.1\nContent-Length: +5\n\n")?,
-        Some(FrameFault::Length)
-    );
-    assert_eq!(rt;
-        first_fault(&rt, b"GET / HTTP/1.1\nContent-Length: 1048577\n\n")?,
-        Some(FrameFault::BodyBig)
-    );
+    let long = [b'A'; 8192];
+    let rows: [(&[u8], Option<FrameFault>); 8] = [
+        (b"GET /n HT", None),
+        (b"GET /\xff", None),
+        (b"GET /\xff HTTP/1.1\r\n", Some(FrameFault::Head)),
+        (&long[1..], None),
+        (&long, Some(FrameFault::HeadBig)),
+        (
+            b"GET / HTTP/1.1\nTransfer-Encoding: chunked\n\n",
+            Some(FrameFault::NoLength),
+        ),
+        (
+            b"GET / HTTP/1.1\nContent-Length: +5\n\n",
+            Some(FrameFault::Length),
+        ),
+        (
+            b"GET / HTTP/1.1\nContent-Length: 1048577\n\n",
+            Some(FrameFault::BodyBig),
+        ),
+    ];
+    for (bytes, fault) in rows {
+        begins_with(&rt, bytes, fault)?;
+    }
+    Ok(())
+}
+
+/// The answer of this status and body is written so.
+fn answered(
+    rt: &(impl Abort + AllocGlobal),
+    status: StatusLine,
+    close: bool,
+    body: &[u8],
+    want: &[u8],
+) -> Result<(), Fail> {
+    let text = write_answer(rt.alloc(), status, close, body)?;
+    assert!(rt; text.as_slice() == want, "{want:?}");
     Ok(())
 }
 
 #[test]
 fn answers_are_written(rt: HostRuntime) -> Result<(), Fail> {
-    let body = b"<int href=\"/obix/n\" val=\"7\"/>";
-    let text = write_answer(rt.alloc(), StatusLine::Done, false, body)?;
-    assert_eq!(rt;
-        text.as_slice(),
-        b"HTTP/1.1 200 OK\r\nContent-Type: text/xml\r\nContent-Length: 29\r\n\r\n<int href=\"/obix/n\" val=\"7\"/>".as_slice()
-    );
-    let text = write_answer(rt.alloc(), StatusLine::NotAllowed, true, b"")?;
-    assert_eq!(rt;
-        text.as_slice(),
-        b"HTTP/1.1 405 Method Not Allowed\r\nContent-Length: 0\r\nAllow: GET, PUT, POST\r\nConnection: close\r\n\r\n".as_slice()
-    );
-    assert_eq!(rt;
-        refusal_bytes(FrameFault::Length),
-        b"HTTP/1.1 400 Bad Request\r\nContent-Length: 0\r\nConnection: close\r\n\r\n".as_slice()
+    answered(
+        &rt,
+        StatusLine::Done,
+        false,
+        b"<int href=\"/obix/n\" val=\"7\"/>",
+        b"HTTP/1.1 200 OK\r\nContent-Type: text/xml\r\nContent-Length: 29\r\n\r\n<int href=\"/obix/n\" val=\"7\"/>",
+    )?;
+    answered(
+        &rt,
+        StatusLine::NotAllowed,
+        true,
+        b"",
+        b"HTTP/1.1 405 Method Not Allowed\r\nContent-Length: 0\r\nAllow: GET, PUT, POST\r\nConnection: close\r\n\r\n",
+    )
+}
+
+#[test]
+fn refusals_are_written(rt: HostRuntime) -> Result<(), Fail> {
+    assert!(rt;
+        refusal_bytes(FrameFault::Length)
+            == b"HTTP/1.1 400 Bad Request\r\nContent-Length: 0\r\nConnection: close\r\n\r\n".as_slice()
     );
     Ok(())
 }
@@ -156,7 +187,7 @@ fn written(
     let target = Text::from_utf8(rt.alloc(), b"/obix/n")?;
     let host = Text::from_utf8(rt.alloc(), b"h:81")?;
     let text = write_request(rt.alloc(), verb, &target, &host, body)?;
-    assert_eq!(rt; text.as_slice(), want);
+    assert!(rt; text.as_slice() == want, "{want:?}");
     Ok(())
 }
 
@@ -184,6 +215,6 @@ fn replies_are_read(rt: HostRuntime) -> Result<(), Fail> {
     framer.feed(b"bHTTP/1.1 200 OK\r\n\r\n")?;
     let reply = framer.take()?.ok_or("nothing")?;
     assert!(rt; reply.status == 404 && reply.body.as_slice() == b"ab".as_slice());
-    assert_eq!(rt; framer.take().err(), Some(FrameFault::NoLength));
+    assert!(rt; framer.take().err() == Some(FrameFault::NoLength));
     Ok(())
 }

@@ -4,18 +4,31 @@ use ob_values::{
     one_reading, print_value, read_abstime, read_bool, read_date, read_dec, read_int, read_reltime,
     read_time,
 };
+use std::alloc::Global;
 use std::process::Abort;
 use std::test::Fail;
 
+// Whether a text's copy and the text with more behind it are what they should be.
+fn is_kept(alloc: Global, text: &Text) -> Result<bool, Fail> {
+    let copy = text.copy()?;
+    let more = text.followed_by(alloc, "/1")?;
+    Ok(copy.is("a\tü€") && more.is("a\tü€/1"))
+}
+
 #[test]
 fn makes_texts(rt: HostRuntime) -> Result<(), Fail> {
-    let text = Text::from_utf8(rt.alloc(), "a\tü€".as_bytes())?;
-    assert!(rt; text.is("a\tü€"));
-    assert!(rt; text.copy()?.as_str() == "a\tü€");
-    assert!(rt; text.followed_by(rt.alloc(), "/1")?.is("a\tü€/1"));
+    let alloc = rt.alloc();
+    let text = Text::from_utf8(alloc, "a\tü€".as_bytes())?;
+    assert!(rt; is_kept(alloc, &text)?);
     assert!(rt; text.into_string().as_str() == "a\tü€");
-    assert!(rt; Text::from_ascii(rt.alloc(), "obix:obj")?.is("obix:obj"));
-    assert!(rt; Text::empty(rt.alloc()).is(""));
+    let ascii = Text::from_ascii(alloc, "obix:obj")?;
+    let empty = Text::empty(alloc);
+    assert!(rt; ascii.is("obix:obj") && empty.is(""));
+    Ok(())
+}
+
+#[test]
+fn refuses_what_is_no_text(rt: HostRuntime) -> Result<(), Fail> {
     let control = Text::from_utf8(rt.alloc(), "ü\u{1}x".as_bytes());
     assert!(rt; matches!(&control, Err(TextFault::NotXmlChar { at: 2 })));
     let cut = Text::from_utf8(rt.alloc(), b"a\xC3");
@@ -77,26 +90,42 @@ fn tells_kinds_apart(rt: HostRuntime) -> Result<(), Fail> {
     are_apart(&rt, &text, &word, &path)
 }
 
+// Whether each gives back the numbers that it was made of.
+fn give_parts_back() -> bool {
+    matches!(Dec::new(-150, 4), Some(decimal) if decimal.parts() == (-15, 3))
+        && matches!(Abstime::new(-1, 999_999_999, 60), Some(instant) if instant.parts() == (-1, 999_999_999, 60))
+        && matches!(Reltime::new(-1, -5), Some(span) if span.parts() == (-1, -5))
+        && matches!(CivilDate::new(2024, 2, 29), Some(date) if date.parts() == (2024, 2, 29))
+        && matches!(TimeOfDay::new(5), Some(time) if time.parts() == 5)
+}
+
+// Whether a tenth is below one.
+fn are_ordered() -> bool {
+    match (Dec::new(1, 1), Dec::new(1, 0)) {
+        (Some(tenth), Some(one)) => tenth.is_below(&one),
+        _ => false,
+    }
+}
+
+// Whether a moment is the instant of so many milliseconds.
+fn is_an_instant() -> bool {
+    match Moment::new(1_250) {
+        Some(moment) => moment.ms() == 1_250 && moment.abstime().parts() == (1, 250_000_000, 0),
+        None => false,
+    }
+}
+
 #[test]
 fn gives_back_what_it_was_made_of(rt: HostRuntime) -> Result<(), Fail> {
-    assert!(rt; Dec::new(-150, 4).ok_or("decimal")?.parts() == (-15, 3));
+    assert!(rt; give_parts_back());
+    assert!(rt; are_ordered());
+    assert!(rt; is_an_instant());
     assert!(rt;
-        Dec::new(1, 1)
-            .ok_or("decimal")?
-            .is_below(&Dec::new(1, 0).ok_or("decimal")?)
+        matches!(Abstime::new(-1, 999_999_999, 60), Some(instant) if instant.instant() == -1)
     );
-    let instant = Abstime::new(-1, 999_999_999, 60).ok_or("instant")?;
-    assert!(rt; instant.parts() == (-1, 999_999_999, 60));
-    assert!(rt; instant.instant() == -1);
-    assert!(rt; Reltime::new(-1, -5).ok_or("span")?.parts() == (-1, -5));
-    assert!(rt; CivilDate::new(2024, 2, 29).ok_or("date")?.parts() == (2024, 2, 29));
-    assert!(rt; TimeOfDay::new(5).ok_or("time")?.parts() == 5);
-    let moment = Moment::new(1_250).ok_or("moment")?;
-    assert!(rt; moment.ms() == 1_250);
-    assert!(rt; moment.abstime().parts() == (1, 250_000_000, 0));
     assert!(rt; read_dec(b"NaN") == Err(ValueFault::NotFinite));
     let bytes = Bytes::new(b"ab".to_vec(rt.alloc())?);
-    assert!(rt; bytes.as_slice() == b"ab".as_slice());
-    assert!(rt; bytes.into_vec().len() == 2);
+    let lent = bytes.as_slice() == b"ab".as_slice();
+    assert!(rt; bytes.into_vec().len() == 2 && lent);
     Ok(())
 }

@@ -26,47 +26,66 @@ fn int(said: &str) -> Option<Value> {
     }
 }
 
-// A facet of the rows: the limits are ints.
-fn put_facet(alloc: Global, facets: &mut Facets, name: &str, said: &str) -> Result<(), Fail> {
+// A facet of the rows that is no text: the limits are ints.
+fn put_number(facets: &mut Facets, name: &str, said: &str) {
     match name {
-        "display" => facets.display = Some(text(alloc, said)?),
-        "displayName" => facets.display_name = Some(text(alloc, said)?),
-        "icon" => facets.icon = Some(text(alloc, said)?),
         "max" => facets.max = int(said),
         "min" => facets.min = int(said),
         "precision" => facets.precision = Some(2),
-        "range" => facets.range = Some(text(alloc, said)?),
         "status" => facets.status = Some(Status::Fault),
-        "tz" => facets.tz = Some(text(alloc, said)?),
-        "unit" => facets.unit = Some(text(alloc, said)?),
         "writable" => facets.writable = Some(said == "true"),
         _ => {}
     }
+}
+
+// A facet of the rows that is a text.
+fn put_text(facets: &mut Facets, name: &str, said: Text) {
+    match name {
+        "display" => facets.display = Some(said),
+        "displayName" => facets.display_name = Some(said),
+        "icon" => facets.icon = Some(said),
+        "range" => facets.range = Some(said),
+        "tz" => facets.tz = Some(said),
+        "unit" => facets.unit = Some(said),
+        _ => {}
+    }
+}
+
+fn put_facet(alloc: Global, object: &mut Obj, name: &str, said: &str) -> Result<(), Fail> {
+    let words = text(alloc, said)?;
+    let mut facets = object.facets().copy()?;
+    put_number(&mut facets, name, said);
+    put_text(&mut facets, name, words);
+    drop(object.put_facets(facets));
     Ok(())
 }
 
-// An attribute of the rows: the values are ints and strs.
+fn put_words(object: &mut Obj, name: &str, words: Words) {
+    match name {
+        "is" => drop(object.put_is(Some(words))),
+        "of" => drop(object.put_of(Some(words))),
+        "in" => drop(object.put_input(Some(words))),
+        _ => drop(object.put_output(Some(words))),
+    }
+}
+
+// A value of the rows: an int or a str.
+fn value(alloc: Global, said: &str) -> Result<Value, Fail> {
+    match int(said) {
+        Some(value) => Ok(value),
+        None => Ok(Value::Str(text(alloc, said)?)),
+    }
+}
+
+// An attribute of the rows.
 fn put(alloc: Global, object: &mut Obj, name: &str, said: &str) -> Result<(), Fail> {
     match name {
         "name" => drop(object.put_name(Some(text(alloc, said)?))),
         "href" => object.put_href(Some(text(alloc, said)?)),
-        "is" => drop(object.put_is(Some(words(alloc, said)?))),
-        "of" => drop(object.put_of(Some(words(alloc, said)?))),
-        "in" => drop(object.put_input(Some(words(alloc, said)?))),
-        "out" => drop(object.put_output(Some(words(alloc, said)?))),
+        "is" | "of" | "in" | "out" => put_words(object, name, words(alloc, said)?),
         "null" => drop(object.put_slot(Slot::Null)),
-        "val" => {
-            if let Some(value) = int(said) {
-                drop(object.put_slot(Slot::Is(value)));
-            } else {
-                drop(object.put_slot(Slot::Is(Value::Str(text(alloc, said)?))));
-            }
-        }
-        _ => {
-            let mut facets = object.facets().copy()?;
-            put_facet(alloc, &mut facets, name, said)?;
-            drop(object.put_facets(facets));
-        }
+        "val" => drop(object.put_slot(Slot::Is(value(alloc, said)?))),
+        _ => put_facet(alloc, object, name, said)?,
     }
     Ok(())
 }
@@ -654,16 +673,32 @@ fn shows(seen: &View, made: &Obj) -> bool {
     seen.next_child(place).is_none() && same_slot(seen.slot(), made.slot())
 }
 
+// Whether the effective object of an object is written so.
+fn is_effectively(
+    alloc: Global,
+    library: &Library,
+    object: &Obj,
+    given: Option<&Words>,
+    over: Option<&Obj>,
+    want: &str,
+) -> Result<bool, Fail> {
+    let made = effective(alloc, library, object, given, over)?;
+    let told = shown(alloc, &made)?;
+    Ok(told.as_str() == want && shows(&view(library, object, given, over), &made))
+}
+
+// Whether an object by itself is effectively what the row wants.
+fn is_as_told(alloc: Global, library: &Library, object: &str, want: &str) -> Result<bool, Fail> {
+    let object = read(alloc, object)?;
+    is_effectively(alloc, library, &object, None, None, want)
+}
+
 #[test]
 fn objects_inherit_as_the_rules_say(rt: HostRuntime) -> Result<(), Fail> {
     let alloc = rt.alloc();
     let library = library(alloc)?;
     for (row, object, want) in ROWS {
-        let object = read(alloc, object)?;
-        let made = effective(alloc, &library, &object, None, None)?;
-        let told = shown(alloc, &made)?;
-        assert_eq!(rt; told.as_str(), *want, "{row}");
-        assert!(rt; shows(&view(&library, &object, None, None), &made), "{row}");
+        assert!(rt; is_as_told(alloc, &library, object, want)?, "{row}");
     }
     Ok(())
 }
@@ -672,12 +707,13 @@ fn objects_inherit_as_the_rules_say(rt: HostRuntime) -> Result<(), Fail> {
 fn built_in_contracts_are_those_of_the_profile(rt: HostRuntime) -> Result<(), Fail> {
     let alloc = rt.alloc();
     let library = Library::standard(alloc)?;
-    assert_eq!(rt; library.contracts().len(), BUILT_IN.len());
+    assert!(rt; library.contracts().len() == BUILT_IN.len());
     for ((word, contract), (known, want)) in library.contracts().iter().zip(BUILT_IN) {
-        assert_eq!(rt; word.as_str(), *known);
-        let made = effective(alloc, &library, contract, None, None)?;
-        let told = shown(alloc, &made)?;
-        assert_eq!(rt; told.as_str(), *want, "{known}");
+        assert!(rt; word.as_str() == *known, "{known}");
+        assert!(rt;
+            is_effectively(alloc, &library, contract, None, None, want)?,
+            "{known}"
+        );
     }
     Ok(())
 }
@@ -694,47 +730,52 @@ fn wide(alloc: Global, children: u32) -> Result<Obj, Fail> {
     Ok(object)
 }
 
+// What it comes to that a contract is added.
+fn added(
+    alloc: Global,
+    library: &mut Library,
+    word: &str,
+    contract: Obj,
+) -> Result<&'static str, Fail> {
+    let word = text(alloc, word)?;
+    let told = match library.add(word, contract) {
+        Ok(()) => "added",
+        Err(LibFault::Twice { uri: _ }) => "Twice",
+        Err(LibFault::Later { uri: _ }) => "Later",
+        Err(LibFault::Large { uri: _ }) => "Large",
+        Err(LibFault::Memory) => "Memory",
+    };
+    Ok(told)
+}
+
 #[test]
 fn libraries_refuse_in_their_order(rt: HostRuntime) -> Result<(), Fail> {
     let alloc = rt.alloc();
     let mut library = library(alloc)?;
-    let itself = read(alloc, r#"<obj is="/a"/>"#)?;
-    assert!(rt;
-        matches!(
-            library.add(text(alloc, "/a")?, itself),
-            Err(LibFault::Later { uri: _ })
-        )
-    );
-    let twice = read(alloc, r#"<obj is="A"/>"#)?;
-    assert!(rt;
-        matches!(
-            library.add(text(alloc, "A")?, twice),
-            Err(LibFault::Twice { uri: _ })
-        )
-    );
-    let early = read(alloc, r#"<obj><obj><list of="z"/></obj></obj>"#)?;
-    assert!(rt; library.add(text(alloc, "early")?, early).is_ok());
-    let named = wide(alloc, 600)?;
-    assert!(rt;
-        matches!(
-            library.add(text(alloc, "z")?, named),
-            Err(LibFault::Later { uri: _ })
-        )
-    );
-    let large = wide(alloc, 512)?;
-    assert!(rt;
-        matches!(
-            library.add(text(alloc, "/l")?, large),
-            Err(LibFault::Large { uri: _ })
-        )
-    );
-    assert!(rt; library.get("/l").is_none());
-    let most = wide(alloc, 511)?;
-    assert!(rt; library.add(text(alloc, "/l")?, most).is_ok());
-    match library.get("/l") {
-        Some(most) => assert_eq!(rt; most.parts(), 512),
-        None => Err("no contract")?,
+    for (word, contract, told) in [
+        ("/a", r#"<obj is="/a"/>"#, "Later"),
+        ("A", r#"<obj is="A"/>"#, "Twice"),
+        ("early", r#"<obj><obj><list of="z"/></obj></obj>"#, "added"),
+    ] {
+        let contract = read(alloc, contract)?;
+        assert!(rt;
+            added(alloc, &mut library, word, contract)? == told,
+            "{word}"
+        );
     }
+    for (word, children, told) in [
+        ("z", 600, "Later"),
+        ("/l", 512, "Large"),
+        ("/l", 511, "added"),
+    ] {
+        assert!(rt; library.get("/l").is_none(), "{word}");
+        let contract = wide(alloc, children)?;
+        assert!(rt;
+            added(alloc, &mut library, word, contract)? == told,
+            "{word}"
+        );
+    }
+    assert!(rt; matches!(library.get("/l"), Some(most) if most.parts() == 512));
     Ok(())
 }
 
@@ -771,8 +812,7 @@ fn words_and_a_child_come_from_outside(rt: HostRuntime) -> Result<(), Fail> {
     let item = read(alloc, "<int/>")?;
     let over = read(alloc, r#"<int name="o" href="/o" val="8" max="9" is="A"/>"#)?;
     let given = words(alloc, "N")?;
-    let made = effective(alloc, &library, &item, Some(&given), Some(&over))?;
-    let told = shown(alloc, &made)?;
-    assert_eq!(rt; told.as_str(), r#"<int val="7" max="9" min="1" unit="u"/>"#);
+    let want = r#"<int val="7" max="9" min="1" unit="u"/>"#;
+    assert!(rt; is_effectively(alloc, &library, &item, Some(&given), Some(&over), want)?);
     Ok(())
 }

@@ -55,6 +55,21 @@ struct Came {
     errors: Vec<u8>,
 }
 
+impl Came {
+    // The run came to this exit, and the sink and `errors` hold these bytes.
+    fn is(&self, rt: &impl Abort, run: &str, exit: Exit, output: &[u8], errors: &[u8]) {
+        assert_eq!(rt; self.exit, exit, "{run}");
+        assert_eq!(rt; self.output.as_slice(), output, "{run}");
+        assert_eq!(rt; self.errors.as_slice(), errors, "{run}");
+    }
+
+    // The run came to this exit, and the sink holds a front of these bytes.
+    fn begins(&self, rt: &impl Abort, call: u64, exit: Exit, whole: &[u8]) {
+        assert_eq!(rt; self.exit, exit, "call {call} fails");
+        assert!(rt; whole.starts_with(&self.output), "call {call} fails");
+    }
+}
+
 // A run of a command over the file `file.xml` and this input, in pieces of this length.
 fn ran(
     alloc: Global,
@@ -186,17 +201,7 @@ fn answers_and_ends(rt: HostRuntime) -> Result<(), Fail> {
         }
         for (name, site, input, exit, output, errors) in rows {
             let came = served(alloc, site, input, piece, Failing::none(alloc))?;
-            assert_eq!(rt; came.exit, exit, "{name} in pieces of {piece}");
-            assert_eq!(rt;
-                came.output.as_slice(),
-                output,
-                "{name} in pieces of {piece}"
-            );
-            assert_eq!(rt;
-                came.errors.as_slice(),
-                errors,
-                "{name} in pieces of {piece}"
-            );
+            came.is(&rt, name, exit, output, errors);
         }
     }
     Ok(())
@@ -212,11 +217,12 @@ fn a_fault_behind_a_request_has_its_place(rt: HostRuntime) -> Result<(), Fail> {
             continue;
         }
         let came = served(alloc, SITE, &input, piece, Failing::none(alloc))?;
-        assert_eq!(rt; came.exit, Exit::Frame);
-        assert_eq!(rt; came.output.as_slice(), SEVEN);
-        assert_eq!(rt;
-            came.errors.as_slice(),
-            b"obix: frame LaterForm at 24\n".as_slice()
+        came.is(
+            &rt,
+            "a fault behind a request",
+            Exit::Frame,
+            SEVEN,
+            b"obix: frame LaterForm at 24\n",
         );
     }
     Ok(())
@@ -228,15 +234,23 @@ fn faults_in_the_middle(rt: HostRuntime) -> Result<(), Fail> {
     let mut failing = Failing::none(alloc);
     failing.reads = vec![in alloc; 2u64]?;
     let came = served(alloc, SITE, GET_N_TWICE, 10, failing)?;
-    assert_eq!(rt; came.exit, Exit::ReadFault, "the third read fails");
-    assert_eq!(rt; came.output.len(), 0);
-    assert_eq!(rt; came.errors.as_slice(), b"obix: read fault\n".as_slice());
+    came.is(
+        &rt,
+        "the third read fails",
+        Exit::ReadFault,
+        b"",
+        b"obix: read fault\n",
+    );
     let mut failing = Failing::none(alloc);
     failing.writes = vec![in alloc; 1u64]?;
     let came = served(alloc, SITE, GET_N_TWICE, 10, failing)?;
-    assert_eq!(rt; came.exit, Exit::WriteFault, "the second write fails");
-    assert_eq!(rt; came.output.as_slice(), b"HTTP/1.1 2".as_slice());
-    assert_eq!(rt; came.errors.as_slice(), b"obix: write fault\n".as_slice());
+    came.is(
+        &rt,
+        "the second write fails",
+        Exit::WriteFault,
+        b"HTTP/1.1 2",
+        b"obix: write fault\n",
+    );
     Ok(())
 }
 
@@ -267,14 +281,10 @@ fn fails_at_each_call(
         }
         let came = served(alloc, SITE, GET_N_TWICE, 10, failing)?;
         if came.exit == Exit::Ok {
-            assert_eq!(rt; came.output.as_slice(), SEVEN_TWICE);
+            came.is(rt, "no call fails", Exit::Ok, SEVEN_TWICE, b"");
             return Ok(n);
         }
-        assert_eq!(rt; came.exit, fault, "call {n} of {outside:?} fails");
-        assert!(rt;
-            SEVEN_TWICE.starts_with(&came.output),
-            "call {n} of {outside:?} fails"
-        );
+        came.begins(rt, n, fault, SEVEN_TWICE);
     }
     Err(Fail::from("each run failed"))
 }
@@ -282,22 +292,15 @@ fn fails_at_each_call(
 #[test]
 fn each_call_fails_in_turn(rt: HostRuntime) -> Result<(), Fail> {
     let alloc = rt.alloc();
-    assert_eq!(rt;
-        fails_at_each_call(&rt, alloc, Outside::Files, Exit::ReadFault)?,
-        1
-    );
-    assert_eq!(rt;
-        fails_at_each_call(&rt, alloc, Outside::Source, Exit::ReadFault)?,
-        6
-    );
-    assert_eq!(rt;
-        fails_at_each_call(&rt, alloc, Outside::Sink, Exit::WriteFault)?,
-        20
-    );
-    assert_eq!(rt;
-        fails_at_each_call(&rt, alloc, Outside::Errors, Exit::Ok)?,
-        0
-    );
+    for (outside, fault, calls) in [
+        (Outside::Files, Exit::ReadFault, 1),
+        (Outside::Source, Exit::ReadFault, 6),
+        (Outside::Sink, Exit::WriteFault, 20),
+        (Outside::Errors, Exit::Ok, 0),
+    ] {
+        let made = fails_at_each_call(&rt, alloc, outside, fault)?;
+        assert_eq!(rt; made, calls, "{outside:?}");
+    }
     Ok(())
 }
 
@@ -307,9 +310,15 @@ fn faults_of_errors_change_nothing(rt: HostRuntime) -> Result<(), Fail> {
     let mut failing = Failing::none(alloc);
     failing.errors = vec![in alloc; 0u64]?;
     let came = served(alloc, SITE, b"POST", 65_536, failing)?;
-    assert_eq!(rt; came.exit, Exit::Frame);
-    assert_eq!(rt; came.errors.len(), 0);
+    came.is(&rt, "nothing can be said", Exit::Frame, b"", b"");
     Ok(())
+}
+
+// A run ended with this exit and status, and said this.
+fn said(rt: &impl Abort, came: Exit, exit: Exit, status: u8, errors: &MemSink, line: &[u8]) {
+    assert_eq!(rt; came, exit);
+    assert_eq!(rt; came.status(), status);
+    assert!(rt; errors.bytes() == Some(line));
 }
 
 #[test]
@@ -346,9 +355,7 @@ fn other_words_are_usage(rt: HostRuntime) -> Result<(), Fail> {
             &mut sink,
             &mut errors,
         );
-        assert_eq!(rt; exit, Exit::Usage);
-        assert!(rt; errors.bytes() == Some(b"obix: usage\n".as_slice()));
-        assert_eq!(rt; exit.status(), 1);
+        said(&rt, exit, Exit::Usage, 1, &errors, b"obix: usage\n");
     }
     Ok(())
 }
@@ -399,9 +406,7 @@ fn prints_the_canonical_document(rt: HostRuntime) -> Result<(), Fail> {
     ];
     for (name, file, printed) in rows {
         let came = ran(alloc, "check", file, b"", 65_536, Failing::none(alloc))?;
-        assert_eq!(rt; came.exit, Exit::Ok, "{name}");
-        assert_eq!(rt; came.output.as_slice(), printed, "{name}");
-        assert_eq!(rt; came.errors.len(), 0, "{name}");
+        came.is(&rt, name, Exit::Ok, printed, b"");
     }
     Ok(())
 }
@@ -436,10 +441,8 @@ fn says_why_a_document_is_refused(rt: HostRuntime) -> Result<(), Fail> {
         let line = joined(alloc, &[b"obix: refused: ", words, b"\n"])?;
         for command in ["check", "stdio"] {
             let came = ran(alloc, command, file, GET_N, 65_536, Failing::none(alloc))?;
-            assert_eq!(rt; came.exit, Exit::Refused, "{words:?}");
+            came.is(&rt, command, Exit::Refused, b"", &line);
             assert_eq!(rt; came.exit.status(), 2);
-            assert_eq!(rt; came.output.len(), 0, "{words:?}");
-            assert_eq!(rt; came.errors.as_slice(), line.as_slice(), "{words:?}");
         }
     }
     Ok(())
@@ -450,43 +453,63 @@ fn a_file_of_more_than_16_777_216_bytes_is_big(rt: HostRuntime) -> Result<(), Fa
     let alloc = rt.alloc();
     let file = vec![in alloc; b' '; 16_777_217]?;
     let came = ran(alloc, "check", &file, b"", 65_536, Failing::none(alloc))?;
-    assert_eq!(rt; came.exit, Exit::Refused);
-    assert_eq!(rt;
-        came.errors.as_slice(),
-        b"obix: refused: Big at 16777216\n".as_slice()
+    came.is(
+        &rt,
+        "a byte too many",
+        Exit::Refused,
+        b"",
+        b"obix: refused: Big at 16777216\n",
     );
     Ok(())
 }
 
-#[test]
-fn each_call_of_a_check_fails_in_turn(rt: HostRuntime) -> Result<(), Fail> {
-    let alloc = rt.alloc();
-    let mut failing = Failing::none(alloc);
-    failing.files = vec![in alloc; 0u64]?;
-    let came = ran(alloc, "check", MARKED, b"", 10, failing)?;
-    assert_eq!(rt; came.exit, Exit::ReadFault);
-    assert_eq!(rt; came.output.len(), 0);
-    assert_eq!(rt; came.errors.as_slice(), b"obix: read fault\n".as_slice());
-    let mut calls = 0;
+// The n-th write of a check fails, for each n until a run ends without a failure.
+fn fails_at_each_write(rt: &impl Abort, alloc: Global) -> Result<u64, Fail> {
     for n in 0..100u64 {
         let mut failing = Failing::none(alloc);
         failing.writes = vec![in alloc; n]?;
         let came = ran(alloc, "check", MARKED, b"", 10, failing)?;
         if came.exit == Exit::Ok {
-            assert_eq!(rt; came.output.as_slice(), MARKED_PRINTED);
-            calls = n;
-            break;
+            came.is(rt, "no write fails", Exit::Ok, MARKED_PRINTED, b"");
+            return Ok(n);
         }
-        assert_eq!(rt; came.exit, Exit::WriteFault, "write {n} fails");
-        assert!(rt; MARKED_PRINTED.starts_with(&came.output), "write {n} fails");
+        came.begins(rt, n, Exit::WriteFault, MARKED_PRINTED);
         assert_eq!(rt; came.errors.as_slice(), b"obix: write fault\n".as_slice());
     }
-    assert_eq!(rt; calls, 10);
+    Err(Fail::from("each run failed"))
+}
+
+#[test]
+fn each_write_of_a_check_fails_in_turn(rt: HostRuntime) -> Result<(), Fail> {
+    let made = fails_at_each_write(&rt, rt.alloc())?;
+    assert_eq!(rt; made, 10);
+    Ok(())
+}
+
+#[test]
+fn a_check_whose_file_fails_is_a_read_fault(rt: HostRuntime) -> Result<(), Fail> {
+    let alloc = rt.alloc();
+    let mut failing = Failing::none(alloc);
+    failing.files = vec![in alloc; 0u64]?;
+    let came = ran(alloc, "check", MARKED, b"", 10, failing)?;
+    came.is(
+        &rt,
+        "the file fails",
+        Exit::ReadFault,
+        b"",
+        b"obix: read fault\n",
+    );
+    Ok(())
+}
+
+#[test]
+fn a_check_reads_no_source_and_says_nothing(rt: HostRuntime) -> Result<(), Fail> {
+    let alloc = rt.alloc();
     let mut failing = Failing::none(alloc);
     failing.reads = vec![in alloc; 0u64]?;
     failing.errors = vec![in alloc; 0u64]?;
     let came = ran(alloc, "check", MARKED, b"", 65_536, failing)?;
-    assert_eq!(rt; came.exit, Exit::Ok, "it reads no source and says nothing");
+    came.is(&rt, "both fail", Exit::Ok, MARKED_PRINTED, b"");
     Ok(())
 }
 
@@ -495,25 +518,24 @@ fn a_site_is_a_document(rt: HostRuntime) -> Result<(), Fail> {
     let alloc = rt.alloc();
     let site: &[u8] =
         b"<?xml version='1.0'?>\n<!-- a site --><obj xmlns='u' href='http://h/obix/' more=''>\n <int val='+07' href='/obix/n'/>\n</obj>\n";
-    let came = served(alloc, site, GET_N, 65_536, Failing::none(alloc))?;
-    assert_eq!(rt; came.exit, Exit::Ok);
-    assert_eq!(rt;
-        came.output.as_slice(),
-        b"HTTP/1.1 200 OK\r\nContent-Type: text/xml\r\nContent-Length: 39\r\n\r\n<int xmlns=\"u\" href=\"/obix/n\" val=\"7\"/>".as_slice()
-    );
-    let missing = served(
-        alloc,
-        site,
-        b"GET /obix/x HTTP/1.1\r\n\r\n",
-        65_536,
-        Failing::none(alloc),
-    )?;
-    assert_eq!(rt;
-        missing.output.as_slice(),
-        b"HTTP/1.1 200 OK\r\nContent-Type: text/xml\r\nContent-Length: 61\r\n\r\n<err xmlns=\"u\" is=\"obix:BadUriErr\" display=\"no such object\"/>".as_slice()
-    );
+    let rows: [(&[u8], &[u8]); 2] = [
+        (
+            GET_N,
+            b"HTTP/1.1 200 OK\r\nContent-Type: text/xml\r\nContent-Length: 39\r\n\r\n<int xmlns=\"u\" href=\"/obix/n\" val=\"7\"/>",
+        ),
+        (
+            b"GET /obix/x HTTP/1.1\r\n\r\n",
+            b"HTTP/1.1 200 OK\r\nContent-Type: text/xml\r\nContent-Length: 61\r\n\r\n<err xmlns=\"u\" is=\"obix:BadUriErr\" display=\"no such object\"/>",
+        ),
+    ];
+    for (input, output) in rows {
+        let came = served(alloc, site, input, 65_536, Failing::none(alloc))?;
+        came.is(&rt, "a site with an xmlns", Exit::Ok, output, b"");
+    }
     Ok(())
 }
+
+const LATER: &[u8] = b"obix: refused: LaterForm\n";
 
 #[test]
 fn other_documents_are_of_a_later_form(rt: HostRuntime) -> Result<(), Fail> {
@@ -530,11 +552,7 @@ fn other_documents_are_of_a_later_form(rt: HostRuntime) -> Result<(), Fail> {
     ];
     for root in roots {
         let came = served(alloc, root, GET_N, 65_536, Failing::none(alloc))?;
-        assert_eq!(rt;
-            came.errors.as_slice(),
-            b"obix: refused: LaterForm\n".as_slice(),
-            "{root:?}"
-        );
+        came.is(&rt, "another root", Exit::Refused, b"", LATER);
     }
     let rows: [&[u8]; 10] = [
         b"<real href=\"/obix/n\" val=\"7\"/>",
@@ -551,11 +569,7 @@ fn other_documents_are_of_a_later_form(rt: HostRuntime) -> Result<(), Fail> {
     for row in rows {
         let site = joined(alloc, &[b"<obj href=\"http://h/obix/\">", row, b"</obj>"])?;
         let came = served(alloc, &site, GET_N, 65_536, Failing::none(alloc))?;
-        assert_eq!(rt;
-            came.errors.as_slice(),
-            b"obix: refused: LaterForm\n".as_slice(),
-            "{row:?}"
-        );
+        came.is(&rt, "another row", Exit::Refused, b"", LATER);
     }
     Ok(())
 }
@@ -578,7 +592,13 @@ fn a_file_that_is_not_there_is_a_read_fault(rt: HostRuntime) -> Result<(), Fail>
         &mut sink,
         &mut errors,
     );
-    assert_eq!(rt; exit, Exit::ReadFault);
-    assert!(rt; errors.bytes() == Some(b"obix: read fault\n".as_slice()));
+    said(
+        &rt,
+        exit,
+        Exit::ReadFault,
+        3,
+        &errors,
+        b"obix: read fault\n",
+    );
     Ok(())
 }
