@@ -82,14 +82,14 @@ impl Library {
             contracts: Vec::new(alloc),
             places: BTreeMap::new(alloc),
             defaults: Defaults {
-                absent: Kind::Obj.default_slot(alloc),
-                null: Kind::Enum.default_slot(alloc),
-                no: Kind::Bool.default_slot(alloc),
-                zero: Kind::Int.default_slot(alloc),
-                zero_real: Kind::Real.default_slot(alloc),
-                empty: Kind::Str.default_slot(alloc),
-                empty_uri: Kind::Uri.default_slot(alloc),
-                no_time: Kind::Reltime.default_slot(alloc),
+                absent: Kind::Obj.default_slot(),
+                null: Kind::Enum.default_slot(),
+                no: Kind::Bool.default_slot(),
+                zero: Kind::Int.default_slot(),
+                zero_real: Kind::Real.default_slot(),
+                empty: Kind::Str.default_slot(),
+                empty_uri: Kind::Uri.default_slot(),
+                no_time: Kind::Reltime.default_slot(),
             },
         }
     }
@@ -127,7 +127,7 @@ impl Library {
         ensures err { OnErr result (self.new ≡ self.old) }
     {
         let _head = made.head();
-        let word = uri.copy()?.into_string();
+        let word = String::from_str(self.allocator(), uri.as_str())?;
         let place = self.contracts.as_slice().len();
         self.contracts.reserve(1)?;
         self.places.insert(word, place)?;

@@ -27,7 +27,7 @@ fn with_word(words: Words, word: String) -> Result<Words, AllocError>
         return Ok(words);
     }
     let mut words = words;
-    match words.push(Text::from_string(word)) {
+    match words.push(Text::from_string(word)?) {
         Ok(()) => Ok(words),
         Err(WordFault::NotWord { .. }) => unreachable!(),
         Err(WordFault::Memory { .. }) => Err(AllocError),

@@ -6,7 +6,6 @@ ghost use Rattle.ob_object.specs.Default.{default_of};
 
 use crate::head::Slot;
 use ob_values::{Dec, Reltime, Text, Value};
-use std::alloc::Global;
 
 /// The sixteen kinds of object. The ten from `Bool` to `Time` are the kinds of values.
 /// Source: oBIX 1.1, chapter 4.
@@ -119,15 +118,15 @@ impl Kind {
     /// The slot that an object of the kind has where none is given: false, 0, the empty text or no
     /// time at all; null for an enum, an abstime, a date and a time; absent for the kinds that have
     /// no values. It takes no memory.
-    pub fn default_slot(self, alloc: Global) -> Slot
+    pub fn default_slot(self) -> Slot
         ensures { result ≡ default_of self }
     {
         match self {
             Kind::Bool => Slot::Is(Value::Bool(false)),
             Kind::Int => Slot::Is(Value::Int(0)),
             Kind::Real => Slot::Is(Value::Real(Dec::new(0, 0).unwrap())),
-            Kind::Str => Slot::Is(Value::Str(Text::empty(alloc))),
-            Kind::Uri => Slot::Is(Value::Uri(Text::empty(alloc))),
+            Kind::Str => Slot::Is(Value::Str(Text::empty())),
+            Kind::Uri => Slot::Is(Value::Uri(Text::empty())),
             Kind::Reltime => Slot::Is(Value::Reltime(Reltime::new(0, 0).unwrap())),
             Kind::Enum | Kind::Abstime | Kind::Date | Kind::Time => Slot::Null,
             Kind::Obj | Kind::List | Kind::Op | Kind::Feed | Kind::Ref | Kind::Err => Slot::Absent,

@@ -126,7 +126,8 @@ fn expand_items(alloc: Global, raw: &[u8]) -> Result<Text, RawFault>
             }
         }
     }
-    Ok(Text::from_string(out))
+    let text = Text::from_string(out)?;
+    Ok(text)
 }
 
 fn plain_bytes(raw: &[u8]) -> bool
@@ -170,7 +171,8 @@ pub fn expand(alloc: Global, raw: &[u8]) -> Result<Text, RawFault>
     ensures only { (text : List ℕ) → Expands raw.now text → (result ≡ Ok text) ⊎ (result ≡ Err Memory) }
 {
     if let Some(text) = plain(raw) {
-        return Ok(Text::from_string(String::from_str(alloc, text)?));
+        let text = Text::from_string(String::from_str(alloc, text)?)?;
+        return Ok(text);
     }
     expand_items(alloc, raw)
 }

@@ -1,12 +1,14 @@
 pub mod Faults
 pub mod Times
 pub mod Integer
+pub mod Wide
 pub mod Decimal
 pub mod Real
 pub mod RealReading
 pub mod Significand
 pub mod Truth
 pub mod Printed
+pub mod SharedText
 pub mod XmlText
 pub mod Spelled
 pub mod ReadsReal

@@ -4,6 +4,7 @@ ghost use Rattle.ob_spelling.specs.Numeral.{signed};
 ghost use Rattle.std.specs.Int.{is_negative};
 ghost use Rattle.ob_values.specs.Decimal.{in_attos, FitsParts, IsShortest, IsDecimal, IsDecimalSize};
 
+use crate::wide::Wide;
 use ob_spelling::with_sign;
 use std::marker::Model;
 
@@ -18,7 +19,7 @@ const ONE: u128 = 1_000_000_000_000_000_000;
 #[derive(Clone, Copy, PartialEq, Eq, PartialOrd, Ord, Debug)]
 pub struct Dec {
     // In units of `10 ^ -18`.
-    attos: i128,
+    attos: Wide,
 }
 
 impl Model for Dec {
@@ -41,7 +42,7 @@ impl Dec {
         ensures { result ≡ signed negative size }
     {
         Dec {
-            attos: with_sign(negative, size),
+            attos: Wide::new(with_sign(negative, size)),
         }
     }
 
@@ -62,7 +63,7 @@ impl Dec {
     pub fn is_below(&self, other: &Dec) -> bool
         ensures { result ≡ int_lt self.now other.now }
     {
-        self.attos < other.attos
+        self.attos.get() < other.attos.get()
     }
 
     // Whether the decimal is negative, its whole part, and its fraction in units of `10 ^ -18`.
@@ -72,10 +73,11 @@ impl Dec {
         ensures fraction { result.2 ≡ unsigned_abs self.now % 10 ^ 18 }
         ensures decimal { IsDecimal self.now }
     {
-        let size = self.attos.unsigned_abs();
+        let attos = self.attos.get();
+        let size = attos.unsigned_abs();
         let whole = size / ONE;
         let fraction = size - whole * ONE;
-        (self.attos < 0, whole as u64, fraction as u64)
+        (attos < 0, whole as u64, fraction as u64)
     }
 
     /// The coefficient and the scale, with the least scale that serves.
@@ -84,8 +86,9 @@ impl Dec {
         ensures fits { FitsParts result.0 result.1 }
         ensures shortest { IsShortest result.0 result.1 }
     {
-        let (size, scale) = stripped(self.attos.unsigned_abs());
-        (with_sign(self.attos < 0, size as u128) as i64, scale)
+        let attos = self.attos.get();
+        let (size, scale) = stripped(attos.unsigned_abs());
+        (with_sign(attos < 0, size as u128) as i64, scale)
     }
 }
 

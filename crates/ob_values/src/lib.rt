@@ -16,6 +16,7 @@ mod text;
 mod truth;
 mod value;
 mod verb;
+mod wide;
 
 pub use bytes::Bytes;
 pub use decimal::Dec;

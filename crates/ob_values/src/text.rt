@@ -2,6 +2,8 @@
 ghost use Rattle.std.specs.Prelude.{◌≡◌, ◌↔◌, ◌++◌, [], IfOk, IfSome, IfNone, IsTrue, Some, nat_eq, refl};
 ghost use Rattle.ob_values.specs.XmlText.{IsXmlChar, IsXmlText, is_printable, IsFirstBad, ReadsText};
 ghost use Rattle.std.specs.String.{string_bytes};
+ghost use Rattle.std.specs.Arc.{arc_str_bytes};
+ghost use Rattle.ob_values.specs.SharedText.{bytes_of_shared};
 ghost use Rattle.std.specs.Ordering.{nat_cmp};
 ghost use Rattle.std.specs.Cmp.{partial_equiv_from_equiv};
 ghost use Rattle.std.specs.Cmp.Lexicographic.{pointwise, slice_cmp, nat_list_eq_equiv, nat_list_cmp_total, texts_po, texts_ties};
@@ -11,23 +13,44 @@ use std::alloc::{AllocError, Global};
 use std::cmp::Ordering;
 use std::marker::Model;
 use std::str;
+use std::sync::ArcStr;
 
-/// Text of characters that XML can carry.
-#[derive(Debug, Drop)]
+/// Text of characters that XML can carry. A copy takes no room for the characters: it shares them.
+#[derive(Debug)]
 pub struct Text {
-    string: String,
+    // None where the text is empty.
+    shared: Option<ArcStr>,
 }
 
 impl Model for Text {
     ghost use Rattle.std.specs.Prelude.{List, ℕ};
-    ghost use Rattle.std.specs.String.{string_bytes};
+    ghost use Rattle.std.specs.Arc.{arc_str_bytes};
+    ghost use Rattle.ob_values.specs.SharedText.{bytes_of_shared};
     ghost use Rattle.ob_values.specs.XmlText.{IsXmlText};
 
     ghost Value = { List ℕ };
 
-    ghost view = { λ t. string_bytes t.string };
+    ghost view = { λ t. bytes_of_shared arc_str_bytes t.shared };
 
-    ghost invariant = { λ t. IsXmlText (string_bytes t.string) };
+    ghost invariant = { λ t. IsXmlText (bytes_of_shared arc_str_bytes t.shared) };
+}
+
+impl Drop for Text {
+    // By one call, so that to drop a text is one call to whoever may have to.
+    fn drop(self) {
+        let Text { shared } = self;
+        drop(shared);
+    }
+}
+
+// The string, to be shared; nothing of an empty one.
+fn share(string: String) -> Result<Option<ArcStr>, AllocError>
+    ensures { IfOk result (λ s. bytes_of_shared arc_str_bytes s ≡ string_bytes string) }
+{
+    if string.is_empty() {
+        return Ok(None);
+    }
+    Ok(Some(ArcStr::from_string(string)?))
 }
 
 impl Text {
@@ -43,27 +66,35 @@ impl Text {
         if let Some(at) = first_not_xml(text) {
             return Err(TextFault::NotXmlChar { at: at as u64 });
         }
-        match String::from_str(alloc, text) {
-            Ok(string) => Ok(Text { string }),
+        match Text::of_str(alloc, text) {
+            Ok(text) => Ok(text),
             Err(_) => Err(TextFault::Memory),
         }
     }
 
-    /// The empty text, which takes no memory.
-    pub fn empty(alloc: Global) -> Text
-        ensures { result ≡ [] }
+    // The text of a string that XML can carry, copied.
+    fn of_str(alloc: Global, text: &str) -> Result<Text, AllocError>
+        requires { IsXmlText text.now }
+        ensures { IfOk result (λ t. t ≡ text.now) }
     {
-        Text {
-            string: String::new(alloc),
-        }
+        let string = String::from_str(alloc, text)?;
+        Text::from_string(string)
     }
 
-    /// The text of a string that XML can carry, which takes no memory.
-    pub fn from_string(string: String) -> Text
-        requires { IsXmlText (string_bytes string) }
-        ensures { result ≡ string_bytes string }
+    /// The empty text. It takes no memory.
+    pub fn empty() -> Text
+        ensures { result ≡ [] }
     {
-        Text { string }
+        Text { shared: None }
+    }
+
+    /// The text of a string that XML can carry. An error only for want of memory.
+    pub fn from_string(string: String) -> Result<Text, AllocError>
+        requires { IsXmlText (string_bytes string) }
+        ensures { IfOk result (λ t. t ≡ string_bytes string) }
+    {
+        let shared = share(string)?;
+        Ok(Text { shared })
     }
 
     /// The text of printable ASCII, from space to `~`, copied. An error only for want of memory.
@@ -71,8 +102,7 @@ impl Text {
         requires { IsTrue (is_printable text.now) }
         ensures { IfOk result (λ t. t ≡ text.now) }
     {
-        let string = String::from_str(alloc, text)?;
-        Ok(Text { string })
+        Text::of_str(alloc, text)
     }
 
     /// This text and printable ASCII behind it, as a new text. An error only for want of memory.
@@ -82,7 +112,7 @@ impl Text {
     {
         let mut string = String::from_str(alloc, self.as_str())?;
         string.push_str(tail)?;
-        Ok(Text { string })
+        Text::from_string(string)
     }
 
     /// The text, of characters that XML can carry.
@@ -90,16 +120,10 @@ impl Text {
         ensures value { result.now ≡ self.now }
         ensures xml { IsXmlText self.now }
     {
-        self.string.as_str()
-    }
-
-    /// The text as a string, which takes no memory.
-    pub fn into_string(self) -> String
-        ensures value { string_bytes result ≡ self }
-        ensures xml { IsXmlText self }
-    {
-        let Text { string } = self;
-        string
+        match &self.shared {
+            Some(shared) => shared.as_str(),
+            None => "",
+        }
     }
 
     /// Whether the two texts are one.
@@ -109,12 +133,12 @@ impl Text {
         self.as_str() == text
     }
 
-    /// A copy of the text. An error only for want of memory.
+    /// A copy of the text, which shares its characters. An error only where there are 2^63 of them.
     pub fn copy(&self) -> Result<Text, AllocError>
         ensures { IfOk result (λ t. t ≡ self.now) }
     {
-        let string = self.string.clone()?;
-        Ok(Text { string })
+        let shared = self.shared.clone()?;
+        Ok(Text { shared })
     }
 }
 

@@ -26,7 +26,7 @@ fn takes_five(count: &mut Obj) -> bool {
 
 // Whether an int takes contracts, none for its children, and no empty name.
 fn takes_contracts(alloc: Global, count: &mut Obj) -> bool {
-    count.put_name(Some(Text::empty(alloc))).is_err()
+    count.put_name(Some(Text::empty())).is_err()
         && count.put_of(Some(Words::new(alloc))).is_err()
         && count.put_is(Some(Words::new(alloc))).is_ok()
 }

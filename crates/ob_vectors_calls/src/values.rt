@@ -20,9 +20,8 @@ fn makes_texts(rt: HostRuntime) -> Result<(), Fail> {
     let alloc = rt.alloc();
     let text = Text::from_utf8(alloc, "a\tü€".as_bytes())?;
     assert!(rt; is_kept(alloc, &text)?);
-    assert!(rt; text.into_string().as_str() == "a\tü€");
     let ascii = Text::from_ascii(alloc, "obix:obj")?;
-    let empty = Text::empty(alloc);
+    let empty = Text::empty();
     assert!(rt; ascii.is("obix:obj") && empty.is(""));
     Ok(())
 }

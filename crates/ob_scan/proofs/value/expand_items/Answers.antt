@@ -29,5 +29,5 @@ loop-rest-preserved c =
 
 pub returns : goal.returns
 returns c =
-    let made : Expands c.args.raw.now c.from_string.result = subst (Expands c.args.raw.now) (sym c.from_string.ensures) (ends_whole c.args.raw.now c.loop-rest.rest.now (string_bytes c.loop-rest.out) c.loop-rest-test.ensures c.loop-rest.invariant.text) in
-    record { exact = made; only = λ text h. inl (ap Ok (one_text c.args.raw.now c.from_string.result text made h)) }
+    let made : Expands c.args.raw.now c.in_ok-text.text = subst (Expands c.args.raw.now) (sym c.in_ok-text.ensures) (ends_whole c.args.raw.now c.loop-rest.rest.now (string_bytes c.loop-rest.out) c.loop-rest-test.ensures c.loop-rest.invariant.text) in
+    record { exact = made; only = λ text h. inl (ap Ok (one_text c.args.raw.now c.in_ok-text.text text made h)) }
