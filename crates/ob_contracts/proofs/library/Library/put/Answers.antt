@@ -15,9 +15,9 @@ invariant_of-self-2 c =
     let items = c.self.inside.contracts.items in
     let places = c.self.inside.places in
     let uri = c.args.uri in
-    let key = c.into_string-word.result in
+    let key = c.in_ok-word.word in
     let place = length c.as_slice-place.result.now in
-    let same : string_bytes key ≡ uri = c.into_string-word.ensures.value ∙ c.in_ok-copy.ensures in
+    let same : string_bytes key ≡ uri = c.in_ok-word.ensures.ok ∙ c.as_str.ensures.value in
     let counted : place ≡ length items = ap length c.as_slice-place.ensures.value in
     let absent : place_of uri items ≡ None =
     without_place uri items (subst (λ (l : Contracts). is_some (contract_of l uri) ≡ false) (sym c.self.view_is) c.requires.new) in (
