@@ -1,8 +1,8 @@
 #!/usr/bin/env bash
 # Effective objects: of lists of 1,000 and 10,000 items that are each of a contract of 500 parts, of one such item, and of
 # an object at the end of a chain of 16 contracts; and a walk by View over one item of a list of 10 and of 10,000. Each is
-# done four times, and the best counts. An effective object stays until the next one is built, so the first two lie in memory
-# that the system gives page by page; what the first took is printed beside the best. Takes about 7 GB of memory.
+# done four times, and the best counts. An effective object is dropped before the next one is built, so those of the lists lie
+# each time in memory that the system gives anew; what the first took is printed beside the best. Takes about 3 GB of memory.
 # usage: bench/effective.sh
 set -euo pipefail
 cd "$(dirname "$0")/.."

@@ -87,8 +87,8 @@ struct Built {
     quickest: u128,
 }
 
-// Builds the effective object of each round while that of the round before is still there, as where one that is shown is
-// replaced. The first builds lie in memory that the system gives, page by page; a later one lies where an earlier one lay.
+// Builds the effective object once for each round, and drops it before the next. So a large object lies each time in memory
+// that the system gives anew, page by page: what is freed at the heap's end goes back to it.
 fn build(
     rt: &impl Clock,
     alloc: Global,
@@ -101,7 +101,6 @@ fn build(
         first: 0,
         quickest: u128::MAX,
     };
-    let mut shown = Obj::new(alloc, Kind::Obj);
     for round in 0..ROUNDS {
         let start = Instant::now(rt)?;
         let made = effective(alloc, library, object, given, None)?;
@@ -111,7 +110,6 @@ fn build(
         }
         built.quickest = built.quickest.min(time);
         built.parts = made.parts();
-        drop(std::mem::replace(&mut shown, made));
     }
     Ok(built)
 }
