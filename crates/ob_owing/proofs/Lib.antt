@@ -4,3 +4,5 @@ pub mod Lows
 pub mod Taking
 pub mod Numbered
 pub mod Among
+pub mod Founds
+pub mod Owing

@@ -1,8 +1,7 @@
 -- Limits of the rule of each path.
-use Rattle.std.proofs.Common.{◌≡◌, ℕ, suc, ◌+◌, Bool, true, false, cond, IsTrue, List, [], ◌∷◌, map, Option, Some, None, option_map, refl, sym, subst, arith}
+use Rattle.std.proofs.Common.{◌≡◌, ℕ, zero, suc, ◌+◌, ◌<◌, ◌≤◌, Bool, true, false, ◌||◌, cond, IsTrue, List, [], ◌∷◌, map, length, drop, get_or, Option, Some, None, option_map, refl, sym, ap, ◌∙◌, subst, true≢false}
 use Rattle.std.specs.Prelude.{slice_get}
 use Rattle.std.specs.Str.{bytes_eq}
-use Rattle.std.proofs.lemmas.Slice.Eq.{bytes_eq-Decides}
 use Rattle.ob_object.specs.declared.kind.Kind.{Kind}
 use Rattle.ob_object.specs.declared.kind.Kind.TheVariants as kind
 use Rattle.ob_alarms.specs.Lists.{first_place}
@@ -10,68 +9,86 @@ use Rattle.ob_alarms.specs.declared.rule.Rule.{Rule}
 use Rattle.ob_answers.specs.declared.plan.PointRule.{PointRule}
 use Rattle.ob_answers.specs.Plans.{point_rule}
 use Rattle.ob_site_rules.specs.Build.{Path}
-use Rattle.ob_site_rules.specs.State.{Plan as SitePlan, PointRule as SiteRule, numbered_from}
+use Rattle.ob_site_rules.specs.State.{Plan as SitePlan, PointRule as SiteRule, numbered_from, is_among}
 use Rattle.ob_site_rules.specs.Shown.{rule_of}
 use Rattle.ob_state.specs.States.{limits_fit, rule_in, rule_at}
 use Rattle.ob_owing.specs.Kinds.{low_fits}
+use Rattle.ob_owing.proofs.Rest.{rest_more, rest_end}
+use Rattle.ob_owing.proofs.Among.{Each, each_front}
 
--- the low number of each rule is for values of the kind at its source
-abbrev pub LowsFit : (Path → Kind) → List PointRule → Type 0
-LowsFit kind_at [] = Unit {0}
-LowsFit kind_at (r ∷ rs) = IsTrue (low_fits (kind_at r.source) r.low) × LowsFit kind_at rs
+abbrev pub sources : List PointRule → List Path
+sources rs = map (λ r. r.source) rs
 
-fits_by_low : (k : Kind) (r : Rule) → IsTrue (low_fits k r.low) → IsTrue (limits_fit k (Some r))
-fits_by_low kind.Obj r h = refl
-fits_by_low kind.Bool r h = refl
-fits_by_low kind.Int r h = h
-fits_by_low kind.Real r h = h
-fits_by_low kind.Str r h = refl
-fits_by_low kind.Enum r h = refl
-fits_by_low kind.Uri r h = refl
-fits_by_low kind.Abstime r h = refl
-fits_by_low kind.Reltime r h = refl
-fits_by_low kind.Date r h = refl
-fits_by_low kind.Time r h = refl
-fits_by_low kind.List r h = refl
-fits_by_low kind.Op r h = refl
-fits_by_low kind.Feed r h = refl
-fits_by_low kind.Ref r h = refl
-fits_by_low kind.Err r h = refl
+-- what is asked of each source of a list of rules, from one place to the next
+pub sources_more : (S : Path → Type 0) (rs : List PointRule) (i : ℕ) (r : PointRule) → i < length rs → r ≡ get_or rs i r → S r.source
+    → (Each S (sources (drop i rs)) → Each S (sources rs)) → Each S (sources (drop (i + 1) rs)) → Each S (sources rs)
+sources_more S rs i r h is here held rest =
+    held (subst (λ (l : List PointRule). Each S (sources l)) (sym (rest_more rs i r h is)) (each_front S r.source (sources (drop (i + 1) rs)) here rest))
 
--- the rule at a place, if there is one
-abbrev in_list : List Rule → Option ℕ → Option Rule
-in_list rs None = None
-in_list rs (Some i) = slice_get rs i
+pub sources_end : (S : Path → Type 0) (rs : List PointRule) (i : ℕ) → length rs ≤ i → (Each S (sources (drop i rs)) → Each S (sources rs)) → Each S (sources rs)
+sources_end S rs i h held = held (subst (λ (l : List PointRule). Each S (sources l)) (sym (rest_end rs i h)) (λ p e. absurd (true≢false (sym e))))
 
-in_list_by : (plan : SitePlan) (place : Option ℕ) → in_list (numbered_from 0 plan.rules) place ≡ rule_in plan place
-in_list_by plan None = refl
-in_list_by plan (Some i) = refl
+-- a rule fits a kind by its low number
+fits_is_low : (k : Kind) (r : Rule) → limits_fit k (Some r) ≡ low_fits k r.low
+fits_is_low kind.Obj r = refl
+fits_is_low kind.Bool r = refl
+fits_is_low kind.Int r = refl
+fits_is_low kind.Real r = refl
+fits_is_low kind.Str r = refl
+fits_is_low kind.Enum r = refl
+fits_is_low kind.Uri r = refl
+fits_is_low kind.Abstime r = refl
+fits_is_low kind.Reltime r = refl
+fits_is_low kind.Date r = refl
+fits_is_low kind.Time r = refl
+fits_is_low kind.List r = refl
+fits_is_low kind.Op r = refl
+fits_is_low kind.Feed r = refl
+fits_is_low kind.Ref r = refl
+fits_is_low kind.Err r = refl
 
-in_list_is : (plan : SitePlan) (p : Path) → in_list (numbered_from 0 plan.rules) (rule_of plan p) ≡ rule_at plan (Some p)
-in_list_is plan p = in_list_by plan (rule_of plan p)
+-- whether the rule of a point, if there is one, fits a kind by its low number
+abbrev pub low_fits_there : Kind → Option PointRule → Bool
+low_fits_there k None = true
+low_fits_there k (Some r) = low_fits k r.low
 
-later : (k : Kind) (r : Rule) (rs : List Rule) (place : Option ℕ) → IsTrue (limits_fit k (in_list rs place)) → IsTrue (limits_fit k (in_list (r ∷ rs) (option_map (λ n. n + 1) place)))
-later k r rs None h = h
-later k r rs (Some n) h = subst (λ (m : ℕ). IsTrue (limits_fit k (slice_get (r ∷ rs) m))) (suc_is n) h
+fits_in_list : (k : Kind) (n : ℕ) (rs : List PointRule) (i : ℕ) → limits_fit k (slice_get (numbered_from n (map point_rule rs)) i) ≡ low_fits_there k (slice_get rs i)
+fits_in_list k n [] i = refl
+fits_in_list k n (r ∷ rs) zero = fits_is_low k _
+fits_in_list k n (r ∷ rs) (suc i) = fits_in_list k (n + 1) rs i
+
+-- so does the rule at a place of a plan
+pub fits_in_plan : (k : Kind) (plan : SitePlan) (rs : List PointRule) (p : Path) (i : ℕ) → plan.rules ≡ map point_rule rs → Some i ≡ rule_of plan p
+    → low_fits_there k (slice_get rs i) ≡ limits_fit k (rule_at plan (Some p))
+fits_in_plan k plan rs p i is at =
+    sym (fits_in_list k 0 rs i)
+    ∙ ap (λ (l : List SiteRule). limits_fit k (slice_get (numbered_from 0 l) i)) (sym is)
+    ∙ ap (λ (place : Option ℕ). limits_fit k (rule_in plan place)) at
+
+pub fits_without : (k : Kind) (plan : SitePlan) (p : Path) → None ≡ rule_of plan p → true ≡ limits_fit k (rule_at plan (Some p))
+fits_without k plan p none = ap (λ (place : Option ℕ). limits_fit k (rule_in plan place)) none
+
+later_none : (b : Bool) (place : Option ℕ) → b ≡ false → place ≡ None → cond b (Some 0) (option_map (λ n. n + 1) place) ≡ None
+later_none true place is none = absurd (true≢false is)
+later_none false (Some n) is none = cc
+later_none false None is none = refl
+
+or_false : (a b : Bool) → (a || b) ≡ false → (a ≡ false) × (b ≡ false)
+or_false true b h = absurd (true≢false h)
+or_false false b h = (refl, h)
+
+no_place : (p : Path) (rs : List PointRule) → is_among p (sources rs) ≡ false → first_place (λ r. bytes_eq r.source p) (map point_rule rs) ≡ None
+no_place p [] h = refl
+no_place p (r ∷ rs) h =
+    let both = or_false (bytes_eq r.source p) (is_among p (sources rs)) h in
+    later_none (bytes_eq r.source p) _ both.0 (no_place p rs both.1)
+
+-- what holds of each source with a rule, and of no rule, holds at each path
+pub each_path : (kinds : Path → Kind) (plan : SitePlan) (rs : List PointRule) → plan.rules ≡ map point_rule rs
+    → Each (λ p. IsTrue (limits_fit (kinds p) (rule_at plan (Some p)))) (sources rs) → (p : Path) → IsTrue (limits_fit (kinds p) (rule_at plan (Some p)))
+each_path kinds plan rs is each p = by_case (is_among p (sources rs)) refl
   where
-    suc_is : (n : ℕ) → suc n ≡ n + 1
-    suc_is n = omega arith
-
-first_or_later : (kind_at : Path → Kind) (p : Path) (n : ℕ) (r : SiteRule) (rs : List Rule) (place : Option ℕ) (b : Bool) → bytes_eq r.source p ≡ b → IsTrue (low_fits (kind_at r.source) r.low)
-    → IsTrue (limits_fit (kind_at p) (in_list rs place))
-    → IsTrue (limits_fit (kind_at p) (in_list (record { source = n; path = r.source; low = r.low; high = r.high; needs_ack = r.needs_ack } ∷ rs) (cond b (Some 0) (option_map (λ n. n + 1) place))))
-first_or_later kind_at p n r rs place true is fits h =
-    fits_by_low (kind_at p) _ (subst (λ (q : Path). IsTrue (low_fits (kind_at q) r.low)) ((bytes_eq-Decides r.source p).0 is) fits)
-first_or_later kind_at p n r rs place false is fits h = later (kind_at p) _ rs place h
-
-all_fit : (kind_at : Path → Kind) (p : Path) (n : ℕ) (rs : List PointRule) → LowsFit kind_at rs
-    → IsTrue (limits_fit (kind_at p) (in_list (numbered_from n (map point_rule rs)) (first_place (λ r. bytes_eq r.source p) (map point_rule rs))))
-all_fit kind_at p n [] h = refl
-all_fit kind_at p n (r ∷ rs) h =
-    first_or_later kind_at p n (point_rule r) _ _ (bytes_eq r.source p) refl h.0 (all_fit kind_at p (n + 1) rs h.1)
-
--- limits fit the kind at each path
-pub limits_of : (kind_at : Path → Kind) (plan : SitePlan) (rs : List PointRule) → plan.rules ≡ map point_rule rs → LowsFit kind_at rs → (p : Path) → IsTrue (limits_fit (kind_at p) (rule_at plan (Some p)))
-limits_of kind_at plan rs is h p =
-    subst (λ (k : Option Rule). IsTrue (limits_fit (kind_at p) k)) (in_list_is plan p)
-    (subst (λ (l : List SiteRule). IsTrue (limits_fit (kind_at p) (in_list (numbered_from 0 l) (first_place (λ r. bytes_eq r.source p) l)))) (sym is) (all_fit kind_at p 0 rs h))
+    by_case : (b : Bool) → is_among p (sources rs) ≡ b → IsTrue (limits_fit (kinds p) (rule_at plan (Some p)))
+    by_case true among = each p among
+    by_case false among =
+        sym (fits_without (kinds p) plan p (sym (ap (λ (l : List SiteRule). first_place (λ r. bytes_eq r.source p) l) is ∙ no_place p rs among)))

@@ -1,9 +1,9 @@
 -- Rules that are numbered one after another.
-use Rattle.std.proofs.Common.{◌≡◌, ℕ, zero, suc, ◌+◌, ◌<◌, ◌≤◌, List, [], ◌∷◌, ◌++◌, map, length, drop, get_or, Some, refl, sym, ap, ◌∙◌, subst, arith, append_assoc}
+use Rattle.std.proofs.Common.{◌≡◌, ℕ, zero, suc, ◌+◌, ◌<◌, ◌≤◌, List, [], ◌∷◌, ◌++◌, map, length, length-append, drop, get_or, false, true≢false, Some, refl, sym, ap, ◌∙◌, subst, arith, append_assoc}
 use Rattle.std.specs.Prelude.{slice_get}
 use Rattle.std.specs.List.{All}
 use Rattle.std.proofs.lemmas.List.Elements.{All-append}
-use Rattle.ob_alarms.specs.Limits.{IsRule}
+use Rattle.ob_alarms.specs.Limits.{IsRule, same_kind}
 use Rattle.ob_alarms.specs.Soundness.{SourcesDiffer}
 use Rattle.ob_alarms.specs.declared.rule.Rule.{Rule}
 use Rattle.ob_answers.specs.declared.plan.PointRule.{PointRule}
@@ -53,3 +53,21 @@ one_rule r is (suc k) d h = absurd (omega arith)
 
 pub rules_more : (made new : List Rule) (rule : Rule) → new ≡ made ++ rule ∷ [] → IsRule rule → All IsRule made → All IsRule new
 rules_more made new rule put is all = subst (All IsRule) (sym put) (All-append IsRule made (rule ∷ []) all (one_rule rule is))
+
+-- a rule that stands behind others is one of all
+behind : (made : List Rule) (rule : Rule) (rest : List Rule) → All IsRule (made ++ rule ∷ rest) → IsRule rule
+behind made rule rest all =
+    let n = length made in
+    subst IsRule (at_end made rule rest) (all n rule (omega (arith, length-append made (rule ∷ rest))))
+  where
+    at_end : (made : List Rule) (rule : Rule) (rest : List Rule) → get_or (made ++ rule ∷ rest) (length made) rule ≡ rule
+    at_end [] rule rest = refl
+    at_end (x ∷ made) rule rest = at_end made rule rest
+
+-- where the limits of one are of two kinds, not all are rules
+pub rules_not : (rs : List PointRule) (i : ℕ) (r : PointRule) (made : List Rule) → i < length rs → r ≡ get_or rs i r → same_kind r.low r.high ≡ false
+    → made ++ numbered_from i (map point_rule (drop i rs)) ≡ numbered_from 0 (map point_rule rs) → ¬ (All IsRule (numbered_from 0 (map point_rule rs)))
+rules_not rs i r made h is two held = λ all.
+    let split : numbered_from 0 (map point_rule rs) ≡ made ++ with_path i r r.source ∷ numbered_from (i + 1) (map point_rule (drop (i + 1) rs)) =
+    sym held ∙ ap (λ (l : List PointRule). made ++ numbered_from i (map point_rule l)) (rest_more rs i r h is) in
+    true≢false (sym (behind made (with_path i r r.source) _ (subst (All IsRule) split all)) ∙ two)

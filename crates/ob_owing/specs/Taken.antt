@@ -9,3 +9,8 @@ use Rattle.ob_site_rules.specs.Build.{Path}
 abbrev pub IsAddedAt : Contracts → Object → Option Path → Contracts → Type 0
 IsAddedAt lib o None new = new ≡ lib
 IsAddedAt lib o (Some p) new = added lib p o ≡ Ok new
+
+-- a library doesn't take an object under that path
+abbrev pub IsRefusedAt : Contracts → Object → Option Path → Type 0
+IsRefusedAt lib o None = ⊥
+IsRefusedAt lib o (Some p) = (new : Contracts) → ¬ (added lib p o ≡ Ok new)

@@ -1,5 +1,5 @@
 //! That what roles derive finds its names free.
-ghost use Rattle.std.specs.Prelude.{◌≡◌, ◌++◌, false, IsTrue, IfOk};
+ghost use Rattle.std.specs.Prelude.{◌≡◌, ◌↔◌, ◌++◌, false, IsTrue, IfOk};
 ghost use Rattle.ob_object.specs.Object.{node, none, children};
 ghost use Rattle.ob_object.specs.WellFormed.{NamesDiffer, is_taken};
 ghost use Rattle.ob_answers.specs.Plans.{plan as plan_of};
@@ -14,7 +14,7 @@ use std::alloc::{AllocError, Global};
 
 /// Whether an object has no name, or one that none of these has.
 fn is_free(object: &Obj, others: &[Obj]) -> bool
-    ensures { IsTrue result → is_taken object.now.head.name others.now ≡ false }
+    ensures { IsTrue result ↔ (is_taken object.now.head.name others.now ≡ false) }
 {
     match object.name() {
         Some(name) => find_named(others, name.as_str()).is_none(),
@@ -24,7 +24,7 @@ fn is_free(object: &Obj, others: &[Obj]) -> bool
 
 /// Whether the names of these differ.
 fn differ(objects: &[Obj]) -> bool
-    ensures { IsTrue result → NamesDiffer objects.now }
+    ensures { IsTrue result ↔ NamesDiffer objects.now }
 {
     for place in 0..objects.len() {
         if !is_free(&objects[place], &objects[place + 1..]) {
@@ -42,7 +42,7 @@ fn are_free_here(
     state: &State,
     object: &Obj,
 ) -> Result<bool, AllocError>
-    ensures { IfOk result (λ yes. IsTrue yes → NamesDiffer (children object.now ++ derived (plan_of plan.now) (state_of state.now) (node_path object.now.head))) }
+    ensures { IfOk result (λ yes. IsTrue yes ↔ NamesDiffer (children object.now ++ derived (plan_of plan.now) (state_of state.now) (node_path object.now.head))) }
 {
     let mut copy = object.copy()?;
     let mut all = copy.take_children();
@@ -58,7 +58,7 @@ pub(crate) fn names_are_free(
     state: &State,
     object: &Obj,
 ) -> Result<bool, AllocError>
-    ensures { IfOk result (λ yes. IsTrue yes → NamesAreFree (plan_of plan.now) (state_of state.now) (node object.now.head object.now.inner none)) }
+    ensures { IfOk result (λ yes. IsTrue yes ↔ NamesAreFree (plan_of plan.now) (state_of state.now) (node object.now.head object.now.inner none)) }
 {
     let here = are_free_here(alloc, plan, state, object)?;
     if !here {

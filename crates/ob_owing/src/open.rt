@@ -1,11 +1,11 @@
 //! The state of a site as it is opened.
-ghost use Rattle.std.specs.Prelude.{◌≡◌, [], IsTrue, IfOk, IfSome};
+ghost use Rattle.std.specs.Prelude.{◌≡◌, ◌↔◌, [], IsTrue, IfOk, IfSome, IfNone};
 ghost use Rattle.ob_answers.specs.Plans.{plan as plan_of};
 ghost use Rattle.ob_contracts.specs.Standard.{standard, with_added};
 ghost use Rattle.ob_site_rules.specs.State.{board, numbered_from};
 ghost use Rattle.ob_site_rules.specs.Writes.{site_contracts};
 ghost use Rattle.ob_state.specs.States.{state_of, unspared, IsOf};
-ghost use Rattle.ob_owing.specs.Start.{opened_state};
+ghost use Rattle.ob_owing.specs.Start.{opened_state, IsUnfit, IsUnmade};
 
 use crate::board::board_of;
 use crate::counts::are_counted;
@@ -23,10 +23,10 @@ use ob_values::Text;
 use std::alloc::{AllocError, Global};
 
 /// Whether a state owes its plan what the site's rules need, where its alarms are those of the plan's
-/// rules and root. False doesn't say that it owes less. An error only for want of memory.
+/// rules and root. An error only for want of memory.
 pub fn owes(alloc: Global, plan: &Plan, state: &State) -> Result<bool, AllocError>
     requires { unspared state.now.board ≡ board (plan_of plan.now) (state_of state.now) }
-    ensures { IfOk result (λ yes. IsTrue yes → IsOf (plan_of plan.now) state.now) }
+    ensures { IfOk result (λ yes. IsTrue yes ↔ IsOf (plan_of plan.now) state.now) }
 {
     let taken = takes_contracts(alloc, &state.tree)?;
     let free = names_are_free(alloc, plan, state, &state.tree)?;
@@ -54,9 +54,10 @@ fn let_go<T: Drop>(_rest: T) {}
 
 /// What is made of a plan and of a site's own objects: the alarms, none yet, and the library.
 fn made_of(alloc: Global, plan: &Plan, tree: &Obj) -> Result<Option<(Alarms, Library)>, AllocError>
-    ensures { IfOk result (λ made. IfSome made (λ both.
+    ensures some { IfOk result (λ made. IfSome made (λ both.
         (both.0 ≡ record { root = plan.now.root; rules = numbered_from 0 (plan_of plan.now).rules; alarms = []; events = []; spare = 0 })
         × (both.1 ≡ with_added standard (site_contracts tree.now)))) }
+    ensures none { IfOk result (λ made. IfNone made (IsUnmade (plan_of plan.now) tree.now)) }
 {
     let Some(board) = board_of(alloc, plan)? else {
         return Ok(None);
@@ -74,11 +75,12 @@ fn made_of(alloc: Global, plan: &Plan, tree: &Obj) -> Result<Option<(Alarms, Lib
     }
 }
 
-/// The state, if it is seen to owe its plan what the site's rules need.
+/// The state, if it owes its plan what the site's rules need.
 fn tested(alloc: Global, plan: &Plan, state: State) -> Result<Option<State>, AllocError>
     requires { unspared state.board ≡ board (plan_of plan.now) (state_of state) }
     ensures owes { IfOk result (λ made. IfSome made (λ given. IsOf (plan_of plan.now) given)) }
     ensures given { IfOk result (λ made. IfSome made (λ given. given ≡ state)) }
+    ensures none { IfOk result (λ made. IfNone made (¬ (IsOf (plan_of plan.now) state))) }
 {
     match owes(alloc, plan, &state) {
         Ok(true) => Ok(Some(state)),
@@ -94,8 +96,8 @@ fn tested(alloc: Global, plan: &Plan, state: State) -> Result<Option<State>, All
 }
 
 /// The state of a site without alarms, of its objects and its logs: its library is the standard one with
-/// the contracts of the site. None where it isn't seen to owe its plan what the site's rules need. An
-/// error only for want of memory.
+/// the contracts of the site. None where the limits of a rule are of two kinds, or where the state would not owe
+/// its plan what the site's rules need. An error only for want of memory.
 pub fn opened(
     alloc: Global,
     plan: &Plan,
@@ -104,6 +106,7 @@ pub fn opened(
 ) -> Result<Option<State>, AllocError>
     ensures owes { IfOk result (λ made. IfSome made (λ state. IsOf (plan_of plan.now) state)) }
     ensures state { IfOk result (λ made. IfSome made (λ state. state_of state ≡ opened_state tree logs.items)) }
+    ensures none { IfOk result (λ made. IfNone made (IsUnfit (plan_of plan.now) (opened_state tree logs.items))) }
 {
     match made_of(alloc, plan, &tree) {
         Ok(Some((board, library))) => {

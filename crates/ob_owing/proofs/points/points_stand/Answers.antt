@@ -1,4 +1,4 @@
-use Rattle.std.proofs.Common.{◌≡◌, true, not, IsTrue, List, sym, ap, ◌∙◌, subst}
+use Rattle.std.proofs.Common.{◌≡◌, true, not, IsTrue, List, refl, sym, ap, ◌∙◌, subst}
 use Rattle.std.specs.Prelude.{is_some}
 use Rattle.ob_site_rules.specs.Build.{Path}
 use Rattle.ob_site_rules.specs.Shown.{node_of}
@@ -13,6 +13,9 @@ loop-point-preserved c =
     each_more (λ p. IsTrue (is_some (node_of p root))) c.deref-point-items.result.now c.loop-point.point-index x c.loop-point-test.true c.point-item.is here c.loop-point.invariant
 
 pub returns : goal.returns
-returns c = λ _.
-    subst (λ (ps : List Path). Each (λ p. IsTrue (is_some (node_of p c.args.root.now))) ps) c.deref-point-items.ensures.value
-    (each_end (λ p. IsTrue (is_some (node_of p c.args.root.now))) c.deref-point-items.result.now c.loop-point.point-index c.loop-point-test.false c.loop-point.invariant)
+returns c = (
+  λ _.
+      subst (λ (ps : List Path). Each (λ p. IsTrue (is_some (node_of p c.args.root.now))) ps) c.deref-point-items.ensures.value
+      (each_end (λ p. IsTrue (is_some (node_of p c.args.root.now))) c.deref-point-items.result.now c.loop-point.point-index c.loop-point-test.false c.loop-point.invariant),
+  λ _. refl,
+)
