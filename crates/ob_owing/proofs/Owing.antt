@@ -1,26 +1,31 @@
 -- What a state owes its plan, beside its alarms.
-use Rattle.std.proofs.Common.{◌≡◌, [], map, Option, Some, None, Ok, Err, Result, refl, sym, ap, ◌∙◌, subst, inr}
-use Rattle.std.specs.Prelude.{IfOk, IfNone}
+use Rattle.std.proofs.Common.{◌≡◌, List, [], map, Option, Some, None, Ok, Err, Result, refl, sym, ap, ◌∙◌, subst, inl, inr, true}
+use Rattle.std.specs.Prelude.{IsTrue, is_some, IfOk, IfNone}
 use Rattle.std.specs.declared.alloc.AllocError.{AllocError}
+use Rattle.ob_object.specs.Object.{Object, none, node}
 use Rattle.ob_alarms.specs.Changes.{State as Board}
 use Rattle.ob_contracts.specs.Inherit.{Contracts}
 use Rattle.ob_contracts.specs.Standard.{standard, with_added}
-use Rattle.ob_site_rules.specs.State.{Plan, State as SiteState, board, numbered_from}
+use Rattle.ob_site_rules.specs.State.{Plan, State as SiteState, board, numbered_from, is_among}
+use Rattle.ob_site_rules.specs.Build.{Path}
+use Rattle.ob_site_rules.specs.Shown.{node_of}
 use Rattle.ob_site_rules.specs.Writes.{site_contracts}
+use Rattle.ob_state.specs.declared.log.Log.{Log}
 use Rattle.ob_state.specs.declared.state.State.{State}
-use Rattle.ob_state.specs.States.{entry_of, state_of, unspared, IsOf}
-use Rattle.ob_owing.specs.Start.{Serves, IsUnfit, opened_state}
+use Rattle.ob_state.specs.States.{entry_of, state_of, unspared, IsOf, NamesAreFree, NodesAre, AreTaken, AreCounted}
+use Rattle.ob_owing.specs.Start.{IsUnfit, IsUnmade, opened_state}
 
-is_of : (plan : Plan) (s : State) → unspared s.board ≡ board plan (state_of s) → Serves plan (state_of s) → IsOf plan s
-is_of plan s alarms serves = record {
+-- what a state owes its plan beside its alarms goes by the state of the definitions that it is
+same_state : (plan : Plan) (s t : State) → state_of s ≡ state_of t → unspared t.board ≡ board plan (state_of t) → IsOf plan s → IsOf plan t
+same_state plan s t e alarms is = record {
   board = alarms;
-  names_free = serves.names_free;
-  kind_at = serves.kind_at;
-  kinds = serves.kinds;
-  limits = serves.limits;
-  points = serves.points;
-  taken = serves.taken;
-  counted = serves.counted;
+  names_free = subst (λ (x : SiteState). NamesAreFree plan x (node x.tree.head x.tree.inner none)) e is.names_free;
+  kind_at = is.kind_at;
+  kinds = subst (λ (x : SiteState). NodesAre is.kind_at (node x.tree.head x.tree.inner none)) e is.kinds;
+  limits = is.limits;
+  points = subst (λ (x : SiteState). (p : Path) → is_among p plan.points ≡ true → IsTrue (is_some (node_of p x.tree))) e is.points;
+  taken = subst (λ (x : SiteState). AreTaken standard (site_contracts x.tree)) e is.taken;
+  counted = subst (λ (x : SiteState). AreCounted x.logs) e is.counted;
 }
 
 -- no alarms yet
@@ -43,4 +48,9 @@ pub unfit : (plan : Plan) (s : State) (r : Result (Option State) AllocError) →
 unfit plan s (Err e) is lib h = tt
 unfit plan s (Ok (Some x)) is lib h = tt
 unfit plan s (Ok None) is lib h =
-    inr (λ serves. h (is_of plan s (alarms_are plan s is) (subst (Serves plan) (sym (opened_is plan s is lib)) serves)))
+    inr (λ made same owes. h (same_state plan made s (same ∙ sym (opened_is plan s is lib)) (alarms_are plan s is) owes))
+
+-- nor where nothing is made of the plan and of the site's own objects
+pub unmade : (plan : Plan) (tree : Object) (logs : List (Path × Log)) → IsUnmade plan tree → IsUnfit plan (opened_state tree logs)
+unmade plan tree logs (inl rules) = inl rules
+unmade plan tree logs (inr untaken) = inr (λ made same owes. untaken (subst (λ (x : SiteState). AreTaken standard (site_contracts x.tree)) same owes.taken))
