@@ -50,10 +50,10 @@ for document in ("points", "ints", "siblings", "comment"):
         ratio = seconds / best["xmllint"][0] if "xmllint" in best else float("nan")
         print(f"{document:10} {size:6.1f} {name:12} {seconds:7.2f} {size / seconds:7.1f} {memory:8.0f} {status:6} {ratio:11.2f}")
 PY
-(cd crates/ob_bench && rt run -- none) >"$work/build" 2>&1 || true
+bench/build.sh "$work"
 for document in points comment; do
   echo "$document in pieces, by the decoder alone:"
-  crates/ob_bench/out/ob_bench decode "$work/$document.xml" | awk '
+  "$work/ob_bench" decode "$work/$document.xml" | awk '
     { ns[$1] = $2; order[NR] = $1; bytes = $3; objects = $4 }
     END { whole = ns[order[NR]]
       for (i = 1; i <= NR; i++) printf "  pieces of %10d  %8.1f MB/s  %6.2f times the whole  (%d objects)\n", order[i], bytes * 1000 / ns[order[i]], ns[order[i]] / whole, objects }'

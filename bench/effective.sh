@@ -8,9 +8,8 @@ set -euo pipefail
 cd "$(dirname "$0")/.."
 work=$(mktemp -d)
 trap 'rm -rf "$work"' EXIT
-(cd crates/ob_bench && rt run -- effective >"$work/times" 2>"$work/build") || { cat "$work/build" "$work/times"; exit 1; }
-program=$(ls -t crates/ob_bench/out/ob_bench crates/ob_bench/out/*/ob_bench 2>/dev/null | head -1 || true)
-if [ -n "$program" ]; then "$program" effective >"$work/times"; fi
+bench/build.sh "$work"
+"$work/ob_bench" effective >"$work/times"
 awk '$3 ~ /^[0-9]+$/ {
     parts[$1] = $2; time[$1] = $3
     printf "%-10s %8d parts %12.3f ms %7.3f us a part", $1, $2, $3 / 1e6, $3 / 1e3 / $2

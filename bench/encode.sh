@@ -5,8 +5,8 @@ set -euo pipefail
 work=$(mktemp -d)
 trap 'rm -rf "$work"' EXIT
 rustc -O -o "$work/peer" bench/encode_peer.rs
-(cd crates/ob_bench && rt run) >"$work/build" 2>&1 || true
-ours=$(crates/ob_bench/out/ob_bench encode)
+bench/build.sh "$work"
+ours=$("$work/ob_bench" encode)
 peer=$("$work/peer")
 awk -v o="$ours" -v p="$peer" 'BEGIN {
   split(o, a, " "); split(p, b, " ")

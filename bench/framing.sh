@@ -9,8 +9,8 @@ work=$(mktemp -d)
 trap 'rm -rf "$work"' EXIT
 rustc -O --edition 2018 --crate-type rlib --crate-name httparse --cfg 'feature="std"' --cfg httparse_simd -A warnings -o "$work/libhttparse.rlib" "$source"
 rustc -O --edition 2021 --extern httparse="$work/libhttparse.rlib" -o "$work/peer" bench/framing_peer.rs
-(cd crates/ob_bench && rt run -- none) >"$work/build" 2>&1 || true
-for _ in 1 2 3; do crates/ob_bench/out/ob_bench framing; done >"$work/ours"
+bench/build.sh "$work"
+for _ in 1 2 3; do "$work/ob_bench" framing; done >"$work/ours"
 for _ in 1 2 3; do "$work/peer"; done >"$work/theirs"
 best() { awk '{ k = $1 " " $2; if (!(k in t) || $3 < t[k]) { t[k] = $3; w[k] = $4 } } END { for (k in t) print k, t[k], w[k] }' "$1" | sort; }
 paste -d' ' <(best "$work/ours") <(best "$work/theirs") | awk -v GETLEN=145 -v POSTLEN=4210 '

@@ -9,10 +9,9 @@ runs=${1:-5}
 work=$(mktemp -d)
 trap 'rm -rf "$work"' EXIT
 rustc -O -o "$work/peer" bench/logs_peer.rs
-(cd crates/ob_bench && rt run -- logs >"$work/first" 2>"$work/build") || { cat "$work/build" "$work/first"; exit 1; }
-program=$(ls -t crates/ob_bench/out/ob_bench crates/ob_bench/out/*/ob_bench 2>/dev/null | head -1 || true)
+bench/build.sh "$work"
 for run in $(seq "$runs"); do
-  if [ -n "$program" ]; then "$program" logs; else (cd crates/ob_bench && rt run -- logs 2>/dev/null | grep -E '^(log|alarms) '); fi >>"$work/ours"
+  "$work/ob_bench" logs >>"$work/ours"
   "$work/peer" >>"$work/peers"
 done
 python3 - "$work/ours" "$work/peers" <<'PY'

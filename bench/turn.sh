@@ -8,9 +8,9 @@ runs=${1:-7}
 work=$(mktemp -d)
 trap 'rm -rf "$work"' EXIT
 rustc -O -o "$work/peer" bench/turn_peer.rs
-(cd crates/ob_bench && rt run -- turn) >"$work/build" 2>&1 || { tail -20 "$work/build"; exit 1; }
+bench/build.sh "$work"
 for _ in $(seq "$runs"); do
-  crates/ob_bench/out/ob_bench turn >>"$work/desk"
+  "$work/ob_bench" turn >>"$work/desk"
   "$work/peer" >>"$work/mutex"
 done
 python3 - "$work/desk" "$work/mutex" <<'PY'

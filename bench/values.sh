@@ -8,13 +8,13 @@ trap 'rm -rf "$work"' EXIT
 mkdir "$work/texts"
 python3 bench/values_texts.py "$work/texts"
 rustc -O -o "$work/peer" bench/values_peer.rs
-(cd crates/ob_bench && rt run -- none none) >"$work/build" 2>&1 || true
+bench/build.sh "$work"
 best() { # the least figure of three runs of a command
   for _ in 1 2 3; do "$@"; done | awk '
     { if (!($1 in read) || $2 < read[$1]) read[$1] = $2; if (!($1 in shown) || $3 < shown[$1]) shown[$1] = $3 }
     END { for (kind in read) print kind, read[kind], shown[kind] }'
 }
-best crates/ob_bench/out/ob_bench values "$work/texts" | sort >"$work/ours"
+best "$work/ob_bench" values "$work/texts" | sort >"$work/ours"
 { best "$work/peer" "$work/texts" | sed 's/$/ Rust/'
   best python3 bench/values_peer.py "$work/texts" | sed 's/$/ Python/'; } | sort >"$work/peers"
 echo "kind      read ns  print ns   peer     read ns  print ns   read ratio  print ratio"
