@@ -1,88 +1,36 @@
-//! Objects: each public call with ample memory, and trees as large as a document may make them.
-use ob_object::{
-    Facet, FacetRef, Facets, Head, Kind, Obj, PushFault, Slot, Status, Words, WriteFault,
-    check_write,
-};
+//! Objects: what the calls that make and change them answer, and trees as large as a document may make them.
+use crate::table::{Asked, Table};
+use crate::words::push_number;
+use ob_encode::encode;
+use ob_object::{Facets, Head, Kind, Obj, PushFault, Slot, Words, WriteFault, check_write};
 use ob_values::{Text, Value};
-use std::alloc::Global;
-use std::test::Fail;
+use std::alloc::{AllocError, Global};
 
-fn text(alloc: Global, bytes: &[u8]) -> Result<Text, Fail> {
-    Ok(Text::from_utf8(alloc, bytes)?)
-}
+/// `word WORD` is put among words, `write KIND MIN MAX RANGE VALUE` is a write that is checked, `deep LEVELS` and
+/// `wide CHILDREN` tell the number of bytes of a tree's text, `tree` that of a large tree's parts, and other rows are questions.
+#[derive(Drop)]
+pub(crate) struct Objects;
 
-fn named(alloc: Global, kind: Kind, name: &[u8]) -> Result<Obj, Fail> {
+fn named(alloc: Global, kind: Kind, name: &str) -> Obj {
     let mut object = Obj::new(alloc, kind);
-    let _ = object.put_name(Some(text(alloc, name)?));
-    Ok(object)
+    let _ = object.put_name(Text::from_utf8(alloc, name.as_bytes()).ok());
+    object
 }
 
-// Whether an int takes five as its slot, and no truth value.
-fn takes_five(count: &mut Obj) -> bool {
-    count.put_slot(Slot::Is(Value::Int(5))).is_ok()
-        && count.put_slot(Slot::Is(Value::Bool(true))).is_err()
-        && matches!(count.slot(), Slot::Is(Value::Int(5)))
+// Whether an object refuses a child for its name.
+fn is_refused(object: &mut Obj, child: Obj) -> bool {
+    matches!(&object.push(child), Err(PushFault::SameName { child: _ }))
 }
 
-// Whether an int takes contracts, none for its children, and no empty name.
-fn takes_contracts(alloc: Global, count: &mut Obj) -> bool {
-    count.put_name(Some(Text::empty())).is_err()
-        && count.put_of(Some(Words::new(alloc))).is_err()
-        && count.put_is(Some(Words::new(alloc))).is_ok()
-}
-
-// Whether an int takes limits that are ints, and no other.
-fn takes_limits(count: &mut Obj) -> bool {
-    let mut facets = Facets::none();
-    facets.min = Some(Value::Int(0));
-    facets.status = Some(Status::Alarm);
-    let mut wrong = Facets::none();
-    wrong.max = Some(Value::Bool(true));
-    count.put_facets(facets).is_ok() && count.put_facets(wrong).is_err()
-}
-
-#[test]
-fn puts_take_what_fits_the_kind(rt: HostRuntime) -> Result<(), Fail> {
-    let alloc = rt.alloc();
-    let mut count = named(alloc, Kind::Int, b"count")?;
-    assert!(rt; count.is_named("count"));
-    assert!(rt; takes_five(&mut count));
-    assert!(rt; takes_contracts(alloc, &mut count));
-    assert!(rt; takes_limits(&mut count));
-    assert!(rt;
-        matches!(
-            count.facets().get(Facet::Status),
-            Some(FacetRef::Word(Status::Alarm))
-        )
-    );
-    Ok(())
-}
-
-// Whether words take a word.
-fn takes(alloc: Global, words: &mut Words, word: &[u8]) -> Result<bool, Fail> {
-    let word = text(alloc, word)?;
-    Ok(words.push(word).is_ok())
-}
-
-#[test]
-fn words_have_no_white_space(rt: HostRuntime) -> Result<(), Fail> {
-    let alloc = rt.alloc();
-    let mut words = Words::new(alloc);
-    assert!(rt; takes(alloc, &mut words, b"obix:Point")?);
-    assert!(rt; !takes(alloc, &mut words, b"a b")?);
-    assert!(rt; !takes(alloc, &mut words, b"")?);
-    let copy = words.copy()?;
-    assert!(rt; words.as_slice().len() == 1 && copy.as_slice().len() == 1);
-    Ok(())
-}
-
-// Whether an object takes a child, or refuses it for its name.
-fn takes_child(object: &mut Obj, child: Obj) -> Option<bool> {
-    match object.push(child) {
-        Ok(()) => Some(true),
-        Err(PushFault::SameName { child: _ }) => Some(false),
-        Err(PushFault::Memory { child: _ }) => None,
+// An object with a child `x` and two that have no name, where it refuses another child `x`.
+fn with_three(alloc: Global) -> Obj {
+    let mut object = Obj::new(alloc, Kind::Obj);
+    let _ = object.push(named(alloc, Kind::Int, "x"));
+    if is_refused(&mut object, named(alloc, Kind::Str, "x")) {
+        let _ = object.push(Obj::new(alloc, Kind::Obj));
+        let _ = object.push(Obj::new(alloc, Kind::Obj));
     }
+    object
 }
 
 // Whether it has the children that were taken, and what is asked of them is so.
@@ -93,57 +41,30 @@ fn has_three(object: &Obj) -> bool {
         && object.at(3).is_none()
 }
 
-#[test]
-fn siblings_have_different_names(rt: HostRuntime) -> Result<(), Fail> {
-    let alloc = rt.alloc();
-    let mut object = Obj::new(alloc, Kind::Obj);
-    assert!(rt; takes_child(&mut object, named(alloc, Kind::Int, b"x")?) == Some(true));
-    assert!(rt; takes_child(&mut object, named(alloc, Kind::Str, b"x")?) == Some(false));
-    assert!(rt; takes_child(&mut object, Obj::new(alloc, Kind::Obj)) == Some(true));
-    assert!(rt; takes_child(&mut object, Obj::new(alloc, Kind::Obj)) == Some(true));
-    assert!(rt; has_three(&object));
-    let copy = object.copy()?;
-    assert!(rt; copy.same(&object));
+fn is_copied(object: &Obj) -> bool {
+    match &object.copy() {
+        Ok(copy) => copy.same(object),
+        Err(_) => false,
+    }
+}
+
+// Whether an object without its children is no more the same as it was.
+fn loses_three(object: &mut Obj) -> bool {
+    let Ok(copy) = object.copy() else {
+        return false;
+    };
     let children = object.take_children();
-    assert!(rt; children.len() == 3 && !copy.same(&object));
-    Ok(())
-}
-
-// What a write to an int between five and seven comes to.
-fn written(value: &Value) -> Result<(), WriteFault> {
-    check_write(
-        Kind::Int,
-        Some(&Value::Int(5)),
-        Some(&Value::Int(7)),
-        value,
-        true,
-    )
-}
-
-#[test]
-fn writes_are_checked_in_order(rt: HostRuntime) -> Result<(), Fail> {
-    let five = Value::Int(5);
-    let e_acute = Value::Str(text(rt.alloc(), "ééééé".as_bytes())?);
-    assert!(rt; written(&five) == Ok(()));
-    assert!(rt; written(&Value::Int(4)) == Err(WriteFault::Below));
-    assert!(rt; written(&Value::Int(8)) == Err(WriteFault::Above));
-    assert!(rt; written(&e_acute) == Err(WriteFault::WrongKind));
-    assert!(rt; check_write(Kind::Str, Some(&five), Some(&five), &e_acute, true) == Ok(()));
-    assert!(rt;
-        check_write(Kind::Str, Some(&Value::Int(7)), None, &e_acute, false)
-            == Err(WriteFault::Below)
-    );
-    assert!(rt; check_write(Kind::Str, None, None, &e_acute, false) == Err(WriteFault::NotInRange));
-    Ok(())
+    children.len() == 3 && !copy.same(object)
 }
 
 // An object with a copy of another one's head as its child, made in the object's place.
-fn with_leaf(alloc: Global, of: &Obj) -> Result<Obj, Fail> {
+fn with_leaf(alloc: Global, of: &Obj) -> Obj {
     let mut object = Obj::new(alloc, Kind::Obj);
-    object.reserve(1)?;
     let head = of.head();
-    object.push_leaf(head, &head.slot)?;
-    Ok(object)
+    if object.reserve(1).is_ok() {
+        let _ = object.push_leaf(head, &head.slot);
+    }
+    object
 }
 
 // Whether it is an int `count` of 5 with that href, or with none.
@@ -158,44 +79,167 @@ fn is_five(count: &Head, has_href: bool) -> bool {
         && matches!(count.facets.precision, Some(2))
 }
 
-#[test]
-fn leaves_and_copies_of_heads_have_no_href(rt: HostRuntime) -> Result<(), Fail> {
-    let alloc = rt.alloc();
-    let mut count = named(alloc, Kind::Int, b"count")?;
-    count.put_href(Some(text(alloc, b"/count")?));
+fn five(alloc: Global) -> Obj {
+    let mut count = named(alloc, Kind::Int, "count");
+    count.put_href(Text::from_ascii(alloc, "/count").ok());
     let _ = count.put_slot(Slot::Is(Value::Int(5)));
     let mut facets = Facets::none();
     facets.precision = Some(2);
     let _ = count.put_facets(facets);
-    let object = with_leaf(alloc, &count)?;
-    assert!(rt; matches!(object.at(0), Some(leaf) if is_five(leaf.head(), false)));
-    let head = count.head();
-    assert!(rt; is_five(&head.copy()?, true));
-    assert!(rt; is_five(&head.copy_with(&head.slot)?, false));
-    Ok(())
+    count
+}
+
+// Whether the leaf that a head makes has no href.
+fn is_leaf(object: &Obj) -> bool {
+    match object.at(0) {
+        Some(leaf) => is_five(leaf.head(), false),
+        None => false,
+    }
+}
+
+fn copies_head(head: &Head) -> bool {
+    match &head.copy() {
+        Ok(copy) => is_five(copy, true),
+        Err(_) => false,
+    }
+}
+
+fn copies_head_with(head: &Head) -> bool {
+    match &head.copy_with(&head.slot) {
+        Ok(copy) => is_five(copy, false),
+        Err(_) => false,
+    }
+}
+
+fn copies_slot(slot: &Slot) -> bool {
+    match &slot.copy() {
+        Ok(copy) => matches!(copy, Slot::Is(Value::Int(5))),
+        Err(_) => false,
+    }
 }
 
 // An object with so many nameless children.
-fn wide(alloc: Global, children: u32) -> Result<Obj, Fail> {
+fn wide(alloc: Global, children: u64) -> Obj {
     let mut object = Obj::new(alloc, Kind::List);
     for _ in 0..children {
         let _ = object.push(Obj::new(alloc, Kind::Int));
     }
-    Ok(object)
+    object
 }
 
-#[test]
-fn deep_and_wide_trees_stay_within_the_stack(rt: HostRuntime) -> Result<(), Fail> {
-    let alloc = rt.alloc();
-    let mut tree = wide(alloc, 6_451)?;
+// A tree of 31 levels.
+fn deep_and_wide(alloc: Global) -> Obj {
+    let mut tree = wide(alloc, 6_451);
     for _ in 0..30 {
-        let mut above = wide(alloc, 6_450)?;
+        let mut above = wide(alloc, 6_450);
         let _ = above.push(tree);
         tree = above;
     }
-    assert!(rt; tree.parts() == 199_982);
-    let copy = tree.copy()?;
-    assert!(rt; copy.same(&tree));
-    drop(copy);
-    Ok(())
+    tree
+}
+
+// What a write comes to at those limits.
+fn outcome(limits: &str, value: &Value) -> Result<(), WriteFault> {
+    let (five, seven) = (Value::Int(5), Value::Int(7));
+    match limits {
+        "write int 5 7 in" => check_write(Kind::Int, Some(&five), Some(&seven), value, true),
+        "write str 5 5 in" => check_write(Kind::Str, Some(&five), Some(&five), value, true),
+        "write str 7 - out" => check_write(Kind::Str, Some(&seven), None, value, false),
+        _ => check_write(Kind::Str, None, None, value, false),
+    }
+}
+
+fn tell_write(alloc: Global, row: &str, told: &mut String) -> Result<(), AllocError> {
+    let (limits, written) = row.rsplit_once(' ').unwrap_or((row, ""));
+    let value = match written.parse::<i64>() {
+        Ok(number) => Value::Int(number),
+        Err(_) => Value::Str(Text::from_utf8(alloc, written.as_bytes()).unwrap_or(Text::empty())),
+    };
+    told.push_str(match outcome(limits, &value) {
+        Ok(()) => "done",
+        Err(WriteFault::WrongKind) => "WrongKind",
+        Err(WriteFault::Long) => "Long",
+        Err(WriteFault::Below) => "Below",
+        Err(WriteFault::Above) => "Above",
+        Err(WriteFault::NotInRange) => "NotInRange",
+    })
+}
+
+// Whether words take a word, and are copied with it.
+fn takes_word(alloc: Global, word: &str) -> bool {
+    let mut words = Words::new(alloc);
+    let Ok(word) = Text::from_utf8(alloc, word.as_bytes()) else {
+        return false;
+    };
+    let is_taken = words.push(word).is_ok();
+    is_taken && copies_words(&words)
+}
+
+// Whether words are copied.
+fn copies_words(words: &Words) -> bool {
+    match &words.copy() {
+        Ok(copy) => copy.as_slice().len() == 1,
+        Err(_) => false,
+    }
+}
+
+fn deep(alloc: Global, levels: u64) -> Obj {
+    let mut object = Obj::new(alloc, Kind::Obj);
+    for _ in 0..levels {
+        let mut above = Obj::new(alloc, Kind::Obj);
+        let _ = above.push(object);
+        object = above;
+    }
+    object
+}
+
+fn tell_length(alloc: Global, object: &Obj, told: &mut String) -> Result<(), AllocError> {
+    let bytes = encode(alloc, None, object)?;
+    push_number(told, bytes.len() as u64)
+}
+
+// What is so of an object with three children.
+fn is_so_of_three(object: &mut Obj, question: &str) -> bool {
+    match question {
+        "do siblings have different names" => has_three(object),
+        "is an object the same as its copy" => is_copied(object),
+        "is an object another one without its children" => loses_three(object),
+        _ => false,
+    }
+}
+
+// What is so of an int of 5.
+fn is_so_of_five(alloc: Global, count: &Obj, question: &str) -> bool {
+    match question {
+        "has a leaf no href" => is_leaf(&with_leaf(alloc, count)),
+        "has the copy of a head its href" => copies_head(count.head()),
+        "has the copy of a head with a slot no href" => copies_head_with(count.head()),
+        "is a slot copied" => copies_slot(count.slot()),
+        _ => false,
+    }
+}
+
+fn tell_parts(object: &Obj, told: &mut String) -> Result<(), AllocError> {
+    if !is_copied(object) {
+        told.push_str("not copied: ")?;
+    }
+    push_number(told, object.parts())
+}
+
+impl Table for Objects {
+    fn answer(&mut self, alloc: Global, asked: Asked, told: &mut String) -> Result<(), AllocError> {
+        let (what, rest) = asked.text.split_once(' ').unwrap_or((asked.text, ""));
+        let count = rest.parse().unwrap_or(0);
+        match what {
+            "word" if takes_word(alloc, rest) => told.push_str("taken"),
+            "word" => told.push_str("refused"),
+            "write" => tell_write(alloc, asked.text, told),
+            "deep" => tell_length(alloc, &deep(alloc, count), told),
+            "wide" => tell_length(alloc, &wide(alloc, count), told),
+            "tree" => tell_parts(&deep_and_wide(alloc), told),
+            _ if is_so_of_five(alloc, &five(alloc), asked.text) => told.push_str("yes"),
+            _ if is_so_of_three(&mut with_three(alloc), asked.text) => told.push_str("yes"),
+            _ => told.push_str("no"),
+        }
+    }
 }
