@@ -1,5 +1,5 @@
 -- The texts that answer requests (RFC 9112, section 4; RFC 9110, sections 10.2.1 and 15).
-use Rattle.std.specs.Prelude.{ℕ, Bool, ◌==◌, List, [], ◌∷◌, length, codes, decimal, if◌then◌else◌}
+use Rattle.std.specs.Prelude.{◌≡◌, ◌++◌, ℕ, Bool, ◌==◌, List, [], ◌∷◌, length, codes, decimal, if◌then◌else◌}
 use Rattle.std.specs.List.{concat}
 use Rattle.ob_http.specs.declared.fault.FrameFault.{FrameFault}
 use Rattle.ob_http.specs.declared.fault.FrameFault.TheVariants.{Head, HeadBig, NoLength, Length, BodyBig, Memory}
@@ -45,6 +45,10 @@ answer_text line close body =
     ∷ body
     ∷ []
     )
+
+-- a text that only grew, at its end
+abbrev pub Grows : List ℕ → List ℕ → Type 0
+Grows old new = (more : List ℕ) × (new ≡ old ++ more)
 
 -- the answer to what begins no request
 abbrev pub refusal_text : FrameFault → List ℕ

@@ -1,15 +1,15 @@
 //! The texts that answer.
-ghost use Rattle.std.specs.Prelude.{◌≡◌, ◌≢◌, ◌++◌, ◌==◌, List, ℕ, IfOk, OnOk, length, string_bytes};
+ghost use Rattle.std.specs.Prelude.{◌≡◌, ◌≢◌, ◌++◌, ◌==◌, List, ℕ, IfOk, OnOk, OnErr, length, string_bytes};
 ghost use Rattle.std.specs.Fmt as std;
 ghost use Rattle.ob_http.specs.Answer as spec;
-ghost use Rattle.ob_http.specs.Answer.{answer_text, refusal_text};
+ghost use Rattle.ob_http.specs.Answer.{answer_text, refusal_text, Grows};
 ghost use Rattle.ob_http.specs.declared.fault.FrameFault.TheVariants.{Memory};
 
 use crate::fault::FrameFault;
 use std::alloc::{AllocError, Global};
 
 /// How a request was answered.
-#[derive(Clone, Copy, Debug, PartialEq, Eq)]
+#[derive(Clone, Copy, PartialEq, Eq)]
 pub enum StatusLine {
     /// 200.
     Done,
@@ -33,17 +33,52 @@ pub fn write_answer(
 ) -> Result<Vec<u8>, AllocError>
     ensures { IfOk result (λ text. text.items ≡ answer_text line close body.now) }
 {
-    let length = decimal(alloc, body.len())?;
     let mut text = Vec::with_capacity(alloc, HEAD_ROOM)?;
+    append_answer(alloc, &mut text, line, close, body)?;
+    Ok(text)
+}
+
+/// Puts the answer with this status and body behind the text, as `write_answer` writes it. For want of
+/// memory the text stays as it was.
+pub fn append_answer(
+    alloc: Global,
+    text: &mut Vec<u8>,
+    line: StatusLine,
+    close: bool,
+    body: &[u8],
+) -> Result<(), AllocError>
+    ensures ok { OnOk result (text.new.items ≡ text.old.items ++ answer_text line close body.now) }
+    ensures err { OnErr result (text.new.items ≡ text.old.items) }
+{
+    let start = text.len();
+    let digits = decimal(alloc, body.len())?;
+    let done = push_answer(text, line, close, digits.as_bytes(), body);
+    if done.is_err() {
+        text.truncate(start);
+    }
+    done
+}
+
+/// Puts the answer behind the text, or a front of it; the digits are the body's length.
+fn push_answer(
+    text: &mut Vec<u8>,
+    line: StatusLine,
+    close: bool,
+    digits: &[u8],
+    body: &[u8],
+) -> Result<(), AllocError>
+    ensures ok { digits.now ≡ std.decimal (length body.now)
+        → OnOk result (text.new.items ≡ text.old.items ++ answer_text line close body.now) }
+    ensures grows { Grows text.old.items text.new.items }
+{
     push_parts(
-        &mut text,
+        text,
         status_bytes(line),
         type_bytes(line, body.is_empty()),
         b"Content-Length: ",
     )?;
-    push_parts(&mut text, length.as_bytes(), b"\r\n", allow_bytes(line))?;
-    push_parts(&mut text, close_bytes(close), b"\r\n", body)?;
-    Ok(text)
+    push_parts(text, digits, b"\r\n", allow_bytes(line))?;
+    push_parts(text, close_bytes(close), b"\r\n", body)
 }
 
 /// The number in decimal digits.
@@ -53,9 +88,10 @@ pub(crate) fn decimal(alloc: Global, n: usize) -> Result<String, AllocError>
     format!(in alloc; "{n}")
 }
 
-/// Puts three parts behind the text.
+/// Puts three parts behind the text, or a front of them.
 pub(crate) fn push_parts(text: &mut Vec<u8>, a: &[u8], b: &[u8], c: &[u8]) -> Result<(), AllocError>
-    ensures { OnOk result (text.new.items ≡ text.old.items ++ (a.now ++ (b.now ++ c.now))) }
+    ensures ok { OnOk result (text.new.items ≡ text.old.items ++ (a.now ++ (b.now ++ c.now))) }
+    ensures grows { Grows text.old.items text.new.items }
 {
     text.extend_from_slice(a)?;
     text.extend_from_slice(b)?;

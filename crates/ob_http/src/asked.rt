@@ -3,7 +3,6 @@ use crate::media::Media;
 use ob_values::{Bytes, Text};
 
 /// A whole request.
-#[derive(Debug, Drop)]
 pub struct Asked {
     pub method: Text,
     pub target: Bytes,
@@ -12,4 +11,20 @@ pub struct Asked {
     pub close: bool,
     pub media: Media,
     pub body: Bytes,
+}
+
+impl Drop for Asked {
+    // By one call for each part, so that to drop a request is one call to whoever may have to.
+    fn drop(self) {
+        let Asked {
+            method,
+            target,
+            close: _,
+            media: _,
+            body,
+        } = self;
+        drop(method);
+        drop(target);
+        drop(body);
+    }
 }

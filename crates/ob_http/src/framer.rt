@@ -18,12 +18,24 @@ use std::marker::Model;
 ///
 /// A contract sees the bytes that are kept and how many stood before them. The head is read when it
 /// comes, and not again while its body comes.
-#[derive(Drop)]
 pub struct Framer {
     alloc: Global,
     buffer: Buffer,
     place: u64,
     known: Result<Option<HeadPlace>, FrameFault>,
+}
+
+impl Drop for Framer {
+    // By one call, so that to drop a framer is one call to whoever may have to.
+    fn drop(self) {
+        let Framer {
+            alloc: _,
+            buffer,
+            place: _,
+            known: _,
+        } = self;
+        drop(buffer);
+    }
 }
 
 impl Model for Framer {

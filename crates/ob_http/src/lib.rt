@@ -22,7 +22,7 @@ mod request_text;
 mod seen;
 mod target;
 
-pub use answer::{StatusLine, refusal_bytes, write_answer};
+pub use answer::{StatusLine, append_answer, refusal_bytes, write_answer};
 pub use asked::Asked;
 pub use fault::FrameFault;
 pub use framer::Framer;

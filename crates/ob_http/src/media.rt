@@ -1,7 +1,7 @@
 //! The media type of a body.
 
 /// The media type of a body, as the first Content-Type field tells it.
-#[derive(Clone, Copy, Debug, PartialEq, Eq)]
+#[derive(Clone, Copy, PartialEq, Eq)]
 pub enum Media {
     /// There is no such field.
     Absent,

@@ -2,7 +2,7 @@
 use ob_values::Bytes;
 
 /// A whole reply.
-#[derive(Debug, Drop)]
+#[derive(Drop)]
 pub struct Reply {
     /// The three digits of the status, as a number below 1,000.
     pub status: u16,

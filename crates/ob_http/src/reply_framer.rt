@@ -14,11 +14,22 @@ use std::marker::Model;
 /// The bytes of a server that were not taken yet, and the reply at their front.
 ///
 /// A contract sees the bytes that are kept.
-#[derive(Drop)]
 pub struct ReplyFramer {
     alloc: Global,
     buffer: Buffer,
     known: Result<Option<ReplyPlace>, FrameFault>,
+}
+
+impl Drop for ReplyFramer {
+    // By one call, so that to drop a framer is one call to whoever may have to.
+    fn drop(self) {
+        let ReplyFramer {
+            alloc: _,
+            buffer,
+            known: _,
+        } = self;
+        drop(buffer);
+    }
 }
 
 impl Model for ReplyFramer {

@@ -15,7 +15,7 @@ use httparse::Status;
 use httparse::spans::{EMPTY_HEADER_SPAN, HeaderSpan, ResponseSpans, parse_response};
 
 /// What a whole head says, and how long the body behind it is.
-#[derive(Clone, Copy, Debug)]
+#[derive(Clone, Copy)]
 pub(crate) struct ReplyPlace {
     pub(crate) status: u16,
     /// How many bytes the head has.
@@ -114,7 +114,7 @@ fn is_refused_reply(bytes: &[u8]) -> bool
 }
 
 /// A whole reply, lent by the bytes in which it stands.
-#[derive(Clone, Copy, Debug)]
+#[derive(Clone, Copy)]
 pub(crate) struct SeenReply<'a> {
     pub(crate) status: u16,
     pub(crate) body: &'a [u8],

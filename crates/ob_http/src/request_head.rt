@@ -18,7 +18,7 @@ use httparse::Status;
 use httparse::spans::{EMPTY_HEADER_SPAN, HeaderSpan, RequestSpans, Span, parse_request};
 
 /// Where the parts of a whole head stand, and how long the body behind it is.
-#[derive(Clone, Copy, Debug)]
+#[derive(Clone, Copy)]
 pub(crate) struct HeadPlace {
     pub(crate) method: Span,
     pub(crate) target: Span,

@@ -12,7 +12,7 @@ use std::alloc::Global;
 use std::str;
 
 /// A whole request, lent by the bytes in which it stands.
-#[derive(Clone, Copy, Debug)]
+#[derive(Clone, Copy)]
 pub struct Seen<'a> {
     pub method: &'a str,
     pub target: &'a [u8],

@@ -1,11 +1,11 @@
 // Objects in memory. Each holds its content, counts its calls, and fails at the calls of a list of numbers and at no
 // other, the first call being 0.
-ghost use Rattle.std.specs.Prelude.{◌≡◌, ◌<◌, ◌≤◌, ◌+◌, ◌-◌, ◌^◌, min, [], length, drop, take, is_err, IfOk, Some, option_map, string_bytes, option_copied};
+ghost use Rattle.std.specs.Prelude.{◌≡◌, ℕ, List, IfSome, ◌<◌, ◌≤◌, ◌+◌, ◌-◌, ◌^◌, min, [], length, drop, take, is_err, IfOk, Some, option_map, string_bytes, option_copied};
 ghost use Rattle.std.specs.List.{find};
 ghost use Rattle.std.specs.Str.{bytes_eq};
 ghost use Rattle.std.specs.Io.{ReadsAtMost, WritesAtMost};
 ghost use Rattle.std.specs.Io.KnownBytes.{ReadConsumes};
-ghost use Rattle.ob_io.specs.Faults.{Rose, HasCause};
+ghost use Rattle.ob_io.specs.Faults.{Rose, HasCause, HasFileCause, FailsAsPlanned};
 ghost use Rattle.ob_io.specs.Told.{WriteGains};
 
 use crate::{Failed, FileFault, Files, Sink, Source};
@@ -13,17 +13,17 @@ use std::alloc::{AllocError, Global};
 
 /// Calls so far, the calls that are to fail, and how many have failed.
 #[derive(Drop)]
-struct Calls {
+pub(crate) struct Calls {
     made: u64,
     failing: Vec<u64>,
-    faults: u64,
+    pub(crate) faults: u64,
 }
 
 impl Calls {
-    ghost use Rattle.ob_io.specs.Memory.{next_fails};
+    ghost use Rattle.ob_io.specs.Memory.{next_fails, AtFirst};
 
-    fn new(failing: Vec<u64>) -> Calls
-        ensures { (result.faults ≡ 0) × (result.made ≡ 0) × (result.failing ≡ failing) }
+    pub(crate) fn new(failing: Vec<u64>) -> Calls
+        ensures { AtFirst failing result }
     {
         Calls {
             made: 0,
@@ -33,18 +33,21 @@ impl Calls {
     }
 
     // Counts a call, and tells whether it is to fail.
-    fn next(&mut self) -> bool
+    pub(crate) fn next(&mut self) -> bool
         ensures answer { result ≡ next_fails self.old }
-        ensures counted { self.new ≡ record self.old { made = min (self.old.made + 1) (2 ^ 64 - 1) } }
+        ensures counted { self.new
+            ≡ record self.old { made = min (self.old.made + 1) (2 ^ 64 - 1) } }
     {
         let fails = self.failing.contains(&self.made);
         self.made = self.made.saturating_add(1);
         fails
     }
 
-    fn fail(&mut self) -> Failed
+    // Counts a failure.
+    pub(crate) fn fail(&mut self) -> Failed
         ensures rose { Rose self.old.faults self.new.faults }
         ensures later { self.old.faults ≤ self.new.faults }
+        ensures same { (self.new.made ≡ self.old.made) × (self.new.failing ≡ self.old.failing) }
     {
         self.faults = self.faults.saturating_add(1);
         Failed
@@ -63,12 +66,14 @@ pub struct MemSource {
 }
 
 impl MemSource {
-    ghost use Rattle.ob_io.specs.Memory.{source_left};
+    ghost use Rattle.ob_io.specs.Memory.{source_left, AtFirst};
 
     /// A source that fails at the calls of these numbers, and else gives the bytes in pieces of at most `piece`.
     pub fn new(bytes: Vec<u8>, piece: usize, failing: Vec<u64>) -> MemSource
         requires { 0 < piece }
         ensures left { source_left result ≡ bytes.items }
+        ensures pieces { result.piece ≡ piece }
+        ensures calls { AtFirst failing result.calls }
     {
         MemSource {
             bytes,
@@ -80,7 +85,7 @@ impl MemSource {
 }
 
 impl Source for MemSource {
-    ghost use Rattle.ob_io.specs.Memory.{source_left, source_fails};
+    ghost use Rattle.ob_io.specs.Memory.{source_left, source_fails, CountsCall};
 
     ghost left = { λ s. Some (source_left s) };
 
@@ -89,9 +94,11 @@ impl Source for MemSource {
     fn read(&mut self, buf: &mut [u8]) -> Result<usize, Failed>
         requires { 0 < length buf.old }
         ensures bound { ReadsAtMost result buf.new }
-        ensures bytes { ReadConsumes (Some (source_left self.old)) (Some (source_left self.new)) result buf.new }
+        ensures bytes { ReadConsumes (Some (source_left self.old))
+            (Some (source_left self.new)) result buf.new }
         ensures cause { HasCause self.old.calls.faults self.new.calls.faults result }
         ensures planned { is_err result ≡ source_fails self.old }
+        ensures counted { CountsCall self.old.calls self.new.calls }
     {
         if self.calls.next() {
             return Err(self.calls.fail());
@@ -117,12 +124,14 @@ pub struct MemSink {
 }
 
 impl MemSink {
-    ghost use Rattle.ob_io.specs.Memory.{sink_held};
+    ghost use Rattle.ob_io.specs.Memory.{sink_held, AtFirst};
 
     /// An empty sink that fails at the calls of these numbers, and else takes pieces of at most `piece`.
     pub fn new(alloc: Global, piece: usize, failing: Vec<u64>) -> MemSink
         requires { 0 < piece }
         ensures held { sink_held result ≡ Some [] }
+        ensures pieces { result.piece ≡ piece }
+        ensures calls { AtFirst failing result.calls }
     {
         MemSink {
             bytes: Vec::new(alloc),
@@ -145,7 +154,7 @@ impl MemSink {
 }
 
 impl Sink for MemSink {
-    ghost use Rattle.ob_io.specs.Memory.{sink_held, sink_fails};
+    ghost use Rattle.ob_io.specs.Memory.{sink_held, sink_fails, CountsCall};
 
     ghost held = { λ s. sink_held s };
 
@@ -158,6 +167,7 @@ impl Sink for MemSink {
         ensures bytes { WriteGains (sink_held self.old) (sink_held self.new) result piece.now }
         ensures cause { HasCause self.old.calls.faults self.new.calls.faults result }
         ensures planned { is_err result ≡ sink_fails self.old }
+        ensures counted { CountsCall self.old.calls self.new.calls }
     {
         if self.calls.next() {
             let failed = self.calls.fail();
@@ -187,11 +197,12 @@ pub struct MemFiles {
 }
 
 impl MemFiles {
-    ghost use Rattle.ob_io.specs.Memory.{files_of};
+    ghost use Rattle.ob_io.specs.Memory.{files_of, AtFirst};
 
     /// These files, which fail to be read at the calls of these numbers.
     pub fn new(files: Vec<NamedFile>, failing: Vec<u64>) -> MemFiles
-        ensures { files_of result ≡ files.items }
+        ensures files { files_of result ≡ files.items }
+        ensures calls { AtFirst failing result.calls }
     {
         MemFiles {
             files,
@@ -201,7 +212,8 @@ impl MemFiles {
 }
 
 fn file_of<'a>(files: &'a [NamedFile], name: &str) -> Option<&'a NamedFile>
-    ensures { option_copied result ≡ find (λ file. bytes_eq (string_bytes file.name) name.now) files.now }
+    ensures { option_copied result
+        ≡ find (λ file. bytes_eq (string_bytes file.name) name.now) files.now }
 {
     files.iter().find(|file| file.name.as_str() == name)
 }
@@ -214,13 +226,22 @@ fn front_of(alloc: Global, bytes: &[u8], limit: usize) -> Result<Vec<u8>, AllocE
 }
 
 impl Files for MemFiles {
-    ghost use Rattle.ob_io.specs.Memory.{content_of};
+    ghost use Rattle.ob_io.specs.Memory.{content_of, file_fails, CountsCall};
 
     ghost content = { λ s name. content_of s.files.items name };
 
     ghost faults = { λ s. s.calls.faults };
 
-    fn read_file(&mut self, alloc: Global, name: &str, limit: u64) -> Result<Vec<u8>, FileFault> {
+    fn read_file(&mut self, alloc: Global, name: &str, limit: u64) -> Result<Vec<u8>, FileFault>
+        ensures within { IfOk result (λ bytes. length bytes.items ≤ limit) }
+        ensures bytes { IfOk result (λ bytes. IfSome (content_of self.old.files.items name.now)
+            (λ whole. bytes.items ≡ take limit whole)) }
+        ensures same { (name : List ℕ)
+            → content_of self.new.files.items name ≡ content_of self.old.files.items name }
+        ensures cause { HasFileCause self.old.calls.faults self.new.calls.faults result }
+        ensures planned { FailsAsPlanned (file_fails self.old name.now) result }
+        ensures counted { CountsCall self.old.calls self.new.calls }
+    {
         let fails = self.calls.next();
         match file_of(&self.files, name) {
             Some(file) if !fails => match front_of(alloc, &file.bytes, limit as usize) {

@@ -9,3 +9,4 @@ pub mod Leading
 pub mod Turning
 pub mod Refusals
 pub mod Decoding
+pub mod Words

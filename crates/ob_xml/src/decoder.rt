@@ -12,11 +12,22 @@ use std::alloc::Global;
 ///
 /// It takes time in proportion to the bytes fed, whatever the pieces, and memory in proportion to the object and
 /// the construct in hand. After a refusal, also for want of memory, each further call gives the same one.
-#[derive(Drop)]
 pub struct Decoder {
     alloc: Global,
     reading: Reading,
     refused: Option<Refused>,
+}
+
+impl Drop for Decoder {
+    // By one call for each part, so that to drop a decoder is one call to whoever may have to.
+    fn drop(self) {
+        let Decoder {
+            alloc: _,
+            reading,
+            refused: _,
+        } = self;
+        drop(reading);
+    }
 }
 
 /// The refusal; want of memory is told at the number of bytes fed.

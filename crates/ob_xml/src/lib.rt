@@ -17,6 +17,7 @@ mod open;
 mod reading;
 mod refused;
 mod state;
+mod words;
 
 pub use decoder::Decoder;
 pub use doc::Doc;

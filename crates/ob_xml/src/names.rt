@@ -14,10 +14,18 @@ use std::marker::Model;
 const MAX_SHORT: usize = 15;
 
 /// Names, seen as a set. A short one is kept as a number, which is compared at once and takes no memory of its own.
-#[derive(Drop)]
 pub struct Names {
     short: BTreeSet<u128>,
     long: BTreeSet<Vec<u8>>,
+}
+
+impl Drop for Names {
+    // By one call for each part, so that to drop names is one call to whoever may have to.
+    fn drop(self) {
+        let Names { short, long } = self;
+        drop(short);
+        drop(long);
+    }
 }
 
 impl Model for Names {

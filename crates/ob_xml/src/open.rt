@@ -14,10 +14,18 @@ use std::marker::Model;
 
 /// An element whose end tag hasn't come, with the names of its children. It is seen as the object so far, which stands in
 /// a box, so that the element is moved at little cost.
-#[derive(Drop)]
 pub struct Open {
     obj: Box<Obj>,
     names: Names,
+}
+
+impl Drop for Open {
+    // By one call for each part, so that to drop an element is one call to whoever may have to.
+    fn drop(self) {
+        let Open { obj, names } = self;
+        drop(obj);
+        drop(names);
+    }
 }
 
 impl Model for Open {

@@ -19,7 +19,6 @@ pub const MAX_LEN: u64 = 16_777_216;
 
 /// What has been read, the bytes from the first one of what isn't whole on, and where among them the construct stands that
 /// isn't whole.
-#[derive(Drop)]
 pub struct Reading {
     pub state: State,
     pub kept: Vec<u8>,
@@ -31,6 +30,21 @@ pub struct Reading {
     ghost small: { base + vec_len kept ≤ 16777216 },
     ghost unfinished: { is_open (state_of state) ≡ true } by { Coded-set coded_bool (is_open (state_of state)) true },
     ghost sound: { IsSound (state_of state) } by { IsSound-prop (state_of state) },
+}
+
+impl Drop for Reading {
+    // By one call for each part, so that to drop what was read is one call to whoever may have to.
+    fn drop(self) {
+        let Reading {
+            state,
+            kept,
+            base: _,
+            at: _,
+            wait: _,
+        } = self;
+        drop(state);
+        drop(kept);
+    }
 }
 
 /// The bytes with a piece behind them.

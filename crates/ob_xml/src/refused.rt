@@ -4,45 +4,36 @@ ghost use Rattle.std.specs.Prelude.{◌≡◌};
 
 use ob_values::ValueFault;
 use std::alloc::{AllocError, AllocFailed};
-use thiserror::Error;
+use std::error::Error;
 
 /// The cause of a refusal.
-#[derive(Clone, Copy, Debug, PartialEq, Eq, Error)]
+#[derive(Clone, Copy, Debug, PartialEq, Eq)]
 pub enum Why {
     /// A construct is malformed, or stands where none may.
-    #[error("Markup")]
     Markup,
     /// The kind of a tag isn't one of the sixteen.
-    #[error("Element")]
     Element,
     /// An end tag of another kind.
-    #[error("Mismatch")]
     Mismatch,
     /// A second attribute of one name in one tag.
-    #[error("Twice")]
     Twice,
     /// A second child of one name in one element.
-    #[error("SameName")]
     SameName,
     /// The value of an attribute can't be read.
-    #[error("Value {0}")]
     Value(ValueFault),
     /// Something other than white space between tags.
-    #[error("Text")]
     Text,
     /// A start tag at level 33.
-    #[error("Deep")]
     Deep,
     /// More than 16,777,216 bytes.
-    #[error("Big")]
     Big,
     /// The input ends before the document does.
-    #[error("Ended")]
     Ended,
     /// There was no memory. The place is then the number of bytes fed.
-    #[error("Memory")]
     Memory,
 }
+
+impl Error for Why {}
 
 impl From<AllocError> for Why {
     ghost use Rattle.ob_xml.specs.declared.refused.Why.TheVariants.{Memory};
@@ -65,9 +56,10 @@ impl<T: Drop> From<AllocFailed<T>> for Why {
 }
 
 /// The place, in bytes from the start of the document, and the cause of the first refused construct.
-#[derive(Clone, Copy, Debug, PartialEq, Eq, Error)]
-#[error("{why} at {at}")]
+#[derive(Clone, Copy, Debug, PartialEq, Eq)]
 pub struct Refused {
     pub at: u64,
     pub why: Why,
 }
+
+impl Error for Refused {}
