@@ -1,5 +1,5 @@
 -- What is made of names and contracts fits its kind.
-use Rattle.std.proofs.Common.{◌≡◌, ℕ, Bool, true, false, ◌&&◌, List, [], ◌∷◌, refl}
+use Rattle.std.proofs.Common.{◌≡◌, ℕ, Bool, true, false, ◌&&◌, List, refl}
 use Rattle.std.specs.Prelude.{Option, Some, None}
 use Rattle.ob_times.specs.Times.{Instant}
 use Rattle.ob_values.specs.XmlText.{is_printable}

@@ -4,7 +4,7 @@ use Rattle.std.specs.Prelude.{Option, Some, None, is_none}
 use Rattle.std.specs.List.{list_all}
 use Rattle.std.proofs.lemmas.List.{take_more, take_all, append-nil}
 use Rattle.ob_object.specs.declared.head.Head.{Head}
-use Rattle.ob_object.specs.Object.{Object, Objects, in_row, children, in_row-listed, listed-in_row}
+use Rattle.ob_object.specs.Object.{Object, in_row, children, listed-in_row}
 use Rattle.ob_object.specs.WellFormed.{is_taken, with_child}
 use Rattle.ob_answers.specs.Names.{are_new}
 

@@ -1,5 +1,5 @@
 -- The children of a watch, from the path of the watch.
-use Rattle.std.specs.Prelude.{ℕ, pos, codes, ◌++◌, Some, true}
+use Rattle.std.specs.Prelude.{ℕ, pos, codes, List, [], ◌∷◌, ◌++◌, Some, true}
 use Rattle.ob_values.specs.declared.value.Value.{Value}
 use Rattle.ob_values.specs.declared.value.Value.TheVariants as value
 use Rattle.ob_object.specs.declared.kind.Kind.TheVariants as kind
@@ -33,3 +33,14 @@ child_at path lease RemoveOp = op_of_watch path (codes "remove") (codes "obix:Wa
 child_at path lease PollChangesOp = op_of_watch path (codes "pollChanges") (codes "obix:Nil") (codes "obix:WatchOut")
 child_at path lease PollRefreshOp = op_of_watch path (codes "pollRefresh") (codes "obix:Nil") (codes "obix:WatchOut")
 child_at path lease DeleteOp = op_of_watch path (codes "delete") (codes "obix:Nil") (codes "obix:Nil")
+
+-- the lease, and then the ops
+abbrev pub children_at : Path → ℕ → List Object
+children_at path lease =
+    child_at path lease Lease
+    ∷ child_at path lease AddOp
+    ∷ child_at path lease RemoveOp
+    ∷ child_at path lease PollChangesOp
+    ∷ child_at path lease PollRefreshOp
+    ∷ child_at path lease DeleteOp
+    ∷ []

@@ -9,7 +9,7 @@ use std::alloc::{AllocError, Global};
 /// A contract of oBIX that an object of the server names.
 ///
 /// Source: oBIX 1.1, chapters 4, 5, 10 and 12 to 15.
-#[derive(Clone, Copy, PartialEq, Eq, Debug)]
+#[derive(Clone, Copy, PartialEq, Eq)]
 pub enum Contract {
     Nil,
     About,

@@ -13,7 +13,7 @@ use std::alloc::{AllocError, Global};
 ///
 /// Source: oBIX 1.1, chapter 10 (Networking: errors). Which err answers which refusal, and its words,
 /// are this profile's own.
-#[derive(Clone, Copy, PartialEq, Eq, Debug)]
+#[derive(Clone, Copy, PartialEq, Eq)]
 pub enum Fault {
     /// The path names nothing.
     NoSuchObject,

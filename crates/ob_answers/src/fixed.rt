@@ -1,9 +1,12 @@
 //! About, Nil, and the objects of the lobby, of batches and of acknowledgements.
-ghost use Rattle.std.specs.Prelude.{◌≡◌, ◌++◌, ◌∷◌, [], IsTrue, IfOk, true, is_none, find, bytes_eq, option_copied};
+ghost use Rattle.std.specs.Prelude.{◌≡◌, ◌++◌, ◌∷◌, [], Some, codes, IsTrue, IfOk, true, is_none, find, bytes_eq, option_copied};
 ghost use Rattle.std.specs.List.{list_all};
 ghost use Rattle.ob_values.specs.XmlText.{is_printable};
 ghost use Rattle.ob_alarms.specs.AlarmObjects.{alarm_path, ack_child};
 ghost use Rattle.ob_site_rules.specs.Computed.{nil_object, about_text, about_str, about_uri, about_object, batch_op, make_op, service_object, ack_out, batch_out};
+ghost use Rattle.ob_object.specs.declared.kind.Kind.TheVariants as kind;
+ghost use Rattle.ob_site_rules.specs.Build.{valued, text_slot, time_slot};
+ghost use Rattle.ob_times.specs.Times.{moment_instant};
 ghost use Rattle.ob_answers.specs.Plans.{plan as plan_of};
 ghost use Rattle.ob_answers.specs.Names.{is_name};
 ghost use Rattle.ob_answers.specs.Abouts.{server_children, vendor_children, product_children};
@@ -83,6 +86,28 @@ fn put_uri(
     )
 }
 
+/// Puts the version of oBIX last.
+fn put_version(alloc: Global, objects: &mut Vec<Obj>) -> Result<(), AllocError>
+    ensures { IfOk result (λ _. objects.new.items ≡ objects.old.items ++ valued kind.Str (codes "obixVersion") (text_slot (codes "1.1")) ∷ []) }
+{
+    let version = Text::from_ascii(alloc, "1.1")?;
+    let slot = Slot::Is(Value::Str(version));
+    put(objects, valued(alloc, Kind::Str, "obixVersion", slot)?)
+}
+
+/// Puts a time of About last.
+fn put_time(
+    alloc: Global,
+    objects: &mut Vec<Obj>,
+    name: &str,
+    time: Moment,
+) -> Result<(), AllocError>
+    requires { IsTrue (is_name name.now) }
+    ensures { IfOk result (λ _. objects.new.items ≡ objects.old.items ++ valued kind.Abstime name.now (time_slot (Some (moment_instant time))) ∷ []) }
+{
+    put(objects, timed(alloc, name, Some(time.abstime()))?)
+}
+
 /// What About says of the server itself, as its first children.
 fn put_server(
     alloc: Global,
@@ -93,22 +118,10 @@ fn put_server(
     requires { objects.old.items ≡ [] }
     ensures { IfOk result (λ _. objects.new.items ≡ server_children (plan_of plan.now) now) }
 {
-    let version = Text::from_ascii(alloc, "1.1")?;
-    put(
-        objects,
-        valued(
-            alloc,
-            Kind::Str,
-            "obixVersion",
-            Slot::Is(Value::Str(version)),
-        )?,
-    )?;
+    put_version(alloc, objects)?;
     put_str(alloc, objects, plan, "serverName", "obix")?;
-    put(objects, timed(alloc, "serverTime", Some(now.abstime()))?)?;
-    put(
-        objects,
-        timed(alloc, "serverBootTime", Some(plan.boot.abstime()))?,
-    )
+    put_time(alloc, objects, "serverTime", now)?;
+    put_time(alloc, objects, "serverBootTime", plan.boot)
 }
 
 /// What About says of the vendor.
@@ -147,12 +160,12 @@ fn put_product(
 pub fn about(alloc: Global, plan: &Plan, now: Moment) -> Result<Obj, AllocError>
     ensures { IfOk result (λ o. o ≡ about_object (plan_of plan.now) now) }
 {
-    let path = plan.root.followed_by(alloc, "about")?;
-    let head = obj_head(alloc, Some(path), Contract::About)?;
     let mut children = Vec::new(alloc);
     put_server(alloc, &mut children, plan, now)?;
     put_vendor(alloc, &mut children, plan, now)?;
     put_product(alloc, &mut children, plan, now)?;
+    let path = plan.root.followed_by(alloc, "about")?;
+    let head = obj_head(alloc, Some(path), Contract::About)?;
     whole(alloc, head, children)
 }
 

@@ -1,9 +1,9 @@
 //! Watches, and what they answer.
-ghost use Rattle.std.specs.Prelude.{◌≡◌, ◌<◌, ◌^◌, ◌++◌, Some, true, is_none, IsTrue, IfOk};
+ghost use Rattle.std.specs.Prelude.{◌≡◌, ◌<◌, ◌^◌, [], ◌∷◌, ◌++◌, Some, true, is_none, IsTrue, IfOk};
 ghost use Rattle.std.specs.List.{list_all};
 ghost use Rattle.ob_site_rules.specs.Build.{op_at, under_href};
 ghost use Rattle.ob_site_rules.specs.Computed.{watch_object, watch_part_object, watch_out};
-ghost use Rattle.ob_answers.specs.WatchChildren.{span_value, lease_at, child_at};
+ghost use Rattle.ob_answers.specs.WatchChildren.{span_value, lease_at, child_at, children_at};
 ghost use Rattle.ob_answers.specs.Names.{is_name};
 ghost use Rattle.ob_answers.specs.Plans.{plan as plan_of};
 ghost use Rattle.ob_answers.specs.Told as told;
@@ -96,6 +96,39 @@ fn child(alloc: Global, path: &Text, lease: u64, part: WatchPart) -> Result<Obj,
     }
 }
 
+/// Puts a part of a watch last.
+fn put_child(
+    alloc: Global,
+    children: &mut Vec<Obj>,
+    path: &Text,
+    lease: u64,
+    part: WatchPart,
+) -> Result<(), AllocError>
+    requires { lease < 2 ^ 63 }
+    ensures { IfOk result (λ _. children.new.items ≡ children.old.items ++ child_at path.now lease (told.part part) ∷ []) }
+{
+    put(children, child(alloc, path, lease, part)?)
+}
+
+/// Puts the lease and the ops of a watch where nothing is.
+fn put_children(
+    alloc: Global,
+    children: &mut Vec<Obj>,
+    path: &Text,
+    lease: u64,
+) -> Result<(), AllocError>
+    requires lease { lease < 2 ^ 63 }
+    requires empty { children.old.items ≡ [] }
+    ensures { IfOk result (λ _. children.new.items ≡ children_at path.now lease) }
+{
+    put_child(alloc, children, path, lease, WatchPart::Lease)?;
+    put_child(alloc, children, path, lease, WatchPart::Add)?;
+    put_child(alloc, children, path, lease, WatchPart::Remove)?;
+    put_child(alloc, children, path, lease, WatchPart::PollChanges)?;
+    put_child(alloc, children, path, lease, WatchPart::PollRefresh)?;
+    put_child(alloc, children, path, lease, WatchPart::Delete)
+}
+
 /// A watch, with its lease in nanoseconds.
 ///
 /// Source: oBIX 1.1, chapter 12 (Watch).
@@ -104,26 +137,9 @@ pub fn watch(alloc: Global, plan: &Plan, number: u64, lease: u64) -> Result<Obj,
     ensures { IfOk result (λ o. o ≡ watch_object (plan_of plan.now) number lease) }
 {
     let path = watch_path(alloc, &plan.root, number)?;
-    let head = obj_head(alloc, Some(path.copy()?), Contract::Watch)?;
     let mut children = Vec::new(alloc);
-    put(&mut children, child(alloc, &path, lease, WatchPart::Lease)?)?;
-    put(&mut children, child(alloc, &path, lease, WatchPart::Add)?)?;
-    put(
-        &mut children,
-        child(alloc, &path, lease, WatchPart::Remove)?,
-    )?;
-    put(
-        &mut children,
-        child(alloc, &path, lease, WatchPart::PollChanges)?,
-    )?;
-    put(
-        &mut children,
-        child(alloc, &path, lease, WatchPart::PollRefresh)?,
-    )?;
-    put(
-        &mut children,
-        child(alloc, &path, lease, WatchPart::Delete)?,
-    )?;
+    put_children(alloc, &mut children, &path, lease)?;
+    let head = obj_head(alloc, Some(path), Contract::Watch)?;
     whole(alloc, head, children)
 }
 

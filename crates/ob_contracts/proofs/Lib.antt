@@ -5,6 +5,8 @@ pub mod Distinct
 pub mod Fitting
 pub mod Missing
 pub mod Names
+pub mod Kinship
+pub mod Known
 pub mod Parts
 pub mod Sources
 pub mod Added

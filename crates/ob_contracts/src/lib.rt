@@ -11,8 +11,11 @@ ghost use Rattle.ob_contracts.specs.Rows.{FirstContractWins, ChildOverrides, Ite
 mod adding;
 mod ancestry;
 mod build;
+mod copies;
 mod inherited;
+mod kin;
 mod library;
+mod named;
 mod reading;
 mod standard;
 

@@ -1,7 +1,7 @@
 -- A text that is written with its references, run by run.
 use Rattle.std.proofs.Common.{◌≡◌, ℕ, ◌+◌, ◌-◌, ◌<◌, ◌≤◌, List, [], ◌∷◌, ◌++◌, length, take, drop, get_or, ap, sym, ◌∙◌, append_assoc, arith, add-one}
 use Rattle.std.proofs.Math.Seq.{drop-cons}
-use Rattle.std.proofs.lemmas.List.{take_more, get_or-drop, length-drop, append-nil}
+use Rattle.std.proofs.lemmas.List.{take_more, take_all, at_drop_all, get_or-drop, length-drop, append-nil}
 use Rattle.ob_encode.specs.Escaped.{escape, escaped}
 
 -- the run between two places
@@ -45,3 +45,16 @@ escaped_byte out one two reference old text start i h is p q e =
     ∙ ap (λ (r : List ℕ). (out ++ run text start i) ++ (r ++ rest)) (sym is)
     ∙ ap (λ (r : List ℕ). (out ++ run text start i) ++ r) (sym (next_byte text i h))
     ∙ e
+
+-- and behind the last byte the run is the rest
+pub last_run : (out new old text : List ℕ) (start i : ℕ) → start ≤ i → length text ≤ i → new ≡ out ++ run text start (length text)
+    → (out ++ run text start i) ++ escaped (drop i text) ≡ old → new ≡ old
+last_run out new old text start i le h p e =
+    p
+    ∙ ap (λ (r : List ℕ). out ++ r) (whole (length text) (omega arith) ∙ sym (whole i h))
+    ∙ sym (append-nil (out ++ run text start i))
+    ∙ ap (λ (r : List ℕ). (out ++ run text start i) ++ r) (sym (at_drop_all escaped text i h))
+    ∙ e
+  where
+    whole : (n : ℕ) → length text ≤ n → run text start n ≡ drop start text
+    whole n k = take_all (n - start) (drop start text) (omega (arith, length-drop start text))

@@ -1,9 +1,10 @@
 //! Records of histories.
-ghost use Rattle.std.specs.Prelude.{◌≡◌, ◌∷◌, [], Some, map, option_map, option_copied, IsTrue, IfOk};
+ghost use Rattle.std.specs.Prelude.{◌≡◌, ◌∷◌, ◌++◌, [], Some, map, option_map, option_copied, IsTrue, IfOk};
 ghost use Rattle.circular_buffer.specs.Buffer.{last_item};
 ghost use Rattle.ob_object.specs.Fits.{fits_slot};
 ghost use Rattle.ob_site_rules.specs.Entries.{record_object, records_out};
 ghost use Rattle.ob_site_rules.specs.Shown.{history_children};
+ghost use Rattle.ob_entries.specs.Histories.{span_children, query_child, feed_child};
 ghost use Rattle.ob_entries.specs.Queries.{values_fit};
 
 use crate::query::{is_asked, query_out};
@@ -75,6 +76,36 @@ fn time_of(kept: Option<&Record>) -> Option<Abstime>
     }
 }
 
+/// Puts how many records a history keeps, and the first and the last of their times, where nothing is.
+fn put_span(alloc: Global, children: &mut Vec<Obj>, records: &[Record]) -> Result<(), AllocError>
+    requires { children.old.items ≡ [] }
+    ensures { IfOk result (λ _. children.new.items ≡ span_children records.now) }
+{
+    put(children, count_child(alloc, records.len() as u64)?)?;
+    put(children, timed(alloc, "start", time_of(records.first()))?)?;
+    put(children, timed(alloc, "end", time_of(records.last()))?)
+}
+
+/// Puts the query of a history last.
+fn put_query(alloc: Global, children: &mut Vec<Obj>, path: &Text) -> Result<(), AllocError>
+    ensures { IfOk result (λ _. children.new.items ≡ children.old.items ++ query_child path.now ∷ []) }
+{
+    let path = below(alloc, path, "query")?;
+    let takes = Contract::HistoryFilter;
+    let gives = Contract::HistoryQueryOut;
+    put(children, op_at(alloc, "query", path, takes, gives)?)
+}
+
+/// Puts the feed of a history last.
+fn put_feed(alloc: Global, children: &mut Vec<Obj>, path: &Text) -> Result<(), AllocError>
+    ensures { IfOk result (λ _. children.new.items ≡ children.old.items ++ feed_child path.now ∷ []) }
+{
+    let path = below(alloc, path, "feed")?;
+    let of = Contract::HistoryRecord;
+    let takes = Contract::HistoryFilter;
+    put(children, feed_at(alloc, "feed", path, of, takes)?)
+}
+
 /// What a history has of its kept records.
 ///
 /// Source: oBIX 1.1, chapter 14 (History).
@@ -86,22 +117,8 @@ pub fn history_children(
     ensures { IfOk result (λ os. os.items ≡ history_children path.now records.now) }
 {
     let mut children = Vec::new(alloc);
-    put(&mut children, count_child(alloc, records.len() as u64)?)?;
-    put(
-        &mut children,
-        timed(alloc, "start", time_of(records.first()))?,
-    )?;
-    put(&mut children, timed(alloc, "end", time_of(records.last()))?)?;
-    let query = below(alloc, path, "query")?;
-    let filter = Contract::HistoryFilter;
-    put(
-        &mut children,
-        op_at(alloc, "query", query, filter, Contract::HistoryQueryOut)?,
-    )?;
-    let feed = below(alloc, path, "feed")?;
-    put(
-        &mut children,
-        feed_at(alloc, "feed", feed, Contract::HistoryRecord, filter)?,
-    )?;
+    put_span(alloc, &mut children, records)?;
+    put_query(alloc, &mut children, path)?;
+    put_feed(alloc, &mut children, path)?;
     Ok(children)
 }

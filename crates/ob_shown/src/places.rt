@@ -1,5 +1,6 @@
 //! What a path names: the computed paths first, then the nodes.
-ghost use Rattle.std.specs.Prelude.{◌≡◌, ◌++◌, option_map, option_copied, slice_get, IfOk};
+ghost use Rattle.std.specs.Prelude.{◌≡◌, ◌++◌, option_map, option_copied, slice_get, bytes_eq, IsTrue, IfOk};
+ghost use Rattle.ob_values.specs.XmlText.{is_printable};
 ghost use Rattle.ob_alarms.specs.States.{needs_ack};
 ghost use Rattle.ob_alarms.specs.Changes.{alarm_of};
 ghost use Rattle.ob_answers.specs.Plans.{plan as plan_of};
@@ -17,28 +18,29 @@ use ob_state::State;
 use ob_values::Text;
 use std::alloc::{AllocError, Global};
 
+/// Whether a path is the root's with this behind it.
+fn is_behind_root(alloc: Global, plan: &Plan, tail: &str, path: &Text) -> Result<bool, AllocError>
+    requires { IsTrue (is_printable tail.now) }
+    ensures { IfOk result (λ is. is ≡ bytes_eq ((plan_of plan.now).root ++ tail.now) path.now) }
+{
+    let own = plan.root.followed_by(alloc, tail)?;
+    Ok(own.as_str() == path.as_str())
+}
+
 /// The place of those whose paths the root's alone computes.
 fn fixed_place(alloc: Global, plan: &Plan, path: &Text) -> Result<Option<Place>, AllocError>
     ensures { IfOk result (λ place. option_map place_of place ≡ at path.now (fixed_places (plan_of plan.now))) }
 {
-    if plan.root.followed_by(alloc, "about")?.is(path.as_str()) {
+    if is_behind_root(alloc, plan, "about", path)? {
         return Ok(Some(Place::About));
     }
-    if plan.root.followed_by(alloc, "batch")?.is(path.as_str()) {
+    if is_behind_root(alloc, plan, "batch", path)? {
         return Ok(Some(Place::Batch));
     }
-    if plan
-        .root
-        .followed_by(alloc, "watchService")?
-        .is(path.as_str())
-    {
+    if is_behind_root(alloc, plan, "watchService", path)? {
         return Ok(Some(Place::Service));
     }
-    if plan
-        .root
-        .followed_by(alloc, "watchService/make")?
-        .is(path.as_str())
-    {
+    if is_behind_root(alloc, plan, "watchService/make", path)? {
         return Ok(Some(Place::Make));
     }
     Ok(None)

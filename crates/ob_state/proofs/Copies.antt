@@ -1,5 +1,5 @@
 -- Lists that are made element by element.
-use Rattle.std.proofs.Common.{◌≡◌, ℕ, zero, suc, ◌+◌, ◌<◌, ◌≤◌, Bool, true, false, cond, ◌&&◌, List, [], ◌∷◌, ◌++◌, map, length, take, drop, get_or, Option, Some, None, option_map, refl, sym, ap, ◌∙◌, arith, add-one}
+use Rattle.std.proofs.Common.{◌≡◌, ℕ, zero, suc, ◌+◌, ◌<◌, ◌≤◌, Bool, true, false, cond, ◌&&◌, List, [], ◌∷◌, ◌++◌, map, length, take, drop, get_or, Some, None, option_map, refl, sym, ap, ◌∙◌, arith, add-one}
 use Rattle.std.specs.Prelude.{find}
 use Rattle.std.specs.List.{list_all}
 use Rattle.std.specs.Str.{bytes_eq}
@@ -21,6 +21,18 @@ more f g done xs i x y lt is so_far same =
 
 pub whole : {A B C : Type 0} (f : A → B) (g : C → B) (done : List C) (xs : List A) (i : ℕ) → length xs ≤ i → map g done ≡ map f (take i xs) → map g done ≡ map f xs
 whole f g done xs i end so_far = so_far ∙ ap (map f) (take_all i xs end)
+
+-- the same of elements that are seen as they are
+pub one_more : {A : Type 0} (done new xs : List A) (i : ℕ) (x y : A) → i < length xs → x ≡ get_or xs i x → y ≡ x → new ≡ done ++ y ∷ [] → done ≡ take i xs → new ≡ take (i + 1) xs
+one_more done new xs i x y lt is same put so_far =
+    put ∙ ap (λ l. l ++ y ∷ []) so_far ∙ ap (λ z. take i xs ++ z ∷ []) (same ∙ is) ∙ sym (take_more xs i x lt)
+
+pub all_there : {A : Type 0} (done xs : List A) (i : ℕ) → length xs ≤ i → done ≡ take i xs → done ≡ xs
+all_there done xs i end so_far = so_far ∙ take_all i xs end
+
+-- a log under its path, copied or rolled
+pub same_entry : (p q : Path) (l : Log) (m : SiteLog) → p ≡ q → log_of l ≡ m → entry_of (p, l) ≡ (q, m)
+same_entry p q l m path log = ap (λ r. (r, log_of l)) path ∙ ap (λ n. (q, n)) log
 
 -- a log under its path, rolled
 abbrev pub rolled_entry : Path × Log → Path × SiteLog

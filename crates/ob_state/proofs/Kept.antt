@@ -1,5 +1,5 @@
 -- A write keeps what the state owes its plan.
-use Rattle.std.proofs.Common.{◌≡◌, ℕ, zero, suc, ◌+◌, ◌<◌, Bool, true, false, not, ◌&&◌, ◌||◌, cond, List, [], ◌∷◌, ◌++◌, map, length, Option, Some, None, option_map, refl, sym, ap, ◌∙◌, subst, true≢false, IsTrue, add-one}
+use Rattle.std.proofs.Common.{◌≡◌, ℕ, ◌+◌, Bool, true, false, not, ◌||◌, cond, List, [], ◌∷◌, ◌++◌, map, Option, Some, None, option_map, refl, sym, ap, ◌∙◌, subst, true≢false, IsTrue, add-one}
 use Rattle.std.specs.Prelude.{ℤ, slice_get, is_some}
 use Rattle.std.specs.Str.{bytes_eq}
 use Rattle.std.proofs.lemmas.List.{map-append}
@@ -11,22 +11,22 @@ use Rattle.ob_object.specs.declared.kind.Kind.TheVariants as kind
 use Rattle.ob_object.specs.declared.head.Head.{Head}
 use Rattle.ob_object.specs.declared.head.Slot.{Slot}
 use Rattle.ob_object.specs.declared.head.Slot.TheVariants.{Absent, Null, Is}
-use Rattle.ob_object.specs.Kinds.{same_kind, kind_of}
-use Rattle.ob_object.specs.Fits.{fits_slot, fits_value}
-use Rattle.ob_object.specs.Object.{Object, Objects, none, node, listed, in_row}
+use Rattle.ob_object.specs.Kinds.{kind_of}
+use Rattle.ob_object.specs.Fits.{fits_slot}
+use Rattle.ob_object.specs.Object.{Object, Objects, none, node, listed}
 use Rattle.ob_contracts.specs.Inherit.{or_else, only_if}
 use Rattle.ob_alarms.specs.declared.rule.Num.{Num}
 use Rattle.ob_alarms.specs.declared.rule.Num.TheVariants as num
 use Rattle.ob_alarms.specs.declared.rule.Rule.{Rule}
-use Rattle.ob_alarms.specs.Limits.{Takes, TakenBy, IsOfKind, same_kind as same_kind_num}
+use Rattle.ob_alarms.specs.Limits.{TakenBy, IsOfKind, same_kind as same_kind_num}
 use Rattle.ob_alarms.specs.Lists.{first_place}
-use Rattle.ob_alarms.specs.Changes.{State as Board, turn, on_value, outside_of, current}
+use Rattle.ob_alarms.specs.Changes.{State as Board, turn, outside_of, current}
 use Rattle.ob_history.specs.Records.{is_value_kind}
 use Rattle.ob_site_rules.specs.Build.{Path}
 use Rattle.ob_site_rules.specs.State.{Plan, PointRule, State as SiteState, Log as SiteLog, is_path, numbered_from, board}
 use Rattle.ob_site_rules.specs.Shown.{node_path, node_in, node_of, rule_of, shown, derived}
-use Rattle.ob_site_rules.specs.Writes.{with_slot, with_slot_in, recorded, board_by, board_after, number_in, write, site_contracts}
-use Rattle.ob_state.specs.States.{state_of, unspared, entry_of, NamesAreFree, NodesAre, IsOfKindAt, AreCounted, IsOf, limits_fit, rule_at, rule_in, is_int}
+use Rattle.ob_site_rules.specs.Writes.{with_slot, with_slot_in, recorded, board_by, number_in}
+use Rattle.ob_state.specs.States.{state_of, unspared, entry_of, NamesAreFree, NodesAre, IsOfKindAt, AreCounted, IsOf, limits_fit, rule_in, is_int}
 use Rattle.ob_state.specs.declared.state.State.{State}
 use Rattle.ob_contracts.specs.Standard.{standard}
 use Rattle.ob_state.proofs.Slots.{unslotted, unslotted_row, taken_whatever}

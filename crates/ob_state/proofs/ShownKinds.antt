@@ -1,23 +1,16 @@
 -- What is shown at a path is of the kind of the nodes there.
-use Rattle.std.proofs.Common.{◌≡◌, ℕ, zero, suc, ◌+◌, Bool, true, false, not, ◌&&◌, ◌||◌, cond, List, [], ◌∷◌, ◌++◌, map, length, Option, Some, None, option_map, refl, sym, ap, ◌∙◌, subst, true≢false, IsTrue}
-use Rattle.std.specs.Prelude.{slice_get}
+use Rattle.std.proofs.Common.{◌≡◌, ℕ, Bool, true, false, not, ◌&&◌, ◌||◌, cond, List, [], ◌∷◌, ◌++◌, map, length, Option, Some, None, refl, sym, ap, ◌∙◌, subst, true≢false}
 use Rattle.std.specs.Str.{bytes_eq}
 use Rattle.std.proofs.lemmas.Slice.Eq.{bytes_eq-Decides}
-use Rattle.ob_values.specs.declared.value.Value.{Value}
-use Rattle.ob_values.specs.declared.value.Value.TheVariants as value
 use Rattle.ob_object.specs.declared.kind.Kind.{Kind}
-use Rattle.ob_object.specs.declared.kind.Kind.TheVariants as kind
 use Rattle.ob_object.specs.declared.head.Head.{Head}
-use Rattle.ob_object.specs.declared.head.Slot.{Slot}
-use Rattle.ob_object.specs.declared.head.Slot.TheVariants.{Absent, Null, Is}
-use Rattle.ob_object.specs.Kinds.{same_kind, kind_of, is_ref}
-use Rattle.ob_object.specs.Fits.{fits_slot, fits_value}
+use Rattle.ob_object.specs.Kinds.{is_ref}
 use Rattle.ob_object.specs.Object.{Object, Objects, none, node, listed, in_row, in_row-listed}
-use Rattle.ob_contracts.specs.Inherit.{Contracts, Words, or_else, only_if, sources, overridden, implied_by, inherited_head, row_results, result_of, missing, bare, bare_row, row_with_defaults, head_with_default, effective_of}
+use Rattle.ob_contracts.specs.Inherit.{Contracts, Words, or_else, only_if, sources, overridden, implied_by, inherited_head, row_results, result_of, missing, bare, bare_row, row_with_defaults, effective_of}
 use Rattle.ob_history.specs.Records.{is_value_kind}
 use Rattle.ob_site_rules.specs.Build.{Path}
 use Rattle.ob_site_rules.specs.State.{Plan, State as SiteState, Log as SiteLog, at, is_among, is_path}
-use Rattle.ob_site_rules.specs.Shown.{is_err, node_path, lobby_children, write_point_op, history_children, history_part, subject_children, derived, derived_at, with_status_by, with_status_at, with_status, with_roles, dressed, shown_root, node_in, node_of, shown, rule_of}
+use Rattle.ob_site_rules.specs.Shown.{is_err, node_path, lobby_children, write_point_op, history_part, subject_children, derived, with_status_by, with_status_at, with_status, with_roles, dressed, shown_root, node_in, shown, rule_of}
 use Rattle.ob_state.specs.States.{IsOfKindAt, NodesAre}
 
 module _ (kind_at : Path → Kind) where

@@ -1,5 +1,5 @@
 -- Whether contracts are taken doesn't depend on the values in them.
-use Rattle.std.proofs.Common.{◌≡◌, ℕ, ℤ, ◌+◌, Bool, true, false, not, ◌&&◌, ◌||◌, cond, List, [], ◌∷◌, ◌++◌, map, filter, Option, Some, None, option_map, refl, sym, ap, ◌∙◌, subst}
+use Rattle.std.proofs.Common.{◌≡◌, ℤ, ◌+◌, Bool, true, false, not, ◌&&◌, ◌||◌, cond, List, [], ◌∷◌, ◌++◌, map, filter, Option, Some, None, option_map, refl, sym, ap, ◌∙◌}
 use Rattle.std.specs.Prelude.{is_some, find, filter_map, unwrap_or, nat_lt, codes, Result, Ok, Err}
 use Rattle.std.specs.List.{cons_option}
 use Rattle.std.specs.Str.{bytes_eq}
@@ -8,11 +8,11 @@ use Rattle.ob_values.specs.declared.value.Value.{Value}
 use Rattle.ob_object.specs.declared.status.Status.{Status}
 use Rattle.ob_object.specs.declared.head.Head.{Head}
 use Rattle.ob_object.specs.declared.head.Slot.TheVariants.{Absent}
-use Rattle.ob_object.specs.Kinds.{is_ref, has_of, has_input, has_output, same_kind}
+use Rattle.ob_object.specs.Kinds.{is_ref, has_of}
 use Rattle.ob_object.specs.Object.{Object, Objects, none, node, listed, in_row, children, count, parts}
-use Rattle.ob_object.specs.WellFormed.{named, is_taken}
+use Rattle.ob_object.specs.WellFormed.{named}
 use Rattle.ob_contracts.specs.Inherit.{Contracts, Words, contract_of, or_else, words_in, present, places, sources, first_given, only_if, inherited_head, overridden, implied_by, bare, bare_row, is_new, missing, row_results, result_of}
-use Rattle.ob_contracts.specs.Adding.{is_among, head_names, row_names, names_word, library_names, added}
+use Rattle.ob_contracts.specs.Adding.{head_names, row_names, names_word, library_names, added}
 use Rattle.ob_contracts.specs.declared.adding.LibFault.{LibFault}
 use Rattle.ob_contracts.specs.declared.adding.LibFault.TheVariants.{Twice, Later, Large}
 use Rattle.ob_contracts.proofs.Children.{named-map}

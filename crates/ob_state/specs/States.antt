@@ -1,8 +1,8 @@
 -- What state of a site's definitions a `State` is, and what it owes its plan.
-use Rattle.std.specs.Prelude.{◌≡◌, ℕ, ◌<◌, ◌^◌, Bool, true, false, not, ◌++◌, IsTrue, map, List, [], ◌∷◌, Option, Some, None, is_some, slice_get, Result, Ok}
+use Rattle.std.specs.Prelude.{◌≡◌, ℕ, ◌<◌, ◌^◌, Bool, true, false, not, ◌++◌, IsTrue, map, List, [], ◌∷◌, Option, Some, None, is_some, slice_get, Ok}
 use Rattle.ob_object.specs.declared.kind.Kind.{Kind}
 use Rattle.ob_object.specs.declared.kind.Kind.TheVariants as kind
-use Rattle.ob_object.specs.Object.{Objects, none, node, listed, Object}
+use Rattle.ob_object.specs.Object.{Objects, none, node, listed}
 use Rattle.ob_object.specs.WellFormed.{NamesDiffer}
 use Rattle.ob_contracts.specs.Inherit.{Contracts, result_of}
 use Rattle.ob_contracts.specs.Standard.{standard}

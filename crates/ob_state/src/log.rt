@@ -9,12 +9,23 @@ use std::alloc::{AllocError, Global};
 
 /// The records of a history: how many are kept at most, if not all; how many rolled off; and the kept
 /// ones, the oldest first.
-#[derive(Drop)]
 pub struct Log {
     pub capacity: Option<u64>,
     pub gone: u64,
     pub kept: Vec<Record>,
     pub ghost values_fit: { IsTrue (list_all (λ r. fits_slot r.kind r.slot) kept.items) },
+}
+
+impl Drop for Log {
+    // By one call, so that to drop it is one call to whoever may have to.
+    fn drop(self) {
+        let Log {
+            capacity: _,
+            gone: _,
+            kept,
+        } = self;
+        drop(kept);
+    }
 }
 
 impl Log {
@@ -61,10 +72,7 @@ impl Log {
         ensures { IfOk result (λ log. log_of log ≡ with_record entry (log_of self.now)) }
     {
         let mut kept = copy_records(alloc, &self.kept)?;
-        match kept.push(entry) {
-            Ok(()) => {}
-            Err(_entry) => return Err(AllocError),
-        }
+        kept.push(entry)?;
         Ok(Log {
             capacity: self.capacity,
             gone: self.gone,

@@ -1,4 +1,4 @@
-use Rattle.std.proofs.Common.{refl, List, ℕ}
+use Rattle.std.proofs.Common.{refl}
 use Rattle.std.specs.Prelude.{slice_get}
 use Rattle.ob_alarms.specs.Changes.{outside_of, current, acked_if_needed, alarm_of}
 use Rattle.ob_state.proofs.Spares.{turn-board, turn-turned, answered-board, answered-result}

@@ -1,4 +1,4 @@
-use Rattle.std.proofs.Common.{◌≡◌, ◌-◌, length, take, drop, List}
+use Rattle.std.proofs.Common.{◌-◌, length}
 use Rattle.ob_history.specs.declared.records.Record.{Record}
 use Rattle.ob_object.specs.Fits.{fits_slot}
 use Rattle.ob_state.proofs.Copies.{all_left}

@@ -1,4 +1,4 @@
-use Rattle.std.proofs.Common.{◌≡◌, ap, ◌∙◌, map}
+use Rattle.std.proofs.Common.{ap, ◌∙◌, map}
 use Rattle.ob_state.specs.States.{entry_of, unspared}
 use Rattle.ob_state.specs.declared.state.State.{State}
 use Rattle.ob_state.proofs.Keeping.{IsOf-same, copied}

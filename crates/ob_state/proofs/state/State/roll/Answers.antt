@@ -1,4 +1,4 @@
-use Rattle.std.proofs.Common.{◌≡◌, refl, ap, ◌∙◌, map, List}
+use Rattle.std.proofs.Common.{refl, ap, ◌∙◌, map}
 use Rattle.ob_site_rules.specs.State.{rolled_logs}
 use Rattle.ob_state.specs.States.{entry_of}
 use Rattle.ob_state.proofs.Keeping.{IsOf-rolled}

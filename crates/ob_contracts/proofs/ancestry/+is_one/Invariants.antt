@@ -1,5 +1,0 @@
-use Rattle.std.proofs.Common.{length}
-use Rattle.ob_contracts.proofs.ancestry.+is_one.Given as goal
-
-abbrev pub decreases-is_one : goal.decreases-is_one
-decreases-is_one l = length l.contracts.now

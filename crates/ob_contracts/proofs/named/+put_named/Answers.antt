@@ -1,0 +1,36 @@
+use Rattle.std.proofs.Common.{◌≡◌, ◌<◌, ℕ, List, Some, subst}
+use Rattle.std.specs.Prelude.{slice_get}
+use Rattle.ob_object.specs.Object.{Object, children, parts}
+use Rattle.ob_contracts.proofs.At.{fewer_parts}
+use Rattle.ob_contracts.proofs.Missing.{drop_all}
+use Rattle.ob_contracts.proofs.Names.{at_place}
+use Rattle.ob_contracts.proofs.Known.{left_begun, left_next, left_none, kept_twice}
+use Rattle.ob_contracts.proofs.named.+put_named.Goals as goal
+
+pub put_named-requires : goal.put_named-requires
+put_named-requires t c =
+    let object = c.args.object.now in
+    let at = c.loop-child.child-index in
+    let x = c.child-item.result in
+    let here : Some x ≡ slice_get (children object) at =
+    subst (λ (l : List Object). Some x ≡ slice_get l at) c.children-child-items.ensures.value (at_place c.children-child-items.result.now at x c.loop-child-test.true c.child-item.is) in
+    (subst (λ (n : ℕ). parts x < n) c.decreases (fewer_parts object at x here), tt)
+
+pub loop-child-init : goal.loop-child-init
+loop-child-init t c = record {
+  kept = c.put_head.ensures.kept;
+  left = left_begun _ c.args.object.now _ _ c.head.ensures.value c.children-child-items.ensures.value c.in_ok-put_head.ensures.ok;
+}
+
+pub loop-child-preserved : goal.loop-child-preserved
+loop-child-preserved t c = record {
+  kept = kept_twice _ _ _ c.loop-child.invariant.kept c.put_named.ensures.kept;
+  left = left_next _ _ c.args.object.now _ _ c.child-item.result c.loop-child-test.true c.child-item.is c.put_named.ensures.kept c.in_ok-put_named.ensures.ok c.loop-child.invariant.left;
+}
+
+pub returns-in_err-put_named-clause-kept : goal.returns-in_err-put_named-clause-kept
+returns-in_err-put_named-clause-kept t c = kept_twice _ _ _ c.loop-child.invariant.kept c.put_named.ensures.kept
+
+pub returns-clause-ok : goal.returns-clause-ok
+returns-clause-ok t c =
+    left_none _ c.args.object.now _ (drop_all c.children-child-items.result.now c.loop-child.child-index c.loop-child-test.false) c.loop-child.invariant.left
