@@ -182,7 +182,7 @@ view_fits k view v Reads fits r = let x = read_ok view r.0 v r.2 in subst (λ (w
 ok_value : (v w : Value) (r s : Result Value ValueFault) → r ≡ Ok v → s ≡ Ok w → r ≡ s → v ≡ w
 ok_value v w r s a b c = cc
 
-same_value : (v w : Value) → ◌≡◌ {A = Result Value ValueFault} (Ok v) (Ok w) → v ≡ w
+pub same_value : (v w : Value) → ◌≡◌ {A = Result Value ValueFault} (Ok v) (Ok w) → v ≡ w
 same_value v w e = ok_value v w (Ok v) (Ok w) refl refl e
 
 pub value_fits : (k : Kind) (t : List ℕ) (v : Value) → ReadsValue k t (Ok v) → fits_value k v ≡ true

@@ -1,4 +1,9 @@
 pub mod Fitting
+pub mod ReadTexts
+pub mod Written
+pub mod ReadHeads
+pub mod Carrying
+pub mod Holding
 pub mod Accepted
 pub mod Backwards
 pub mod Verdicts

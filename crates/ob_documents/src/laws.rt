@@ -9,7 +9,8 @@ ghost use Rattle.ob_fields.specs.Fields.{known};
 ghost use Rattle.ob_fields.specs.Kinds.{same};
 ghost use Rattle.ob_fields.specs.Parts.{ReadsPart, put_part};
 ghost use Rattle.ob_encode.specs.Canonical.{canonical_text};
-ghost use Rattle.ob_grammar.specs.Carried.{IsCarried};
+ghost use Rattle.ob_grammar.specs.Carried.{IsCarried, IsTextIfThere};
+ghost use Rattle.ob_documents.specs.Held.{IsHeld, IsShallow};
 ghost use Rattle.ob_grammar.specs.Spelling.{Spells};
 ghost use Rattle.ob_xml.specs.declared.doc.Doc.{Doc};
 ghost use Rattle.ob_xml.specs.Judged.{document, Judged};
@@ -36,6 +37,17 @@ pub fn read_back()
     ob_grammar::text_spells();
     only();
 }
+
+/// What bytes spell, a document can carry: it has at most 32 levels, it is well formed, and each text and value in it is one
+/// that XML can carry. So the canonical text of an object that was read spells it again, where it isn't too long.
+pub fn carried()
+    ensures { (bytes : List ℕ) (ns : Option (List ℕ)) (o : Object) → Spells bytes ns o → IsCarried ns o }
+{}
+
+/// An object in hand can be carried where no part of it stands in 32 others, and the namespace is text that XML can carry.
+pub fn held_carried()
+    ensures { (ns : Option (List ℕ)) (o : Object) → IsTextIfThere ns → IsHeld o → IsShallow 1 o.inner → IsCarried ns o }
+{}
 
 /// An attribute other than the name keeps a head that fits its kind so. So what is told as a name that can't be read is a
 /// name of 0 or more than 255 bytes.

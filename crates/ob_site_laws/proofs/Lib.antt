@@ -5,7 +5,7 @@ pub mod Rolling
 pub mod Nameless
 pub mod Heard
 pub mod Told
-pub mod Answerable
+pub mod Plain
 pub mod Lawful
 pub mod Endless
 pub mod SiteHistories

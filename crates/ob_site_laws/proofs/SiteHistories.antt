@@ -1,5 +1,5 @@
 -- A history of the whole site is one of its watches, and its plan stays.
-use Rattle.std.proofs.Common.{◌≡◌, ℕ, List, [], ◌∷◌, ◌++◌, Option, refl, sym, ap, ◌∙◌, subst}
+use Rattle.std.proofs.Common.{◌≡◌, ℕ, ◌^◌, ◌<◌, List, [], ◌∷◌, ◌++◌, Option, Some, refl, sym, ap, ◌∙◌, subst}
 use Rattle.std.specs.List.{AllByRecursion}
 use Rattle.ob_machine.specs.History.{left_by, after, IsAnswer, IsLegal}
 use Rattle.ob_machine.specs.declared.call.Answer.{Answer}
@@ -7,8 +7,9 @@ use Rattle.ob_machine.specs.declared.call.Answer.TheVariants.{Done, NoMemory}
 use Rattle.ob_object.specs.Object.{Object}
 use Rattle.ob_watching.specs.Tables.{lookup}
 use Rattle.ob_watching.specs.Sites.{Site}
-use Rattle.ob_watching.specs.Watches.{Object as ObjectItem, Feed as FeedItem, Tracked, Item, Watch, World, act, IsSound}
-use Rattle.ob_watching.specs.Laws.{Holds, KeepsItem, Legal, whole_at, standing_after}
+use Rattle.ob_watching.specs.Clients.{calls, replay, watched}
+use Rattle.ob_watching.specs.Watches.{Object as ObjectItem, Feed as FeedItem, Tracked, Item, Reading, Watch, World, act, IsSound}
+use Rattle.ob_watching.specs.Laws.{Begins, Ends, Holds, KeepsItem, EachExact, Legal, whole_at, standing_after}
 use Rattle.ob_watching.specs.Laws as watches
 use Rattle.ob_watching.proofs.Laws.{watch_replays, watch_stays_gone, leaves_others, sound_after, keeps_after, keeps_whole}
 use Rattle.ob_site_rules.specs.Locating.{locate}
@@ -16,7 +17,7 @@ use Rattle.ob_site_rules.specs.Build.{Text, Path}
 use Rattle.ob_site_rules.specs.State.{Plan, at}
 use Rattle.ob_site_rules.specs.Places.{Place, event_places}
 use Rattle.ob_site_rules.specs.Sites.{SiteState}
-use Rattle.ob_site_laws.specs.SiteLaws.{acts, of_plan, Call, IsSoundSite, Stays, ClientsHold, KeepsAll, KeepsAllOf, ClientsHoldAll, GoneForGood, OthersStay}
+use Rattle.ob_site_laws.specs.SiteLaws.{acts, of_plan, Call, IsSoundSite, Stays, ClientsHold, KeepsAll, KeepsAllOf, ClientsHoldAll, EachAsWatched, ClientsHoldEach, GoneForGood, OthersStay}
 use Rattle.ob_site_laws.proofs.Lawful.{lawful}
 use Rattle.ob_site_laws.proofs.Endless.{Endless, stays_endless}
 
@@ -94,25 +95,47 @@ module _ (start : SiteState) (sound : IsSoundSite start) (n : ℕ) (w : World (o
   kept_items [] h = tt
   kept_items (item ∷ items) h = (kept_item item.text item.path item.tracked h.0, kept_items items h.1)
 
+  each_kept : (items : List (Item m)) (rs : List (Reading m)) → EachExact m (watches.after m w part).site (whole_at m n w part (λ _. w.site)) items rs → EachAsWatched start.plan start.world.site (watches.after m w part).site items rs
+  each_kept [] [] h = tt
+  each_kept [] (r ∷ rs) h = absurd h
+  each_kept (item ∷ items) [] h = absurd h
+  each_kept (item ∷ items) (r ∷ rs) h = (λ k. h.0 (kept_item item.text item.path item.tracked k), each_kept items rs h.1)
+
+-- after a part of a history
+module _ (n : ℕ) (small : n < 2 ^ 64) (start : SiteState) (sound : IsSoundSite start) (before part : List Call) (legal : IsLegal acts start (before ++ part)) (begins : Begins (of_plan start.plan) n part) (ends : Ends (of_plan start.plan) n part) where
+  abbrev the_site : Site
+  the_site = of_plan start.plan
+
+  abbrev w : World (of_plan start.plan)
+  w = (after acts start before).world
+
+  holds : Holds (of_plan start.plan) n (after acts start before).world part
+  holds = clients_hold n small start sound before part legal begins ends
+
+  sound_w : IsSound (of_plan start.plan) (after acts start before).world
+  sound_w = subst (λ (s : SiteState). IsSound (of_plan start.plan) s.world) (sym (world_after start before)) (sound_after (of_plan start.plan) (lawful locate start.plan) start.world before sound)
+
+  from : (place : Option Place) → KeepsAll start.world.site place → Endless start.world.site place (after acts start before).world.site
+  from place h =
+      subst (λ (s : SiteState). Endless start.world.site place s.world.site) (sym (world_after start before))
+      (keeps_after (of_plan start.plan) (lawful locate start.plan) (Endless start.world.site place) (stays_endless start.plan start.world.site place) start.world before sound (h, refl))
+
+  all_held : (v : Watch (of_plan start.plan)) → lookup n (watches.after (of_plan start.plan) (after acts start before).world part).watches ≡ Some v → AllByRecursion (λ item. KeepsAllOf start.plan start.world.site item.path item.tracked) v.items → Some (replay (of_plan start.plan) (calls (of_plan start.plan) n part)) ≡ watched (of_plan start.plan) n (watches.after (of_plan start.plan) (after acts start before).world part)
+  all_held v found all = holds.exact (subst (λ (v : Watch the_site). AllByRecursion (λ item. KeepsItem the_site (watches.after the_site w part).site (whole_at the_site n w part (λ _. w.site) item.text) item.path item.tracked) v.items) same (kept_items start sound n w sound_w part from v.items all))
+    where
+      same : v ≡ holds.watch
+      same = cc (found, holds.stands)
+
+  each_held : (v : Watch (of_plan start.plan)) → lookup n (watches.after (of_plan start.plan) (after acts start before).world part).watches ≡ Some v → EachAsWatched start.plan start.world.site (watches.after (of_plan start.plan) (after acts start before).world part).site v.items (replay (of_plan start.plan) (calls (of_plan start.plan) n part))
+  each_held v found =
+      subst (λ (v : Watch the_site). EachAsWatched start.plan start.world.site (watches.after the_site w part).site v.items (replay the_site (calls the_site n part))) same
+      (each_kept start sound n w sound_w part from holds.watch.items (replay the_site (calls the_site n part)) holds.each)
+    where
+      same : holds.watch ≡ v
+      same = cc (found, holds.stands)
+
 pub clients_hold_all : (n : ℕ) → ClientsHoldAll n
-clients_hold_all n small start sound before part legal begins ends v found all = holds.exact (subst (λ (v : Watch m). AllByRecursion (λ item. KeepsItem m (watches.after m w part).site (whole_at m n w part (λ _. w.site) item.text) item.path item.tracked) v.items) same (kept_items start sound n w sound_w part from v.items all))
-  where
-    m : Site
-    m = of_plan start.plan
+clients_hold_all n small start sound before part legal begins ends = all_held n small start sound before part legal begins ends
 
-    w : World (of_plan start.plan)
-    w = (after acts start before).world
-
-    holds : Holds (of_plan start.plan) n (after acts start before).world part
-    holds = clients_hold n small start sound before part legal begins ends
-
-    sound_w : IsSound (of_plan start.plan) (after acts start before).world
-    sound_w = subst (λ (s : SiteState). IsSound (of_plan start.plan) s.world) (sym (world_after start before)) (sound_after (of_plan start.plan) (lawful locate start.plan) start.world before sound)
-
-    from : (place : Option Place) → KeepsAll start.world.site place → Endless start.world.site place (after acts start before).world.site
-    from place h =
-        subst (λ (s : SiteState). Endless start.world.site place s.world.site) (sym (world_after start before))
-        (keeps_after (of_plan start.plan) (lawful locate start.plan) (Endless start.world.site place) (stays_endless start.plan start.world.site place) start.world before sound (h, refl))
-
-    same : v ≡ holds.watch
-    same = cc (found, holds.stands)
+pub clients_hold_each : (n : ℕ) → ClientsHoldEach n
+clients_hold_each n small start sound before part legal begins ends = each_held n small start sound before part legal begins ends

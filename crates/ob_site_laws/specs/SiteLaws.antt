@@ -1,12 +1,12 @@
 -- The laws of the watches of the whole site, over every legal history from any sound state.
-use Rattle.std.specs.Prelude.{◌≡◌, ◌≢◌, ℕ, ◌^◌, ◌<◌, List, ◌++◌, Option, Some, None}
+use Rattle.std.specs.Prelude.{◌≡◌, ◌≢◌, ℕ, ◌^◌, ◌<◌, List, [], ◌∷◌, ◌++◌, Option, Some, None}
 use Rattle.std.specs.List.{AllByRecursion}
 use Rattle.ob_machine.specs.History.{left_by, after, IsLegal}
 use Rattle.ob_machine.specs.declared.call.Entry.{Entry}
 use Rattle.ob_object.specs.Object.{Object}
 use Rattle.ob_watching.specs.Sites.{Site}
 use Rattle.ob_watching.specs.Tables.{lookup}
-use Rattle.ob_watching.specs.Watches.{Object as ObjectItem, Feed as FeedItem, Tracked, Watch, IsSound}
+use Rattle.ob_watching.specs.Watches.{Object as ObjectItem, Feed as FeedItem, Tracked, Item, Reading, Watch, reading, IsSound}
 use Rattle.ob_watching.specs.Clients.{calls, replay, watched}
 use Rattle.ob_watching.specs.Laws.{Begins, Ends, Holds, WasMade, IsMake, IsOn, IsNotFound, standing_after}
 use Rattle.ob_watching.specs.Laws as watches
@@ -85,3 +85,20 @@ ClientsHoldAll n = n < 2 ^ 64 → (start : SiteState) → IsSoundSite start →
     (v : Watch (of_plan start.plan)) → lookup n end.watches ≡ Some v →
     AllByRecursion (λ item. KeepsAllOf start.plan start.world.site item.path item.tracked) v.items →
     Some (replay (of_plan start.plan) (calls (of_plan start.plan) n part)) ≡ watched (of_plan start.plan) n end
+
+-- each object, and each feed that keeps all its events, is held as a pollRefresh would give it, whatever the others keep
+abbrev pub EachAsWatched : (plan : Plan) → (start now : State) → List (Item (of_plan plan)) → List (Reading (of_plan plan)) → Type 0
+EachAsWatched plan start now [] [] = Unit {0}
+EachAsWatched plan start now [] (r ∷ rs) = ⊥
+EachAsWatched plan start now (item ∷ items) [] = ⊥
+EachAsWatched plan start now (item ∷ items) (r ∷ rs) =
+    (KeepsAllOf plan start item.path item.tracked → r ≡ reading (of_plan plan) now item) × EachAsWatched plan start now items rs
+
+-- A feed with a capacity doesn't take that from the other items of its watch.
+abbrev pub ClientsHoldEach : ℕ → Type 0
+ClientsHoldEach n = n < 2 ^ 64 → (start : SiteState) → IsSoundSite start →
+    (before part : List Call) → IsLegal acts start (before ++ part) →
+    Begins (of_plan start.plan) n part → Ends (of_plan start.plan) n part →
+    let end = watches.after (of_plan start.plan) (after acts start before).world part in
+    (v : Watch (of_plan start.plan)) → lookup n end.watches ≡ Some v →
+    EachAsWatched start.plan start.world.site end.site v.items (replay (of_plan start.plan) (calls (of_plan start.plan) n part))

@@ -6,7 +6,7 @@
 //! ask for is proved in `proofs/Lawful.antt`.
 #![tactic(auto)]
 
-ghost use Rattle.ob_site_laws.specs.SiteLaws.{ClientsHold, ClientsHoldAll, GoneForGood, OthersStay, Stays};
+ghost use Rattle.ob_site_laws.specs.SiteLaws.{ClientsHold, ClientsHoldAll, ClientsHoldEach, GoneForGood, OthersStay, Stays};
 
 /// After each answered poll a client that has replayed the replies on the watch, from its make on or from
 /// any pollRefresh on, holds what is watched: the same hrefs in the same order, each object as it is shown
@@ -22,6 +22,12 @@ pub fn watch_replay(watch: u64)
 /// holds after each answered poll equals, as a list, what a pollRefresh would give.
 pub fn watch_replay_whole(watch: u64)
     ensures { ClientsHoldAll watch }
+{}
+
+/// The same of each item by itself: each object, each feed of a history without a capacity and each feed of alarms is
+/// held, after each answered poll, as a pollRefresh would give it, whatever other feeds of the watch have lost.
+pub fn watch_replay_each(watch: u64)
+    ensures { ClientsHoldEach watch }
 {}
 
 /// A watch that was deleted or has lapsed never comes back, its number isn't given again, and each later

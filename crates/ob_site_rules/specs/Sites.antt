@@ -6,10 +6,11 @@ use Rattle.ob_object.specs.Object.{Object}
 use Rattle.ob_history.specs.declared.records.Filter.{Filter}
 use Rattle.ob_watching.specs.Asked.{NotFound}
 use Rattle.ob_watching.specs.Sites.{Site}
+use Rattle.ob_watching.specs.WatchOuts.{heard}
 use Rattle.ob_watching.specs.Watches.{WorldOf, act}
 use Rattle.ob_site_rules.specs.declared.request.Request.{Request}
 use Rattle.ob_site_rules.specs.Build.{Text, Path, nameless, under_href}
-use Rattle.ob_site_rules.specs.Faults.{Fault, NoSuchObject, TooManyWatches, TooManyItems, HrefTooLong}
+use Rattle.ob_site_rules.specs.Faults.{Fault, NoSuchObject, TooManyWatches, TooManyItems, HrefTooLong, err}
 use Rattle.ob_site_rules.specs.State.{Plan, State, at, roll}
 use Rattle.ob_site_rules.specs.Paths.{WatchPart, Whole, Lease}
 use Rattle.ob_site_rules.specs.Shown.{shown}
@@ -17,7 +18,7 @@ use Rattle.ob_site_rules.specs.Entries.{empty_object}
 use Rattle.ob_site_rules.specs.Places.{event_places}
 use Rattle.ob_site_rules.specs.Actions.{act_itself}
 use Rattle.ob_site_rules.specs.Watched.{SiteFound, target_at, found_located, lease_asked, events_at, gone_at, passes, feed_there}
-use Rattle.ob_site_rules.specs.Replies.{sent, heard, is_plain}
+use Rattle.ob_site_rules.specs.Replies.{sent, is_plain}
 use Rattle.ob_site_rules.specs.Sameness.{same_object}
 
 abbrev pub plain_or_empty : Object → Object
@@ -53,6 +54,7 @@ module _ (locate : Parts → Text → Option Path) where
     Object = Object;
     Event = Object;
     Fault = Fault;
+    Err = Object;
     Part = WatchPart;
     whole = Whole;
     lease = Lease;
@@ -67,6 +69,7 @@ module _ (locate : Parts → Text → Option Path) where
     feed = feed_there plan;
     lease_asked = lease_asked;
     Sent = Object;
+    err = err;
     sent = sent plan;
     heard = heard;
     same_text = bytes_eq;

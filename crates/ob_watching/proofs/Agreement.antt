@@ -9,7 +9,7 @@ use Rattle.ob_watching.specs.Asked.{Shows, Lists, Refuses, Found, ObjectAt, Feed
 use Rattle.ob_watching.specs.Sites.{Site, IsLawful, HasRolled}
 use Rattle.ob_watching.specs.Tables.{put, IsSuffix}
 use Rattle.ob_watching.specs.Watches.{max_items, Tracked, Object, Feed, Item, Content, Reading, count, since, content_now, reading, reported_now, reported, lists_some, changes_of, changes, settled_at, settled, put_item, has_text, add_found, items_added, readings_added, among, Distinct}
-use Rattle.ob_watching.specs.Clients.{continued, change, take_added, changed_by, added_by, is_content, has_content}
+use Rattle.ob_watching.specs.Replay.{continued, change, take_added, changed_by, added_by, is_content, has_content}
 use Rattle.ob_watching.proofs.Texts.{distinct_found}
 
 -- the events from a place on that are kept still are the last of those that were kept
@@ -25,7 +25,21 @@ pub record GoesOn (Event : Type 0) (gone left : ℕ) (before after : List Event)
   pub more : List Event
   pub rolled : HasRolled Event gone left (before ++ more) after
 
-module _ (m : Site) where
+all_append : {A : Type 0} (P : A → Type 0) (xs ys : List A) → AllByRecursion P xs → AllByRecursion P ys → AllByRecursion P (xs ++ ys)
+all_append P [] ys h g = g
+all_append P (x ∷ xs) ys h g = (h.0, all_append P xs ys h.1 g)
+
+pub all_dropped : {A : Type 0} (P : A → Type 0) (n : ℕ) (xs : List A) → AllByRecursion P xs → AllByRecursion P (drop n xs)
+all_dropped P zero xs h = h
+all_dropped P (suc n) [] h = h
+all_dropped P (suc n) (x ∷ xs) h = all_dropped P n xs h.1
+
+-- what is held of a feed was an event of it
+module _ (m : Site) (had : m.Path → m.Event → Type 0) where
+  -- the events of a state are such
+  abbrev pub HasSuch : m.State → Type 0
+  HasSuch s = (path : m.Path) → AllByRecursion (λ e. had path e) (m.events s path)
+
   -- What is held of a feed of which so many events were gone through: the kept ones among them stand last in
   -- what was seen.
   pub record HoldsGiven (s then : m.State) (path : m.Path) (bounds : m.Filter) (given : ℕ) (c : Content m) : Type 0 where
@@ -35,6 +49,7 @@ module _ (m : Site) where
     pub kept : IsSuffix (take (given - m.gone s path) (m.events s path)) seen
     pub there : given ≤ count m s path
     pub number : length seen + missed + m.gone then path ≡ given
+    pub genuine : AllByRecursion (λ e. had path e) seen
 
   -- What is held agrees with an item: an object that hasn't changed is held as it is.
   abbrev pub HoldsSo : m.State → m.State → m.Path → Tracked m → Content m → Type 0
@@ -70,22 +85,23 @@ module _ (m : Site) where
       there = omega arith
 
   -- all is held as it is once everything was reported
-  holds_now : (s : m.State) (path : m.Path) (t : Tracked m) → HoldsSo s s path (reported_now m s path t) (content_now m s path t)
-  holds_now s path (Object changed) = refl
-  holds_now s path (Feed bounds given) = record {
+  holds_now : (s : m.State) → HasSuch s → (path : m.Path) (t : Tracked m) → HoldsSo s s path (reported_now m s path t) (content_now m s path t)
+  holds_now s such path (Object changed) = refl
+  holds_now s such path (Feed bounds given) = record {
     missed = 0;
     seen = m.events s path;
     content = refl;
     kept = ([], all_of s path);
     there = omega arith;
     number = omega arith;
+    genuine = such path;
   }
 
-  pub agree_now : (s : m.State) (when : m.Text → m.State) (items : List (Item m)) → AllByRecursion (λ item. when item.text ≡ s) items → AllAgree s when (map (reported m s) items) (map (reading m s) items)
-  agree_now s when [] h = tt
-  agree_now s when (item ∷ items) h = (
-    record { text = refl; content = subst (λ then. HoldsSo s then item.path (reported_now m s item.path item.tracked) (content_now m s item.path item.tracked)) (sym h.0) (holds_now s item.path item.tracked) },
-    agree_now s when items h.1,
+  pub agree_now : (s : m.State) → HasSuch s → (when : m.Text → m.State) (items : List (Item m)) → AllByRecursion (λ item. when item.text ≡ s) items → AllAgree s when (map (reported m s) items) (map (reading m s) items)
+  agree_now s such when [] h = tt
+  agree_now s such when (item ∷ items) h = (
+    record { text = refl; content = subst (λ then. HoldsSo s then item.path (reported_now m s item.path item.tracked) (content_now m s item.path item.tracked)) (sym h.0) (holds_now s such item.path item.tracked) },
+    agree_now s such when items h.1,
   )
 
   -- the site goes on
@@ -97,6 +113,7 @@ module _ (m : Site) where
     kept = (h.kept.0 ++ later.0, append_assoc h.kept.0 later.0 _ ∙ ap (λ es. h.kept.0 ++ es) later.1 ∙ h.kept.1);
     there = omega (arith, h.there, g.rolled.counted, number_left, number_all, g.rolled.were_there);
     number = h.number;
+    genuine = h.genuine;
   }
     where
       all : List m.Event
@@ -193,26 +210,26 @@ module _ (m : Site) where
 
   -- where an entry gave an href whole
   abbrev pub entry_at : m.State → Reading m → (m.Text → m.State) → m.Text → m.State
-  entry_at s r when t = cond (is_content m r.content && m.same_text t r.text) s (when t)
+  entry_at s r when t = cond (is_content r.content && m.same_text t r.text) s (when t)
 
-  agree_add : IsLawful m → (s : m.State) (when : m.Text → m.State) (text : m.Text) (found : Found m.Path m.Filter m.Fault) (items : List (Item m)) (held : List (Reading m)) → Distinct m items → AllAgree s when items held → let one = add_found m s items text found in AllAgree s (entry_at s one.1 when) one.0 (take_added m one.1 one.1.content held)
-  agree_add law s when text (NotFound fault) items held d h = h
-  agree_add law s when text (ObjectAt path) items held d h = go (nat_le max_items (length items) && not (has_text m items text))
+  agree_add : IsLawful m → (s : m.State) → HasSuch s → (when : m.Text → m.State) (text : m.Text) (found : Found m.Path m.Filter m.Fault) (items : List (Item m)) (held : List (Reading m)) → Distinct m items → AllAgree s when items held → let one = add_found m s items text found in AllAgree s (entry_at s one.1 when) one.0 (take_added m.same_text one.1 one.1.content held)
+  agree_add law s such when text (NotFound fault) items held d h = h
+  agree_add law s such when text (ObjectAt path) items held d h = go (nat_le max_items (length items) && not (has_text m items text))
     where
       new : Item m
       new = record { text = text; path = path; tracked = Object false }
 
-      go : (b : Bool) → let one : List (Item m) × Reading m = cond b (items, record { text = text; content = Refuses m.too_many_items }) (put_item m new items, reading m s new) in AllAgree s (entry_at s one.1 when) one.0 (take_added m one.1 one.1.content held)
+      go : (b : Bool) → let one : List (Item m) × Reading m = cond b (items, record { text = text; content = Refuses (m.err m.too_many_items) }) (put_item m new items, reading m s new) in AllAgree s (entry_at s one.1 when) one.0 (take_added m.same_text one.1 one.1.content held)
       go true = h
       go false = agree_put law s when new (reading m s new) items held d refl refl h
-  agree_add law s when text (FeedAt path bounds) items held d h = go (nat_le max_items (length items) && not (has_text m items text))
+  agree_add law s such when text (FeedAt path bounds) items held d h = go (nat_le max_items (length items) && not (has_text m items text))
     where
       new : Item m
       new = record { text = text; path = path; tracked = Feed bounds (count m s path) }
 
-      go : (b : Bool) → let one : List (Item m) × Reading m = cond b (items, record { text = text; content = Refuses m.too_many_items }) (put_item m new items, reading m s new) in AllAgree s (entry_at s one.1 when) one.0 (take_added m one.1 one.1.content held)
+      go : (b : Bool) → let one : List (Item m) × Reading m = cond b (items, record { text = text; content = Refuses (m.err m.too_many_items) }) (put_item m new items, reading m s new) in AllAgree s (entry_at s one.1 when) one.0 (take_added m.same_text one.1 one.1.content held)
       go true = h
-      go false = agree_put law s when new (reading m s new) items held d refl (holds_now s path (Feed bounds 0)) h
+      go false = agree_put law s when new (reading m s new) items held d refl (holds_now s such path (Feed bounds 0)) h
 
   either : (s w : m.State) (a b : Bool) → cond b s (cond a s w) ≡ cond (a || b) s w
   either s w true true = refl
@@ -221,53 +238,53 @@ module _ (m : Site) where
 
   -- where entries gave hrefs whole
   abbrev pub entries_at : m.State → List (Reading m) → (m.Text → m.State) → m.Text → m.State
-  entries_at s rs when t = cond (has_content m rs t) s (when t)
+  entries_at s rs when t = cond (has_content m.same_text rs t) s (when t)
 
-  pub agree_added : IsLawful m → (s : m.State) (ns : List ℕ) (when : m.Text → m.State) (asked : List (m.Text × m.Input)) (items : List (Item m)) (held : List (Reading m)) → Distinct m items → AllAgree s when items held → AllAgree s (entries_at s (readings_added m s ns items asked) when) (items_added m s ns items asked) (added_by m (readings_added m s ns items asked) held)
-  agree_added law s ns when [] items held d h = h
-  agree_added law s ns when (a ∷ asked) items held d h =
+  pub agree_added : IsLawful m → (s : m.State) → HasSuch s → (ns : List ℕ) (when : m.Text → m.State) (asked : List (m.Text × m.Input)) (items : List (Item m)) (held : List (Reading m)) → Distinct m items → AllAgree s when items held → AllAgree s (entries_at s (readings_added m s ns items asked) when) (items_added m s ns items asked) (added_by m.same_text (readings_added m s ns items asked) held)
+  agree_added law s such ns when [] items held d h = h
+  agree_added law s such ns when (a ∷ asked) items held d h =
       let found = m.find s ns a.0 a.1 in
       let one = add_found m s items a.0 found in
-      subst (λ at. AllAgree s at (items_added m s ns one.0 asked) (added_by m (readings_added m s ns one.0 asked) (take_added m one.1 one.1.content held)))
-      (λ i t. either s (when t) (is_content m one.1.content && m.same_text t one.1.text) (has_content m (readings_added m s ns one.0 asked) t) i)
-      (agree_added law s ns (entry_at s one.1 when) asked one.0 _ (distinct_found m law s a.0 found items d) (agree_add law s when a.0 found items held d h))
+      subst (λ at. AllAgree s at (items_added m s ns one.0 asked) (added_by m.same_text (readings_added m s ns one.0 asked) (take_added m.same_text one.1 one.1.content held)))
+      (λ i t. either s (when t) (is_content one.1.content && m.same_text t one.1.text) (has_content m.same_text (readings_added m s ns one.0 asked) t) i)
+      (agree_added law s such ns (entry_at s one.1 when) asked one.0 _ (distinct_found m law s a.0 found items d) (agree_add law s such when a.0 found items held d h))
 
   -- a pollRefresh gives each item whole
-  more_given : (r : Reading m) (rs : List (Reading m)) (items : List (Item m)) → AllByRecursion (λ item. has_content m rs item.text ≡ true) items → AllByRecursion (λ item. has_content m (r ∷ rs) item.text ≡ true) items
+  more_given : (r : Reading m) (rs : List (Reading m)) (items : List (Item m)) → AllByRecursion (λ item. has_content m.same_text rs item.text ≡ true) items → AllByRecursion (λ item. has_content m.same_text (r ∷ rs) item.text ≡ true) items
   more_given r rs [] h = tt
-  more_given r rs (item ∷ items) h = (elim (is_content m r.content && m.same_text item.text r.text) as (λ b. (b || has_content m rs item.text) ≡ true) [ true ↦ refl | false ↦ h.0 ], more_given r rs items h.1)
+  more_given r rs (item ∷ items) h = (elim (is_content r.content && m.same_text item.text r.text) as (λ b. (b || has_content m.same_text rs item.text) ≡ true) [ true ↦ refl | false ↦ h.0 ], more_given r rs items h.1)
 
-  is_given : (s : m.State) (path : m.Path) (t : Tracked m) → is_content m (content_now m s path t) ≡ true
+  is_given : (s : m.State) (path : m.Path) (t : Tracked m) → is_content (content_now m s path t) ≡ true
   is_given s path (Object changed) = refl
   is_given s path (Feed bounds given) = refl
 
-  all_given : IsLawful m → (s : m.State) (items : List (Item m)) → AllByRecursion (λ item. has_content m (map (reading m s) items) item.text ≡ true) items
+  all_given : IsLawful m → (s : m.State) (items : List (Item m)) → AllByRecursion (λ item. has_content m.same_text (map (reading m s) items) item.text ≡ true) items
   all_given law s [] = tt
   all_given law s (item ∷ items) = (
-    ap₂ (λ a b. (a && b) || has_content m (map (reading m s) items) item.text) (is_given s item.path item.tracked) (same_itself law item.text),
+    ap₂ (λ a b. (a && b) || has_content m.same_text (map (reading m s) items) item.text) (is_given s item.path item.tracked) (same_itself law item.text),
     more_given (reading m s item) (map (reading m s) items) items (all_given law s items),
   )
 
-  given_now : (s : m.State) (when : m.Text → m.State) (rs : List (Reading m)) (items : List (Item m)) → AllByRecursion (λ item. has_content m rs item.text ≡ true) items → AllByRecursion (λ item. entries_at s rs when item.text ≡ s) items
+  given_now : (s : m.State) (when : m.Text → m.State) (rs : List (Reading m)) (items : List (Item m)) → AllByRecursion (λ item. has_content m.same_text rs item.text ≡ true) items → AllByRecursion (λ item. entries_at s rs when item.text ≡ s) items
   given_now s when rs [] h = tt
   given_now s when rs (item ∷ items) h = (ap (λ b. cond b s (when item.text)) h.0, given_now s when rs items h.1)
 
-  pub agree_refreshed : IsLawful m → (s : m.State) (when : m.Text → m.State) (items : List (Item m)) → AllAgree s (entries_at s (map (reading m s) items) when) (map (reported m s) items) (map (reading m s) items)
-  agree_refreshed law s when items = agree_now s _ items (given_now s when (map (reading m s) items) items (all_given law s items))
+  pub agree_refreshed : IsLawful m → (s : m.State) → HasSuch s → (when : m.Text → m.State) (items : List (Item m)) → AllAgree s (entries_at s (map (reading m s) items) when) (map (reported m s) items) (map (reading m s) items)
+  agree_refreshed law s such when items = agree_now s such _ items (given_now s when (map (reading m s) items) items (all_given law s items))
 
   -- changes are replayed
-  change_past : (r : Reading m) (c : Content m) (x : Reading m) (xs : List (Reading m)) → m.same_text x.text r.text ≡ false → change m r c (x ∷ xs) ≡ x ∷ change m r c xs
+  change_past : (r : Reading m) (c : Content m) (x : Reading m) (xs : List (Reading m)) → m.same_text x.text r.text ≡ false → change m.same_text r c (x ∷ xs) ≡ x ∷ change m.same_text r c xs
   change_past r (Shows o) x xs e = rw e refl
   change_past r (Lists f k es) x xs e = rw e refl
   change_past r (Refuses f) x xs e = refl
 
-  changed_past : (rs : List (Reading m)) (x : Reading m) (xs : List (Reading m)) → AllByRecursion (λ r. m.same_text x.text r.text ≡ false) rs → changed_by m rs (x ∷ xs) ≡ x ∷ changed_by m rs xs
+  changed_past : (rs : List (Reading m)) (x : Reading m) (xs : List (Reading m)) → AllByRecursion (λ r. m.same_text x.text r.text ≡ false) rs → changed_by m.same_text rs (x ∷ xs) ≡ x ∷ changed_by m.same_text rs xs
   changed_past [] x xs h = refl
-  changed_past (r ∷ rs) x xs h = ap (changed_by m rs) (change_past r r.content x xs h.0) ∙ changed_past rs x (change m r r.content xs) h.1
+  changed_past (r ∷ rs) x xs h = ap (changed_by m.same_text rs) (change_past r r.content x xs h.0) ∙ changed_past rs x (change m.same_text r r.content xs) h.1
 
-  changed_by-append : (rs qs xs : List (Reading m)) → changed_by m (rs ++ qs) xs ≡ changed_by m qs (changed_by m rs xs)
+  changed_by-append : (rs qs xs : List (Reading m)) → changed_by m.same_text (rs ++ qs) xs ≡ changed_by m.same_text qs (changed_by m.same_text rs xs)
   changed_by-append [] qs xs = refl
-  changed_by-append (r ∷ rs) qs xs = changed_by-append rs qs (change m r r.content xs)
+  changed_by-append (r ∷ rs) qs xs = changed_by-append rs qs (change m.same_text r r.content xs)
 
   absent_of : (s : m.State) (t : m.Text) (text : m.Text) (path : m.Path) (tracked : Tracked m) → m.same_text t text ≡ false → AllByRecursion (λ r. m.same_text t r.text ≡ false) (changes_of m s text path tracked)
   absent_of s t text path (Object true) h = (h, tt)
@@ -279,22 +296,18 @@ module _ (m : Site) where
       go zero (e ∷ es) = (h, tt)
       go (suc k) es = (h, tt)
 
-  all_append : {A : Type 0} (P : A → Type 0) (xs ys : List A) → AllByRecursion P xs → AllByRecursion P ys → AllByRecursion P (xs ++ ys)
-  all_append P [] ys h g = g
-  all_append P (x ∷ xs) ys h g = (h.0, all_append P xs ys h.1 g)
-
   absent : (s : m.State) (t : m.Text) (items : List (Item m)) → AllByRecursion (λ item. m.same_text t item.text ≡ false) items → AllByRecursion (λ r. m.same_text t r.text ≡ false) (changes m s items)
   absent s t [] h = tt
   absent s t (item ∷ items) h = all_append (λ r. m.same_text t r.text ≡ false) _ _ (absent_of s t item.text item.path item.tracked h.0) (absent s t items h.1)
 
-  shows_next : (c : Content m) (o : m.Object) → continued m c (Shows o) ≡ Shows o
+  shows_next : (c : Content m) (o : m.Object) → continued c (Shows o) ≡ Shows o
   shows_next (Shows a) o = refl
   shows_next (Lists f k a) o = refl
   shows_next (Refuses a) o = refl
 
   -- what dropped out is counted, and the passing events since are appended
-  polled : (s then : m.State) (path : m.Path) (bounds : m.Filter) (given : ℕ) (c : Content m) → (h : HoldsGiven s then path bounds given c) → HoldsGiven s then path bounds (count m s path) (Lists (m.feed path) (h.missed + (m.gone s path - given)) (filter (m.passes bounds) h.seen ++ filter (m.passes bounds) (since m s path given)))
-  polled s then path bounds given c h = record {
+  polled : (s then : m.State) → HasSuch s → (path : m.Path) (bounds : m.Filter) (given : ℕ) (c : Content m) → (h : HoldsGiven s then path bounds given c) → HoldsGiven s then path bounds (count m s path) (Lists (m.feed path) (h.missed + (m.gone s path - given)) (filter (m.passes bounds) h.seen ++ filter (m.passes bounds) (since m s path given)))
+  polled s then such path bounds given c h = record {
     missed = h.missed + (m.gone s path - given);
     seen = h.seen ++ back;
     content = ap (Lists (m.feed path) (h.missed + (m.gone s path - given))) (sym (filter-append (m.passes bounds) h.seen back));
@@ -304,6 +317,7 @@ module _ (m : Site) where
         (let both = length-append h.seen back in
         let rest = length-drop (given - m.gone s path) (m.events s path) in
         omega (arith, h.number, both, rest, h.there));
+    genuine = all_append (λ e. had path e) h.seen back h.genuine (all_dropped (λ e. had path e) (given - m.gone s path) (m.events s path) (such path));
   }
     where
       front : List m.Event
@@ -315,46 +329,46 @@ module _ (m : Site) where
   -- what a poll makes of the first reading that is held
   record Polled (s then : m.State) (path : m.Path) (t : Tracked m) (x : Reading m) (xs : List (Reading m)) : Type 0 where
     content : Content m
-    is : changed_by m (changes_of m s x.text path t) (x ∷ xs) ≡ record { text = x.text; content = content } ∷ xs
+    is : changed_by m.same_text (changes_of m s x.text path t) (x ∷ xs) ≡ record { text = x.text; content = content } ∷ xs
     holds : HoldsSo s then path (reported_now m s path t) content
 
-  poll_first : IsLawful m → (s then : m.State) (path : m.Path) (t : Tracked m) (x : Reading m) (xs : List (Reading m)) → HoldsSo s then path t x.content → Polled s then path t x xs
-  poll_first law s then path (Object false) x xs h = record { content = x.content; is = refl; holds = h }
-  poll_first law s then path (Object true) x xs h = record {
+  poll_first : IsLawful m → (s then : m.State) → HasSuch s → (path : m.Path) (t : Tracked m) (x : Reading m) (xs : List (Reading m)) → HoldsSo s then path t x.content → Polled s then path t x xs
+  poll_first law s then such path (Object false) x xs h = record { content = x.content; is = refl; holds = h }
+  poll_first law s then such path (Object true) x xs h = record {
     content = Shows (m.shown s path);
     is = rw (same_itself law x.text) (ap (λ c. record { text = x.text; content = c } ∷ xs) (shows_next x.content (m.shown s path)));
     holds = refl;
   }
-  poll_first law s then path (Feed bounds given) x xs h = record {
+  poll_first law s then such path (Feed bounds given) x xs h = record {
     content = Lists (m.feed path) (h.missed + (m.gone s path - given)) (filter (m.passes bounds) h.seen ++ filter (m.passes bounds) (since m s path given));
     is = go (m.gone s path - given) (filter (m.passes bounds) (since m s path given));
-    holds = polled s then path bounds given x.content h;
+    holds = polled s then such path bounds given x.content h;
   }
     where
-      next : (dropped : ℕ) (es : List m.Event) → change m (record { text = x.text; content = Lists (m.feed path) dropped es }) (Lists (m.feed path) dropped es) (x ∷ xs) ≡ record { text = x.text; content = Lists (m.feed path) (h.missed + dropped) (filter (m.passes bounds) h.seen ++ es) } ∷ xs
-      next dropped es = rw (same_itself law x.text) (ap (λ c. record { text = x.text; content = c } ∷ xs) (ap (λ c. continued m c (Lists (m.feed path) dropped es)) h.content))
+      next : (dropped : ℕ) (es : List m.Event) → change m.same_text (record { text = x.text; content = Lists (m.feed path) dropped es }) (Lists (m.feed path) dropped es) (x ∷ xs) ≡ record { text = x.text; content = Lists (m.feed path) (h.missed + dropped) (filter (m.passes bounds) h.seen ++ es) } ∷ xs
+      next dropped es = rw (same_itself law x.text) (ap (λ c. record { text = x.text; content = c } ∷ xs) (ap (λ c. continued c (Lists (m.feed path) dropped es)) h.content))
 
-      go : (dropped : ℕ) (es : List m.Event) → changed_by m (lists_some m x.text path dropped es) (x ∷ xs) ≡ record { text = x.text; content = Lists (m.feed path) (h.missed + dropped) (filter (m.passes bounds) h.seen ++ es) } ∷ xs
+      go : (dropped : ℕ) (es : List m.Event) → changed_by m.same_text (lists_some m x.text path dropped es) (x ∷ xs) ≡ record { text = x.text; content = Lists (m.feed path) (h.missed + dropped) (filter (m.passes bounds) h.seen ++ es) } ∷ xs
       go zero [] = ap (λ c. record { text = x.text; content = c } ∷ xs) (h.content ∙ ap₂ (λ k es. Lists (m.feed path) k es) (sym (add-zero h.missed)) (sym (append-nil (filter (m.passes bounds) h.seen))))
       go zero (e ∷ es) = next 0 (e ∷ es)
       go (suc k) es = next (suc k) es
 
-  pub agree_polled : IsLawful m → (s : m.State) (when : m.Text → m.State) (items : List (Item m)) (held : List (Reading m)) → Distinct m items → AllAgree s when items held → AllAgree s when (map (reported m s) items) (changed_by m (changes m s items) held)
-  agree_polled law s when [] [] d h = tt
-  agree_polled law s when [] (x ∷ xs) d h = absurd h
-  agree_polled law s when (item ∷ items) [] d h = absurd h
-  agree_polled law s when (item ∷ items) (x ∷ xs) d h =
+  pub agree_polled : IsLawful m → (s : m.State) → HasSuch s → (when : m.Text → m.State) (items : List (Item m)) (held : List (Reading m)) → Distinct m items → AllAgree s when items held → AllAgree s when (map (reported m s) items) (changed_by m.same_text (changes m s items) held)
+  agree_polled law s such when [] [] d h = tt
+  agree_polled law s such when [] (x ∷ xs) d h = absurd h
+  agree_polled law s such when (item ∷ items) [] d h = absurd h
+  agree_polled law s such when (item ∷ items) (x ∷ xs) d h =
       subst (AllAgree s when (map (reported m s) (item ∷ items))) (sym replayed)
-      (record { text = h.0.text; content = one.holds }, agree_polled law s when items xs d.1 h.1)
+      (record { text = h.0.text; content = one.holds }, agree_polled law s such when items xs d.1 h.1)
     where
       one : Polled s (when item.text) item.path item.tracked x xs
-      one = poll_first law s (when item.text) item.path item.tracked x xs h.0.content
+      one = poll_first law s (when item.text) such item.path item.tracked x xs h.0.content
 
       now_held : Reading m
       now_held = record { text = x.text; content = one.content }
 
-      replayed : changed_by m (changes m s (item ∷ items)) (x ∷ xs) ≡ now_held ∷ changed_by m (changes m s items) xs
+      replayed : changed_by m.same_text (changes m s (item ∷ items)) (x ∷ xs) ≡ now_held ∷ changed_by m.same_text (changes m s items) xs
       replayed =
           changed_by-append (changes_of m s item.text item.path item.tracked) (changes m s items) (x ∷ xs)
-          ∙ ap (changed_by m (changes m s items)) (ap (λ t. changed_by m (changes_of m s t item.path item.tracked) (x ∷ xs)) h.0.text ∙ one.is)
+          ∙ ap (changed_by m.same_text (changes m s items)) (ap (λ t. changed_by m.same_text (changes_of m s t item.path item.tracked) (x ∷ xs)) h.0.text ∙ one.is)
           ∙ changed_past (changes m s items) now_held xs (subst (λ t. AllByRecursion (λ r. m.same_text t r.text ≡ false) (changes m s items)) h.0.text (absent s item.text items d.0))

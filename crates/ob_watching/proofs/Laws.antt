@@ -11,11 +11,20 @@ use Rattle.ob_watching.specs.Sites.{Site, IsLawful}
 use Rattle.ob_watching.specs.Tables.{lookup, numbers_of}
 use Rattle.ob_watching.specs.Watches.{first_lease, Tracked, Object, Feed, Item, Watch, World, Content, Reading, Reply, count, content_now, reading, reported_now, reported, with_items, begun, made, is_full, on_watch, acted, act, IsSound}
 use Rattle.ob_watching.specs.Clients.{Replied, Asking, Call, call_of, call_gives, calls, replay_call, replayed, replay, readings}
-use Rattle.ob_watching.specs.Laws.{step, after, Legal, IsMake, Begins, Ends, whole_by, whole_at, HoldsFeed, HoldsItem, HoldsAll, KeepsItem, Holds, WatchReplays, IsOn, IsNotFound, WasMade, WatchStaysGone, unless_lapsed, standing_after, LeavesOthers}
+use Rattle.ob_watching.specs.Laws.{step, after, Legal, IsMake, Begins, Ends, whole_by, whole_at, HoldsFeed, HoldsItem, HoldsAll, KeepsItem, EachExact, HadEvent, Holds, WatchReplays, IsOn, IsNotFound, WasMade, WatchStaysGone, unless_lapsed, standing_after, LeavesOthers}
 use Rattle.ob_watching.proofs.Tables.{map_option, lookup-map_values, lookup-replace_other, lookup-append_other, lookup-filter_none}
 use Rattle.ob_watching.proofs.Agreement.{HoldsSo, HoldsGiven, AllAgree}
 use Rattle.ob_watching.proofs.Soundness.{sound_step, lookup-standing, left, step_left}
-use Rattle.ob_watching.proofs.Following.{Follows, follows_after, follows_first, made_next, Polled, polled_after}
+use Rattle.ob_watching.proofs.Following.{Follows, has_such, follows_after, follows_first, made_next, Polled, polled_after}
+
+all_mapped : {A : Type 0} (P Q : A → Type 0) → ((x : A) → P x → Q x) → (xs : List A) → AllByRecursion P xs → AllByRecursion Q xs
+all_mapped P Q f [] h = tt
+all_mapped P Q f (x ∷ xs) h = (f x h.0, all_mapped P Q f xs h.1)
+
+-- a filter that passes all passes as many
+length-all : {A : Type 0} (keep : A → Bool) (xs : List A) → AllByRecursion (λ x. keep x ≡ true) xs → length (filter keep xs) ≡ length xs
+length-all keep [] h = refl
+length-all keep (x ∷ xs) h = (let rest = length-all keep xs h.1 in ap (λ b. length (cond b (x ∷ filter keep xs) (filter keep xs))) h.0 ∙ omega (arith, rest))
 
 module _ (m : Site) where
   -- once all was reported what agrees is what is watched
@@ -25,36 +34,38 @@ module _ (m : Site) where
       there : count m s path - m.gone s path ≡ length (m.events s path)
       there = omega arith
 
-  holds_feed : (s then : m.State) (path : m.Path) (bounds : m.Filter) (c : Content m) → HoldsGiven m s then path bounds (count m s path) c → HoldsFeed m s then path bounds c
-  holds_feed s then path bounds c h = record {
+  holds_feed : (s then : m.State) (had : m.Path → m.Event → Type 0) (path : m.Path) (bounds : m.Filter) (c : Content m) → HoldsGiven m had s then path bounds (count m s path) c → HoldsFeed m s then (had path) path bounds c
+  holds_feed s then had path bounds c h = record {
     missed = h.missed;
     seen = h.seen;
     content = h.content;
     kept = (h.kept.0, whole);
     passing = (filter (m.passes bounds) h.kept.0, sym (filter-append (m.passes bounds) h.kept.0 (m.events s path)) ∙ ap (filter (m.passes bounds)) whole);
     number = h.number;
+    genuine = h.genuine;
+    unfiltered = λ passes. length-all (m.passes bounds) h.seen (all_mapped (had path) (λ e. m.passes bounds e ≡ true) passes h.seen h.genuine);
   }
     where
       whole : h.kept.0 ++ m.events s path ≡ h.seen
       whole = ap (λ es. h.kept.0 ++ es) (sym (all_of s path)) ∙ h.kept.1
 
-  holds_item : (s then : m.State) (path : m.Path) (t : Tracked m) (c : Content m) → HoldsSo m s then path (reported_now m s path t) c → HoldsItem m s then path (reported_now m s path t) c
-  holds_item s then path (Object changed) c h = h
-  holds_item s then path (Feed bounds given) c h = holds_feed s then path bounds c h
+  holds_item : (s then : m.State) (had : m.Path → m.Event → Type 0) (path : m.Path) (t : Tracked m) (c : Content m) → HoldsSo m had s then path (reported_now m s path t) c → HoldsItem m s then had path (reported_now m s path t) c
+  holds_item s then had path (Object changed) c h = h
+  holds_item s then had path (Feed bounds given) c h = holds_feed s then had path bounds c h
 
-  holds_all : (s : m.State) (when : m.Text → m.State) (items : List (Item m)) (held : List (Reading m)) → AllAgree m s when (map (reported m s) items) held → HoldsAll m s when (map (reported m s) items) held
-  holds_all s when [] [] h = tt
-  holds_all s when [] (r ∷ rs) h = absurd h
-  holds_all s when (item ∷ items) [] h = absurd h
-  holds_all s when (item ∷ items) (r ∷ rs) h = ((sym h.0.text, holds_item s (when item.text) item.path item.tracked r.content h.0.content), holds_all s when items rs h.1)
+  holds_all : (s : m.State) (when : m.Text → m.State) (had : m.Path → m.Event → Type 0) (items : List (Item m)) (held : List (Reading m)) → AllAgree m had s when (map (reported m s) items) held → HoldsAll m s when had (map (reported m s) items) held
+  holds_all s when had [] [] h = tt
+  holds_all s when had [] (r ∷ rs) h = absurd h
+  holds_all s when had (item ∷ items) [] h = absurd h
+  holds_all s when had (item ∷ items) (r ∷ rs) h = ((sym h.0.text, holds_item s (when item.text) had item.path item.tracked r.content h.0.content), holds_all s when had items rs h.1)
 
   -- and exactly where nothing rolled off
   none_before : {A : Type 0} (front : List A) → length front ≡ 0 → front ≡ []
   none_before [] h = refl
   none_before (x ∷ xs) h = absurd (omega (arith, h))
 
-  exact_feed : (s then : m.State) (path : m.Path) (bounds : m.Filter) (c : Content m) → HoldsFeed m s then path bounds c → m.gone s path ≡ m.gone then path → c ≡ Lists (m.feed path) 0 (filter (m.passes bounds) (m.events s path))
-  exact_feed s then path bounds c h k = h.content ∙ ap₂ (λ n es. Lists (m.feed path) n (filter (m.passes bounds) es)) missed seen
+  exact_feed : (s then : m.State) (had : m.Event → Type 0) (path : m.Path) (bounds : m.Filter) (c : Content m) → HoldsFeed m s then had path bounds c → m.gone s path ≡ m.gone then path → c ≡ Lists (m.feed path) 0 (filter (m.passes bounds) (m.events s path))
+  exact_feed s then had path bounds c h k = h.content ∙ ap₂ (λ n es. Lists (m.feed path) n (filter (m.passes bounds) es)) missed seen
     where
       sizes : length h.kept.0 + length (m.events s path) ≡ length h.seen
       sizes = sym (length-append h.kept.0 (m.events s path)) ∙ ap length h.kept.1
@@ -65,25 +76,32 @@ module _ (m : Site) where
       seen : h.seen ≡ m.events s path
       seen = sym h.kept.1 ∙ ap (λ es. es ++ m.events s path) (none_before h.kept.0 (omega (arith, sizes, h.number, k)))
 
-  exact_item : (s then : m.State) (path : m.Path) (t : Tracked m) (c : Content m) → HoldsItem m s then path t c → KeepsItem m s then path t → c ≡ content_now m s path t
-  exact_item s then path (Object changed) c h k = h
-  exact_item s then path (Feed bounds given) c h k = exact_feed s then path bounds c h k
+  exact_item : (s then : m.State) (had : m.Path → m.Event → Type 0) (path : m.Path) (t : Tracked m) (c : Content m) → HoldsItem m s then had path t c → KeepsItem m s then path t → c ≡ content_now m s path t
+  exact_item s then had path (Object changed) c h k = h
+  exact_item s then had path (Feed bounds given) c h k = exact_feed s then (had path) path bounds c h k
 
-  exact_all : (s : m.State) (when : m.Text → m.State) (items : List (Item m)) (held : List (Reading m)) → HoldsAll m s when items held → AllByRecursion (λ item. KeepsItem m s (when item.text) item.path item.tracked) items → held ≡ map (reading m s) items
+  each_exact : (s : m.State) (when : m.Text → m.State) (had : m.Path → m.Event → Type 0) (items : List (Item m)) (held : List (Reading m)) → HoldsAll m s when had items held → EachExact m s when items held
+  each_exact s when had [] [] h = tt
+  each_exact s when had [] (r ∷ rs) h = absurd h
+  each_exact s when had (item ∷ items) [] h = absurd h
+  each_exact s when had (item ∷ items) (r ∷ rs) h = (
+    λ k. λ i. record { text = h.0.0 i; content = exact_item s (when item.text) had item.path item.tracked r.content h.0.1 k i },
+    each_exact s when had items rs h.1,
+  )
+
+  exact_all : (s : m.State) (when : m.Text → m.State) (items : List (Item m)) (held : List (Reading m)) → EachExact m s when items held → AllByRecursion (λ item. KeepsItem m s (when item.text) item.path item.tracked) items → held ≡ map (reading m s) items
   exact_all s when [] [] h k = refl
   exact_all s when [] (r ∷ rs) h k = absurd h
   exact_all s when (item ∷ items) [] h k = absurd h
-  exact_all s when (item ∷ items) (r ∷ rs) h k =
-      ap₂ (λ (x : Reading m) (xs : List (Reading m)). x ∷ xs)
-      (λ i. record { text = h.0.0 i; content = exact_item s (when item.text) item.path item.tracked r.content h.0.1 k.0 i })
-      (exact_all s when items rs h.1 k.1)
+  exact_all s when (item ∷ items) (r ∷ rs) h k = ap₂ (λ (x : Reading m) (xs : List (Reading m)). x ∷ xs) (h.0 k.0) (exact_all s when items rs h.1 k.1)
 
-  holds_polled : (n : ℕ) (w : World m) (part : List (Asking m)) → Follows m n (after m w part) (whole_at m n w part (λ _. w.site)) (replay m (calls m n part)) → Polled m n (after m w part) → Holds m n w part
+  holds_polled : (n : ℕ) (w : World m) (part : List (Asking m)) → Follows m (HadEvent m w part) n (after m w part) (whole_at m n w part (λ _. w.site)) (replay m (calls m n part)) → Polled m n (after m w part) → Holds m n w part
   holds_polled n w part follows polled = record {
     watch = watch;
     stands = polled.stands;
     held = held;
-    exact = λ k. ap Some (exact_all s when watch.items (replay m (calls m n part)) held k) ∙ ap (readings m s) (sym polled.stands);
+    each = each;
+    exact = λ k. ap Some (exact_all s when watch.items (replay m (calls m n part)) each k) ∙ ap (readings m s) (sym polled.stands);
   }
     where
       s : m.State
@@ -95,8 +113,11 @@ module _ (m : Site) where
       watch : Watch m
       watch = with_items m polled.watch (map (reported m (after m w part).site) polled.watch.items)
 
-      held : HoldsAll m (after m w part).site (whole_at m n w part (λ _. w.site)) (map (reported m (after m w part).site) polled.watch.items) (replay m (calls m n part))
-      held = holds_all (after m w part).site (whole_at m n w part (λ _. w.site)) polled.watch.items (replay m (calls m n part)) (follows.agree watch polled.stands)
+      held : HoldsAll m (after m w part).site (whole_at m n w part (λ _. w.site)) (HadEvent m w part) (map (reported m (after m w part).site) polled.watch.items) (replay m (calls m n part))
+      held = holds_all (after m w part).site (whole_at m n w part (λ _. w.site)) (HadEvent m w part) polled.watch.items (replay m (calls m n part)) (follows.agree watch polled.stands)
+
+      each : EachExact m (after m w part).site (whole_at m n w part (λ _. w.site)) (map (reported m (after m w part).site) polled.watch.items) (replay m (calls m n part))
+      each = each_exact (after m w part).site (whole_at m n w part (λ _. w.site)) (HadEvent m w part) (map (reported m (after m w part).site) polled.watch.items) (replay m (calls m n part)) held
 
   replayed-append : (n : ℕ) (e : Asking m) (es : List (Asking m)) → replay m (calls m n (e ∷ es)) ≡ replayed m (calls m n es) (replayed m (call_of m n e.answer (m.target e.request)) [])
   replayed-append n e es = go (call_of m n e.answer (m.target e.request)) []
@@ -109,8 +130,8 @@ module _ (m : Site) where
   replays_from law n small w [] sound legal begins ends = absurd begins
   replays_from law n small w (e ∷ es) sound legal begins ends =
       holds_polled n w (e ∷ es)
-      (subst (Follows m n (after m w (e ∷ es)) (whole_at m n w (e ∷ es) (λ _. w.site))) (sym (replayed-append n e es))
-      (follows_after m law n es (step m w e) _ _ (sound_step m law w e sound) legal.1 (follows_first m law n small w e (λ _. w.site) sound legal.0 begins)))
+      (subst (Follows m (HadEvent m w (e ∷ es)) n (after m w (e ∷ es)) (whole_at m n w (e ∷ es) (λ _. w.site))) (sym (replayed-append n e es))
+      (follows_after m (HadEvent m w (e ∷ es)) law n es (step m w e) (λ path event h. inr h) _ _ (sound_step m law w e sound) legal.1 (follows_first m (HadEvent m w (e ∷ es)) law n small w (has_such m (HadEvent m w (e ∷ es)) w e es (λ path event h. h)) e (λ _. w.site) sound legal.0 begins)))
       (polled_after m law n (e ∷ es) w sound legal ends)
 
   pub sound_after : IsLawful m → (w : World m) (es : List (Asking m)) → IsSound m w → IsSound m (after m w es)

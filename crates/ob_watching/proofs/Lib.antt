@@ -6,3 +6,4 @@ mod Agreement
 mod Following
 pub mod Laws
 mod SmallLawful
+mod Unheld

@@ -41,7 +41,7 @@ module _ (m : Site) where
   distinct_added : IsLawful m → (s : m.State) (new : Item m) (items : List (Item m)) → Distinct m items → Distinct m (added m s items new).0
   distinct_added law s new items h = go (nat_le max_items (length items) && not (has_text m items new.text))
     where
-      go : (b : Bool) → let one : List (Item m) × Reading m = cond b (items, record { text = new.text; content = Refuses m.too_many_items }) (put_item m new items, reading m s new) in Distinct m one.0
+      go : (b : Bool) → let one : List (Item m) × Reading m = cond b (items, record { text = new.text; content = Refuses (m.err m.too_many_items) }) (put_item m new items, reading m s new) in Distinct m one.0
       go true = h
       go false = distinct_put law new items h
 

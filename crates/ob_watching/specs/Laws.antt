@@ -1,5 +1,5 @@
 -- The laws of watches, over every legal history of calls from any sound state.
-use Rattle.std.specs.Prelude.{◌≡◌, ◌≢◌, ℕ, ◌+◌, ◌^◌, ◌<◌, cond, List, [], ◌∷◌, ◌++◌, length, Option, Some, None, ◌⊎◌}
+use Rattle.std.specs.Prelude.{◌≡◌, ◌≢◌, ℕ, ◌+◌, ◌^◌, ◌<◌, true, cond, Contains, List, [], ◌∷◌, ◌++◌, length, Option, Some, None, ◌⊎◌}
 use Rattle.std.specs.List.{filter, list_any, AllByRecursion}
 use Rattle.ob_machine.specs.History.{left_by, IsLegal}
 use Rattle.ob_machine.specs.History as history
@@ -7,7 +7,7 @@ use Rattle.ob_machine.specs.declared.call.Answer.TheVariants.{Done, NoMemory}
 use Rattle.ob_watching.specs.Asked.{NewWatch, OneWatch, PollChanges, PollRefresh, Shows, Lists, Told, Refused, Values}
 use Rattle.ob_watching.specs.Sites.{Site}
 use Rattle.ob_watching.specs.Tables.{lookup, IsSuffix}
-use Rattle.ob_watching.specs.Watches.{Tracked, Object, Feed, Item, Watch, World, Content, Reading, Asks, count, act, has_lapsed, IsSound}
+use Rattle.ob_watching.specs.Watches.{Tracked, Object, Feed, Item, Watch, World, Content, Reading, Asks, count, reading, act, has_lapsed, IsSound}
 use Rattle.ob_watching.specs.Clients.{Replied, Asking, call_of, calls, replay, watched, call_gives}
 
 module _ (m : Site) where
@@ -33,7 +33,7 @@ module _ (m : Site) where
     pub reply : m.Sent
     pub answer : e.answer ≡ Done reply
     pub given : List (Reading m)
-    pub heard : m.heard reply ≡ Values given
+    pub heard : m.heard op reply ≡ Values given
 
   -- a part of a history begins with the make of the watch, or with an answered pollRefresh of it
   abbrev pub Begins : ℕ → List (Asking m) → Type 0
@@ -54,39 +54,58 @@ module _ (m : Site) where
   whole_at n w [] when = when
   whole_at n w (e ∷ es) when = whole_at n (step w e) es (whole_by n w.site e when)
 
+  -- the feed had this event, at the start of a part of a history or after one of its entries
+  abbrev pub HadEvent : World m → List (Asking m) → m.Path → m.Event → Type 0
+  HadEvent w [] path event = Contains (m.events w.site path) event
+  HadEvent w (e ∷ es) path event = Contains (m.events w.site path) event ⊎ HadEvent (step w e) es path event
+
   -- What is held of a feed: the events since it was given whole, but for those missed, as far as they pass the
   -- filter. The kept events stand last among them, so each kept one that passes is held once and in its order.
-  -- Those seen and those missed are together all events since then.
-  pub record HoldsFeed (s then : m.State) (path : m.Path) (bounds : m.Filter) (c : Content m) : Type 0 where
+  -- Those seen and those missed are together all events since then, and each one seen is an event that the feed had.
+  pub record HoldsFeed (s then : m.State) (had : m.Event → Type 0) (path : m.Path) (bounds : m.Filter) (c : Content m) : Type 0 where
     pub missed : ℕ
     pub seen : List m.Event
     pub content : c ≡ Lists (m.feed path) missed (filter (m.passes bounds) seen)
     pub kept : IsSuffix (m.events s path) seen
     pub passing : IsSuffix (filter (m.passes bounds) (m.events s path)) (filter (m.passes bounds) seen)
     pub number : length seen + missed + m.gone then path ≡ count m s path
+    pub genuine : AllByRecursion (λ e. had e) seen
+    -- so where the filter passes each event that the feed had, those held and those missed are all events since then
+    pub unfiltered : ((e : m.Event) → had e → m.passes bounds e ≡ true) → length (filter (m.passes bounds) seen) ≡ length seen
 
   -- what is held of an object is the object as it is shown
-  abbrev pub HoldsItem : m.State → m.State → m.Path → Tracked m → Content m → Type 0
-  HoldsItem s then path (Object changed) c = c ≡ Shows (m.shown s path)
-  HoldsItem s then path (Feed bounds given) c = HoldsFeed s then path bounds c
+  abbrev pub HoldsItem : m.State → m.State → (m.Path → m.Event → Type 0) → m.Path → Tracked m → Content m → Type 0
+  HoldsItem s then had path (Object changed) c = c ≡ Shows (m.shown s path)
+  HoldsItem s then had path (Feed bounds given) c = HoldsFeed s then (had path) path bounds c
 
   -- the items' hrefs in their order, each with what is watched
-  abbrev pub HoldsAll : m.State → (m.Text → m.State) → List (Item m) → List (Reading m) → Type 0
-  HoldsAll s when [] [] = Unit {0}
-  HoldsAll s when [] (r ∷ rs) = ⊥
-  HoldsAll s when (item ∷ items) [] = ⊥
-  HoldsAll s when (item ∷ items) (r ∷ rs) = ((r.text ≡ item.text) × HoldsItem s (when item.text) item.path item.tracked r.content) × HoldsAll s when items rs
+  abbrev pub HoldsAll : m.State → (m.Text → m.State) → (m.Path → m.Event → Type 0) → List (Item m) → List (Reading m) → Type 0
+  HoldsAll s when had [] [] = Unit {0}
+  HoldsAll s when had [] (r ∷ rs) = ⊥
+  HoldsAll s when had (item ∷ items) [] = ⊥
+  HoldsAll s when had (item ∷ items) (r ∷ rs) =
+      ((r.text ≡ item.text) × HoldsItem s (when item.text) had item.path item.tracked r.content) × HoldsAll s when had items rs
 
   -- of an item no event has rolled off
   abbrev pub KeepsItem : m.State → m.State → m.Path → Tracked m → Type 0
   KeepsItem s then path (Object changed) = Unit {0}
   KeepsItem s then path (Feed bounds given) = m.gone s path ≡ m.gone then path
 
+  -- an item of which no event has rolled off is held as a pollRefresh would give it, whatever became of the others
+  abbrev pub EachExact : m.State → (m.Text → m.State) → List (Item m) → List (Reading m) → Type 0
+  EachExact s when [] [] = Unit {0}
+  EachExact s when [] (r ∷ rs) = ⊥
+  EachExact s when (item ∷ items) [] = ⊥
+  EachExact s when (item ∷ items) (r ∷ rs) =
+      (KeepsItem s (when item.text) item.path item.tracked → r ≡ reading m s item) × EachExact s when items rs
+
   -- A client of watch n that replayed the calls of this part, which began in this state, holds what is watched.
   pub record Holds (n : ℕ) (w : World m) (part : List (Asking m)) : Type 0 where
     pub watch : Watch m
     pub stands : lookup n (after w part).watches ≡ Some watch
-    pub held : HoldsAll (after w part).site (whole_at n w part (λ _. w.site)) watch.items (replay m (calls m n part))
+    pub held : HoldsAll (after w part).site (whole_at n w part (λ _. w.site)) (HadEvent w part) watch.items (replay m (calls m n part))
+    -- each exactly where nothing rolled off of it since it was given whole
+    pub each : EachExact (after w part).site (whole_at n w part (λ _. w.site)) watch.items (replay m (calls m n part))
     -- exactly, as a list, where nothing rolled off since it was given whole
     pub exact : AllByRecursion (λ item. KeepsItem (after w part).site (whole_at n w part (λ _. w.site) item.text) item.path item.tracked) watch.items
         → Some (replay m (calls m n part)) ≡ watched m n (after w part)

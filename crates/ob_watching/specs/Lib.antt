@@ -1,6 +1,9 @@
 pub mod Asked
 pub mod Sites
 pub mod Tables
+pub mod Replay
+pub mod WatchOuts
+pub mod HeardRows
 pub mod Watches
 pub mod Clients
 pub mod Laws

@@ -1,12 +1,12 @@
 -- Worked rows on the small site, each a reply that is computed.
-use Rattle.std.specs.Prelude.{◌≡◌, ℕ, zero, suc, false, ◌+◌, ◌-◌, ◌^◌, List, [], ◌∷◌, ◌++◌}
+use Rattle.std.specs.Prelude.{◌≡◌, ◌⊎◌, ℕ, zero, suc, false, ◌+◌, ◌-◌, ◌^◌, List, [], ◌∷◌, ◌++◌}
 use Rattle.ob_machine.specs.History.{entry}
 use Rattle.ob_machine.specs.declared.call.Answer.TheVariants.{Done, NoMemory}
 use Rattle.ob_watching.specs.Asked.{Add, Remove, PollChanges, PollRefresh, Delete, Renew, Look, Shows, Lists, Refuses, Told, Out, Refused, Answered}
 use Rattle.ob_watching.specs.Watches.{World, Watch, Item, Reading, Reply, Object, first_lease, act}
 use Rattle.ob_watching.specs.Clients.{Asking, calls, replay}
-use Rattle.ob_watching.specs.Laws.{after}
-use Rattle.ob_watching.specs.Small.{small, Whole, NoSuch, TooManyWatches, TooManyItems, NotInBatch, Request, Do, Batch, Make, Ask, Get, Put, AskWatch, Failed, Each, Event, root, feed_path}
+use Rattle.ob_watching.specs.Laws.{after, HoldsFeed}
+use Rattle.ob_watching.specs.Small.{small, Whole, NoSuch, TooManyWatches, TooManyItems, NotInBatch, Request, Do, Batch, Make, Ask, Get, Put, AskWatch, Failed, Each, Event, Nodes, root, feed_path}
 
 -- nodes 1 and 2 with the value 0; the history of node 1 keeps this many records
 abbrev pub opening : ℕ → World small
@@ -189,3 +189,12 @@ crowded = record { time = 0; next = 2; watches = (1, record { lease = first_leas
 -- a new item is refused where there are the most, and one that is there is taken anew
 abbrev pub NotOneItemMore : Type 0
 NotOneItemMore = reply_to_last crowded [] (Ask 1 (Add ((1, 0) ∷ (2, 0) ∷ []))) 1 ≡ Out (record { text = 1; content = Refuses TooManyItems } ∷ record { text = 2; content = Refuses TooManyItems } ∷ [])
+
+abbrev pub with_history : ℕ → List Event → Nodes
+with_history gone kept = record { nodes = []; kept = kept; gone = gone; capacity = 1 }
+
+-- Of two events since, both of which the filter passes, the first rolled off: who holds the second alone and has missed
+-- none doesn't hold the feed.
+abbrev pub UntoldIsNotHeld : Type 0
+UntoldIsNotHeld =
+    HoldsFeed small (with_history 1 (event 6 2 ∷ [])) (with_history 0 []) (λ e. (e ≡ event 5 1) ⊎ (e ≡ event 6 2)) feed_path 5 (Lists [] 0 (event 6 2 ∷ [])) → ⊥

@@ -2,7 +2,7 @@
 use Rattle.std.specs.Prelude.{◌≡◌, ℕ, ◌+◌, ◌^◌, ◌<◌, ◌≤◌, Bool, List, ◌++◌, length, drop, Result, ◌≢◌}
 use Rattle.std.specs.List.{AllByRecursion}
 use Rattle.std.specs.Bool.{Decides}
-use Rattle.ob_watching.specs.Asked.{Target, Found, NotFound, Shows, Lists, Refuses, ReadingOf, ReplyOf, Told, Out, Nil, Refused, HeardOf, Values, Nothing, Other}
+use Rattle.ob_watching.specs.Asked.{Operation, Remove, PollChanges, Target, Found, Shows, Lists, Refuses, ReadingOf, ReplyOf, Told, Out, Nil, Refused, HeardOf, Values, Nothing, Other, GivesOut}
 
 -- A site apart from its watches: what its own requests do to it, and what can be watched in it.
 pub record Site : Type 1 where
@@ -18,6 +18,8 @@ pub record Site : Type 1 where
   pub Object : Type 0
   pub Event : Type 0
   pub Fault : Type 0
+  -- what a client holds of an err
+  pub Err : Type 0
   -- the parts of a Watch that can be asked for: the Watch itself, its lease, its ops
   pub Part : Type 0
   pub whole : Part
@@ -40,10 +42,11 @@ pub record Site : Type 1 where
   pub feed : Path → Object
   -- the lease that is asked for, in nanoseconds
   pub lease_asked : State → Input → Result ℕ Fault
-  -- a reply as it is sent, and what a client reads in it
+  -- a refusal and a reply as they are sent, and what a client reads in the reply to an operation
   pub Sent : Type 0
-  pub sent : ReplyOf Reply Part Text Object Event Fault → Sent
-  pub heard : Sent → HeardOf Text Object Event Fault
+  pub err : Fault → Err
+  pub sent : ReplyOf Reply Part Text Object Event Err Fault → Sent
+  pub heard : Operation Text Input Part Fault → Sent → HeardOf Text Object Event Err
   pub same_text : Text → Text → Bool
   pub same : Object → Object → Bool
   -- BadUriErr: there is no such object
@@ -62,20 +65,20 @@ pub record HasRolled (Event : Type 0) (gone left : ℕ) (before after : List Eve
 pub record IsLawful (m : Site) : Type 1 where
   pub same_text : (a b : m.Text) → Decides (m.same_text a b) (a ≡ b)
   pub same : (a b : m.Object) → Decides (m.same a b) (a ≡ b)
-  -- a WatchOut whose entries are readable is read back as it was made
-  pub Readable : ReadingOf m.Text m.Object m.Event m.Fault → Type 0
-  pub heard_out : (readings : List (ReadingOf m.Text m.Object m.Event m.Fault)) → AllByRecursion (λ r. Readable r) readings → m.heard (m.sent (Out readings)) ≡ Values readings
+  -- a WatchOut whose entries are readable in the reply to an operation is read back as it was made
+  pub Readable : Operation m.Text m.Input m.Part m.Fault → ReadingOf m.Text m.Object m.Event m.Err → Type 0
+  pub heard_out : (op : Operation m.Text m.Input m.Part m.Fault) → GivesOut op → (readings : List (ReadingOf m.Text m.Object m.Event m.Err)) → AllByRecursion (λ r. Readable op r) readings → m.heard op (m.sent (Out readings)) ≡ Values readings
   -- and all entries that a watch gives are readable, where each event of the site is such an event
-  pub readable_object : (s : m.State) (text : m.Text) (path : m.Path) → Readable (record { text = text; content = Shows (m.shown s path) })
+  pub readable_object : (op : Operation m.Text m.Input m.Part m.Fault) (s : m.State) (text : m.Text) (path : m.Path) → Readable op (record { text = text; content = Shows (m.shown s path) })
   pub IsEvent : m.Event → Type 0
   pub events_are : (s : m.State) (path : m.Path) → AllByRecursion (λ e. IsEvent e) (m.events s path)
-  pub readable_events : (text : m.Text) (path : m.Path) (dropped : ℕ) (events : List m.Event) → AllByRecursion (λ e. IsEvent e) events → Readable (record { text = text; content = Lists (m.feed path) dropped events })
-  pub readable_fault : (s : m.State) (numbers : List ℕ) (asked : m.Text × m.Input) (fault : m.Fault) → m.find s numbers asked.0 asked.1 ≡ NotFound fault → (text : m.Text) → Readable (record { text = text; content = Refuses fault })
-  pub readable_full : (text : m.Text) → Readable (record { text = text; content = Refuses m.too_many_items })
-  -- Nil is read as Nil, a Watch and an err as neither values nor Nil
-  pub heard_nil : m.heard (m.sent Nil) ≡ Nothing
-  pub heard_told : (n lease : ℕ) (part : m.Part) → m.heard (m.sent (Told n lease part)) ≡ Other
-  pub heard_refused : (fault : m.Fault) → m.heard (m.sent (Refused fault)) ≡ Other
+  pub readable_events : (op : Operation m.Text m.Input m.Part m.Fault) (text : m.Text) (path : m.Path) (events : List m.Event) → AllByRecursion (λ e. IsEvent e) events → Readable op (record { text = text; content = Lists (m.feed path) 0 events })
+  -- in a pollChanges also those of a feed that dropped events
+  pub readable_changes : (text : m.Text) (path : m.Path) (dropped : ℕ) (events : List m.Event) → AllByRecursion (λ e. IsEvent e) events → Readable PollChanges (record { text = text; content = Lists (m.feed path) dropped events })
+  pub readable_fault : (op : Operation m.Text m.Input m.Part m.Fault) (fault : m.Fault) (text : m.Text) → Readable op (record { text = text; content = Refuses (m.err fault) })
+  -- Nil tells that a remove was done, and an err is neither values nor that
+  pub heard_nil : (texts : List m.Text) → m.heard (Remove texts) (m.sent Nil) ≡ Nothing
+  pub heard_refused : (op : Operation m.Text m.Input m.Part m.Fault) (fault : m.Fault) → m.heard op (m.sent (Refused fault)) ≡ Other
   -- a Watch tells its number, and isn't an err
   pub told : (j k a b : ℕ) → j < 2 ^ 64 → k < 2 ^ 64 → m.sent (Told j a m.whole) ≡ m.sent (Told k b m.whole) → j ≡ k
   pub told_refused : (n lease : ℕ) (fault : m.Fault) → m.sent (Told n lease m.whole) ≢ m.sent (Refused fault)

@@ -140,12 +140,12 @@ same_values (x ∷ xs) (y ∷ ys) = (x == y) && same_values xs ys
 
 -- replies are sent as they are
 abbrev pub Sent : Type 0
-Sent = ReplyOf Own Part ℕ (List ℕ) Event Fault
+Sent = ReplyOf Own Part ℕ (List ℕ) Event Fault Fault
 
-abbrev pub heard : Sent → HeardOf ℕ (List ℕ) Event Fault
-heard (Out readings) = Values readings
-heard Nil = Nothing
-heard _ = Other
+abbrev pub heard : Operation ℕ ℕ Part Fault → Sent → HeardOf ℕ (List ℕ) Event Fault
+heard op (Out readings) = Values readings
+heard op Nil = Nothing
+heard op _ = Other
 
 abbrev pub small : Site
 small = record {
@@ -159,6 +159,7 @@ small = record {
   Object = List ℕ;
   Event = Event;
   Fault = Fault;
+  Err = Fault;
   Part = Part;
   whole = Whole;
   lease = Lease;
@@ -173,6 +174,7 @@ small = record {
   feed = λ path. [];
   lease_asked = lease_asked;
   Sent = Sent;
+  err = λ fault. fault;
   sent = λ reply. reply;
   heard = heard;
   same_text = λ a b. a == b;

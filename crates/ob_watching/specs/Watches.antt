@@ -3,7 +3,7 @@ use Rattle.std.specs.Prelude.{◌≡◌, ℕ, zero, ◌+◌, ◌-◌, ◌*◌, �
 use Rattle.std.specs.List.{filter, list_any, AllByRecursion}
 use Rattle.ob_watching.specs.Asked.{Operation, Look, Renew, Add, Remove, PollChanges, PollRefresh, Delete, Refuse, Target, Itself, Nowhere, NewWatch, OneWatch, Found, ObjectAt, FeedAt, NotFound, ContentOf, Shows, Lists, Refuses, ReadingOf, ReplyOf, Answered, Told, Out, Nil, Refused}
 use Rattle.ob_watching.specs.Sites.{Site}
-use Rattle.ob_watching.specs.Tables.{put, lookup, map_values, replace, numbers_of}
+use Rattle.ob_watching.specs.Tables.{put, is_among, lookup, map_values, replace, numbers_of}
 
 -- limits of this server: watches at a time, items of a watch, and the last number that a watch is given
 abbrev pub max_watches : ℕ
@@ -60,13 +60,13 @@ module _ (m : Site) where
   World = WorldOf m.State m.Text m.Path m.Filter
 
   abbrev pub Content : Type 0
-  Content = ContentOf m.Object m.Event m.Fault
+  Content = ContentOf m.Object m.Event m.Err
 
   abbrev pub Reading : Type 0
-  Reading = ReadingOf m.Text m.Object m.Event m.Fault
+  Reading = ReadingOf m.Text m.Object m.Event m.Err
 
   abbrev pub Reply : Type 0
-  Reply = ReplyOf m.Reply m.Part m.Text m.Object m.Event m.Fault
+  Reply = ReplyOf m.Reply m.Part m.Text m.Object m.Event m.Err m.Fault
 
   abbrev pub Asks : Type 0
   Asks = Operation m.Text m.Input m.Part m.Fault
@@ -121,11 +121,11 @@ module _ (m : Site) where
   abbrev pub added : m.State → List Item → Item → List Item × Reading
   added s items item =
       cond (nat_le max_items (length items) && not (has_text items item.text))
-      (items, record { text = item.text; content = Refuses m.too_many_items })
+      (items, record { text = item.text; content = Refuses (m.err m.too_many_items) })
       (put_item item items, reading s item)
 
   abbrev pub add_found : m.State → List Item → m.Text → Found m.Path m.Filter m.Fault → List Item × Reading
-  add_found s items text (NotFound fault) = (items, record { text = text; content = Refuses fault })
+  add_found s items text (NotFound fault) = (items, record { text = text; content = Refuses (m.err fault) })
   add_found s items text (ObjectAt path) = added s items (record { text = text; path = path; tracked = Object false })
   add_found s items text (FeedAt path bounds) = added s items (record { text = text; path = path; tracked = Feed bounds (count s path) })
 
@@ -140,7 +140,7 @@ module _ (m : Site) where
       (add_found s items a.0 (m.find s ns a.0 a.1)).1 ∷ readings_added s ns (add_found s items a.0 (m.find s ns a.0 a.1)).0 asked
 
   abbrev pub among : List m.Text → m.Text → Bool
-  among texts text = list_any (m.same_text text) texts
+  among texts text = is_among m.same_text texts text
 
   -- of equal hrefs in one WatchIn only the first counts
   abbrev pub firsts : List m.Text → List (m.Text × m.Input) → List (m.Text × m.Input)

@@ -3,16 +3,20 @@
 //! A site is a record of parameters (`specs/Sites.antt`); watches are a layer over it
 //! (`specs/Watches.antt`), and the laws (`specs/Laws.antt`) are proved once, for any site that is lawful
 //! (`proofs/Laws.antt`). The functions here state them of a small closed site (`specs/Small.antt`), with
-//! worked rows (`specs/Rows.antt`); they do nothing.
+//! worked rows (`specs/Rows.antt`); they do nothing. What a client holds is defined of no site: what it reads in
+//! a reply by its shape (`specs/WatchOuts.antt`), and what a reply makes of what it held (`specs/Replay.antt`).
 #![tactic(auto)]
 
+ghost use Rattle.ob_watching.specs.HeardRows.{ByItsShape, DroppedInAdd, DroppedInChanges, DroppedInRefresh, ErrHeld, ErrInAdd, ErrInChanges, GoesOn, NoHref, NotAnotherKind, NotByItsContract, NotRemoved, RemovedByAny, WithoutNames};
 ghost use Rattle.ob_watching.specs.Laws.{LeavesOthers, WatchReplays, WatchStaysGone};
-ghost use Rattle.ob_watching.specs.Rows.{AddedAnew, AfterNoMemory, BackInOneBatch, DeletedIsGone, DroppedAlone, DroppedIsTold, EventOnce, FirstOfEqual, FromThen, HeldAfterRolling, LapsesThen, LastMoment, LastNumber, LastOfBatch, NextNumber, NoNumber, NotByOthers, NotInABatch, NotOneItemMore, NotOneMore, NothingNew, OnceTheyLapsed, OthersStand, RenewedByOwn, RolledAfterTold, StillMarked, ThenNothing, ThereAndBack, TimeStays, TouchedAtLatest};
+ghost use Rattle.ob_watching.specs.Rows.{AddedAnew, AfterNoMemory, BackInOneBatch, DeletedIsGone, DroppedAlone, DroppedIsTold, EventOnce, FirstOfEqual, FromThen, HeldAfterRolling, LapsesThen, LastMoment, LastNumber, LastOfBatch, NextNumber, NoNumber, NotByOthers, NotInABatch, NotOneItemMore, NotOneMore, NothingNew, OnceTheyLapsed, OthersStand, RenewedByOwn, RolledAfterTold, StillMarked, ThenNothing, ThereAndBack, TimeStays, TouchedAtLatest, UntoldIsNotHeld};
 ghost use Rattle.ob_watching.specs.Small.{small};
 
 /// After each answered poll a client that has replayed the replies on the watch, from its make on or from
 /// any pollRefresh on, holds what is watched: the same hrefs in the same order, each object as it is shown,
-/// each kept event of a feed once, and what rolled off unreported counted.
+/// each kept event of a feed once, and what rolled off unreported counted. What it holds of an item of which
+/// nothing rolled off since it was given whole is what a pollRefresh would give, whatever becomes of the others;
+/// and each event that it holds or that the filter held back is one that the feed had.
 ///
 /// Source: oBIX 1.1, chapter Watches; rolling feeds are this project's own.
 pub fn watch_replay(watch: u64)
@@ -64,4 +68,27 @@ pub fn worked_rows()
     ensures not_one_more { NotOneMore }
     ensures once_they_lapsed { OnceTheyLapsed }
     ensures not_one_item_more { NotOneItemMore }
+{}
+
+/// An event that rolled off and was told to nobody can't be made up for by one that the filter holds back.
+pub fn untold()
+    ensures { UntoldIsNotHeld }
+{}
+
+/// Worked rows of what a client reads in a reply, by its shape alone, and of what it holds then.
+pub fn heard_rows()
+    ensures by_its_shape { ByItsShape }
+    ensures not_by_its_contract { NotByItsContract }
+    ensures not_another_kind { NotAnotherKind }
+    ensures no_href { NoHref }
+    ensures without_names { WithoutNames }
+    ensures dropped_in_changes { DroppedInChanges }
+    ensures dropped_in_refresh { DroppedInRefresh }
+    ensures dropped_in_add { DroppedInAdd }
+    ensures goes_on { GoesOn }
+    ensures err_held { ErrHeld }
+    ensures err_in_add { ErrInAdd }
+    ensures err_in_changes { ErrInChanges }
+    ensures removed_by_any { RemovedByAny }
+    ensures not_removed { NotRemoved }
 {}
