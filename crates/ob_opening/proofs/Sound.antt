@@ -14,8 +14,10 @@ use Rattle.ob_site_rules.specs.Shown.{shown_root}
 use Rattle.ob_site_rules.specs.Writes.{site_contracts}
 use Rattle.ob_site_rules.specs.Sites.{SiteState, site}
 use Rattle.ob_opening.specs.Laws.{IsSoundIfOpen, OpensSound}
-use Rattle.ob_opening.specs.Roles.{no_roles, worded, worded_contracts}
-use Rattle.ob_opening.specs.Loading.{LoadFault, Size, Href, BadRule, Part, row_of, first_in, parts_of, kept_row, paths_in, taken_twice, bad_part, bad_href, add_contracts, opened, or_twice, or_bad, within_size, opened_with, opened_by, opening_at, root_of, made_root, opening_of}
+use Rattle.ob_opening.specs.declared.roles.Roles.{Roles}
+use Rattle.ob_opening.specs.Roles.{no_roles, all_roles, worded_contracts}
+use Rattle.ob_hrefs.specs.Hrefs.{bad_href}
+use Rattle.ob_opening.specs.Loading.{LoadFault, Size, Href, BadRule, Part, row_of, kept_root, parts_of, paths_in, taken_twice, bad_part, add_contracts, opened, or_twice, or_bad, within_size, opened_with, opened_by, opening_at, root_of, made_root, opening_of}
 
 abbrev log : Option ℕ → ℕ → List Record → Log
 log c g k = record { capacity = c; gone = g; kept = k }
@@ -64,12 +66,11 @@ module _ (locate : Parts → Text → Option Path) where
 
   with_sound : (base : Parts) (r : Path) (boot : ℕ) (lib words : Contracts) (root : Object) → Sound (opened_with base r boot lib words root)
   with_sound base r boot lib words root =
-      let beside : Objects = row_of (worded words root) in
-      let ps : List Part = parts_of words 0 true false no_roles (row_of root) beside in
-      let tree : Object = first_in root (listed (kept_row words true false no_roles (row_of root) beside)) in
-      let st : SiteState = opened base r boot lib root tree ps in
-      twice_sound (taken_twice r [] (paths_in words true false no_roles (row_of root) beside)) (or_bad BadRule (bad_part ps) (within_size st))
-      (bad_sound BadRule (bad_part ps) (within_size st) (within_sound st (opened_sound base r boot lib root tree ps)))
+      let rs : List Roles = all_roles words root in
+      let ps : List Part = parts_of rs 0 false no_roles (row_of root) in
+      let st : SiteState = opened base r boot lib root (kept_root rs root) ps in
+      twice_sound (taken_twice r [] (paths_in rs 0 no_roles (row_of root))) (or_bad BadRule (bad_part ps) (within_size st))
+      (bad_sound BadRule (bad_part ps) (within_size st) (within_sound st (opened_sound base r boot lib root (kept_root rs root) ps)))
 
   by_sound : (base : Parts) (r : Path) (boot : ℕ) (added : Result Contracts LibFault) (words : Contracts) (root : Object) → Sound (opened_by base r boot added words root)
   by_sound base r boot (Err fault) words root = tt

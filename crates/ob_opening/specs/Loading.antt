@@ -14,22 +14,24 @@ use Rattle.ob_object.specs.declared.head.Head.{Head}
 use Rattle.ob_object.specs.Kinds.{same_kind}
 use Rattle.ob_object.specs.Object.{Objects, none, node, Object, listed, children, count, parts}
 use Rattle.ob_object.specs.WellFormed.{has_name}
-use Rattle.ob_contracts.specs.Inherit.{Contracts, Words, or_else, slot_or_default}
+use Rattle.ob_contracts.specs.Inherit.{Contracts, Words, slot_or_default}
 use Rattle.ob_contracts.specs.Adding.{added}
 use Rattle.ob_contracts.specs.declared.adding.LibFault.{LibFault}
 use Rattle.ob_history.specs.declared.records.Record.{Record}
 use Rattle.ob_history.specs.Records.{is_value_kind}
 use Rattle.ob_href.specs.Href.{is_root_url}
+use Rattle.ob_hrefs.specs.Hrefs.{bad_href, made_object}
 use Rattle.ob_alarms.specs.declared.rule.Num.{Num}
 use Rattle.ob_alarms.specs.declared.rule.Num.TheVariants as num
 use Rattle.ob_alarms.specs.Limits.{is_below}
 use Rattle.ob_site_rules.specs.Build.{Text, Path, child}
 use Rattle.ob_site_rules.specs.State.{PointRule, Log, is_among, is_path, rolled}
 use Rattle.ob_site_rules.specs.Paths.{below, behind}
-use Rattle.ob_site_rules.specs.Shown.{is_err, node_path, shown_root}
+use Rattle.ob_site_rules.specs.Shown.{node_path, shown_root}
 use Rattle.ob_site_rules.specs.Writes.{number_in, site_contracts, stored_in}
 use Rattle.ob_site_rules.specs.Sites.{SiteState}
-use Rattle.ob_opening.specs.Roles.{Roles, no_roles, roles_of, is_dropped, is_part, worded, worded_contracts}
+use Rattle.ob_opening.specs.declared.roles.Roles.{Roles}
+use Rattle.ob_opening.specs.Roles.{no_roles, is_dropped, is_part, holds_contracts, role_at, all_roles, worded_contracts}
 
 -- Why a document opens no site, in the order in which the refusals are looked for; a part is told by its number in the order
 -- of the document, the root being 0.
@@ -41,47 +43,7 @@ pub data LoadFault : Type 0 where
   BadRule : (part : ℕ) → LoadFault
   Size : LoadFault
 
--- `resolve` is the path with its query that a text leads to at the root's origin, without fragment
-module _ (resolve : Text → Option Path) where
-  -- a text that leads to the root's origin becomes that path, unless it begins with `obix:`
-  abbrev pub made_path : Text → Text
-  made_path t = cond (is_some (behind (codes "obix:") t)) t (unwrap_or (resolve t) t)
-
-  abbrev has_query : Path → Bool
-  has_query p = list_any (λ c. c == 63) p
-
-  -- an href of a node that is no path of the site
-  abbrev pub is_bad_href : Head → Bool
-  is_bad_href h = unwrap_or (option_map (λ t. unwrap_or (option_map has_query (resolve t)) true) (node_path h)) false
-
-  abbrev own_path : Head → Option Path
-  own_path h = cond (is_err h.kind) None (option_map (λ t. unwrap_or (resolve t) t) h.href)
-
-  abbrev made_words : Option Words → Option Words
-  made_words ws = option_map (map made_path) ws
-
-  -- a head with paths in place of texts that lead to the site
-  abbrev pub with_paths : Option Path → Head → Head
-  with_paths href h = record h {
-    href = href;
-    is = made_words h.is;
-    of = made_words h.of;
-    input = made_words h.input;
-    output = made_words h.output;
-    facets = record h.facets { range = option_map made_path h.facets.range };
-  }
-
-  abbrev pub row_with_paths : Objects → Objects
-  row_with_paths none = none
-  row_with_paths (node h inner rest) = node (with_paths (own_path h) h) (row_with_paths inner) (row_with_paths rest)
-
-  -- The number of the first node whose href is bad. Objects are numbered in the order of the document.
-  abbrev pub bad_href : ℕ → Objects → Option ℕ
-  bad_href n none = None
-  bad_href n (node h inner rest) =
-      cond (is_bad_href h) (Some n) (or_else (bad_href (n + 1) inner) (bad_href (n + 1 + count inner) rest))
-
-abbrev and_add : Result Contracts LibFault → Text → Object → Result Contracts LibFault
+abbrev pub and_add : Result Contracts LibFault → Text → Object → Result Contracts LibFault
 and_add (Err fault) uri contract = Err fault
 and_add (Ok lib) uri contract = added lib uri contract
 
@@ -97,51 +59,41 @@ pub record Part : Type 0 where
   pub roles : Roles
   pub inside : Bool
 
-abbrev roles_there : Contracts → Bool → Bool → Head → Option Words → Roles
-roles_there lib root inside h ws = cond inside no_roles (roles_of lib root h ws)
-
--- The parts of a row in order, their numbers from n on; beside the row stand the same objects with their words.
-abbrev pub parts_of : Contracts → ℕ → Bool → Bool → Roles → Objects → Objects → List Part
-parts_of lib n root inside above none ws = []
-parts_of lib n root inside above (node h inner rest) none = []
-parts_of lib n root inside above (node h inner rest) (node w winner wrest) =
-    let roles : Roles = roles_there lib root inside h w.is in
+-- The parts of a row in order, their numbers from n on, by the roles of all objects.
+abbrev pub parts_of : List Roles → ℕ → Bool → Roles → Objects → List Part
+parts_of rs n inside above none = []
+parts_of rs n inside above (node h inner rest) =
     cond (is_dropped above h) []
-    (record { number = n; own = record { head = h; inner = inner }; roles = roles; inside = inside }
-    ∷ parts_of lib (n + 1) false (inside || (above.root && has_name (codes "contracts") h.name)) roles inner winner)
-    ++ parts_of lib (n + 1 + count inner) root inside above rest wrest
+    (record { number = n; own = record { head = h; inner = inner }; roles = role_at rs n; inside = inside }
+    ∷ parts_of rs (n + 1) (inside || holds_contracts above.root h) (role_at rs n) inner)
+    ++ parts_of rs (n + 1 + count inner) inside above rest
 
 -- the row without what is dropped or taken out
-abbrev pub kept_row : Contracts → Bool → Bool → Roles → Objects → Objects → Objects
-kept_row lib root inside above none ws = none
-kept_row lib root inside above (node h inner rest) none = none
-kept_row lib root inside above (node h inner rest) (node w winner wrest) =
-    let others : Objects = kept_row lib root inside above rest wrest in
-    cond (is_dropped above h) others
-    (node h (kept_row lib false (inside || (above.root && has_name (codes "contracts") h.name)) (roles_there lib root inside h w.is) inner winner) others)
+abbrev pub kept_row : List Roles → ℕ → Roles → Objects → Objects
+kept_row rs n above none = none
+kept_row rs n above (node h inner rest) =
+    let others : Objects = kept_row rs (n + 1 + count inner) above rest in
+    cond (is_dropped above h) others (node h (kept_row rs (n + 1) (role_at rs n) inner) others)
 
 -- the paths that a node's roles derive
-abbrev derived_paths : Roles → Option Path → List Path
+abbrev pub derived_paths : Roles → Option Path → List Path
 derived_paths r None = []
 derived_paths r (Some p) =
     cond r.point (below p (codes "writePoint") ∷ []) []
     ++ (cond r.history (below p (codes "query") ∷ below p (codes "feed") ∷ []) []
     ++ cond r.subject (below p (codes "query") ∷ below p (codes "feed") ∷ []) [])
 
-abbrev listed_path : Option Path → List Path
+abbrev pub listed_path : Option Path → List Path
 listed_path None = []
 listed_path (Some p) = p ∷ []
 
 -- all paths in the order of the document, the derived ones behind what is in their node
-abbrev pub paths_in : Contracts → Bool → Bool → Roles → Objects → Objects → List Path
-paths_in lib root inside above none ws = []
-paths_in lib root inside above (node h inner rest) none = []
-paths_in lib root inside above (node h inner rest) (node w winner wrest) =
-    let roles : Roles = roles_there lib root inside h w.is in
+abbrev pub paths_in : List Roles → ℕ → Roles → Objects → List Path
+paths_in rs n above none = []
+paths_in rs n above (node h inner rest) =
     cond (is_dropped above h) []
-    (listed_path (node_path h)
-    ++ (paths_in lib false (inside || (above.root && has_name (codes "contracts") h.name)) roles inner winner ++ derived_paths roles (node_path h)))
-    ++ paths_in lib root inside above rest wrest
+    (listed_path (node_path h) ++ (paths_in rs (n + 1) (role_at rs n) inner ++ derived_paths (role_at rs n) (node_path h)))
+    ++ paths_in rs (n + 1 + count inner) above rest
 
 -- the paths that the root's path computes
 abbrev pub is_computed : Path → Path → Bool
@@ -155,30 +107,30 @@ taken_twice r seen [] = None
 taken_twice r seen (p ∷ ps) = cond (is_computed r p || is_among p seen) (Some p) (taken_twice r (p ∷ seen) ps)
 
 -- the children of an object, with their numbers
-abbrev numbered : ℕ → List Object → List (ℕ × Object)
+abbrev pub numbered : ℕ → List Object → List (ℕ × Object)
 numbered n [] = []
 numbered n (o ∷ os) = (n, o) ∷ numbered (n + parts o) os
 
 -- the items of an own list of this name
-abbrev items_of : Text → Part → List (ℕ × Object)
+abbrev pub items_of : Text → Part → List (ℕ × Object)
 items_of name p =
     flat_map (λ c. cond (is_part name kind.List c.1.head) (numbered (c.0 + 1) (children c.1)) []) (numbered (p.number + 1) (children p.own))
 
-abbrev time_of : Slot → Option Instant
+abbrev pub time_of : Slot → Option Instant
 time_of (Is (value.Abstime t)) = Some t
 time_of _ = None
 
-abbrev of_kind : Kind → Object → Option Object
+abbrev pub of_kind : Kind → Object → Option Object
 of_kind k o = cond (same_kind o.head.kind k) (Some o) None
 
 -- the child of a name, if it is of a kind
-abbrev child_of : Text → Kind → Object → Option Object
+abbrev pub child_of : Text → Kind → Object → Option Object
 child_of n k o = option_and_then (of_kind k) (child n o)
 
-abbrev value_of_record : Object → Option Object
+abbrev pub value_of_record : Object → Option Object
 value_of_record o = option_and_then (λ v. cond (is_value_kind v.head.kind) (Some v) None) (child (codes "value") o)
 
-abbrev record_from : Option Instant → Option Object → Option Record
+abbrev pub record_from : Option Instant → Option Object → Option Record
 record_from None v = None
 record_from (Some t) None = None
 record_from (Some t) (Some v) = Some (record { time = t; kind = v.head.kind; slot = slot_or_default v.head.kind v.head.slot })
@@ -192,19 +144,19 @@ record_in o =
 abbrev pub last_moment : ℕ
 last_moment = 253_402_300_799_999
 
-abbrev is_earlier : Instant → Instant → Bool
+abbrev pub is_earlier : Instant → Instant → Bool
 is_earlier a b = int_lt (instant a) (instant b)
 
 -- a record that is earlier than the one before it, or after the last moment
-abbrev is_late : Option Instant → Record → Bool
+abbrev pub is_late : Option Instant → Record → Bool
 is_late None r = is_earlier (moment_instant last_moment) r.time
 is_late (Some before) r = is_earlier r.time before || is_earlier (moment_instant last_moment) r.time
 
-abbrev after_item : Option Instant → Option Record → Option Instant
+abbrev pub after_item : Option Instant → Option Record → Option Instant
 after_item before None = before
 after_item before (Some r) = Some r.time
 
-abbrev is_bad_item : Option Instant → Option Record → Bool
+abbrev pub is_bad_item : Option Instant → Option Record → Bool
 is_bad_item before None = true
 is_bad_item before (Some r) = is_late before r
 
@@ -217,7 +169,7 @@ bad_records before (i ∷ items) =
 abbrev pub records_of : Part → List Record
 records_of p = filter_map (λ i. record_in i.1) (items_of (codes "data") p)
 
-abbrev capacity_by : Kind → Slot → Option ℕ
+abbrev pub capacity_by : Kind → Slot → Option ℕ
 capacity_by kind.Int (Is (value.Int (pos n))) = cond (nat_le 1 n && nat_le n 1_000_000) (Some n) None
 capacity_by _ _ = None
 
@@ -226,7 +178,7 @@ abbrev pub capacity_of : Part → Option ℕ
 capacity_of p = option_and_then (λ o. capacity_by o.head.kind o.head.slot) (child (codes "capacity") p.own)
 
 -- a child `capacity` that says none
-abbrev has_bad_capacity : Part → Bool
+abbrev pub has_bad_capacity : Part → Bool
 has_bad_capacity p = is_some (child (codes "capacity") p.own) && is_none (capacity_of p)
 
 -- the first history with which capacities, and the records of histories without one, are more than 1,000,000 together
@@ -240,35 +192,35 @@ overfull sum (p ∷ ps) =
 abbrev pub node_there : (Kind → Bool) → List Part → Path → Option Object
 node_there fits ps p = option_map (λ q. q.own) (find (λ q. not q.inside && (fits q.own.head.kind && is_path p (node_path q.own.head))) ps)
 
-abbrev source_ref : Object → Option Object
+abbrev pub source_ref : Object → Option Object
 source_ref o = child_of (codes "source") kind.Ref o
 
 -- a history whose `source` names no node of a value kind
-abbrev has_bad_source : List Part → Part → Bool
+abbrev pub has_bad_source : List Part → Part → Bool
 has_bad_source ps p =
     unwrap_or (option_map (λ r. is_none (option_and_then (node_there is_value_kind ps) r.head.href)) (source_ref p.own)) false
 
-abbrev bad_history : List Part → Part → List ℕ
+abbrev pub bad_history : List Part → Part → List ℕ
 bad_history ps p =
     cond p.roles.history
     (cond (has_bad_source ps p || has_bad_capacity p) (p.number ∷ []) [] ++ bad_records None (items_of (codes "data") p)) []
 
-abbrev own_number : Text → Kind → Object → Option Num
+abbrev pub own_number : Text → Kind → Object → Option Num
 own_number n k o = option_and_then (λ c. number_in c.head.slot) (child_of n k o)
 
-abbrev truth_in : Slot → Option Bool
+abbrev pub truth_in : Slot → Option Bool
 truth_in (Is (value.Bool b)) = Some b
 truth_in _ = None
 
-abbrev is_number_kind : Kind → Bool
+abbrev pub is_number_kind : Kind → Bool
 is_number_kind k = same_kind k kind.Int || same_kind k kind.Real
 
-abbrev rule_from : Option Path → Option Num → Option Num → Option Bool → Option PointRule
+abbrev pub rule_from : Option Path → Option Num → Option Num → Option Bool → Option PointRule
 rule_from (Some p) (Some low) (Some high) (Some needs) =
     cond (is_below high low) None (Some (record { source = p; low = low; high = high; needs_ack = needs }))
 rule_from _ _ _ _ = None
 
-abbrev rule_on : Option Path → Option Object → Object → Option PointRule
+abbrev pub rule_on : Option Path → Option Object → Object → Option PointRule
 rule_on p None o = None
 rule_on p (Some source) o =
     rule_from p (own_number (codes "low") source.head.kind o) (own_number (codes "high") source.head.kind o)
@@ -280,11 +232,11 @@ rule_in ps o =
     let p : Option Path = option_and_then (λ r. r.head.href) (source_ref o) in
     cond (same_kind o.head.kind kind.Obj) (rule_on p (option_and_then (node_there is_number_kind ps) p) o) None
 
-abbrev is_bad_rule : List Path → Option PointRule → Bool
+abbrev pub is_bad_rule : List Path → Option PointRule → Bool
 is_bad_rule seen None = true
 is_bad_rule seen (Some r) = is_among r.source seen
 
-abbrev after_rule : List Path → Option PointRule → List Path
+abbrev pub after_rule : List Path → Option PointRule → List Path
 after_rule seen None = seen
 after_rule seen (Some r) = r.source ∷ seen
 
@@ -294,7 +246,7 @@ bad_rules ps seen [] = []
 bad_rules ps seen (i ∷ items) =
     cond (is_bad_rule seen (rule_in ps i.1)) (i.0 ∷ []) [] ++ bad_rules ps (after_rule seen (rule_in ps i.1)) items
 
-abbrev subjects : List Part → List Part
+abbrev pub subjects : List Part → List Part
 subjects ps = filter (λ p. p.roles.subject) ps
 
 abbrev pub bad_subjects : List Part → List Part → List ℕ
@@ -306,10 +258,10 @@ abbrev pub least : List ℕ → Option ℕ
 least [] = None
 least (n ∷ ns) = Some (unwrap_or (option_map (λ k. cond (nat_lt k n) k n) (least ns)) n)
 
-abbrev path_of : Part → Path
+abbrev pub path_of : Part → Path
 path_of p = unwrap_or (node_path p.own.head) []
 
-abbrev histories_in : List Part → List Part
+abbrev pub histories_in : List Part → List Part
 histories_in ps = filter (λ p. p.roles.history) ps
 
 -- the part that breaks a rule of the roles, of several the first in the document
@@ -317,23 +269,23 @@ abbrev pub bad_part : List Part → Option ℕ
 bad_part ps = least (flat_map (bad_history ps) ps ++ (overfull 0 (histories_in ps) ++ bad_subjects ps (subjects ps)))
 
 -- a time in milliseconds, rounded up
-abbrev ms_up : Instant → ℕ
+abbrev pub ms_up : Instant → ℕ
 ms_up t = in_ms t.seconds t.nanos
   where
     in_ms : ℤ → ℕ → ℕ
     in_ms (pos s) nanos = s * 1000 + (nanos + 999_999) / 1_000_000
     in_ms _ nanos = 0
 
-abbrev greatest : ℕ → List ℕ → ℕ
+abbrev pub greatest : ℕ → List ℕ → ℕ
 greatest n [] = n
 greatest n (k ∷ ks) = greatest (max n k) ks
 
-abbrev text_in : Slot → Option Text
+abbrev pub text_in : Slot → Option Text
 text_in (Is (value.Str t)) = Some t
 text_in (Is (value.Uri t)) = Some t
 text_in _ = None
 
-abbrev about_kind : Text → Kind
+abbrev pub about_kind : Text → Kind
 about_kind n = cond (is_among n (codes "vendorUrl" ∷ codes "productUrl" ∷ [])) kind.Uri kind.Str
 
 -- the texts that the root's own `about` gives
@@ -343,7 +295,7 @@ about_texts root =
     (λ o. option_and_then (λ n. option_map (λ t. (n, t)) (cond (same_kind o.head.kind (about_kind n)) (text_in o.head.slot) None)) o.head.name)
     (unwrap_or (option_map children (child_of (codes "about") kind.Obj root)) [])
 
-abbrev root_lobby : List Part → Bool
+abbrev pub root_lobby : List Part → Bool
 root_lobby [] = false
 root_lobby (p ∷ ps) = p.roles.lobby
 
@@ -362,7 +314,7 @@ opened base r boot lib root tree ps = record {
     about = about_texts root;
   };
   world = record {
-    time = greatest boot (map (λ x. ms_up x.time) (flat_map records_of ps));
+    time = greatest boot (map (λ x. ms_up x.time) (flat_map records_of (histories_in ps)));
     site = record {
       library = lib;
       tree = tree;
@@ -378,9 +330,9 @@ opened base r boot lib root tree ps = record {
 abbrev pub row_of : Object → Objects
 row_of o = node o.head o.inner none
 
-abbrev pub first_in : Object → List Object → Object
-first_in o [] = o
-first_in o (p ∷ ps) = p
+-- the root without what is dropped or taken out
+abbrev pub kept_root : List Roles → Object → Object
+kept_root rs root = record { head = root.head; inner = kept_row rs 1 (role_at rs 0) root.inner }
 
 abbrev pub or_twice : Option Path → Result SiteState LoadFault → Result SiteState LoadFault
 or_twice None next = next
@@ -396,11 +348,10 @@ within_size st = cond (nat_lt 200_000 (parts (shown_root st.plan st.world.site))
 -- `words` is the library with words, which tells the roles
 abbrev pub opened_with : Parts → Path → ℕ → Contracts → Contracts → Object → Result SiteState LoadFault
 opened_with base r boot lib words root =
-    let beside : Objects = row_of (worded words root) in
-    let ps : List Part = parts_of words 0 true false no_roles (row_of root) beside in
-    let tree : Object = first_in root (listed (kept_row words true false no_roles (row_of root) beside)) in
-    or_twice (taken_twice r [] (paths_in words true false no_roles (row_of root) beside))
-    (or_bad BadRule (bad_part ps) (within_size (opened base r boot lib root tree ps)))
+    let rs : List Roles = all_roles words root in
+    let ps : List Part = parts_of rs 0 false no_roles (row_of root) in
+    or_twice (taken_twice r [] (paths_in rs 0 no_roles (row_of root)))
+    (or_bad BadRule (bad_part ps) (within_size (opened base r boot lib root (kept_root rs root) ps)))
 
 abbrev pub opened_by : Parts → Path → ℕ → Result Contracts LibFault → Contracts → Object → Result SiteState LoadFault
 opened_by base r boot (Err fault) words root = Err (Contract fault)
@@ -418,7 +369,7 @@ module _ (root_url : Text → Option Parts) (resolve : Parts → Text → Option
 
   -- the root with paths in place of texts; its own path isn't resolved again
   abbrev pub made_root : Parts → Object → Object
-  made_root u o = record { head = with_paths (resolve u) (Some u.path) o.head; inner = row_with_paths (resolve u) o.inner }
+  made_root u o = made_object (resolve u) (Some u.path) o
 
   abbrev pub opening_at : Object → ℕ → Option Parts → Result SiteState LoadFault
   opening_at o boot None = Err RootHref

@@ -1,18 +1,23 @@
 -- The words of an object, what it is by them, and its roles. Source: oBIX 1.1, chapter 7 (Contracts), and for what the roles
 -- are chapters 5, 13, 14 and 15. Roles, and what they derive, are this profile's own.
-use Rattle.std.specs.Prelude.{Bool, false, cond, ◌&&◌, ◌||◌, codes, List, [], ◌∷◌, ◌++◌, Option, Some, None, is_some}
+use Rattle.std.specs.Prelude.{ℕ, Bool, true, false, cond, ◌&&◌, ◌||◌, codes, List, [], ◌∷◌, ◌++◌, Option, Some, None, is_some, unwrap_or, slice_get}
 use Rattle.ob_object.specs.declared.kind.Kind.{Kind}
 use Rattle.ob_object.specs.declared.kind.Kind.TheVariants as kind
 use Rattle.ob_object.specs.declared.head.Head.{Head}
 use Rattle.ob_object.specs.Kinds.{same_kind}
-use Rattle.ob_object.specs.Object.{Objects, none, node, Object, listed, in_row}
+use Rattle.ob_object.specs.Object.{Objects, none, node, Object, empty_head, listed, in_row}
 use Rattle.ob_object.specs.WellFormed.{has_name}
 use Rattle.ob_contracts.specs.Inherit.{Contracts, Words, words_in, sources, overridden, inherited_head, implied_by, missing}
 use Rattle.ob_contracts.specs.Ancestry.{is_a, own_words}
 use Rattle.ob_history.specs.Records.{is_value_kind}
+use Rattle.ob_opening.specs.declared.roles.Roles.{Roles}
 use Rattle.ob_site_rules.specs.Build.{Text}
 use Rattle.ob_site_rules.specs.State.{is_among}
 use Rattle.ob_site_rules.specs.Shown.{node_path}
+
+-- a kind, a name, words as `is`, and the words that a list or a feed gives; nothing else tells roles
+abbrev pub thin : Head → Option Words → Option Words → Head
+thin h ws gives = record (empty_head h.kind) { name = h.name; is = ws; of = gives }
 
 -- The results of a row, each with its words as `is`, where those in the library have theirs. So the words of a child that
 -- another one overrides are known.
@@ -21,7 +26,7 @@ worded_row lib implied above none = none
 worded_row lib implied above (node h below rest) =
     let from = sources lib h implied (overridden h.name above) in
     node
-    (record (inherited_head h from) { is = own_words h implied (overridden h.name above) })
+    (thin h (own_words h implied (overridden h.name above)) (implied_by (inherited_head h from)))
     (in_row (listed (worded_row lib (implied_by (inherited_head h from)) from below) ++ missing (listed below) from))
     (worded_row lib implied above rest)
 
@@ -36,14 +41,6 @@ worded lib o = first_or o (listed (worded_row lib None [] (node o.head o.inner n
 abbrev pub worded_contracts : Contracts → List (Text × Object) → Contracts
 worded_contracts lib [] = lib
 worded_contracts lib (c ∷ cs) = worded_contracts (lib ++ (c.0, worded lib c.1) ∷ []) cs
-
--- what an object is for the server, told when the site is opened
-pub record Roles : Type 0 where
-  pub root : Bool
-  pub lobby : Bool
-  pub point : Bool
-  pub history : Bool
-  pub subject : Bool
 
 abbrev pub no_roles : Roles
 no_roles = record { root = false; lobby = false; point = false; history = false; subject = false }
@@ -80,3 +77,29 @@ is_dropped r h =
     || ((r.history && is_part (codes "data") kind.List h)
     || ((r.subject && is_part (codes "rules") kind.List h)
     || (r.root && is_part (codes "about") kind.Obj h)))
+
+-- whether what is in a child of an object is inside the contracts of the site
+abbrev pub holds_contracts : Bool → Head → Bool
+holds_contracts root h = root && has_name (codes "contracts") h.name
+
+abbrev pub roles_there : Contracts → Bool → Bool → Head → Option Words → Roles
+roles_there lib root inside h ws = cond inside no_roles (roles_of lib root h ws)
+
+-- The roles of the objects of a row, and of those in them, in the order of the document. The row is the root alone, or is in
+-- the root, or is inside the contracts of the site; a list or a feed round it gives words, and the object round it has sources.
+-- The root's own child `contracts` has no role, and neither has what is in it.
+abbrev pub row_roles : Contracts → Bool → Bool → Bool → Option Words → List Object → Objects → List Roles
+row_roles lib root under inside implied above none = []
+row_roles lib root under inside implied above (node h inner rest) =
+    let from = sources lib h implied (overridden h.name above) in
+    (roles_there lib root (inside || holds_contracts under h) h (own_words h implied (overridden h.name above))
+    ∷ row_roles lib false root (inside || holds_contracts under h) (implied_by (inherited_head h from)) from inner)
+    ++ row_roles lib root under inside implied above rest
+
+-- the roles of a root and of what is in it
+abbrev pub all_roles : Contracts → Object → List Roles
+all_roles lib root = row_roles lib true false false None [] (node root.head root.inner none)
+
+-- the roles of the object of a number
+abbrev pub role_at : List Roles → ℕ → Roles
+role_at rs n = unwrap_or (slice_get rs n) no_roles

@@ -2,7 +2,11 @@
 #![tactic(auto)]
 
 ghost use Rattle.ob_opening.specs.Laws.{OpensSound};
-ghost use Rattle.ob_opening.specs.Openings.{PlantOpens, RollingOpens, NoRoot, OnePathTwice, PathComputed, OtherOrigin, LaterContract, ContractTwice, FallingRecord, NoCapacity, FarSource, FullTogether, SecondSubject, LimitsTurned};
+ghost use Rattle.ob_opening.specs.Openings.{PlantOpens, RollingOpens, NoRoot, OnePathTwice, PathComputed, OtherOrigin, LaterContract, ContractTwice, FallingRecord, NoCapacity, FarSource, FullTogether, ContractsHaveNoRole, SecondSubject, LimitsTurned};
+
+mod roles;
+
+pub use roles::Roles;
 
 /// What documents open, or what they are refused for: those of `specs/Openings.antt`.
 pub fn worked_openings()
@@ -18,6 +22,7 @@ pub fn worked_openings()
     ensures no_capacity { NoCapacity }
     ensures far_source { FarSource }
     ensures full_together { FullTogether }
+    ensures contracts_have_no_role { ContractsHaveNoRole }
     ensures second_subject { SecondSubject }
     ensures limits_turned { LimitsTurned }
 {}

@@ -1,0 +1,11 @@
+use Rattle.std.proofs.Common.{ℕ, List, rules, subst}
+use Rattle.ob_load.specs.Loads.{RefusesBytes}
+use Rattle.ob_load.proofs.Contents.{told_of}
+use Rattle.ob_load.proofs.site.load.Goals as goal
+
+pub returns-in_err-loaded-clause-refused : goal.returns-in_err-loaded-clause-refused
+returns-in_err-loaded-clause-refused g c =
+    let f = c.in_err-loaded.field-0.0 in
+    let e = told_of (g.F.Files.content c.args.files.now c.args.name.now) c.in_ok-bytes.bytes.items c.args.boot f c.in_ok-bytes.ensures.bytes
+    (subst (λ (l : List ℕ). RefusesBytes l c.args.boot f) c.deref.ensures.value c.in_err-loaded.ensures.refused) in
+    search rules

@@ -1,0 +1,12 @@
+pub mod Flags
+pub mod Sums
+pub mod Dropped
+pub mod PartRows
+pub mod Twice
+pub mod KeptRows
+pub mod PathRows
+pub mod Taken
+pub mod Walks
+pub mod Named
+pub mod WordRows
+pub mod Tabled

@@ -1,0 +1,11 @@
+use Rattle.std.proofs.Common.{[], take}
+use Rattle.ob_opening.specs.Roles.{worded_contracts}
+use Rattle.ob_roles.proofs.Tabled.{holds_taken}
+use Rattle.ob_roles.proofs.worded.standard_table.Goals as goal
+
+pub loop-contract-preserved : goal.loop-contract-preserved
+loop-contract-preserved c =
+    let cs = c.contracts-contract-items.result.now in
+    let i = c.loop-contract.contract-index in
+    holds_taken c.loop-contract.table c.put_contract.new.table cs i c.contract-item.result c.loop-contract-test.true c.contract-item.is
+    (c.in_ok-put_contract.ensures (worded_contracts [] (take i cs)) c.loop-contract.invariant)

@@ -1,0 +1,7 @@
+use Rattle.std.proofs.Common.{[], take}
+use Rattle.ob_opening.specs.Roles.{worded_contracts}
+use Rattle.ob_roles.specs.Tables.{Holds}
+use Rattle.ob_roles.proofs.worded.standard_table.Given as goal
+
+abbrev pub invariant-loop-contract : goal.invariant-loop-contract
+invariant-loop-contract l = Holds l.table (worded_contracts [] (take l.contract-index l.contract-items))

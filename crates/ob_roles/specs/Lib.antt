@@ -1,0 +1,5 @@
+pub mod Kinds
+pub mod Sums
+pub mod Told
+pub mod Tables
+pub mod Worded

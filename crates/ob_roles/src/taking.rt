@@ -1,0 +1,129 @@
+//! What an object takes from, in contracts whose parts have their words as `is`.
+ghost use Rattle.std.specs.Prelude.{◌≡◌, ◌++◌, ◌∷◌, [], List, ℕ, Some, IfOk, OnOk};
+ghost use Rattle.std.specs.Option.{option_copied};
+ghost use Rattle.ob_object.specs.Object.{Object};
+ghost use Rattle.ob_object.specs.WellFormed.{named};
+ghost use Rattle.ob_contracts.specs.Ancestry.{own_words};
+ghost use Rattle.ob_contracts.specs.Found.{found, lent};
+ghost use Rattle.ob_contracts.specs.Inherit.{Contracts, words_in, or_else, present, contract_of, sources, overridden, implied_by, inherited_head, first_given};
+ghost use Rattle.ob_roles.specs.Tables.{Holds};
+
+use ob_object::{Head, Obj, Words};
+use ob_values::Text;
+use std::alloc::{AllocError, Global};
+use std::collections::BTreeMap;
+
+/// Contracts by their words.
+pub type Table = BTreeMap<Text, Obj>;
+
+/// The first object of each name.
+pub(crate) type Names<'a> = BTreeMap<&'a str, &'a Obj>;
+
+/// An object's words: its own, or else those that its list or feed gives, or else those of the child that it
+/// overrides.
+pub fn own_words<'a>(
+    head: &'a Head,
+    implied: Option<&'a Words>,
+    over: Option<&'a Obj>,
+) -> Option<&'a Words>
+    ensures { option_copied result ≡ own_words head.now (option_copied implied.entry) (option_copied over.entry) }
+{
+    match &head.is {
+        Some(words) => Some(words),
+        None => match implied {
+            Some(words) => Some(words),
+            None => match over {
+                Some(over) => over.is(),
+                None => None,
+            },
+        },
+    }
+}
+
+// The words that name the contracts of an object.
+fn words_of<'a>(head: &'a Head, implied: Option<&'a Words>) -> &'a [Text]
+    ensures { result.now ≡ words_in (or_else head.now.is (option_copied implied.entry)) }
+{
+    match &head.is {
+        Some(words) => words.as_slice(),
+        None => match implied {
+            Some(words) => words.as_slice(),
+            None => &[],
+        },
+    }
+}
+
+// Puts the contract of a word last, if it names one.
+fn put_found<'a>(from: &mut Vec<&'a Obj>, table: &'a Table, word: &Text) -> Result<(), AllocError>
+    ensures { IfOk result (λ _. (lib : Contracts) → Holds table.now lib → lent from.new.items ≡ lent from.old.items ++ present (contract_of lib word.now ∷ [])) }
+{
+    match table.get(word) {
+        Some(contract) => {
+            from.push(contract)?;
+            Ok(())
+        }
+        None => Ok(()),
+    }
+}
+
+// Puts the child that is overridden last, if there is one.
+fn put_over<'a>(from: &mut Vec<&'a Obj>, over: Option<&'a Obj>) -> Result<(), AllocError>
+    ensures { IfOk result (λ _. lent from.new.items ≡ lent from.old.items ++ present (option_copied over.entry ∷ [])) }
+{
+    match over {
+        Some(over) => {
+            from.push(over)?;
+            Ok(())
+        }
+        None => Ok(()),
+    }
+}
+
+/// What an object takes from: what its words stand for, and the child that it overrides.
+pub fn sources<'a>(
+    alloc: Global,
+    table: &'a Table,
+    head: &'a Head,
+    implied: Option<&'a Words>,
+    over: Option<&'a Obj>,
+) -> Result<Vec<&'a Obj>, AllocError>
+    ensures { IfOk result (λ from. (lib : Contracts) → Holds table.now lib → lent from.items ≡ sources lib head.now (option_copied implied.entry) (option_copied over.entry)) }
+{
+    let mut from = Vec::new(alloc);
+    if head.kind.is_ref() {
+        return Ok(from);
+    }
+    for word in words_of(head, implied) {
+        put_found(&mut from, table, word)?;
+    }
+    put_over(&mut from, over)?;
+    Ok(from)
+}
+
+// The words that the first of sources gives to its children.
+fn first_of<'a>(from: &[&'a Obj]) -> Option<&'a Words>
+    ensures { option_copied result ≡ first_given (λ s. s.head.of) (lent from.now) }
+{
+    for source in from {
+        let words = source.of();
+        if words.is_some() {
+            return words;
+        }
+    }
+    None
+}
+
+/// The words that the children of an object get, where it is a list or a feed: its own, or else those of the first
+/// source that has them.
+#[tactic(auto, using(crate::proofs::Taken::implied_is))]
+pub fn implied_by<'a>(head: &'a Head, from: &[&'a Obj]) -> Option<&'a Words>
+    ensures { option_copied result ≡ implied_by (inherited_head head.now (lent from.now)) }
+{
+    if !head.kind.has_of() {
+        return None;
+    }
+    match &head.of {
+        Some(words) => Some(words),
+        None => first_of(from),
+    }
+}

@@ -1,0 +1,53 @@
+use Rattle.std.proofs.Common.{◌≡◌, List, rules, ◌∙◌}
+use Rattle.ob_contracts.specs.Inherit.{Contracts}
+use Rattle.ob_contracts.specs.Standard.{standard, with_added}
+use Rattle.ob_site_rules.specs.Writes.{site_contracts}
+use Rattle.ob_opened.proofs.Taking.{added_are_taken}
+use Rattle.ob_opening.specs.declared.roles.Roles.{Roles}
+use Rattle.ob_site_file.specs.Passes.{site_roles, IsApart}
+use Rattle.ob_site_file.proofs.judging.judged.Goals as goal
+
+pub returns-in_err-library-clause-err : goal.returns-in_err-library-clause-err
+returns-in_err-library-clause-err c = let e = c.in_err-library.ensures.err c.args.base.now in search rules
+
+pub returns-in_err-check_paths-clause-err : goal.returns-in_err-check_paths-clause-err
+returns-in_err-check_paths-clause-err c =
+    let root = c.args.root.now in
+    let taken = c.in_ok-library.ensures.ok in
+    let added = (added_are_taken standard c.in_ok-library.library (site_contracts root) taken).1 in
+    let same : c.as_slice.result.now ≡ site_roles root = c.as_slice.ensures.value ∙ c.in_ok-roles.ensures added in
+    let e = c.in_err-check_paths.ensures.err c.in_ok-library.library same taken in
+    search rules
+
+pub returns-in_err-check_rules-clause-err : goal.returns-in_err-check_rules-clause-err
+returns-in_err-check_rules-clause-err c =
+    let root = c.args.root.now in
+    let taken = c.in_ok-library.ensures.ok in
+    let added = (added_are_taken standard c.in_ok-library.library (site_contracts root) taken).1 in
+    let same : c.as_slice.result.now ≡ site_roles root = c.as_slice.ensures.value ∙ c.in_ok-roles.ensures added in
+    let apart : IsApart c.args.base.now root = record { library = c.in_ok-library.library; taken = taken; once = c.in_ok-check_paths.ensures.ok same } in
+    let e = c.in_err-check_rules.ensures c.args.base.now apart in
+    search rules
+
+pub returns-in_err-check_size-clause-err : goal.returns-in_err-check_size-clause-err
+returns-in_err-check_size-clause-err c =
+    let root = c.args.root.now in
+    let taken = c.in_ok-library.ensures.ok in
+    let added = (added_are_taken standard c.in_ok-library.library (site_contracts root) taken).1 in
+    let same : c.as_slice.result.now ≡ site_roles root = c.as_slice.ensures.value ∙ c.in_ok-roles.ensures added in
+    let apart : IsApart c.args.base.now root = record { library = c.in_ok-library.library; taken = taken; once = c.in_ok-check_paths.ensures.ok same } in
+    let e = c.in_err-check_size.ensures c.args.base.now apart in
+    search rules
+
+pub returns-clause-roles : goal.returns-clause-roles
+returns-clause-roles c =
+    let root = c.args.root.now in
+    c.in_ok-roles.ensures (added_are_taken standard c.in_ok-library.library (site_contracts root) c.in_ok-library.ensures.ok).1
+
+pub returns-clause-apart : goal.returns-clause-apart
+returns-clause-apart c =
+    let root = c.args.root.now in
+    let taken = c.in_ok-library.ensures.ok in
+    let added = (added_are_taken standard c.in_ok-library.library (site_contracts root) taken).1 in
+    let same : c.as_slice.result.now ≡ site_roles root = c.as_slice.ensures.value ∙ c.in_ok-roles.ensures added in
+    record { library = c.in_ok-library.library; taken = taken; once = c.in_ok-check_paths.ensures.ok same }

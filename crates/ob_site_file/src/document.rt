@@ -1,0 +1,106 @@
+//! What a document opens.
+ghost use Rattle.std.specs.Prelude.{◌≡◌, ◌+◌, ◌<◌, ◌^◌, ℕ, Some, None, IsTrue, IfOk, IfErr};
+ghost use Rattle.ob_hrefs.specs.Hrefs.{site_path, root_of, bad_href};
+ghost use Rattle.ob_site_file.specs.Passes.{IsApart, IsJudged, Refuses, RefusesMade};
+ghost use Rattle.ob_object.specs.Object.{parts};
+
+use crate::fault::LoadFault;
+use crate::judging::judged;
+use crate::plan::{logs_of, plan_of};
+use ob_answers::Plan;
+use ob_href::Base;
+use ob_hrefs::{bad_href, made_root, root_of};
+use ob_object::Obj;
+use ob_opening::Roles;
+use ob_roles::{all_parts, kept_root};
+use ob_state::Log;
+use ob_times::Moment;
+use ob_values::Text;
+use std::alloc::{AllocError, Global};
+
+// Whether the parts of a root can be counted in 64 bits with one more.
+fn is_countable(root: &Obj) -> bool
+    ensures { IsTrue result → parts root.now + 1 < 2 ^ 64 }
+{
+    root.parts() < u64::MAX - 1
+}
+
+// The URL of a root.
+fn base_of(alloc: Global, root: &Obj) -> Result<Base, LoadFault>
+    ensures ok { IfOk result (λ base. root_of root.now ≡ Some base) }
+    ensures err { (boot : ℕ) → IfErr result (Refuses root.now boot) }
+{
+    match root_of(alloc, root)? {
+        Some(base) => Ok(base),
+        None => Err(LoadFault::RootHref),
+    }
+}
+
+// That each href of a node is a path of the site.
+fn check_hrefs(alloc: Global, base: &Base, root: &Obj) -> Result<(), LoadFault>
+    requires { parts root.now < 2 ^ 64 }
+    ensures ok { IfOk result (λ _. bad_href (site_path base.now) 1 root.now.inner ≡ None) }
+    ensures err { (boot : ℕ) → root_of root.now ≡ Some base.now → IfErr result (Refuses root.now boot) }
+{
+    match bad_href(alloc, base, root.children(), 1)? {
+        Some(part) => Err(LoadFault::Href { part }),
+        None => Ok(()),
+    }
+}
+
+/// What a document opens: what is fixed, the root with its own objects, and the logs of the histories with all of
+/// their records.
+#[derive(Drop)]
+pub struct Opened {
+    pub plan: Plan,
+    pub tree: Obj,
+    pub logs: Vec<(Text, Log)>,
+}
+
+// What a root opens, with these own objects, where its objects have these roles.
+fn planned(
+    alloc: Global,
+    base: Base,
+    roles: &[Roles],
+    root: &Obj,
+    boot: Moment,
+) -> Result<Opened, AllocError>
+    requires { parts root.now < 2 ^ 64 }
+{
+    let parts = all_parts(alloc, roles, root)?;
+    let plan = plan_of(alloc, base, root, parts.as_slice(), boot)?;
+    let logs = logs_of(alloc, parts.as_slice())?;
+    let tree = kept_root(alloc, roles, root)?;
+    Ok(Opened { plan, tree, logs })
+}
+
+// What a root opens that has paths in place of texts that lead to the site.
+fn open_made(alloc: Global, base: Base, root: &Obj, boot: Moment) -> Result<Opened, LoadFault>
+    requires { parts root.now < 2 ^ 64 }
+    ensures apart { IfOk result (λ _. IsApart base root.now) }
+    ensures err { IfErr result (RefusesMade base root.now) }
+{
+    match judged(alloc, &base, root) {
+        Ok(roles) => Ok(planned(alloc, base, roles.as_slice(), root, boot)?),
+        Err(fault) => Err(fault),
+    }
+}
+
+/// What a document's root opens at a moment, or the first refusal in order. A root that can't be counted in 64 bits is
+/// refused for want of memory.
+pub fn opening(alloc: Global, root: &Obj, boot: Moment) -> Result<Opened, LoadFault>
+    ensures judged { IfOk result (λ _. IsJudged root.now) }
+    ensures refused { IfErr result (Refuses root.now boot) }
+{
+    if !is_countable(root) {
+        return Err(LoadFault::Memory);
+    }
+    let base = base_of(alloc, root)?;
+    check_hrefs(alloc, &base, root)?;
+    let made = made_root(alloc, &base, root)?;
+    if !is_countable(&made) {
+        return Err(LoadFault::Memory);
+    }
+    let opened = open_made(alloc, base, &made, boot)?;
+    Ok(opened)
+}
