@@ -1,13 +1,18 @@
--- An opened site is sound.
+-- An opened site is sound, and a step keeps it so.
 use Rattle.std.proofs.Common.{arith, ◌≡◌, ℕ, ◌+◌, ◌-◌, List, [], ◌∷◌, length, drop, Option, Some, None, refl, sym, subst, ap, ◌∙◌, ap₂}
 use Rattle.std.proofs.lemmas.List.{length-drop}
 use Rattle.ob_history.specs.declared.records.Record.{Record}
 use Rattle.ob_site_rules.specs.Build.{Path}
 use Rattle.ob_site_rules.specs.State.{Log, Plan as SitePlan, State as SiteState, rolled, rolled_logs, roll}
 use Rattle.ob_site_rules.specs.Sites as whole
+use Rattle.ob_machine.specs.History.{entry}
+use Rattle.ob_machine.specs.declared.call.Answer.TheVariants.{Done}
+use Rattle.ob_object.specs.Object.{Object}
+use Rattle.ob_site_rules.specs.declared.request.Request.{Request}
+use Rattle.ob_site_rules.specs.Locating.{locate}
 use Rattle.ob_site_laws.specs.SiteLaws.{IsSoundSite}
+use Rattle.ob_site_laws.proofs.SiteHistories.{stays}
 use Rattle.ob_watch_lists.specs.Lists.{Table, no_watches}
-use Rattle.ob_plain.specs.Plain.{opened}
 
 abbrev log : Option ℕ → ℕ → List Record → Log
 log c g k = record { capacity = c; gone = g; kept = k }
@@ -27,19 +32,24 @@ logs_roll_once [] = refl
 logs_roll_once (l ∷ ls) =
     ap₂ (λ (y : Log) (ys : List (Path × Log)). (l.0, y) ∷ ys) (rolls_once l.1.capacity l.1.gone l.1.kept) (logs_roll_once ls)
 
--- an opened site is a sound one
-pub opened_sound : (plan : SitePlan) (s : SiteState) → IsSoundSite (opened plan s)
-opened_sound plan s = record {
+abbrev starting : SitePlan → ℕ → SiteState → Table → whole.SiteState
+starting plan time s ws = record { plan = plan; world = record { time = time; site = s; watches = ws.watches; next = ws.next } }
+
+-- an opened site is a sound one, at whatever time
+opened_sound : (plan : SitePlan) (time : ℕ) (s : SiteState) → IsSoundSite (starting plan time (roll s) no_watches)
+opened_sound plan time s = record {
   numbers = omega arith;
   next = omega arith;
   texts = tt;
   rolled = ap (λ (ls : List (Path × Log)). let x : SiteState = record (roll s) { logs = ls } in x) (logs_roll_once s.logs);
 }
 
-abbrev starting : SitePlan → SiteState → Table → whole.SiteState
-starting plan s ws = record { plan = plan; world = record { time = plan.boot; site = s; watches = ws.watches; next = ws.next } }
+pub sound_start : (plan : SitePlan) (time : ℕ) (s t : SiteState) (ws : Table) → t ≡ roll s → ws ≡ no_watches → IsSoundSite (starting plan time t ws)
+sound_start plan time s t ws rolled none =
+    subst (λ (x : SiteState). IsSoundSite (starting plan time x ws)) (sym rolled)
+    (subst (λ (w : Table). IsSoundSite (starting plan time (roll s) w)) (sym none) (opened_sound plan time s))
 
-pub sound_start : (plan : SitePlan) (s t : SiteState) (ws : Table) → t ≡ roll s → ws ≡ no_watches → IsSoundSite (starting plan t ws)
-sound_start plan s t ws rolled none =
-    subst (λ (x : SiteState). IsSoundSite (starting plan x ws)) (sym rolled)
-    (subst (λ (w : Table). IsSoundSite (starting plan (roll s) w)) (sym none) (opened_sound plan s))
+-- a step leaves a sound site
+pub sound_step : (old new : whole.SiteState) (r : Request) (moment : ℕ) (o : Object) → IsSoundSite old → (new, o) ≡ whole.step locate old r moment → IsSoundSite new
+sound_step old new r moment o sound is =
+    subst IsSoundSite (sym (ap (λ (done : whole.SiteState × Object). done.0) is)) (stays old sound (entry 0 r moment (Done o) ∷ [])).1

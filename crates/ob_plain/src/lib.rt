@@ -7,8 +7,10 @@
 mod entries;
 mod feeds;
 mod finding;
+mod opening;
 mod settling;
 mod site;
 mod watched;
 
+pub use ob_machine::Machine;
 pub use site::Site;

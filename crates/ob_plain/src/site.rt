@@ -1,5 +1,5 @@
 //! A site and its step.
-ghost use Rattle.std.specs.Prelude.{◌≡◌, ◌<◌, ◌^◌, ℕ, max, slice_index, IfOk, OnOk, OnErr};
+ghost use Rattle.std.specs.Prelude.{◌≡◌, ◌<◌, ◌^◌, ℕ, slice_index, IfOk, OnOk};
 ghost use Rattle.ob_site_rules.specs.Faults.{NoSuchObject, err};
 ghost use Rattle.ob_site_rules.specs.Locating.{locate};
 ghost use Rattle.ob_site_rules.specs.Sites.{site, step};
@@ -8,10 +8,12 @@ ghost use Rattle.ob_answers.specs.Plans.{plan as plan_of};
 ghost use Rattle.ob_state.specs.States.{state_of, IsOf};
 ghost use Rattle.ob_watch_calls.specs.Targets.{IsTarget};
 
+use crate::opening::{later, opening_time};
 use crate::settling::settle;
 use crate::watched::on_watch;
 use ob_answers::{Fault, Plan, WatchPart, refusal, watch_part};
 use ob_calls::{act_itself, located};
+use ob_machine::Machine;
 use ob_object::Obj;
 use ob_site_rules::Request;
 use ob_state::State;
@@ -19,14 +21,32 @@ use ob_times::Moment;
 use ob_watch_calls::{Target, target_at};
 use ob_watch_lists::{FIRST_LEASE, Watches};
 use std::alloc::{AllocError, Global};
+use std::marker::Model;
 
 /// A site: what is fixed when it is opened, the time of its last step, its state, and its watches.
+///
+/// Contracts see it as the state of the definitions: the plan and the world.
 pub struct Site {
     alloc: Global,
     plan: Plan,
     time: Moment,
     state: State,
     watches: Watches,
+}
+
+impl Model for Site {
+    ghost use Rattle.ob_site_rules.specs.Sites.{SiteState};
+    ghost use Rattle.ob_plain.specs.Codes.{site_code};
+
+    ghost Value = { SiteState };
+
+    ghost coded = { site_code };
+
+    ghost use Rattle.ob_plain.specs.Plain.{site_state, IsLawfulSite};
+
+    ghost view = { site_state };
+
+    ghost invariant = { IsLawfulSite };
 }
 
 impl Drop for Site {
@@ -42,17 +62,6 @@ impl Drop for Site {
         drop(plan);
         drop(state);
         drop(watches);
-    }
-}
-
-// The later of two moments.
-fn later(first: Moment, second: Moment) -> Moment
-    ensures { result ≡ max first second }
-{
-    if first.ms() < second.ms() {
-        second
-    } else {
-        first
     }
 }
 
@@ -106,21 +115,21 @@ fn acted(
 }
 
 impl Site {
-    ghost use Rattle.ob_plain.specs.Plain.{site_state, opened, IsLawfulSite};
+    ghost use Rattle.ob_plain.specs.Opened.{opened};
     ghost use Rattle.ob_site_laws.specs.SiteLaws.{IsSoundSite};
 
-    /// A site with this plan and state, at the moment of its opening and without watches. Each history
-    /// drops down to its capacity. An error only for want of memory.
+    /// A site with this plan and state, without watches. Its time is the moment of its boot or, where that is
+    /// later, the moment of its last record, rounded up to a millisecond. Each history drops down to its
+    /// capacity. An error only for want of memory.
     pub fn open(alloc: Global, plan: Plan, mut state: State) -> Result<Site, AllocError>
         requires { IsOf (plan_of plan) state }
-        ensures value { IfOk result (λ site. site_state site ≡ opened (plan_of plan) (state_of state)) }
-        ensures lawful { IfOk result IsLawfulSite }
-        ensures sound { IfOk result (λ site. IsSoundSite (site_state site)) }
+        ensures { IfOk result (λ site. site ≡ opened (plan_of plan) (state_of state)) }
     {
+        let time = opening_time(plan.boot, &state.logs);
         state.roll(alloc)?;
         Ok(Site {
             alloc,
-            time: plan.boot,
+            time,
             plan,
             state,
             watches: Watches::new(alloc),
@@ -129,19 +138,30 @@ impl Site {
 
     /// The time of the last step.
     pub fn time(&self) -> Moment
-        ensures { result ≡ (site_state self.now).world.time }
+        ensures { result ≡ self.now.world.time }
     {
         self.time
     }
 
+    /// Every site is sound: numbers of watches rise, no watch has an href twice, and each history is
+    /// within its capacity. So the laws of the watches hold from it on.
+    pub fn is_sound(&self)
+        ensures { IsSoundSite self.now }
+    {
+        let _ = &self.time;
+    }
+}
+
+impl Machine for Site {
+    type Request = Request;
+
+    type Reply = Obj;
+
+    ghost act = { step locate };
+
     /// Does one request at a moment, and gives the reply. Time never goes back: an earlier moment is that of
     /// the step before. Want of memory leaves the site as it was.
-    pub fn step(&mut self, request: &Request, moment: Moment) -> Result<Obj, AllocError>
-        requires { IsLawfulSite self.old }
-        ensures done { IfOk result (λ reply. (site_state self.new, reply) ≡ step locate (site_state self.old) request.now moment) }
-        ensures refused { OnErr result (self.new ≡ self.old) }
-        ensures lawful { IsLawfulSite self.new }
-    {
+    fn step(&mut self, request: &Request, moment: Moment) -> Result<Obj, AllocError> {
         let alloc = self.alloc;
         let now = later(self.time, moment);
         let mut state = self.state.copy(alloc)?;
