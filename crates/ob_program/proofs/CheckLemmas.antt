@@ -1,21 +1,20 @@
 -- Checking a file.
-use Rattle.std.proofs.Common.{◌≡◌, ◌≢◌, ℕ, true, ◌⊎◌, inl, inr, refl, sym, ◌∙◌, ap, subst, List, Option, Some, None, Result, Ok, Err}
+use Rattle.std.proofs.Common.{◌≡◌, ◌≢◌, ℕ, true, ◌⊎◌, inl, inr, refl, sym, ◌∙◌, ap, List, Option, Some, None, Result, Ok, Err}
 use Rattle.std.specs.Prelude.{IfSome}
 use Rattle.ob_io.specs.Told.{Gains, IsFront}
 use Rattle.ob_grammar.specs.Spelling.{Spells}
 use Rattle.ob_xml.specs.declared.doc.Doc.{Doc}
 use Rattle.ob_xml.specs.declared.refused.Refused as refused
-use Rattle.ob_xml.specs.declared.refused.Why.{Why}
 use Rattle.ob_xml.specs.Judged.{document, fault, Judged}
 use Rattle.ob_program.specs.declared.document.DocumentFault.{DocumentFault}
 use Rattle.ob_program.specs.declared.document.DocumentFault.TheVariants as faults
 use Rattle.ob_program.specs.declared.check.CheckEnd.{CheckEnd}
 use Rattle.ob_program.specs.declared.check.CheckEnd.TheVariants.{Printed, Refused, ReadFault, WriteFault, Memory}
-use Rattle.ob_program.specs.declared.program.Exit.{Exit}
-use Rattle.ob_program.specs.declared.program.Exit.TheVariants as exits
+use Rattle.ob_program.specs.declared.exit.Exit.{Exit}
+use Rattle.ob_program.specs.declared.exit.Exit.TheVariants as exits
 use Rattle.ob_program.specs.Reading.{IsFaulty, Reads, ReadsFile}
 use Rattle.ob_program.specs.Check.{Checks, ChecksFile, printed, exit_of_check}
-use Rattle.ob_program.proofs.LoadLemmas.{IsOnce, if_told}
+use Rattle.ob_program.proofs.FileLemmas.{IsOnce, if_told}
 
 checked : (content before after : Option (List ℕ)) (result : Result Doc DocumentFault) (end : CheckEnd) → ReadsFile content result → ((bytes : List ℕ) → Reads bytes result → Checks bytes before after (exit_of_check end))
     → ChecksFile content before after end

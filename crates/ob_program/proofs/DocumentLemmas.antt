@@ -1,5 +1,5 @@
 -- A document fed piece by piece.
-use Rattle.std.proofs.Common.{◌≡◌, ℕ, Bool, true, false, ◌⊎◌, inl, inr, List, ◌++◌, sym, ap, subst, ◌∙◌, append_assoc}
+use Rattle.std.proofs.Common.{◌≡◌, ℕ, Bool, true, false, inl, inr, List, ◌++◌, sym, ap, subst, ◌∙◌, append_assoc}
 use Rattle.ob_xml.specs.declared.refused.Refused.{Refused}
 use Rattle.ob_xml.specs.declared.refused.Why.{Why}
 use Rattle.ob_xml.specs.Judged.{fault, Judged}

@@ -1,14 +1,4 @@
-pub mod NameLemmas
-pub mod FramingLemmas
-pub mod PrintableLemmas
-pub mod ScanLemmas
-pub mod FormLemmas
-pub mod PathLemmas
+pub mod FileLemmas
 pub mod DocumentLemmas
-pub mod LoadLemmas
-pub mod ServeLemmas
-pub mod RunLemmas
-pub mod CompleteLemmas
-pub mod FramingLaws
-pub mod OutcomeLemmas
 pub mod CheckLemmas
+pub mod StdioLemmas

@@ -7,8 +7,8 @@ use Rattle.ob_xml.specs.declared.doc.Doc.{Doc}
 use Rattle.ob_xml.specs.Judged.{Judged, document}
 use Rattle.ob_program.specs.declared.check.CheckEnd.{CheckEnd}
 use Rattle.ob_program.specs.declared.check.CheckEnd.TheVariants as ends
-use Rattle.ob_program.specs.declared.program.Exit.{Exit}
-use Rattle.ob_program.specs.declared.program.Exit.TheVariants as exits
+use Rattle.ob_program.specs.declared.exit.Exit.{Exit}
+use Rattle.ob_program.specs.declared.exit.Exit.TheVariants as exits
 use Rattle.ob_program.specs.Reading.{IsFaulty}
 
 -- the canonical document and a line feed

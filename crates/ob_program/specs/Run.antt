@@ -1,45 +1,26 @@
 -- How a run's exit goes with what it met.
-use Rattle.std.specs.Prelude.{◌≡◌, ℕ, List, IfSome}
-use Rattle.std.specs.declared.option.Option.{Option}
-use Rattle.ob_xml.specs.declared.doc.Doc.{Doc}
-use Rattle.ob_program.specs.declared.serve.LinkEnd.{LinkEnd}
-use Rattle.ob_program.specs.declared.serve.LinkEnd.TheVariants as ends
-use Rattle.ob_program.specs.declared.program.Exit.{Exit}
-use Rattle.ob_program.specs.declared.program.Exit.TheVariants as exits
-use Rattle.ob_program.specs.Site.{Opens}
-use Rattle.ob_program.specs.Serve.{Serves}
+use Rattle.std.specs.Prelude.{◌≡◌, ℕ, List, Option, Some, None, IfSome}
+use Rattle.ob_command.specs.Command.{Command, stdio, check}
+use Rattle.ob_program.specs.declared.exit.Exit.{Exit}
+use Rattle.ob_program.specs.declared.stdio.StdioEnd.{StdioEnd}
+use Rattle.ob_program.specs.Stdio.{StdioComes, exit_of}
 
 -- what holds of the bytes of a file, where the words name one and its content is told
 abbrev pub OnFile : Option (List ℕ) → (List ℕ → Option (List ℕ)) → (List ℕ → Type 0) → Type 0
 OnFile file content P = IfSome file (λ name. IfSome (content name) P)
 
--- the bytes stand for no site
-abbrev pub IsRefused : List ℕ → Type 0
-IsRefused bytes = (state : Doc) → Opens bytes state → ⊥
+abbrev pub checked_file : Option Command → Option (List ℕ)
+checked_file None = None
+checked_file (Some (stdio name at tick)) = None
+checked_file (Some (check name)) = Some name
 
-abbrev pub exit_of : LinkEnd → Exit
-exit_of ends.Closed = exits.Ok
-exit_of ends.Truncated = exits.Truncated
-exit_of (ends.Malformed at) = exits.Frame
-exit_of ends.ReadFault = exits.ReadFault
-exit_of ends.WriteFault = exits.WriteFault
-exit_of ends.Budget = exits.Budget
-exit_of ends.Memory = exits.Memory
+-- the file that is to be served, and the moment that the service is to begin at, if one is given
+abbrev pub served_site : Option Command → Option (List ℕ × Option ℕ)
+served_site None = None
+served_site (Some (stdio name at tick)) = Some (name, at)
+served_site (Some (check name)) = None
 
--- The source's requests were answered from this state, and the run ended so.
-pub record Answers (state : Doc) (left_before left_after held_before held_after : Option (List ℕ)) (exit : Exit) : Type 0 where
-  pub end : LinkEnd
-  pub is : exit ≡ exit_of end
-  pub serves : Serves state left_before left_after held_before held_after end
-
--- the number that a program ends with
-abbrev pub status_of : Exit → ℕ
-status_of exits.Ok = 0
-status_of exits.Usage = 1
-status_of exits.Refused = 2
-status_of exits.ReadFault = 3
-status_of exits.WriteFault = 4
-status_of exits.Frame = 5
-status_of exits.Truncated = 6
-status_of exits.Budget = 11
-status_of exits.Memory = 12
+-- The service of a file's site over a source and a sink came to some end, which is the exit. What was taken of a source isn't told by itself.
+abbrev pub RunsStdio : Option (List ℕ) → Option ℕ → (left left' held held' given given' : Option (List ℕ)) → Exit → Type 0
+RunsStdio file at left left' held held' given given' exit =
+    (end : StdioEnd) × (exit ≡ exit_of end) × StdioComes file at end left None left' None held held' given given'

@@ -5,14 +5,13 @@ ghost use Rattle.ob_xml.specs.declared.doc.Doc.{Doc};
 ghost use Rattle.ob_program.specs.Check.{printed, ChecksFile};
 
 use crate::document::{DocumentFault, read_file};
-use crate::outcome::refusal_line;
-use crate::program::Exit;
+use crate::exit::Exit;
 use ob_io::{Files, Sink, write_all};
 use ob_xml::{Doc, Refused, encode};
 use std::alloc::{AllocError, Global};
 
 /// How a check ends.
-#[derive(Clone, Copy, Debug, PartialEq, Eq)]
+#[derive(Clone, Copy, PartialEq, Eq)]
 pub enum CheckEnd {
     /// The canonical document was written.
     Printed,
@@ -49,6 +48,12 @@ impl CheckEnd {
             CheckEnd::Memory => b"obix: out of memory\n".to_vec(alloc),
         }
     }
+}
+
+/// What is printed of a document that is refused.
+fn refusal_line(alloc: Global, refused: &Refused) -> Result<Vec<u8>, AllocError> {
+    let text = format!(in alloc; "obix: refused: {refused}\n")?;
+    text.as_bytes().to_vec(alloc)
 }
 
 /// What isn't needed any more.

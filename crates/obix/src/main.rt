@@ -1,37 +1,79 @@
-//! The program `obix`: hands `ob_program`'s `run` the words of the command line, the disk and the three standard streams, and
-//! ends with its status.
+//! The program `obix`: hands `ob_program`'s `run` the words of the command line, the disk, the three standard streams and
+//! the system's clock, and ends with its status.
 #![tactic(auto)]
 
-#[cfg(test)]
-mod tests;
-
-use ob_io::{DiskFiles, StdSink, StdSource};
-use ob_program::run;
+use ob_io::{DiskFiles, Pair, Sink, StdSink, StdSource, SystemClock, write_all};
+use ob_program::{Exit, run};
+use std::alloc::Global;
+use std::env;
+use std::io::ErrorKind;
 use std::process::ExitCode;
-use std::{env, io};
+
+/// Why the words of the command line can't be had.
+#[derive(Clone, Copy)]
+enum WordFault {
+    /// One isn't UTF-8.
+    NotText,
+    Memory,
+}
+
+/// The words behind the program's name.
+fn read_words(rt: &HostRuntime, alloc: Global) -> Result<Vec<String>, WordFault> {
+    let given = match env::args(rt) {
+        Ok(given) => given,
+        Err(fault) => {
+            return Err(if fault.kind() == ErrorKind::OutOfMemory {
+                WordFault::Memory
+            } else {
+                WordFault::NotText
+            });
+        }
+    };
+    let mut words = Vec::new(alloc);
+    for word in given.skip(1) {
+        if words.push(word).is_err() {
+            return Err(WordFault::Memory);
+        }
+    }
+    Ok(words)
+}
+
+/// Tells on `errors` why there are no words, and gives the exit for that.
+fn without_words<E: Sink>(errors: &mut E, fault: WordFault) -> Exit {
+    match fault {
+        WordFault::NotText => {
+            let _ = write_all(errors, b"obix: usage\n");
+            Exit::Usage
+        }
+        WordFault::Memory => {
+            let _ = write_all(errors, b"obix: out of memory\n");
+            Exit::Memory
+        }
+    }
+}
 
 fn main(rt: HostRuntime) -> ExitCode {
     let alloc = rt.alloc();
-    let mut words = Vec::new(alloc);
-    // Words that cannot be had are no command line.
-    if let Ok(given) = env::args(&rt) {
-        for word in given.skip(1) {
-            if words.push(word).is_err() {
-                return ExitCode::from(12);
-            }
-        }
-    }
-    let mut files = DiskFiles::new(&rt);
-    let mut source = StdSource::new(rt.stdin());
-    let mut sink = StdSink::new(rt.stdout());
     let mut errors = StdSink::new(rt.stderr());
-    let exit = run(
-        alloc,
-        &words,
-        &mut files,
-        &mut source,
-        &mut sink,
-        &mut errors,
-    );
+    let exit = match read_words(&rt, alloc) {
+        Ok(words) => {
+            let mut files = DiskFiles::new(&rt);
+            let mut link = Pair {
+                source: StdSource::new(rt.stdin()),
+                sink: StdSink::new(rt.stdout()),
+            };
+            let mut clock = SystemClock::new(&rt);
+            run(
+                &rt,
+                alloc,
+                &words,
+                &mut files,
+                &mut link,
+                &mut errors,
+                &mut clock,
+            )
+        }
+        Err(fault) => without_words(&mut errors, fault),
+    };
     ExitCode::from(exit.status())
 }

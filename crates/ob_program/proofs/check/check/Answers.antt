@@ -1,7 +1,7 @@
 use Rattle.std.proofs.Common.{◌≡◌, ◌∙◌, List, ℕ, subst}
 use Rattle.ob_io.specs.Told.{Gains, IsFront}
 use Rattle.ob_program.specs.Check.{printed}
-use Rattle.ob_program.proofs.ServeLemmas.{on_ok}
+use Rattle.ob_program.proofs.FileLemmas.{on_ok}
 use Rattle.ob_program.proofs.CheckLemmas.{check_printed, check_broken}
 use Rattle.ob_program.proofs.check.check.Goals as goal
 

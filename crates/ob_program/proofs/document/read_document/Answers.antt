@@ -1,8 +1,8 @@
-use Rattle.std.proofs.Common.{◌≡◌, ◌∙◌, List, ℕ, [], ◌++◌, sym, ap, subst, take, drop, length, arith, append-nil}
+use Rattle.std.proofs.Common.{◌≡◌, ◌∙◌, List, ℕ, [], ◌++◌, sym, ap, subst, drop, length, arith, append-nil}
 use Rattle.std.proofs.lemmas.List.{take-append-drop}
 use Rattle.std.proofs.lemmas.Bool.Decides.{nat_tests}
 use Rattle.ob_xml.specs.Decoding.{HasRead}
-use Rattle.ob_program.proofs.FramingLemmas.{empty}
+use Rattle.ob_program.proofs.FileLemmas.{empty}
 use Rattle.ob_program.proofs.DocumentLemmas.{one_more, cause_stays, cause_at_end}
 use Rattle.ob_program.proofs.document.read_document.Goals as goal
 

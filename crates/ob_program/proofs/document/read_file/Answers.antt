@@ -1,7 +1,7 @@
 use Rattle.std.proofs.Common.{List, ℕ, subst}
 use Rattle.ob_program.specs.declared.document.DocumentFault.TheVariants.{Failed, Memory}
 use Rattle.ob_program.specs.Reading.{Reads}
-use Rattle.ob_program.proofs.LoadLemmas.{reads_file, reads_none}
+use Rattle.ob_program.proofs.FileLemmas.{reads_file, reads_none}
 use Rattle.ob_program.proofs.document.read_file.Goals as goal
 
 pub returns-in-Ok-clause-reads : goal.returns-in-Ok-clause-reads

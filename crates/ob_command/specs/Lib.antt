@@ -1,0 +1,5 @@
+pub mod Number
+pub mod Arguments
+pub mod Command
+pub mod Words
+pub mod Named

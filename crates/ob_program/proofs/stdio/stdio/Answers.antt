@@ -1,0 +1,32 @@
+use Rattle.std.proofs.Common.{refl, Some, []}
+use Rattle.std.specs.Prelude.{min}
+use Rattle.ob_io.specs.Ticks.{ticks, told_ticks, last_moment}
+use Rattle.ob_program.proofs.StdioLemmas.{whole_since, whole_apart, comes_at}
+use Rattle.ob_program.proofs.stdio.stdio.Goals as goal
+
+pub returns-in_default-clause-whole : goal.returns-in_default-clause-whole
+returns-in_default-clause-whole g c = λ end is.
+    whole_since (g.L.Link.left c.args.link.now) (g.L.Link.read_faults c.args.link.now) (g.L.Link.read_faults c.serve_site.new.link)
+    (g.L.Link.write_faults c.args.link.now) (g.L.Link.write_faults c.serve_site.new.link)
+    (g.C.Clock.faults c.args.clock.now) (g.C.Clock.faults c.now.new.self) (g.C.Clock.faults c.serve_site.new.clock) end
+    c.now.ensures.cause.later (c.serve_site.ensures.whole end is)
+
+pub returns-clause-comes : goal.returns-clause-comes
+unfolding ticks
+returns-clause-comes g c =
+    let ticked = told_ticks c.serve_site-2.new.clock.at c.serve_site-2.new.clock.tick c.serve_site-2.new.clock.k in
+    rw c.in-Some.is (
+      refl,
+      (
+        ticked,
+        comes_at (g.F.Files.content c.args.files.now c.args.service.site.now) c.moment.result (min c.in-Some.at last_moment) c.serve_site-2.result
+            (g.L.Link.left c.args.link.now) (g.L.Link.taken c.args.link.now) (g.L.Link.left c.serve_site-2.new.link) (g.L.Link.taken c.serve_site-2.new.link)
+            (g.L.Link.held c.args.link.now) (g.L.Link.held c.serve_site-2.new.link) (Some []) ticked c.moment.ensures c.serve_site-2.ensures.comes,
+      ),
+    )
+
+pub returns-clause-whole : goal.returns-clause-whole
+returns-clause-whole g c = λ end is.
+    whole_apart (g.L.Link.left c.args.link.now) (g.L.Link.read_faults c.args.link.now) (g.L.Link.read_faults c.serve_site-2.new.link)
+    (g.L.Link.write_faults c.args.link.now) (g.L.Link.write_faults c.serve_site-2.new.link) (g.C.Clock.faults c.args.clock.now) end
+    (c.serve_site-2.ensures.whole end is)

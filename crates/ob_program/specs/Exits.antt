@@ -1,0 +1,16 @@
+-- The numbers that a program ends with.
+use Rattle.std.specs.Prelude.{ℕ}
+use Rattle.ob_program.specs.declared.exit.Exit.{Exit}
+use Rattle.ob_program.specs.declared.exit.Exit.TheVariants as exits
+
+abbrev pub status_of : Exit → ℕ
+status_of exits.Ok = 0
+status_of exits.Usage = 1
+status_of exits.Refused = 2
+status_of exits.ReadFault = 3
+status_of exits.WriteFault = 4
+status_of exits.Frame = 5
+status_of exits.Truncated = 6
+status_of exits.ClockFault = 10
+status_of exits.Budget = 11
+status_of exits.Memory = 12

@@ -1,0 +1,56 @@
+//! How a run ends.
+ghost use Rattle.std.specs.Prelude.{◌≡◌};
+
+use ob_io::{Sink, write_all};
+use std::alloc::AllocError;
+
+/// How a run ends.
+#[derive(Clone, Copy, PartialEq, Eq)]
+pub enum Exit {
+    Ok,
+    /// The words are no command.
+    Usage,
+    /// The file's bytes are no document, or open no site.
+    Refused,
+    /// The file or the source could not be read.
+    ReadFault,
+    WriteFault,
+    /// The source's bytes from a place on begin no request.
+    Frame,
+    /// The source ended inside a request.
+    Truncated,
+    ClockFault,
+    /// 2^40 bytes were taken from the source.
+    Budget,
+    Memory,
+}
+
+impl Exit {
+    ghost use Rattle.ob_program.specs.Exits.{status_of};
+
+    /// The number that the program ends with.
+    pub fn status(self) -> u8
+        ensures { result ≡ status_of self }
+    {
+        match self {
+            Exit::Ok => 0,
+            Exit::Usage => 1,
+            Exit::Refused => 2,
+            Exit::ReadFault => 3,
+            Exit::WriteFault => 4,
+            Exit::Frame => 5,
+            Exit::Truncated => 6,
+            Exit::ClockFault => 10,
+            Exit::Budget => 11,
+            Exit::Memory => 12,
+        }
+    }
+}
+
+/// Tells a line, where it was to be had; faults change nothing.
+pub(crate) fn tell<E: Sink>(errors: &mut E, line: Result<Vec<u8>, AllocError>) {
+    let _ = match line {
+        Ok(line) => write_all(errors, &line),
+        Err(AllocError) => write_all(errors, b"obix: out of memory\n"),
+    };
+}

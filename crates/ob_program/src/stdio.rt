@@ -1,0 +1,207 @@
+//! `stdio`: the requests of the source, answered from the site of a file.
+ghost use Rattle.std.specs.Prelude.{◌≡◌, ◌≤◌, min, length};
+ghost use Rattle.ob_io.specs.Ticks.{last_moment};
+ghost use Rattle.ob_io.specs.Faults.{Rose};
+ghost use Rattle.ob_server.specs.declared.end.LinkEnd.{LinkEnd};
+ghost use Rattle.ob_server.specs.Complete.{ServesWhole};
+ghost use Rattle.ob_program.specs.Stdio.{Comes, StdioComes, IsUnserved, HasCause};
+
+use crate::exit::{Exit, tell};
+use ob_command::Service;
+use ob_http::FrameFault;
+use ob_io::{Clock, Files, Link, Sink, Ticker};
+use ob_load::{LoadFault, Loaded, load};
+use ob_server::{LinkEnd, serve_alone};
+use ob_times::Moment;
+use std::alloc::{AllocError, Global};
+use std::sync::Wait;
+
+/// The last moment that there is, in milliseconds since 1970.
+const LAST_MOMENT: u64 = 253_402_300_799_999;
+
+/// How it ended, with what is printed of it.
+#[derive(Drop)]
+pub(crate) enum StdioEnd {
+    Served(LinkEnd),
+    /// The file opens no site.
+    Refused(LoadFault),
+    /// The file can't be read.
+    ReadFault,
+    /// The clock told no moment for the boot.
+    ClockFault,
+    Memory,
+}
+
+impl StdioEnd {
+    ghost use Rattle.ob_program.specs.Stdio.{exit_of, end_of_fault};
+
+    /// The end that a refusal of a file leads to.
+    fn of_fault(fault: LoadFault) -> StdioEnd
+        ensures { result ≡ end_of_fault fault }
+    {
+        match fault {
+            LoadFault::Read => StdioEnd::ReadFault,
+            LoadFault::Memory => StdioEnd::Memory,
+            LoadFault::Document(_)
+            | LoadFault::RootHref
+            | LoadFault::Href { .. }
+            | LoadFault::Contract(_)
+            | LoadFault::PathTwice { .. }
+            | LoadFault::Rule { .. }
+            | LoadFault::Size
+            | LoadFault::Inconsistent => StdioEnd::Refused(fault),
+        }
+    }
+
+    /// The exit that it leads to.
+    pub(crate) fn exit(&self) -> Exit
+        ensures { result ≡ exit_of self.now }
+    {
+        match self {
+            StdioEnd::Served(LinkEnd::Closed) => Exit::Ok,
+            StdioEnd::Served(LinkEnd::Asked) => Exit::Ok,
+            StdioEnd::Served(LinkEnd::Truncated) => Exit::Truncated,
+            StdioEnd::Served(LinkEnd::BadFrame(_, _)) => Exit::Frame,
+            StdioEnd::Served(LinkEnd::ReadFault) => Exit::ReadFault,
+            StdioEnd::Served(LinkEnd::WriteFault) => Exit::WriteFault,
+            StdioEnd::Served(LinkEnd::ClockFault) => Exit::ClockFault,
+            StdioEnd::Served(LinkEnd::Budget) => Exit::Budget,
+            StdioEnd::Served(LinkEnd::Memory) => Exit::Memory,
+            StdioEnd::Refused(_) => Exit::Refused,
+            StdioEnd::ReadFault => Exit::ReadFault,
+            StdioEnd::ClockFault => Exit::ClockFault,
+            StdioEnd::Memory => Exit::Memory,
+        }
+    }
+
+    /// What is printed of it; nothing where all is well.
+    pub(crate) fn line(&self, alloc: Global) -> Result<Vec<u8>, AllocError> {
+        match self {
+            StdioEnd::Served(LinkEnd::Closed) => Ok(Vec::new(alloc)),
+            StdioEnd::Served(LinkEnd::Asked) => Ok(Vec::new(alloc)),
+            StdioEnd::Served(LinkEnd::BadFrame(fault, place)) => frame_line(alloc, *fault, *place),
+            StdioEnd::Refused(fault) => site_line(alloc, fault),
+            StdioEnd::Served(LinkEnd::Truncated) => b"obix: truncated\n".to_vec(alloc),
+            StdioEnd::Served(LinkEnd::ReadFault) => b"obix: read fault\n".to_vec(alloc),
+            StdioEnd::Served(LinkEnd::WriteFault) => b"obix: write fault\n".to_vec(alloc),
+            StdioEnd::Served(LinkEnd::ClockFault) => b"obix: clock fault\n".to_vec(alloc),
+            StdioEnd::Served(LinkEnd::Budget) => b"obix: budget\n".to_vec(alloc),
+            StdioEnd::Served(LinkEnd::Memory) => b"obix: out of memory\n".to_vec(alloc),
+            StdioEnd::ReadFault => b"obix: read fault\n".to_vec(alloc),
+            StdioEnd::ClockFault => b"obix: clock fault\n".to_vec(alloc),
+            StdioEnd::Memory => b"obix: out of memory\n".to_vec(alloc),
+        }
+    }
+
+    /// Tells it on `errors`, and gives the exit that it leads to.
+    pub(crate) fn told<E: Sink>(self, alloc: Global, errors: &mut E) -> Exit
+        ensures { result ≡ exit_of self }
+    {
+        tell(errors, self.line(alloc));
+        self.exit()
+    }
+}
+
+/// The name of a fault of framing.
+fn frame_word(fault: FrameFault) -> &'static str {
+    match fault {
+        FrameFault::Head => "Head",
+        FrameFault::HeadBig => "HeadBig",
+        FrameFault::NoLength => "NoLength",
+        FrameFault::Length => "Length",
+        FrameFault::BodyBig => "BodyBig",
+        FrameFault::Memory => "Memory",
+    }
+}
+
+/// What is printed of bytes that begin no request: the fault, and the place where that request begins.
+fn frame_line(alloc: Global, fault: FrameFault, place: u64) -> Result<Vec<u8>, AllocError> {
+    let word = frame_word(fault);
+    let text = format!(in alloc; "obix: frame {word} at {place}\n")?;
+    text.as_bytes().to_vec(alloc)
+}
+
+/// What is printed of a file that opens no site.
+fn site_line(alloc: Global, fault: &LoadFault) -> Result<Vec<u8>, AllocError> {
+    let words = fault.words(alloc)?;
+    let mut line = b"obix: refused: ".to_vec(alloc)?;
+    line.extend_from_slice(words.as_bytes())?;
+    line.extend_from_slice(b"\n")?;
+    Ok(line)
+}
+
+/// A moment, the last that there is where the number is larger.
+fn moment(ms: u64) -> Moment
+    ensures { result ≡ min ms last_moment }
+{
+    let Some(moment) = Moment::new(ms.min(LAST_MOMENT)) else {
+        unreachable!()
+    };
+    moment
+}
+
+/// Opens the site of a file that boots at a moment, and answers the requests of a link from it.
+fn serve_site<R: Wait, F: Files, L: Link, C: Clock>(
+    rt: &R,
+    alloc: Global,
+    site: &str,
+    files: &mut F,
+    boot: Moment,
+    link: &mut L,
+    clock: &mut C,
+) -> StdioEnd
+    ensures comes { Comes (F.content files.old site.now) boot result (L.left link.old) (L.taken link.old) (L.left link.new) (L.taken link.new) (L.held link.old) (L.held link.new) (C.given clock.old) (C.given clock.new) }
+    ensures unused { IsUnserved result → link.new ≡ link.old }
+    ensures cause { HasCause result (F.faults files.old) (F.faults files.new) (L.read_faults link.old) (L.read_faults link.new)
+        (L.write_faults link.old) (L.write_faults link.new) (C.faults clock.old) (C.faults clock.new) }
+    ensures whole { (end : LinkEnd) → result ≡ StdioEnd.Served end → ServesWhole (L.left link.old) (L.read_faults link.old) (L.read_faults link.new)
+        (L.write_faults link.old) (L.write_faults link.new) (C.faults clock.old) (C.faults clock.new) end }
+{
+    match load(alloc, files, site, boot) {
+        Ok(Loaded { ns, site }) => {
+            site.is_sound();
+            let end = serve_alone(rt, alloc, site, ns.as_ref(), link, clock);
+            StdioEnd::Served(end)
+        }
+        Err(fault) => StdioEnd::of_fault(fault),
+    }
+}
+
+/// Opens the site of a file, and answers the requests of a link from it. The boot and the requests are at the moments
+/// of the clock or, with `at`, at those of a clock that begins there and goes by `tick` milliseconds.
+pub(crate) fn stdio<R: Wait, F: Files, L: Link, C: Clock>(
+    rt: &R,
+    alloc: Global,
+    service: Service<'_>,
+    files: &mut F,
+    link: &mut L,
+    clock: &mut C,
+) -> StdioEnd
+    ensures comes { StdioComes (F.content files.old service.entry.site.now) service.entry.at result (L.left link.old) (L.taken link.old) (L.left link.new) (L.taken link.new) (L.held link.old) (L.held link.new) (C.given clock.old) (C.given clock.new) }
+    ensures unused { IsUnserved result → link.new ≡ link.old }
+    ensures cause { HasCause result (F.faults files.old) (F.faults files.new) (L.read_faults link.old) (L.read_faults link.new)
+        (L.write_faults link.old) (L.write_faults link.new) (C.faults clock.old) (C.faults clock.new) }
+    ensures whole { (end : LinkEnd) → result ≡ StdioEnd.Served end → ServesWhole (L.left link.old) (L.read_faults link.old) (L.read_faults link.new)
+        (L.write_faults link.old) (L.write_faults link.new) (C.faults clock.old) (C.faults clock.new) end }
+{
+    let Some(at) = service.at else {
+        let Ok(boot) = clock.now() else {
+            return StdioEnd::ClockFault;
+        };
+        return serve_site(rt, alloc, service.site, files, boot, link, clock);
+    };
+    let mut ticker = Ticker {
+        at,
+        tick: service.tick,
+        k: 0,
+    };
+    serve_site(
+        rt,
+        alloc,
+        service.site,
+        files,
+        moment(at),
+        link,
+        &mut ticker,
+    )
+}
