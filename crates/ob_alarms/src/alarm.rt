@@ -3,7 +3,7 @@ use crate::rule::Num;
 use ob_values::{Moment, Text};
 
 /// What happened to an alarm.
-#[derive(Clone, Copy, PartialEq, Eq, Debug)]
+#[derive(Clone, Copy, PartialEq, Eq)]
 pub enum What {
     Raised,
     Acked,

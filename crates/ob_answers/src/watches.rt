@@ -22,7 +22,7 @@ const SECOND: u64 = 1_000_000_000;
 const DAY: u64 = 86_400_000_000_000;
 
 /// A watch, its lease, or one of its ops.
-#[derive(Clone, Copy, PartialEq, Eq, Debug)]
+#[derive(Clone, Copy, PartialEq, Eq)]
 pub enum WatchPart {
     Whole,
     Lease,

@@ -7,7 +7,7 @@ use crate::kind::is_word;
 use ob_object::Kind;
 
 /// An attribute that is kept as a text.
-#[derive(Clone, Copy, Debug, PartialEq, Eq)]
+#[derive(Clone, Copy, PartialEq, Eq)]
 pub enum TextField {
     Name,
     Href,
@@ -20,7 +20,7 @@ pub enum TextField {
 }
 
 /// An attribute that is a list of words.
-#[derive(Clone, Copy, Debug, PartialEq, Eq)]
+#[derive(Clone, Copy, PartialEq, Eq)]
 pub enum WordsField {
     Is,
     Of,
@@ -29,7 +29,7 @@ pub enum WordsField {
 }
 
 /// An attribute that is read as a value.
-#[derive(Clone, Copy, Debug, PartialEq, Eq)]
+#[derive(Clone, Copy, PartialEq, Eq)]
 pub enum ValueField {
     Null,
     Val,
@@ -41,7 +41,7 @@ pub enum ValueField {
 }
 
 /// An attribute that is kept.
-#[derive(Clone, Copy, Debug, PartialEq, Eq)]
+#[derive(Clone, Copy, PartialEq, Eq)]
 pub enum Field {
     Text(TextField),
     Words(WordsField),

@@ -29,7 +29,7 @@ pub enum Part {
 }
 
 /// Why an attribute says nothing.
-#[derive(Clone, Copy, Debug, PartialEq, Eq)]
+#[derive(Clone, Copy, PartialEq, Eq)]
 pub enum PartFault {
     /// Its text can't be read as what the attribute takes.
     Value(ValueFault),

@@ -15,12 +15,24 @@ use std::marker::Model;
 ///
 /// A log with a capacity drops its oldest records at `settle`, and counts them in `gone`. An event of
 /// the history's feed is a record, and its number counts from 0, those that rolled off included.
-#[derive(Drop)]
 pub struct Log {
     alloc: Global,
     capacity: Option<u64>,
     gone: u64,
     ring: Option<HeapCircularBuffer<Record>>,
+}
+
+impl Drop for Log {
+    // By one call, so that to drop a log is one call to whoever may have to.
+    fn drop(self) {
+        let Log {
+            alloc: _,
+            capacity: _,
+            gone: _,
+            ring,
+        } = self;
+        drop(ring);
+    }
 }
 
 impl Model for Log {

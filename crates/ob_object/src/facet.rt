@@ -8,7 +8,7 @@ use ob_values::{Text, Value};
 use std::alloc::AllocError;
 
 /// The names of the facets.
-#[derive(Clone, Copy, PartialEq, Eq, Debug)]
+#[derive(Clone, Copy, PartialEq, Eq)]
 pub enum Facet {
     Display,
     DisplayName,
@@ -24,7 +24,7 @@ pub enum Facet {
 }
 
 /// A facet's value, lent.
-#[derive(Clone, Copy, Debug)]
+#[derive(Clone, Copy)]
 pub enum FacetRef<'a> {
     /// Of min and max.
     Limit(&'a Value),
@@ -40,7 +40,6 @@ pub enum FacetRef<'a> {
 
 /// The facets of an object.
 /// Source: oBIX 1.1, section 4.2.7.
-#[derive(Debug)]
 pub struct Facets {
     /// Text for people, of the object's state.
     pub display: Option<Text>,

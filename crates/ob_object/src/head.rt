@@ -11,7 +11,7 @@ use ob_values::{Text, Value};
 use std::alloc::AllocError;
 
 /// The value of an object: not given, null, or a value.
-#[derive(Drop, Debug)]
+#[derive(Drop)]
 pub enum Slot {
     Absent,
     Null,

@@ -11,6 +11,7 @@ use crate::facet::Facets;
 use crate::head::{Head, Slot, fits_facets, fits_name, fits_slot};
 use crate::kind::Kind;
 use crate::same::same_head;
+use crate::status::Status;
 use crate::words::Words;
 use ob_values::Text;
 use std::alloc::{AllocError, Global};
@@ -292,6 +293,23 @@ impl Obj {
         } else {
             Err(slot)
         }
+    }
+
+    /// Sets the slot, whose value is of the kind, and gives the old one.
+    pub fn replace_slot(&mut self, slot: Slot) -> Slot
+        requires fits { IsTrue (fits_slot self.old.head.kind slot) }
+        ensures old { result ≡ self.old.head.slot }
+        ensures new { self.new ≡ record self.old { head = record self.old.head { slot = slot } } }
+    {
+        std::mem::replace(&mut self.head.slot, slot)
+    }
+
+    /// Sets the status, or takes it away, and gives the old one.
+    pub fn replace_status(&mut self, status: Option<Status>) -> Option<Status>
+        ensures old { result ≡ self.old.head.facets.status }
+        ensures new { self.new ≡ record self.old { head = record self.old.head { facets = record self.old.head.facets { status = status } } } }
+    {
+        std::mem::replace(&mut self.head.facets.status, status)
     }
 
     /// Sets the facets, or gives them back where min or max doesn't fit the kind.

@@ -26,7 +26,7 @@ impl Model for Words {
 }
 
 /// Why a word was not taken.
-#[derive(Drop, Debug)]
+#[derive(Drop)]
 pub enum WordFault {
     /// The text is empty or has white space.
     NotWord { word: Text },

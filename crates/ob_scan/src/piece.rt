@@ -3,7 +3,7 @@
 use crate::wait::Wait;
 
 /// Why a construct is refused.
-#[derive(Clone, Copy, Debug, PartialEq, Eq)]
+#[derive(Clone, Copy, PartialEq, Eq)]
 pub enum Why {
     /// It is malformed.
     Markup,
@@ -14,7 +14,7 @@ pub enum Why {
 }
 
 /// Where a construct stands.
-#[derive(Clone, Copy, Debug, PartialEq, Eq)]
+#[derive(Clone, Copy, PartialEq, Eq)]
 pub enum Place {
     /// At the very start of the text, where EF BB BF may stand.
     Start,
@@ -29,7 +29,7 @@ pub enum Place {
 }
 
 /// One construct.
-#[derive(Clone, Copy, Debug)]
+#[derive(Clone, Copy)]
 pub enum Piece<'a> {
     /// The `<` and the name of a start tag.
     Open { name: &'a [u8] },
@@ -50,7 +50,7 @@ pub enum Piece<'a> {
 }
 
 /// What stands at a place.
-#[derive(Clone, Copy, Debug)]
+#[derive(Clone, Copy)]
 pub enum Found<'a> {
     /// A construct, the place of its first byte, and the place behind it.
     Piece {
@@ -65,7 +65,7 @@ pub enum Found<'a> {
 }
 
 /// A refused construct, or the end inside one.
-#[derive(Clone, Copy, Debug, PartialEq, Eq)]
+#[derive(Clone, Copy, PartialEq, Eq)]
 pub struct ScanFault {
     pub at: usize,
     pub why: Why,

@@ -18,7 +18,7 @@ use crate::character::{Progress, is_single, next_progress};
 use crate::stop::Stop;
 
 /// What ends a run of characters.
-#[derive(Clone, Copy, Debug, PartialEq, Eq)]
+#[derive(Clone, Copy, PartialEq, Eq)]
 pub enum Ends {
     /// What can't stand in a name.
     Name,

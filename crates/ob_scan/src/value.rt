@@ -15,7 +15,7 @@ use ob_values::Text;
 use std::alloc::{AllocError, Global};
 
 /// Why a value stands for no text.
-#[derive(Clone, Copy, Debug, PartialEq, Eq)]
+#[derive(Clone, Copy, PartialEq, Eq)]
 pub enum RawFault {
     /// The first place at which a reference is refused, or a byte is part of no character.
     Markup { at: usize },

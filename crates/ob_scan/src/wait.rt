@@ -15,7 +15,7 @@ use crate::reading::{
 use crate::stop::Stop;
 
 /// What a construct that isn't whole waits for.
-#[derive(Clone, Copy, Debug, PartialEq, Eq)]
+#[derive(Clone, Copy, PartialEq, Eq)]
 pub enum Wait {
     /// The next byte, whatever it is.
     Next,

@@ -30,7 +30,7 @@ const EARLIEST: i64 = -62_135_596_800;
 const LATEST: i64 = 253_402_300_799;
 
 /// An instant, with the offset of the clock that told it.
-#[derive(Clone, Copy, PartialEq, Eq, Debug)]
+#[derive(Clone, Copy, PartialEq, Eq)]
 pub struct Abstime {
     seconds: i64,
     nanos: u32,

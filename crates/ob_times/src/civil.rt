@@ -15,7 +15,7 @@ use ob_spelling::{ValueFault, trimmed, two_digits};
 use std::marker::Model;
 
 /// A day of the calendar, in a year from 1 to 9999.
-#[derive(Clone, Copy, PartialEq, Eq, PartialOrd, Ord, Debug)]
+#[derive(Clone, Copy, PartialEq, Eq, PartialOrd, Ord)]
 pub struct CivilDate {
     date: Date,
 }

@@ -13,7 +13,7 @@ use std::marker::Model;
 const DAY: u64 = 86_400_000_000_000;
 
 /// A time of day.
-#[derive(Clone, Copy, PartialEq, Eq, PartialOrd, Ord, Debug)]
+#[derive(Clone, Copy, PartialEq, Eq, PartialOrd, Ord)]
 pub struct TimeOfDay {
     nanos: u64,
 }

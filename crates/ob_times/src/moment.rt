@@ -8,7 +8,7 @@ use std::marker::Model;
 const LAST: u64 = 253_402_300_799_999;
 
 /// An instant in whole milliseconds from 1970-01-01T00:00:00Z, up to the end of the year 9999.
-#[derive(Clone, Copy, PartialEq, Eq, PartialOrd, Ord, Debug)]
+#[derive(Clone, Copy, PartialEq, Eq, PartialOrd, Ord)]
 pub struct Moment {
     ms: u64,
 }

@@ -16,7 +16,7 @@ const LIMIT: u64 = 1_000_000_000_000_000_000;
 const ONE: u128 = 1_000_000_000_000_000_000;
 
 /// A decimal fraction: a coefficient of at most 18 digits, over a power of ten up to `10 ^ 18`.
-#[derive(Clone, Copy, PartialEq, Eq, PartialOrd, Ord, Debug)]
+#[derive(Clone, Copy, PartialEq, Eq, PartialOrd, Ord)]
 pub struct Dec {
     // In units of `10 ^ -18`.
     attos: Wide,

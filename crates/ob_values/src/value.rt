@@ -11,7 +11,7 @@ use ob_times::{
 use std::alloc::AllocError;
 
 /// A value, with its kind.
-#[derive(Drop, PartialEq, Eq, Debug)]
+#[derive(Drop, PartialEq, Eq)]
 pub enum Value {
     Bool(bool),
     Int(i64),

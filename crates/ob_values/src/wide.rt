@@ -5,7 +5,6 @@ ghost use Rattle.std.specs.Cmp.Rules.{comparing};
 ghost use Rattle.std.proofs.Common.{rules};
 
 use std::cmp::Ordering;
-use std::fmt;
 use std::marker::Model;
 
 // `2 ^ 64`.
@@ -91,11 +90,5 @@ impl PartialOrd for Wide {
 
     fn partial_cmp(&self, other: &Wide) -> Option<Ordering> {
         Some(self.cmp(other))
-    }
-}
-
-impl fmt::Debug for Wide {
-    fn fmt<W: fmt::Write>(&self, f: &mut fmt::Formatter<W>) -> fmt::Result {
-        fmt::Debug::fmt(&self.get(), f)
     }
 }

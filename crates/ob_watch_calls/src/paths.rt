@@ -15,7 +15,7 @@ use ob_answers::{Plan, WatchPart};
 use std::str;
 
 /// What a path says of watches.
-#[derive(Clone, Copy, Debug)]
+#[derive(Clone, Copy)]
 pub enum OfWatch {
     /// It is no path of a watch.
     No,
