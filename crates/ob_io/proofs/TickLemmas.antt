@@ -1,13 +1,9 @@
 -- The moments of a clock that goes by equal steps.
-use Rattle.std.proofs.Common.{◌≡◌, ℕ, zero, suc, min, ◌+◌, ◌-◌, ◌<◌, ◌^◌, Bool, true, false, cond, List, [], ◌∷◌, ◌++◌, Option, Some, None, length, length-append, nat_lt, refl, sym, ap, ◌∙◌, subst, arith, IfSome, IsSome}
-use Rattle.std.proofs.lemmas.Bool.{ltb-true, lt-ltb}
+use Rattle.std.proofs.Common.{◌≡◌, ℕ, zero, suc, min, ◌+◌, ◌-◌, ◌<◌, ◌^◌, Bool, true, false, cond, List, [], ◌∷◌, ◌++◌, Option, Some, None, length, get_or, nat_lt, ◌≤◌, ◌⊎◌, inl, inr, refl, sym, ap, ◌∙◌, subst, arith, IfSome, IsSome}
+use Rattle.std.proofs.lemmas.Bool.{ltb-true, lt-ltb, cases_lt}
+use Rattle.std.proofs.lemmas.List.{get_or_append_left, get_or_push}
 use Rattle.ob_io.specs.Told.{Gains}
-use Rattle.ob_io.specs.Ticks.{ticks, tick_at, told_ticks}
-
-pub length-ticks : (at tick k : ℕ) → length (ticks at tick k) ≡ k
-unfolding ticks
-length-ticks at tick zero = refl
-length-ticks at tick (suc k) = omega (arith, length-append (ticks at tick k) (tick_at at tick k ∷ []), length-ticks at tick k)
+use Rattle.ob_io.specs.Ticks.{ticks, tick_at, told_ticks, length-ticks, Pace, KeepsPace, AreFirstOf}
 
 pub ticks-suc : (at tick k : ℕ) → ticks at tick (suc k) ≡ ticks at tick k ++ tick_at at tick k ∷ []
 unfolding ticks
@@ -59,3 +55,26 @@ told_lasts at tick k at' tick' k' same n =
     let told' : told_ticks at tick k' ≡ told_ticks at' tick' k' = (λ i. told_ticks (sym same.0 i) (sym same.1 i) k') in
     subst (λ (t : Option (List ℕ)). IfSome (told_ticks at tick k) (λ moments. length moments + 1 < 2 ^ 64 - 1 → IsSome t)) told'
     (told_on at tick k k' (nat_lt k 18446744073709551615) (nat_lt k' 18446744073709551615) (λ few. lt-ltb _ _ (omega (arith, n, few))))
+
+get-last : (at tick k i d : ℕ) → i < suc k → (i < k → get_or (ticks at tick k) i d ≡ tick_at at tick i) → (i < k) ⊎ (k ≤ i)
+    → get_or (ticks at tick k ++ tick_at at tick k ∷ []) i d ≡ tick_at at tick i
+get-last at tick k i d less before (inl few) =
+    get_or_append_left (ticks at tick k) (tick_at at tick k ∷ []) d i (omega (arith, length-ticks at tick k, few)) ∙ before few
+get-last at tick k i d less before (inr last) =
+    get_or_push (ticks at tick k) (tick_at at tick k) d i (omega (arith, length-ticks at tick k, less, last)) ∙ ap (tick_at at tick) (omega (arith, less, last))
+
+-- the moment after i others
+pub get-ticks : (at tick k i d : ℕ) → i < k → get_or (ticks at tick k) i d ≡ tick_at at tick i
+get-ticks at tick zero i d less = absurd (omega (arith, less))
+get-ticks at tick (suc k) i d less =
+    ap (λ (t : List ℕ). get_or t i d) (ticks-suc at tick k)
+    ∙ get-last at tick k i d less (λ few. get-ticks at tick k i d few) (cases_lt i k)
+
+-- of a clock that was new, each moment is the one of its place
+pub gives_each : (pace : Option Pace) (given : Option (List ℕ)) (moments : List ℕ) → KeepsPace pace given → Gains (Some []) moments given → IsSome given
+    → IfSome pace (λ p. (i d : ℕ) → i < length moments → get_or moments i d ≡ tick_at p.at p.tick i)
+gives_each None given moments keeps gains some = tt
+gives_each (Some p) None moments keeps gains some = absurd (let no : false ≡ true = some in cc)
+gives_each (Some p) (Some xs) moments keeps gains some = λ i d less.
+    let first : moments ≡ ticks p.at p.tick (length moments) = subst (λ (t : List ℕ). AreFirstOf p t) gains keeps in
+    ap (λ (t : List ℕ). get_or t i d) first ∙ get-ticks p.at p.tick (length moments) i d less

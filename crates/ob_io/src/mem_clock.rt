@@ -74,13 +74,18 @@ impl MemClock {
 impl Clock for MemClock {
     ghost use Rattle.std.specs.Prelude.{IfSome, IsSome};
     ghost use Rattle.ob_io.specs.Twins.{Twin};
-    ghost use Rattle.ob_io.specs.ClockMemory.{clock_given, clock_twins};
+    ghost use Rattle.ob_io.specs.Ticks.{told_ticks_keep};
+    ghost use Rattle.ob_io.specs.ClockMemory.{clock_given, clock_pace, clock_twins};
 
     ghost given = { λ s. clock_given s };
+
+    ghost pace = { λ s. Some (clock_pace s) };
 
     ghost twins = { λ s. clock_twins s };
 
     ghost faults = { λ s. s.calls.faults };
+
+    ghost paced = { λ s. told_ticks_keep s.ticker.at s.ticker.tick s.ticker.k };
 
     fn now(&mut self) -> Result<Moment, Failed>
         ensures gave { MatchResult result
@@ -88,6 +93,7 @@ impl Clock for MemClock {
             (λ _. Gains (clock_given self.old) [] (clock_given self.new)) }
         ensures lasting { IfSome (clock_given self.old)
             (λ moments. length moments + 1 < 2 ^ 64 - 1 → IsSome (clock_given self.new)) }
+        ensures pace { Some (clock_pace self.new) ≡ Some (clock_pace self.old) }
         ensures apart { clock_twins self.new ≡ clock_twins self.old }
         ensures cause { HasCause self.old.calls.faults self.new.calls.faults result }
         ensures planned { is_err result ≡ next_fails self.old.calls }
@@ -101,6 +107,8 @@ impl Clock for MemClock {
 
     fn twin(&mut self) -> Result<MemClock, Failed>
         ensures fresh { IfOk result (λ twin. IsNew (clock_given twin) twin.calls.faults) }
+        ensures same { IfOk result (λ twin. Some (clock_pace twin) ≡ Some (clock_pace self.old)) }
+        ensures pace { Some (clock_pace self.new) ≡ Some (clock_pace self.old) }
         ensures apart { (clock_given self.new ≡ clock_given self.old)
             × (clock_twins self.new ≡ clock_twins self.old) }
         ensures cause { HasCause self.old.calls.faults self.new.calls.faults result }

@@ -2,6 +2,7 @@
 ghost use Rattle.std.specs.Prelude.{◌≡◌, ◌<◌, ◌≤◌, [], length, Some, option_map};
 
 use crate::Failed;
+use crate::counting::Counting;
 use crate::link::Link;
 use crate::memory::Calls;
 use std::alloc::Global;
@@ -130,5 +131,11 @@ impl Link for MemLink {
             self.is_told = false;
         }
         Ok(count)
+    }
+}
+
+impl Counting for MemLink {
+    fn has_failed(&self) -> bool {
+        self.read_faults > 0 || self.write_faults > 0
     }
 }

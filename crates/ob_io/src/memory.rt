@@ -1,6 +1,6 @@
 // Objects in memory. Each holds its content, counts its calls, and fails at the calls of a list of numbers and at no
 // other, the first call being 0.
-ghost use Rattle.std.specs.Prelude.{◌≡◌, ℕ, List, IfSome, ◌<◌, ◌≤◌, ◌+◌, ◌-◌, ◌^◌, min, [], length, drop, take, is_err, IfOk, Some, option_map, string_bytes, option_copied};
+ghost use Rattle.std.specs.Prelude.{◌≡◌, ℕ, List, IfSome, ◌<◌, ◌≤◌, ◌+◌, ◌-◌, ◌^◌, min, [], true, false, length, drop, take, is_err, IfOk, Some, option_map, string_bytes, option_copied};
 ghost use Rattle.std.specs.List.{find};
 ghost use Rattle.std.specs.Str.{bytes_eq};
 ghost use Rattle.std.specs.Io.{ReadsAtMost, WritesAtMost};
@@ -51,6 +51,18 @@ impl Calls {
     {
         self.faults = self.faults.saturating_add(1);
         Failed
+    }
+
+    // Counts a failure of what came back, if it failed.
+    pub(crate) fn fail_if(&mut self, failed: bool)
+        ensures rose { failed ≡ true → Rose self.old.faults self.new.faults }
+        ensures whole { failed ≡ false → self.new.faults ≡ self.old.faults }
+        ensures later { self.old.faults ≤ self.new.faults }
+        ensures same { (self.new.made ≡ self.old.made) × (self.new.failing ≡ self.old.failing) }
+    {
+        if failed {
+            let _ = self.fail();
+        }
     }
 }
 

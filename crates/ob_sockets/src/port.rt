@@ -1,0 +1,92 @@
+//! Ports over TCP.
+ghost use Rattle.std.specs.Prelude.{◌≡◌, IfSome, None};
+
+use crate::door::TcpDoor;
+use ob_io::{Failed, Port};
+use std::net::{Net, TcpListener, TcpStream};
+
+/// A port of this machine.
+#[derive(Drop)]
+pub struct TcpPort<'a, R> {
+    net: &'a R,
+    listener: Option<TcpListener>,
+    opened: u64,
+    returned: u64,
+    faults: u64,
+}
+
+impl<'a, R: Net<Listener = TcpListener, Stream = TcpStream>> TcpPort<'a, R> {
+    /// A port that doesn't listen yet and has not failed.
+    pub fn new(net: &'a R) -> TcpPort<'a, R>
+        ensures net { result.net ≡ net.entry }
+        ensures unused { (result.opened ≡ 0) × (result.returned ≡ 0) × (result.faults ≡ 0) }
+    {
+        TcpPort {
+            net,
+            listener: None,
+            opened: 0,
+            returned: 0,
+            faults: 0,
+        }
+    }
+
+    // A door on the place that it listens on.
+    fn open(&self) -> Option<TcpDoor>
+        ensures { IfSome result (λ door. (door.handed ≡ 0) × (door.returned ≡ 0) × (door.faults ≡ 0)) }
+    {
+        let Some(listener) = &self.listener else {
+            return None;
+        };
+        match listener.try_clone() {
+            Ok(listener) => Some(TcpDoor::new(listener)),
+            Err(_) => None,
+        }
+    }
+}
+
+impl<'a, R: Net<Listener = TcpListener, Stream = TcpStream>> Port for TcpPort<'a, R> {
+    type D = TcpDoor;
+
+    ghost faults = { λ s. s.faults };
+
+    ghost opened = { λ s. s.opened };
+
+    ghost returned = { λ s. s.returned };
+
+    ghost listens = { λ s. None };
+
+    ghost doors = { λ s. None };
+
+    fn listen(&mut self, host: &str, port: u16) -> Result<(), Failed> {
+        match TcpListener::bind(self.net, (host, port)) {
+            Ok(listener) => {
+                self.listener = Some(listener);
+                Ok(())
+            }
+            Err(_) => {
+                self.faults = self.faults.saturating_add(1);
+                Err(Failed)
+            }
+        }
+    }
+
+    fn door(&mut self) -> Result<TcpDoor, Failed> {
+        match self.open() {
+            Some(door) => {
+                self.opened = self.opened.saturating_add(1);
+                Ok(door)
+            }
+            None => {
+                self.faults = self.faults.saturating_add(1);
+                Err(Failed)
+            }
+        }
+    }
+
+    fn back(&mut self, door: TcpDoor) {
+        self.returned = self.returned.saturating_add(1);
+        if door.faults > 0 {
+            self.faults = self.faults.saturating_add(1);
+        }
+    }
+}
