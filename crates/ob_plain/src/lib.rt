@@ -13,4 +13,4 @@ mod site;
 mod watched;
 
 pub use ob_machine::Machine;
-pub use site::Site;
+pub use site::{Site, crosses_threads};

@@ -176,3 +176,10 @@ impl Machine for Site {
         Ok(reply)
     }
 }
+
+/// A site may go to another thread, as a desk that several threads ask wants it.
+pub fn crosses_threads() {
+    is_send::<Site>();
+}
+
+fn is_send<T: Send>() {}

@@ -1,6 +1,5 @@
 -- A pass that has all numbers has seen what it asked, and nothing else.
-use Rattle.std.proofs.Common.{arith, ◌≡◌, ◌<◌, ◌^◌, ◌==◌, ℕ, true, List, [], ◌∷◌, ◌++◌, Option, refl, sym, ap, subst, ◌∙◌, inl, inr, drop, eq-eqb}
-use Rattle.std.specs.List.{filter}
+use Rattle.std.proofs.Common.{arith, ◌≡◌, ◌<◌, ◌^◌, ◌==◌, ℕ, true, List, [], ◌∷◌, Option, refl, sym, ap, subst, ◌∙◌, inl, inr, drop, eq-eqb}
 use Rattle.ob_io.specs.Links.{Inlet}
 use Rattle.ob_machine.specs.declared.call.Entry.{Entry}
 use Rattle.ob_machine.specs.History.{IsLegal, left_by}

@@ -1,8 +1,8 @@
 -- One request more, and the requests of several exchanges.
-use Rattle.std.proofs.Common.{◌≡◌, ℕ, List, [], ◌∷◌, ◌++◌, Option, Result, Ok, Err, refl, sym, ap, subst, ◌∙◌, append_assoc, append-nil, inl, inr}
+use Rattle.std.proofs.Common.{◌≡◌, ℕ, List, [], ◌∷◌, ◌++◌, Option, Result, Ok, Err, refl, sym, ap, subst, ◌∙◌, append_assoc, append-nil, inl, inr, true, false, Some, None, length, length-append, arith, ◌+◌}
 use Rattle.std.proofs.lemmas.List.{map-append}
 use Rattle.std.proofs.lemmas.List.Concat.{flat_map-append}
-use Rattle.ob_io.specs.Told.{Gains, IsFront, Sends, Gains-none, Gains-then}
+use Rattle.ob_io.specs.Told.{Gains, IsFront, Lasts, Sends, Gains-none, Gains-then}
 use Rattle.ob_http.specs.Request.{Request}
 use Rattle.ob_server.specs.Exchange.{Exchange, Call, Had, Went, had, IsExchange, HasAnswer, AreAnswered, request_of, moment_of, calls_in, answer_to, requests_of, moments_of, calls_of, answers_to}
 use Rattle.ob_machine.specs.declared.call.Entry.{Entry}
@@ -33,12 +33,26 @@ answered_then (x ∷ xs) ys a b = (a.0, a.1, answered_then xs ys a.2 b)
 
 -- ---- what the outside has had
 
+lasts_none : (u : Option (List ℕ)) (n : ℕ) → Lasts u n u
+lasts_none None n = tt
+lasts_none (Some xs) n = λ few. refl
+
+-- a longer list is asked for
+pub lasts_more : (u v : Option (List ℕ)) → Lasts u 1 v → Lasts u 2 v
+lasts_more None v l = tt
+lasts_more (Some xs) v l = λ few. l (omega (arith, few))
+
+lasts_then : (u v w : Option (List ℕ)) (s t : List ℕ) → Gains u s v → Lasts u (length s + 1) v → Lasts v (length t + 1) w → Lasts u (length (s ++ t) + 1) w
+lasts_then None v w s t gains x y = tt
+lasts_then (Some xs) None w s t gains x y = λ few. absurd (let no : false ≡ true = x (omega (arith, few, length-append s t)) in cc)
+lasts_then (Some xs) (Some ys) w s t gains x y = λ few. y (omega (arith, few, length-append s t, ap (λ (l : List ℕ). length l) gains, length-append xs s))
+
 pub went_none : (h : Had) → Went h [] [] [] h
-went_none h = record { wrote = Gains-none h.held; gave = Gains-none h.given; made = sym (append-nil h.calls) }
+went_none h = record { wrote = Gains-none h.held; gave = Gains-none h.given; lasts = lasts_none h.given 1; made = sym (append-nil h.calls) }
 
 -- only bytes were written
 pub went_sent : (held held' given : Option (List ℕ)) (calls : List Call) (text : List ℕ) → Gains held text held' → Went (had held given calls) text [] [] (had held' given calls)
-went_sent held held' given calls text gained = record { wrote = gained; gave = Gains-none given; made = sym (append-nil calls) }
+went_sent held held' given calls text gained = record { wrote = gained; gave = Gains-none given; lasts = lasts_none given 1; made = sym (append-nil calls) }
 
 pub sent_whole : {E : Type 0} (u v : Option (List ℕ)) (done : Unit {0}) (bytes : List ℕ) → Sends {E = E} u v (Ok done) bytes → Gains u bytes v
 sent_whole u v done bytes sends = subst (λ (t : List ℕ). Gains u t v) sends.whole sends.gained
@@ -47,6 +61,7 @@ pub went_then : (h i j : Had) (a b : List ℕ) (s t : List ℕ) (xs ys : List Ca
 went_then h i j a b s t xs ys x y = record {
   wrote = Gains-then h.held i.held j.held a b x.wrote y.wrote;
   gave = Gains-then h.given i.given j.given s t x.gave y.gave;
+  lasts = lasts_then h.given i.given j.given s t x.gave x.lasts y.lasts;
   made = y.made ∙ ap (λ (l : List Call). l ++ ys) x.made ∙ append_assoc h.calls xs ys;
 }
 
@@ -64,11 +79,11 @@ breaks_inside ns request old new broken x sent right is front went =
 
 -- its answer was sent, or a part of it
 pub sends_one : (ns : Option (List ℕ)) (request : Request) (old new : Had) (x : Exchange) (text : List ℕ) (result : Result (Unit {0}) Break) → IsExchange x → HasAnswer x → request_of x ≡ request
-    → text ≡ answer_to ns x → Sends old.held new.held result text → Gains old.given (moment_of x ∷ []) new.given → new.calls ≡ old.calls ++ calls_in x → AnswersOne ns request old new result
-sends_one ns request old new x text (Ok done) right has is same sends gave made =
-    (x, right, has, is, record { wrote = subst (λ (t : List ℕ). Gains old.held t new.held) (sends.whole ∙ same) sends.gained; gave = gave; made = made })
-sends_one ns request old new x text (Err broken) right has is same sends gave made =
-    breaks_inside ns request old new broken x sends.sent right is (sends.front.0, sym same ∙ sends.front.1) (record { wrote = sends.gained; gave = gave; made = made })
+    → text ≡ answer_to ns x → Sends old.held new.held result text → Gains old.given (moment_of x ∷ []) new.given → Lasts old.given 1 new.given → new.calls ≡ old.calls ++ calls_in x → AnswersOne ns request old new result
+sends_one ns request old new x text (Ok done) right has is same sends gave lasts made =
+    (x, right, has, is, record { wrote = subst (λ (t : List ℕ). Gains old.held t new.held) (sends.whole ∙ same) sends.gained; gave = gave; lasts = lasts_more old.given new.given lasts; made = made })
+sends_one ns request old new x text (Err broken) right has is same sends gave lasts made =
+    breaks_inside ns request old new broken x sends.sent right is (sends.front.0, sym same ∙ sends.front.1) (record { wrote = sends.gained; gave = gave; lasts = lasts_more old.given new.given lasts; made = made })
 
 -- ---- passes
 

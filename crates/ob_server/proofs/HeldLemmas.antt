@@ -1,5 +1,5 @@
 -- Requests that are answered one after the other, from those that a framer holds.
-use Rattle.std.proofs.Common.{◌≡◌, ◌≢◌, ◌⊎◌, ℕ, ◌+◌, Bool, true, false, List, [], ◌∷◌, ◌++◌, Option, Some, None, Result, Ok, Err, refl, sym, ap, subst, ◌∙◌, length, append_assoc, append-nil, inl, inr, MatchBool, IfSome, ◌<◌, ◌≤◌, length-drop, arith}
+use Rattle.std.proofs.Common.{◌≡◌, ◌≢◌, ◌⊎◌, ℕ, ◌+◌, Bool, true, false, List, [], ◌∷◌, ◌++◌, Option, Some, None, Ok, Err, refl, sym, ap, subst, ◌∙◌, length, append_assoc, append-nil, inl, inr, MatchBool, IfSome, ◌<◌, ◌≤◌, length-drop, arith, length-append}
 use Rattle.ob_io.specs.Told.{IsFront}
 use Rattle.ob_http.specs.declared.seen.Seen.{Seen}
 use Rattle.ob_http.specs.declared.fault.FrameFault.{FrameFault}
@@ -11,7 +11,7 @@ use Rattle.ob_http.specs.Requests.{Framed, AreFirst, IsTaken}
 use Rattle.ob_http.specs.Stream.{Received, resting, closing, faulted, behind}
 use Rattle.ob_server.specs.Exchange.{Exchange, SortsTo, Call, Had, Went, IsExchange, HasAnswer, AreAnswered, request_of, moment_of, calls_in, answer_to, requests_of, moments_of, calls_of, answers_to}
 use Rattle.ob_io.specs.Faults.{Rose}
-use Rattle.ob_server.specs.Answered.{AnswersOne, AnswersHeld, BreakRose}
+use Rattle.ob_server.specs.Answered.{AnswersOne, AnswersHeld, BreakRose, IsLast}
 use Rattle.ob_server.specs.declared.end.Break.TheVariants as breaks
 use Rattle.ob_server.specs.Next.{SortsNext, IsNext, IsAtRest, IsFaulted}
 use Rattle.ob_server.specs.declared.next.Next.{Next}
@@ -26,6 +26,7 @@ pub record Answering (ns : Option (List ℕ)) (old now : Received) (before after
   pub went : Went before (answers_to ns done) (moments_of done) (calls_of done) after
   pub taken : (stream : List ℕ) (requests : List Request) → IsTaken stream requests old → IsTaken stream (requests ++ requests_of done) now
   pub size : now.place + length now.kept ≡ old.place + length old.kept
+  pub few : length done + old.place ≤ now.place
 
 pub answering_none : (ns : Option (List ℕ)) (held : Received) (h : Had) → Answering ns held held h h
 answering_none ns held h = record {
@@ -34,6 +35,7 @@ answering_none ns held h = record {
   went = went_none h;
   taken = λ stream requests taken. subst (λ (rs : List Request). IsTaken stream rs held) (sym (append-nil requests)) taken;
   size = refl;
+  few = omega arith;
 }
 
 -- what was done, and then some more
@@ -43,6 +45,10 @@ went_more ns done more text h i j x y =
     subst (λ (cs : List Call). Went h (answers_to ns done ++ text) (moments_of (done ++ more)) cs j) (sym (calls_then done more))
     (subst (λ (ms : List ℕ). Went h (answers_to ns done ++ text) ms (calls_of done ++ calls_of more) j) (sym (moments_then done more))
     (went_then h i j (answers_to ns done) text (moments_of done) (moments_of more) (calls_of done) (calls_of more) x y))
+
+at_most_one : (last : List Exchange) → IsLast last → length last ≤ 1
+at_most_one [] one = omega arith
+at_most_one (x ∷ xs) one = omega (arith, ap (λ (l : List Exchange). length l) one.1)
 
 module _ (ns : Option (List ℕ)) (old now : Received) (h i : Had) (a : Answering ns old now h i) where
   -- what is taken from the stream next, as the requests that were answered come before it
@@ -66,15 +72,20 @@ module _ (ns : Option (List ℕ)) (old now : Received) (h i : Had) (a : Answerin
   -- one request more
   pub one_more : (request : Request) (next : Received) (j : Had) (u : Unit {0}) → AnswersOne ns request i j (Ok u)
       → ((stream : List ℕ) (requests : List Request) → IsTaken stream requests now → IsTaken stream (requests ++ request ∷ []) next)
-      → next.place + length next.kept ≡ now.place + length now.kept → Answering ns old next h j
-  one_more request next j u (x, right, has, is, went) takes size = record {
+      → next.place + length next.kept ≡ now.place + length now.kept → now.place < next.place → Answering ns old next h j
+  one_more request next j u (x, right, has, is, went) takes size onward = record {
     done = a.done ++ x ∷ [];
     answered = answered_one x right has;
     went = went_one x j went;
     taken = λ stream requests taken. subst (λ (rs : List Request). IsTaken stream rs next) (with_next requests x request is)
         (takes stream (requests ++ requests_of a.done) (a.taken stream requests taken));
     size = size ∙ a.size;
+    few = omega (arith, a.few, onward, length-append a.done (x ∷ []));
   }
+
+  -- there are no more than bytes were taken
+  none_last : (next : Received) → now.place ≤ next.place → (let none : List Exchange = [] in length (a.done ++ none) + old.place ≤ next.place)
+  none_last next onward = let none : List Exchange = [] in omega (arith, a.few, onward, length-append a.done none)
 
   -- where nothing stands behind the answers
   whole_text : (j : Had) (xs : List Exchange) → Went h (answers_to ns xs) (moments_of xs) (calls_of xs) j
@@ -100,13 +111,14 @@ module _ (ns : Option (List ℕ)) (old now : Received) (h i : Had) (a : Answerin
         subst (λ (r : Received). IsTaken stream (requests ++ requests_of a.done) r × Framed stream (requests ++ requests_of a.done) (resting r.kept)) (sym same)
         (t, ends stream (requests ++ requests_of a.done) t);
     size = ap (λ (r : Received). r.place + length r.kept) same ∙ a.size;
+    few = none_last next (omega (arith, ap (λ (r : Received). r.place) same));
   }
 
   -- the request asked for the end
   pub asked_end : (request : Request) (next : Received) (j : Had) (u : Unit {0}) → AnswersOne ns request i j (Ok u)
       → ((stream : List ℕ) (requests : List Request) → IsTaken stream requests now → Framed stream (requests ++ request ∷ []) closing)
-      → next.place + length next.kept ≡ now.place + length now.kept → AnswersHeld ns old next h j (Err stops.Asked)
-  asked_end request next j u (x, right, has, is, went) ends size = record {
+      → next.place + length next.kept ≡ now.place + length now.kept → now.place < next.place → AnswersHeld ns old next h j (Err stops.Asked)
+  asked_end request next j u (x, right, has, is, went) ends size onward = record {
     done = a.done ++ x ∷ [];
     last = [];
     tail = [];
@@ -116,6 +128,7 @@ module _ (ns : Option (List ℕ)) (old now : Received) (h i : Had) (a : Answerin
     stops = λ stream requests taken. subst (λ (rs : List Request). Framed stream rs closing) (with_next requests x request is)
         (ends stream (requests ++ requests_of a.done) (a.taken stream requests taken));
     size = size ∙ a.size;
+    few = (let none : List Exchange = [] in omega (arith, a.few, onward, length-append a.done (x ∷ []), length-append (a.done ++ x ∷ []) none));
   }
 
   first_done : (stream : List ℕ) (requests : List Request) → IsTaken stream requests old → AreFirst stream (requests ++ requests_of a.done)
@@ -126,8 +139,8 @@ module _ (ns : Option (List ℕ)) (old now : Received) (h i : Had) (a : Answerin
   pub broke_between : (broken : Break) (next : Received) (j : Had) (tail : List ℕ) → Went i tail [] [] j
       → ((stream : List ℕ) (requests : List Request) → IsTaken stream requests now
       → IsFront tail [] ⊎ ((fault : FrameFault) × Framed stream requests (faulted fault next.place) × IsFront tail (refusal_text fault)))
-      → next.place + length next.kept ≡ now.place + length now.kept → AnswersHeld ns old next h j (Err (stops.Broke broken))
-  broke_between broken next j tail went fronts size = record {
+      → next ≡ now → AnswersHeld ns old next h j (Err (stops.Broke broken))
+  broke_between broken next j tail went fronts same = record {
     done = a.done;
     last = [];
     tail = tail;
@@ -138,7 +151,8 @@ module _ (ns : Option (List ℕ)) (old now : Received) (h i : Had) (a : Answerin
       subst (λ (xs : List Exchange). AreFirst stream (requests ++ requests_of xs)) (sym (append-nil a.done)) (first_done stream requests taken),
       elim (fronts stream (requests ++ requests_of a.done) (a.taken stream requests taken)) [ inl f ↦ inl f | inr f ↦ inr (refl, f) ],
     );
-    size = size ∙ a.size;
+    size = ap (λ (r : Received). r.place + length r.kept) same ∙ a.size;
+    few = none_last next (omega (arith, ap (λ (r : Received). r.place) same));
   }
 
   first_last : (stream : List ℕ) (requests : List Request) (request : Request) (last : List Exchange) → IsTaken stream requests old
@@ -157,8 +171,8 @@ module _ (ns : Option (List ℕ)) (old now : Received) (h i : Had) (a : Answerin
   -- the service broke off at a request
   pub broke_at : (request : Request) (broken : Break) (next : Received) (j : Had) → AnswersOne ns request i j (Err broken)
       → ((stream : List ℕ) (requests : List Request) → IsTaken stream requests now → AreFirst stream (requests ++ request ∷ []))
-      → next.place + length next.kept ≡ now.place + length now.kept → AnswersHeld ns old next h j (Err (stops.Broke broken))
-  broke_at request broken next j (last, tail, one, which, front, went) first size = record {
+      → next.place + length next.kept ≡ now.place + length now.kept → now.place < next.place → AnswersHeld ns old next h j (Err (stops.Broke broken))
+  broke_at request broken next j (last, tail, one, which, front, went) first size onward = record {
     done = a.done;
     last = last;
     tail = tail;
@@ -168,6 +182,7 @@ module _ (ns : Option (List ℕ)) (old now : Received) (h i : Had) (a : Answerin
     stops = λ stream requests taken.
         (first_last stream requests request last taken which (first stream (requests ++ requests_of a.done) (a.taken stream requests taken)), inl front);
     size = size ∙ a.size;
+    few = omega (arith, a.few, onward, length-append a.done last, at_most_one last one);
   }
 
   -- what comes next was refused
@@ -184,6 +199,7 @@ module _ (ns : Option (List ℕ)) (old now : Received) (h i : Had) (a : Answerin
     stops = λ stream requests taken. subst (λ (r : Received). Framed stream (requests ++ requests_of a.done) (faulted fault r.place)) (sym same)
         (ends stream (requests ++ requests_of a.done) (a.taken stream requests taken));
     size = ap (λ (r : Received). r.place + length r.kept) same ∙ a.size;
+    few = none_last next (omega (arith, ap (λ (r : Received). r.place) same));
   }
 
 -- ---- what the next request is
@@ -250,6 +266,9 @@ module _ (old new : Received) (next : Next) (n : IsNext old new next) where
 
   pub next_size : new.place + length new.kept ≡ old.place + length old.kept
   next_size = omega (arith, ap (λ (r : Received). r.place + length r.kept) n.dropped, length-drop n.len old.kept, n.within)
+
+  pub next_place : old.place < new.place
+  next_place = omega (arith, ap (λ (r : Received). r.place) n.dropped, n.some)
 
   pub next_shorter : length new.kept < length old.kept
   next_shorter = omega (arith, ap (λ (r : Received). length r.kept) n.dropped, length-drop n.len old.kept, n.within, n.some)

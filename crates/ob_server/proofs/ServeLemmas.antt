@@ -1,6 +1,7 @@
 -- The service of a link: what holds between two pieces, and at each end.
-use Rattle.std.proofs.Common.{◌≡◌, ◌≢◌, ◌==◌, ℕ, ◌+◌, ◌-◌, ◌^◌, ◌≤◌, Bool, true, false, List, [], ◌∷◌, ◌++◌, Option, Ok, Err, refl, sym, ap, subst, ◌∙◌, length, length-append, append_assoc, append-nil, inl, inr, arith}
+use Rattle.std.proofs.Common.{◌≡◌, ◌≢◌, ◌==◌, ℕ, ◌+◌, ◌-◌, ◌^◌, ◌≤◌, Bool, true, false, List, [], ◌∷◌, ◌++◌, Option, Ok, Err, refl, sym, ap, subst, ◌∙◌, length, length-append, append_assoc, append-nil, inl, inr, arith, Result}
 use Rattle.std.proofs.lemmas.Bool.{eqb-true, eqb-false}
+use Rattle.std.proofs.lemmas.List.{length-map}
 use Rattle.std.specs.Io.KnownBytes.{IsAtEnd}
 use Rattle.ob_io.specs.Links.{Inlet, Takes, Takes-none, Takes-then, inlet}
 use Rattle.ob_http.specs.declared.fault.FrameFault.{FrameFault}
@@ -8,7 +9,7 @@ use Rattle.ob_http.specs.Stream.{Received}
 use Rattle.ob_http.specs.Request.{Request}
 use Rattle.ob_http.specs.Requests.{Framed, AreFirst, IsTaken}
 use Rattle.ob_http.specs.Stream.{resting, closing, faulted}
-use Rattle.ob_server.specs.Exchange.{Exchange, Call, Had, had, Went, AreAnswered, requests_of, moments_of, calls_of, answers_to}
+use Rattle.ob_server.specs.Exchange.{Exchange, Call, Had, had, Went, AreAnswered, moment_of, requests_of, moments_of, calls_of, answers_to}
 use Rattle.ob_server.specs.Answered.{AnswersHeld, IsWhole, BreaksOff, EndsAs, Serves, ReadsPiece, PauseRose, StopRose, EndRose, HasEndCause, end_of, end_at}
 use Rattle.ob_server.specs.declared.end.LinkEnd.{LinkEnd}
 use Rattle.ob_server.specs.declared.end.LinkEnd.TheVariants as ends
@@ -30,6 +31,7 @@ pub record Serving (ns : Option (List ℕ)) (u v : Inlet) (h i : Had) (held : Re
   pub went : Went h (answers_to ns done) (moments_of done) (calls_of done) i
   pub is_taken : IsTaken taken (requests_of done) held
   pub total : held.place + length held.kept + room ≡ 2 ^ 40
+  pub few : length done ≤ held.place
 
 -- and no whole request is held
 pub record Resting (ns : Option (List ℕ)) (u v : Inlet) (h i : Had) (held : Received) (room : ℕ) : Type 0 where
@@ -45,6 +47,7 @@ serving_none ns u h held empty taken = record {
   went = went_none h;
   is_taken = taken;
   total = (let none : List ℕ = [] in ap (λ (r : Received). r.place + length r.kept + 2 ^ 40) empty);
+  few = omega arith;
 }
 
 -- ---- how it goes on
@@ -75,6 +78,7 @@ module _ (ns : Option (List ℕ)) (u v : Inlet) (h i j : Had) (old new : Receive
           went = whole_went (s.done ++ a.done) a.last a.tail j (a.tail_is) went;
           is_taken = subst (λ (rs : List Request). IsTaken s.taken rs new) all stop.0;
           total = omega (arith, s.total, a.size);
+          few = omega (arith, s.few, a.few, length-append s.done a.done, length-append a.done a.last);
         };
         framed = subst (λ (rs : List Request). Framed s.taken rs (resting new.kept)) all stop.1;
       }
@@ -87,8 +91,8 @@ module _ (ns : Option (List ℕ)) (u v : Inlet) (h i j : Had) (old new : Receive
 
   -- what came to an end
   finished : (taken : List ℕ) (w : Inlet) (done last : List Exchange) (tail : List ℕ) (end : LinkEnd) → Takes u w taken → AreAnswered done
-      → Went h (answers_to ns done ++ tail) (moments_of (done ++ last)) (calls_of (done ++ last)) j → EndsAs ns end taken w.left done last tail → Serves ns u w h j end
-  finished taken w done last tail end consumed answered went ending = record {
+      → Went h (answers_to ns done ++ tail) (moments_of (done ++ last)) (calls_of (done ++ last)) j → EndsAs ns end taken w.left done last tail → length (done ++ last) ≤ 2 ^ 40 → Serves ns u w h j end
+  finished taken w done last tail end consumed answered went ending few = record {
     taken = taken;
     written = answers_to ns done ++ tail;
     moments = moments_of (done ++ last);
@@ -96,12 +100,16 @@ module _ (ns : Option (List ℕ)) (u v : Inlet) (h i j : Had) (old new : Receive
     consumed = consumed;
     went = went;
     answered = record { done = done; last = last; tail = tail; answered = answered; written_is = refl; calls_are = refl; moments_are = refl; ends = ending };
+    few = omega (arith, length-map (done ++ last) moment_of, few);
   }
+
+  few_of : (result : Result (Unit {0}) Stop) (a : AnswersHeld ns old new i j result) → length ((s.done ++ a.done) ++ a.last) ≤ 2 ^ 40
+  few_of result a = omega (arith, s.few, a.few, a.size, s.total, length-append (s.done ++ a.done) a.last, length-append s.done a.done, length-append a.done a.last)
 
   pub ends_asked : AnswersHeld ns old new i j (Err stops.Asked) → Serves ns u v h j ends.Asked
   ends_asked a =
       finished s.taken v (s.done ++ a.done) a.last a.tail ends.Asked s.consumed (answered_then s.done a.done s.answered a.answered) (went_join ns s.done a.done a.last a.tail h i j s.went a.went)
-      (subst (λ (rs : List Request). Framed s.taken rs closing) (sym (requests_then s.done a.done)) (a.stops s.taken (requests_of s.done) s.is_taken), a.tail_is)
+      (subst (λ (rs : List Request). Framed s.taken rs closing) (sym (requests_then s.done a.done)) (a.stops s.taken (requests_of s.done) s.is_taken), a.tail_is) (few_of (Err stops.Asked) a)
 
   pub ends_refused : (fault : FrameFault) (at : ℕ) → at ≡ new.place → AnswersHeld ns old new i j (Err (stops.BadFrame fault)) → Serves ns u v h j (ends.BadFrame fault at)
   ends_refused fault at is a =
@@ -111,7 +119,7 @@ module _ (ns : Option (List ℕ)) (u v : Inlet) (h i j : Had) (old new : Receive
         a.tail_is.0,
         a.tail_is.1,
         a.tail_is.2,
-      )
+      ) (few_of (Err (stops.BadFrame fault)) a)
 
   breaks_off : (broken : Break) (a : AnswersHeld ns old new i j (Err (stops.Broke broken))) → BreaksOff ns s.taken (s.done ++ a.done) a.last a.tail
   breaks_off broken a =
@@ -130,7 +138,7 @@ module _ (ns : Option (List ℕ)) (u v : Inlet) (h i j : Had) (old new : Receive
       → ((done last : List Exchange) (tail : List ℕ) → BreaksOff ns s.taken done last tail → EndsAs ns end s.taken v.left done last tail) → Serves ns u v h j end
   broken_end broken end a ending =
       finished s.taken v (s.done ++ a.done) a.last a.tail end s.consumed (answered_then s.done a.done s.answered a.answered) (went_join ns s.done a.done a.last a.tail h i j s.went a.went)
-      (ending (s.done ++ a.done) a.last a.tail (breaks_off broken a))
+      (ending (s.done ++ a.done) a.last a.tail (breaks_off broken a)) (few_of (Err (stops.Broke broken)) a)
 
   -- where no more requests are answered
   pub ends_of : (stop : Stop) (place : ℕ) → place ≡ new.place → AnswersHeld ns old new i j (Err stop) → Serves ns u v h j (end_of stop place)
@@ -143,6 +151,9 @@ module _ (ns : Option (List ℕ)) (u v : Inlet) (h i j : Had) (old new : Receive
 module _ (ns : Option (List ℕ)) (u v w : Inlet) (h i : Had) (held : Received) (room : ℕ) (r : Resting ns u v h i held room) where
   consumed_none : Takes v w [] → Takes u w r.serving.taken
   consumed_none read = subst (Takes u w) (append-nil r.serving.taken) (Takes-then u v w r.serving.taken [] r.serving.consumed read)
+
+  few_rest : length (moments_of r.serving.done) ≤ 2 ^ 40
+  few_rest = omega (arith, length-map r.serving.done moment_of, r.serving.few, r.serving.total)
 
   -- an end where each request is answered
   at_rest : (end : LinkEnd) → Takes v w [] → EndsAs ns end r.serving.taken w.left r.serving.done [] [] → Serves ns u w h i end
@@ -166,6 +177,7 @@ module _ (ns : Option (List ℕ)) (u v w : Inlet) (h i : Had) (held : Received) 
           moments_are = ap moments_of (sym (append-nil s.done));
           ends = ending;
         };
+        few = few_rest;
       }
 
   pub ends_closed : Takes v w [] → IsAtEnd w.left → length held.kept ≡ 0 → Serves ns u w h i ends.Closed
@@ -198,6 +210,7 @@ module _ (ns : Option (List ℕ)) (u v w : Inlet) (h i : Had) (held : Received) 
         went = s.went;
         is_taken = takes s.taken (requests_of s.done) s.is_taken;
         total = omega (arith, s.total, ap (λ (q : Received). q.place + length q.kept) is, length-append held.kept piece, size, le);
+        few = omega (arith, s.few, ap (λ (q : Received). q.place) is);
       }
 
   -- a piece was read and could not be held
@@ -226,6 +239,7 @@ module _ (ns : Option (List ℕ)) (u v w : Inlet) (h i : Had) (held : Received) 
             front = inl ([], refl);
           };
         };
+        few = few_rest;
       }
 
 -- where no piece was read
@@ -318,4 +332,5 @@ ends_unstarted ns u h = record {
     moments_are = refl;
     ends = record { one = tt; first = λ more all end framed. (all, refl); front = inl ([], refl) };
   };
+  few = omega arith;
 }

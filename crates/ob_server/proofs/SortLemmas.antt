@@ -1,13 +1,12 @@
 -- A request is sorted in one way.
-use Rattle.std.proofs.Common.{◌≡◌, ◌≢◌, ◌⊎◌, ℕ, ◌<◌, ◌≤◌, Bool, true, false, ◌&&◌, List, [], ◌∷◌, ◌++◌, Option, Some, None, Err, refl, sym, ap, subst, ◌∙◌, append_assoc, inl, inr, MatchBool, arith, cond, nat_lt, nat_le}
+use Rattle.std.proofs.Common.{◌≡◌, ℕ, ◌<◌, ◌≤◌, Bool, true, false, ◌&&◌, List, [], ◌∷◌, ◌++◌, Option, Some, None, refl, sym, ap, subst, ◌∙◌, append_assoc, inl, inr, MatchBool, arith, cond, nat_lt, nat_le}
 use Rattle.std.proofs.lemmas.Bool.{lt-ltb, le-leb}
 use Rattle.std.specs.Prelude.{IsUtf8, encode_utf8}
 use Rattle.std.specs.Str.{encode_utf8_all}
 use Rattle.std.specs.List.{AllByRecursion}
 use Rattle.std.proofs.Math.Utf8.{scalars}
 use Rattle.std.proofs.lemmas.Str.{cons_from_encodes}
-use Rattle.ob_values.specs.XmlText.{IsXmlChar, IsXmlText, IsFirstBad, ReadsText}
-use Rattle.ob_values.specs.declared.fault.TextFault.{TextFault}
+use Rattle.ob_values.specs.XmlText.{IsXmlChar, IsXmlText}
 use Rattle.ob_values.specs.declared.fault.TextFault.TheVariants as texts
 use Rattle.ob_values.specs.declared.verb.Verb.{Verb}
 use Rattle.ob_object.specs.Object.{Object}
@@ -15,13 +14,12 @@ use Rattle.ob_grammar.specs.Spelling.{Spells}
 use Rattle.ob_http.specs.declared.media.Media.{Media}
 use Rattle.ob_xml.specs.declared.doc.Doc.{Doc}
 use Rattle.ob_xml.specs.declared.refused.Refused.{Refused}
-use Rattle.ob_xml.specs.declared.refused.Why.{Why}
 use Rattle.ob_xml.specs.Judged.{Verdict, pending, document, fault, Judged}
 use Rattle.ob_xml.specs.Words.{refusal_words}
 use Rattle.ob_server.specs.Refusal.{refusal_body}
-use Rattle.ob_server.specs.Sort.{SortingIsOne, Sorts, SortsVerb, SortsTarget, SortsBody, StepsWith, RefusesBody, IsNoText, has_body, is_other, bare, refusal, verb_of}
+use Rattle.ob_server.specs.Sort.{SortingIsOne, SortsVerb, SortsTarget, SortsBody, IsNoText, has_body, is_other, refusal, verb_of}
 use Rattle.ob_server.specs.declared.sort.Sorted.{Sorted}
-use Rattle.ob_server.specs.declared.sort.Sorted.TheVariants.{Step, Fixed}
+use Rattle.ob_server.specs.declared.sort.Sorted.TheVariants.{Step}
 
 -- ---- a text of XML characters is no other
 

@@ -78,6 +78,7 @@ pub record Serves (ns : Option (List ℕ)) (before after : Inlet) (old new : Had
   pub consumed : Takes before after taken
   pub went : Went old written moments calls new
   pub answered : Answered ns taken written calls moments after.left end
+  pub few : length moments ≤ 2 ^ 40
 
 -- ---- one request
 
@@ -126,6 +127,7 @@ pub record AnswersHeld (ns : Option (List ℕ)) (old new : Received) (before aft
   pub stops : (stream : List ℕ) (requests : List Request) → IsTaken stream requests old
       → StopsAs ns result stream requests new done last tail
   pub size : new.place + length new.kept ≡ old.place + length old.kept
+  pub few : length (done ++ last) + old.place ≤ new.place
 
 -- ---- faults
 

@@ -1,11 +1,11 @@
 -- Framed requests and what was done with each.
-use Rattle.std.specs.Prelude.{◌≡◌, ⊤, ℕ, List, [], ◌∷◌, ◌++◌, map, Option}
+use Rattle.std.specs.Prelude.{◌≡◌, ⊤, ℕ, ◌+◌, List, [], ◌∷◌, ◌++◌, length, map, Option}
 use Rattle.std.specs.List.{flat_map}
 use Rattle.ob_http.specs.declared.answer.StatusLine.{StatusLine}
 use Rattle.ob_http.specs.declared.answer.StatusLine.TheVariants as lines
 use Rattle.ob_http.specs.Answer.{answer_text}
 use Rattle.ob_http.specs.Request.{Request}
-use Rattle.ob_io.specs.Told.{Gains}
+use Rattle.ob_io.specs.Told.{Gains, Lasts}
 use Rattle.ob_encode.specs.Canonical.{canonical_text}
 use Rattle.ob_object.specs.Object.{Object}
 use Rattle.ob_site_rules.specs.declared.request.Request.{Request as Asked}
@@ -98,10 +98,12 @@ pub record Had : Type 0 where
   pub given : Option (List ℕ)
   pub calls : List Call
 
--- from the one to the other these bytes were written, these moments given and these calls made
+-- From the one to the other these bytes were written, these moments given and these calls made. Moments that were told
+-- are still told, while a u64 can count one more.
 pub record Went (old : Had) (written moments : List ℕ) (calls : List Call) (new : Had) : Type 0 where
   pub wrote : Gains old.held written new.held
   pub gave : Gains old.given moments new.given
+  pub lasts : Lasts old.given (length moments + 1) new.given
   pub made : new.calls ≡ old.calls ++ calls
 
 -- the three of them in one

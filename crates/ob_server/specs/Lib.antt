@@ -6,3 +6,7 @@ pub mod Passes
 pub mod Complete
 pub mod Next
 pub mod Alone
+pub mod Working
+pub mod Together
+pub mod GivenBack
+pub mod Port

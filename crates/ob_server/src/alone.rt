@@ -1,5 +1,5 @@
 //! One link and one machine.
-ghost use Rattle.std.specs.Prelude.{option_copied};
+ghost use Rattle.std.specs.Prelude.{◌≡◌, option_copied};
 ghost use Rattle.ob_io.specs.Links.{inlet};
 ghost use Rattle.ob_server.specs.Alone.{ServesAlone};
 ghost use Rattle.ob_server.specs.Answered.{HasEndCause};
@@ -29,6 +29,7 @@ pub fn serve_alone<M: Machine<Request = Request, Reply = Obj> + Drop, R: Wait, L
     ensures serves { ServesAlone M.act machine (option_copied ns.entry)
         (inlet (L.left link.old) (L.taken link.old)) (inlet (L.left link.new) (L.taken link.new))
         (L.held link.old) (L.held link.new) (C.given clock.old) (C.given clock.new) result }
+    ensures pace { C.pace clock.new ≡ C.pace clock.old }
     ensures cause { HasEndCause (L.read_faults link.old) (L.read_faults link.new)
         (L.write_faults link.old) (L.write_faults link.new) (C.faults clock.old) (C.faults clock.new) result }
     ensures whole { ServesWhole (L.left link.old) (L.read_faults link.old) (L.read_faults link.new)

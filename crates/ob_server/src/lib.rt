@@ -1,8 +1,9 @@
 //! Connections: the requests that come over a link are answered by a machine, one after the other.
 //!
 //! `sort_request` says which requests go to the site and what answers the others; `serve_link` frames, sorts, asks and
-//! writes until the link ends; `serve_alone` does so with a machine that nobody else asks. The machine is any whose
-//! requests and replies are the site's.
+//! writes until the link ends; `serve_alone` does so with a machine that nobody else asks. `serve` has workers serve
+//! the links of doors, each in a thread of its own, under passes that `split_passes` makes and `join_workers` joins;
+//! `serve_port` does all of it for the doors of a port. The machine is any whose requests and replies are the site's.
 #![tactic(auto)]
 
 mod alone;
@@ -10,11 +11,17 @@ mod end;
 mod laws;
 mod link;
 mod next;
+mod passes;
+mod port;
 mod refusal;
 mod sort;
+mod worker;
 
 pub use alone::serve_alone;
 pub use end::LinkEnd;
 pub use laws::one_sorting;
 pub use link::serve_link;
+pub use passes::{join_workers, joined_is_whole, split_passes};
+pub use port::{PortServed, Staff, serve_port};
 pub use sort::{Sorted, sort_request};
+pub use worker::{Served, Worker, WorkerEnd, serve};

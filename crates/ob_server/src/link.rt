@@ -79,6 +79,7 @@ fn answer_one<M: Machine<Request = Request, Reply = Obj>, R: Wait, L: Link, C: C
         (had (L.held link.old) (C.given clock.old) (mine pass.old))
         (had (L.held link.new) (C.given clock.new) (mine pass.new)) result }
     ensures pass { Continues M.act desk.now.opening pass.old pass.new }
+    ensures pace { C.pace clock.new ≡ C.pace clock.old }
     ensures apart { (L.left link.new ≡ L.left link.old) × (L.taken link.new ≡ L.taken link.old)
         × (L.read_faults link.new ≡ L.read_faults link.old) }
     ensures cause { HasBreakCause (L.write_faults link.old) (L.write_faults link.new)
@@ -136,6 +137,7 @@ fn answer_held<M: Machine<Request = Request, Reply = Obj>, R: Wait, L: Link, C: 
         (had (L.held link.old) (C.given clock.old) (mine pass.old))
         (had (L.held link.new) (C.given clock.new) (mine pass.new)) result }
     ensures pass { Continues M.act desk.now.opening pass.old pass.new }
+    ensures pace { C.pace clock.new ≡ C.pace clock.old }
     ensures apart { (L.left link.new ≡ L.left link.old) × (L.taken link.new ≡ L.taken link.old)
         × (L.read_faults link.new ≡ L.read_faults link.old) }
     ensures cause { HasStopCause (L.write_faults link.old) (L.write_faults link.new)
@@ -208,6 +210,7 @@ pub fn serve_link<M: Machine<Request = Request, Reply = Obj>, R: Wait, L: Link, 
         (had (L.held link.old) (C.given clock.old) (mine pass.old))
         (had (L.held link.new) (C.given clock.new) (mine pass.new)) result }
     ensures pass { Continues M.act desk.now.opening pass.old pass.new }
+    ensures pace { C.pace clock.new ≡ C.pace clock.old }
     ensures cause { HasEndCause (L.read_faults link.old) (L.read_faults link.new)
         (L.write_faults link.old) (L.write_faults link.new)
         (C.faults clock.old) (C.faults clock.new) result }
@@ -236,6 +239,7 @@ fn serve_pieces<M: Machine<Request = Request, Reply = Obj>, R: Wait, L: Link, C:
         (had (L.held link.old) (C.given clock.old) (mine pass.old))
         (had (L.held link.new) (C.given clock.new) (mine pass.new)) result }
     ensures pass { Continues M.act desk.now.opening pass.old pass.new }
+    ensures pace { C.pace clock.new ≡ C.pace clock.old }
     ensures cause { HasEndCause (L.read_faults link.old) (L.read_faults link.new)
         (L.write_faults link.old) (L.write_faults link.new)
         (C.faults clock.old) (C.faults clock.new) result }

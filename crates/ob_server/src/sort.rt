@@ -8,7 +8,7 @@ use ob_documents::read;
 use ob_http::{Media, StatusLine};
 use ob_site_rules::Request;
 use ob_values::{Bytes, Text, TextFault, Verb};
-use ob_xml::{Doc, Refused, Why};
+use ob_xml::{Refused, Why};
 use std::alloc::{AllocError, Global};
 
 /// How a request is to be answered.
@@ -133,11 +133,14 @@ fn sort_body(
         }));
     }
     match read(alloc, body) {
-        Ok(Doc { ns: _, root }) => Ok(Sorted::Step(Request {
-            verb,
-            target,
-            body: Some(root),
-        })),
+        Ok(doc) => {
+            let (_, root) = doc.into_parts();
+            Ok(Sorted::Step(Request {
+                verb,
+                target,
+                body: Some(root),
+            }))
+        }
         Err(refused) => refuse_body(alloc, target, refused),
     }
 }

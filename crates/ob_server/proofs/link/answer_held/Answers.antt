@@ -6,12 +6,12 @@ use Rattle.ob_http.specs.Requests.{Framed}
 use Rattle.ob_http.specs.Stream.{faulted}
 use Rattle.ob_turn.specs.Standing.{mine}
 use Rattle.ob_server.specs.declared.end.Break.TheVariants as breaks
-use Rattle.ob_server.proofs.HeldLemmas.{answering_none, one_more, nothing_held, asked_end, broke_between, broke_at, refused_next, sorts_some, sorts_none, size_of_same, next_first, next_closes, next_goes_on, next_size, next_shorter, next_refused, rose_along, break_along, write_broke}
+use Rattle.ob_server.proofs.HeldLemmas.{answering_none, one_more, nothing_held, asked_end, broke_between, broke_at, refused_next, sorts_some, sorts_none, next_first, next_closes, next_goes_on, next_size, next_place, next_shorter, next_refused, rose_along, break_along, write_broke}
 use Rattle.ob_server.proofs.ExchangeLemmas.{went_none, went_sent, sent_whole, continues_none, continues_then}
 use Rattle.ob_server.proofs.link.answer_held.Goals as goal
 
 pub loop-next-init : goal.loop-next-init
-loop-next-init g c = record { answering = answering_none _ _ _; pass = continues_none _ _ _; left = refl; took = refl; reads = refl; writes = omega arith; clocks = omega arith }
+loop-next-init g c = record { answering = answering_none _ _ _; pass = continues_none _ _ _; pace = refl; left = refl; took = refl; reads = refl; writes = omega arith; clocks = omega arith }
 
 pub returns-in-Ok-None-clause-answers : goal.returns-in-Ok-None-clause-answers
 returns-in-Ok-None-clause-answers g c =
@@ -25,6 +25,7 @@ returns-in-Err-answer_one-clause-answers g c =
     (c.in-Err-answer_one.ensures.answers next.request next.sorts next.closes)
     (next_first c.loop-next.framer c.take_next.new.framer c.in-Ok-Some.next next)
     (next_size c.loop-next.framer c.take_next.new.framer c.in-Ok-Some.next next)
+    (next_place c.loop-next.framer c.take_next.new.framer c.in-Ok-Some.next next)
 
 pub returns-then-close-clause-answers : goal.returns-then-close-clause-answers
 returns-then-close-clause-answers g c =
@@ -33,6 +34,7 @@ returns-then-close-clause-answers g c =
     (c.in_default.ensures.answers next.request next.sorts next.closes)
     (next_closes c.loop-next.framer c.take_next.new.framer c.in-Ok-Some.next next c.if-close.true)
     (next_size c.loop-next.framer c.take_next.new.framer c.in-Ok-Some.next next)
+    (next_place c.loop-next.framer c.take_next.new.framer c.in-Ok-Some.next next)
 
 pub loop-next-smaller : goal.loop-next-smaller
 loop-next-smaller g c =
@@ -47,8 +49,10 @@ loop-next-preserved g c =
       answering = one_more _ _ _ _ _ i.answering next.request c.take_next.new.framer _ c.in_default.field-0
           (c.in_default.ensures.answers next.request next.sorts next.closes)
           (next_goes_on c.loop-next.framer c.take_next.new.framer c.in-Ok-Some.next next c.if-close.false)
-          (next_size c.loop-next.framer c.take_next.new.framer c.in-Ok-Some.next next);
+          (next_size c.loop-next.framer c.take_next.new.framer c.in-Ok-Some.next next)
+          (next_place c.loop-next.framer c.take_next.new.framer c.in-Ok-Some.next next);
       pass = continues_then _ _ _ _ _ i.pass c.answer_one.ensures.pass;
+      pace = c.answer_one.ensures.pace ∙ i.pace;
       left = c.answer_one.ensures.apart.0 ∙ i.left;
       took = c.answer_one.ensures.apart.1 ∙ i.took;
       reads = c.answer_one.ensures.apart.2 ∙ i.reads;
@@ -59,7 +63,7 @@ loop-next-preserved g c =
 pub returns-in-Err-Memory-clause-answers : goal.returns-in-Err-Memory-clause-answers
 returns-in-Err-Memory-clause-answers g c =
     broke_between _ _ _ _ _ c.loop-next.invariant.answering breaks.Memory c.take_next.new.framer _ [] (went_none _) (λ stream requests taken. inl ([], refl))
-    (size_of_same _ _ c.in-Err-Memory.ensures.same)
+    c.in-Err-Memory.ensures.same
 
 pub returns-in-Err-refuse-clause-answers : goal.returns-in-Err-refuse-clause-answers
 returns-in-Err-refuse-clause-answers g c =
@@ -73,7 +77,7 @@ returns-in-Err-refuse-clause-answers g c =
           (next_refused c.loop-next.framer c.take_next.new.framer c.in-Err.fault counts c.in-Err.ensures stream requests taken),
       sends.front,
     ))
-    (size_of_same _ _ c.in-Err.ensures.same)
+    c.in-Err.ensures.same
 
 pub returns-in-Err-clause-answers : goal.returns-in-Err-clause-answers
 returns-in-Err-clause-answers g c =
@@ -192,3 +196,23 @@ returns-in-Err-clause-cause g c =
       clocks_later = i.clocks;
       rose = tt;
     }
+
+-- ---- the clock's pace
+
+pub returns-in-Ok-None-clause-pace : goal.returns-in-Ok-None-clause-pace
+returns-in-Ok-None-clause-pace g c = c.loop-next.invariant.pace
+
+pub returns-in-Err-Memory-clause-pace : goal.returns-in-Err-Memory-clause-pace
+returns-in-Err-Memory-clause-pace g c = c.loop-next.invariant.pace
+
+pub returns-in-Err-answer_one-clause-pace : goal.returns-in-Err-answer_one-clause-pace
+returns-in-Err-answer_one-clause-pace g c = c.answer_one.ensures.pace ∙ c.loop-next.invariant.pace
+
+pub returns-then-close-clause-pace : goal.returns-then-close-clause-pace
+returns-then-close-clause-pace g c = c.answer_one.ensures.pace ∙ c.loop-next.invariant.pace
+
+pub returns-in-Err-refuse-clause-pace : goal.returns-in-Err-refuse-clause-pace
+returns-in-Err-refuse-clause-pace g c = c.loop-next.invariant.pace
+
+pub returns-in-Err-clause-pace : goal.returns-in-Err-clause-pace
+returns-in-Err-clause-pace g c = c.loop-next.invariant.pace

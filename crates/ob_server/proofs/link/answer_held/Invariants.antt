@@ -11,6 +11,7 @@ invariant-loop-next g l = record {
       (had (g.L.Link.held l.fn.link) (g.C.Clock.given l.fn.clock) (mine l.fn.pass))
       (had (g.L.Link.held l.link) (g.C.Clock.given l.clock) (mine l.pass));
   pass : Continues g.M.Machine.act l.desk.opening l.fn.pass l.pass;
+  pace : g.C.Clock.pace l.clock ≡ g.C.Clock.pace l.fn.clock;
   left : g.L.Link.left l.link ≡ g.L.Link.left l.fn.link;
   took : g.L.Link.taken l.link ≡ g.L.Link.taken l.fn.link;
   reads : g.L.Link.read_faults l.link ≡ g.L.Link.read_faults l.fn.link;

@@ -1,4 +1,4 @@
-use Rattle.std.proofs.Common.{◌==◌, ap, arith, ℕ}
+use Rattle.std.proofs.Common.{◌==◌, ◌∙◌, refl, ap, arith, ℕ}
 use Rattle.ob_io.specs.Links.{inlet}
 use Rattle.ob_server.proofs.ExchangeLemmas.{continues_none, continues_then}
 use Rattle.ob_server.proofs.ServeLemmas.{serving_none, serves_as, serving_along, serving_held, serves_along, held_answered, ends_of, ends_at, ends_budget, ends_unstarted, fed, stop_cause, pause_cause, stop_along, pause_along, cause_as}
@@ -8,6 +8,7 @@ pub pieces-init : goal.pieces-init
 pieces-init g c = record {
   serving = serving_none _ _ _ c.in-Ok.made c.in-Ok.ensures.empty c.in-Ok.ensures.taken;
   pass = continues_none _ _ _;
+  pace = refl;
   reads = omega arith;
   writes = omega arith;
   clocks = omega arith;
@@ -23,6 +24,7 @@ pieces-preserved g c =
       serving = serving_held _ _ _ _ _ _ _ _ _ _ c.read_piece.ensures.apart.0
           (fed _ _ _ (inlet (g.L.Link.left c.read_piece.new.link) (g.L.Link.taken c.read_piece.new.link)) _ _ _ _ rests read.0 c.in-Ok-read_piece.count c.read_piece.new.framer read.1 read.2 (omega (arith, read.4, c.min-most.ensures)) read.5 read.6);
       pass = continues_then _ _ _ _ _ i.pass c.answer_held.ensures.pass;
+      pace = c.answer_held.ensures.pace ∙ i.pace;
       reads = omega (arith, i.reads, c.answer_held.ensures.apart.2, c.read_piece.ensures.later);
       writes = omega (arith, i.writes, c.answer_held.ensures.cause.writes_later, c.read_piece.ensures.apart.1);
       clocks = omega (arith, i.clocks, c.answer_held.ensures.cause.clocks_later);
@@ -95,3 +97,17 @@ returns-in-Err-read_piece-clause-cause g c =
     (pause_cause _ _ _ _ _ _ c.in-Err-read_piece.pause _ (omega (arith, i.reads, c.answer_held.ensures.apart.2, c.read_piece.ensures.later))
     (omega (arith, i.writes, cause.writes_later, c.read_piece.ensures.apart.1)) (omega (arith, i.clocks, cause.clocks_later))
     (pause_along c.in-Err-read_piece.pause _ (g.L.Link.read_faults c.answer_held.new.link) _ (omega (arith, i.reads, c.answer_held.ensures.apart.2)) c.in-Err-read_piece.ensures.rose))
+
+-- ---- the clock's pace
+
+pub returns-in_default-clause-pace : goal.returns-in_default-clause-pace
+returns-in_default-clause-pace g c = refl
+
+pub returns-in-Err-clause-pace : goal.returns-in-Err-clause-pace
+returns-in-Err-clause-pace g c = c.answer_held.ensures.pace ∙ c.pieces.invariant.pace
+
+pub returns-then-room-eq0-clause-pace : goal.returns-then-room-eq0-clause-pace
+returns-then-room-eq0-clause-pace g c = c.answer_held.ensures.pace ∙ c.pieces.invariant.pace
+
+pub returns-in-Err-read_piece-clause-pace : goal.returns-in-Err-read_piece-clause-pace
+returns-in-Err-read_piece-clause-pace g c = c.answer_held.ensures.pace ∙ c.pieces.invariant.pace

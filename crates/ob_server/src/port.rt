@@ -1,0 +1,142 @@
+//! The doors of one port, served by workers over one desk.
+ghost use Rattle.std.specs.Prelude.{◌≡◌, ◌⊎◌, ◌<◌, [], length, option_copied};
+ghost use Rattle.std.specs.Vec.{vec_capacity};
+ghost use Rattle.ob_server.specs.GivenBack.{port_told, clock_told};
+ghost use Rattle.ob_server.specs.Port.{HasOpened, ServesDoors, IsUnserved, HasPortCause};
+
+use crate::passes::join_workers;
+use crate::worker::{Served, Worker, WorkerEnd, serve};
+use ob_io::{Clock, Door, Port};
+use ob_machine::Machine;
+use ob_object::Obj;
+use ob_site_rules::Request;
+use ob_turn::{Desk, Pass};
+use ob_values::Text;
+use std::alloc::Global;
+use std::sync::Wait;
+use std::thread::Threads;
+
+/// Makes so many workers, each with one share of the pass, a door of the port and a twin of the clock, in the room that
+/// the list has for them. Where a door or a twin can't be had, the list has those before it.
+fn open_workers<M: Machine, P: Port, C: Clock>(
+    desk: &Desk<M>,
+    pass: &mut Pass<M>,
+    port: &mut P,
+    clock: &mut C,
+    workers: &mut Vec<Worker<M, P::D, C>>,
+    count: u32,
+) -> Result<(), WorkerEnd>
+    requires of { pass.old.table ≡ desk.now.table }
+    requires left { count < length pass.old.numbers }
+    requires none { workers.old.items ≡ [] }
+    requires room { vec_capacity workers.old ≡ count }
+    ensures { HasOpened P.D.faults P.D.handed P.D.returned P.D.visits C.given C.pace C.faults
+        count workers.new.items result pass.old pass.new
+        (port_told (P.faults port.old) (P.opened port.old) (P.returned port.old)
+        (P.listens port.old) (P.doors port.old))
+        (port_told (P.faults port.new) (P.opened port.new) (P.returned port.new)
+        (P.listens port.new) (P.doors port.new))
+        (clock_told (C.faults clock.old) (C.given clock.old) (C.pace clock.old) (C.twins clock.old))
+        (clock_told (C.faults clock.new) (C.given clock.new) (C.pace clock.new) (C.twins clock.new)) }
+{
+    for _ in 0..count {
+        let Ok(door) = port.door() else {
+            return Err(WorkerEnd::DoorFault);
+        };
+        let Ok(twin) = clock.twin() else {
+            port.back(door);
+            return Err(WorkerEnd::ClockFault);
+        };
+        workers.push_reserved(Worker {
+            pass: pass.split(desk, 1),
+            door,
+            clock: twin,
+            links: 0,
+            end: WorkerEnd::Quota,
+        });
+    }
+    Ok(())
+}
+
+/// How many workers serve the doors of a port, and how many links each of them serves.
+#[derive(Clone, Copy, Drop)]
+pub struct Staff {
+    pub workers: u32,
+    pub quota: u32,
+}
+
+/// What the service of a port came to.
+#[derive(Clone, Copy, Drop)]
+pub struct PortServed {
+    /// How many links were served.
+    pub links: u64,
+    /// The first end of a worker that is neither `Quota` nor `Closed`; else `Quota`.
+    pub end: WorkerEnd,
+}
+
+/// Serves the links of doors of a port, each door's by a worker with a clock of its own, all over one desk of the
+/// machine. Where a door or a clock can't be had, or there is no memory to begin, no link is served. The port and the
+/// clock have all their doors and twins back.
+pub fn serve_port<
+    R: Threads + Wait + Sync,
+    M: Machine<Request = Request, Reply = Obj> + Send + Drop,
+    D: Door + Send,
+    P: Port<D = D>,
+    C: Clock + Send,
+>(
+    rt: &R,
+    alloc: Global,
+    machine: M,
+    ns: Option<&Text>,
+    port: &mut P,
+    clock: &mut C,
+    staff: Staff,
+) -> PortServed
+where
+    D::L: Send,
+    ensures serves { ServesDoors D.faults D.handed D.returned D.visits C.given C.pace C.faults
+        M.act D.is_closed (option_copied ns.entry) machine staff.workers staff.quota
+        (port_told (P.faults port.old) (P.opened port.old) (P.returned port.old)
+        (P.listens port.old) (P.doors port.old))
+        (port_told (P.faults port.new) (P.opened port.new) (P.returned port.new)
+        (P.listens port.new) (P.doors port.new))
+        (clock_told (C.faults clock.old) (C.given clock.old) (C.pace clock.old) (C.twins clock.old))
+        (clock_told (C.faults clock.new) (C.given clock.new) (C.pace clock.new) (C.twins clock.new))
+        result.links result.end
+        ⊎ IsUnserved
+        (port_told (P.faults port.old) (P.opened port.old) (P.returned port.old)
+        (P.listens port.old) (P.doors port.old))
+        (port_told (P.faults port.new) (P.opened port.new) (P.returned port.new)
+        (P.listens port.new) (P.doors port.new))
+        (clock_told (C.faults clock.old) (C.given clock.old) (C.pace clock.old) (C.twins clock.old))
+        (clock_told (C.faults clock.new) (C.given clock.new) (C.pace clock.new) (C.twins clock.new))
+        result.links result.end }
+    ensures cause { HasPortCause result.end (P.faults port.old) (P.faults port.new)
+        (C.faults clock.old) (C.faults clock.new) }
+{
+    let Ok(mut workers) = Vec::with_capacity(alloc, staff.workers as usize) else {
+        return PortServed {
+            links: 0,
+            end: WorkerEnd::Memory,
+        };
+    };
+    let Ok((desk, mut pass)) = Desk::new(alloc, machine) else {
+        workers.destroy_empty();
+        return PortServed {
+            links: 0,
+            end: WorkerEnd::Memory,
+        };
+    };
+    if let Err(end) = open_workers(&desk, &mut pass, port, clock, &mut workers, staff.workers) {
+        join_workers(&desk, &mut pass, port, clock, workers);
+        return PortServed { links: 0, end };
+    }
+    let Served {
+        workers,
+        links,
+        end,
+    } = serve(rt, alloc, &desk, ns, workers, staff.quota);
+    join_workers(&desk, &mut pass, port, clock, workers);
+    let _machine = desk.close(pass);
+    PortServed { links, end }
+}
