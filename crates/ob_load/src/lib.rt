@@ -1,6 +1,7 @@
 //! From a site file to the site that it opens, or why it opens none.
 #![tactic(auto)]
 
+mod board;
 mod reading;
 mod site;
 

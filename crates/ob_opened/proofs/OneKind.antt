@@ -1,5 +1,5 @@
 -- Nodes whose paths are apart.
-use Rattle.std.proofs.Common.{◌≡◌, Bool, true, false, cond, ◌||◌, bytes_eq, List, [], ◌∷◌, ◌++◌, Option, Some, None, refl, sym, ap, ◌∙◌, true≢false}
+use Rattle.std.proofs.Common.{◌≡◌, Bool, true, false, ◌||◌, bytes_eq, List, [], ◌∷◌, ◌++◌, Option, Some, None, refl, sym, ap, ◌∙◌, true≢false}
 use Rattle.std.specs.Prelude.{is_some}
 use Rattle.std.proofs.lemmas.Slice.Eq.{bytes_eq-Decides}
 use Rattle.ob_object.specs.declared.kind.Kind.{Kind}
@@ -12,26 +12,26 @@ use Rattle.ob_site_rules.specs.Shown.{node_path, node_in}
 use Rattle.ob_opening.specs.Loading.{listed_path}
 use Rattle.ob_state.specs.States.{IsOfKindAt, NodesAre}
 use Rattle.ob_opened.specs.Laws.{Apart, row_paths, kind_or_obj, ApartAreOfOneKind}
-use Rattle.ob_opened.proofs.Once.{or_first, or_second, or_none, not_same}
+use Rattle.ob_opened.proofs.Once.{or_first, or_second, or_none}
 
 assoc : (a b c : Bool) → (a || (b || c)) ≡ ((a || b) || c)
 assoc true b c = refl
 assoc false b c = refl
 
-among_append : (p : Path) (xs ys : List Path) → is_among p (xs ++ ys) ≡ (is_among p xs || is_among p ys)
+pub among_append : (p : Path) (xs ys : List Path) → is_among p (xs ++ ys) ≡ (is_among p xs || is_among p ys)
 among_append p [] ys = refl
 among_append p (x ∷ xs) ys = ap (λ b. bytes_eq x p || b) (among_append p xs ys) ∙ assoc (bytes_eq x p) (is_among p xs) (is_among p ys)
 
-apart_first : (xs ys : List Path) → Apart (xs ++ ys) → Apart xs
+pub apart_first : (xs ys : List Path) → Apart (xs ++ ys) → Apart xs
 apart_first [] ys a = tt
 apart_first (x ∷ xs) ys a = (or_first (is_among x xs) (is_among x ys) (sym (among_append x xs ys) ∙ a.0), apart_first xs ys a.1)
 
-apart_second : (xs ys : List Path) → Apart (xs ++ ys) → Apart ys
+pub apart_second : (xs ys : List Path) → Apart (xs ++ ys) → Apart ys
 apart_second [] ys a = a
 apart_second (x ∷ xs) ys a = apart_second xs ys a.1
 
 -- what is among the first isn't among the others
-apart_not : (xs ys : List Path) (p : Path) → Apart (xs ++ ys) → is_among p ys ≡ true → is_among p xs ≡ false
+pub apart_not : (xs ys : List Path) (p : Path) → Apart (xs ++ ys) → is_among p ys ≡ true → is_among p xs ≡ false
 apart_not [] ys p a h = refl
 apart_not (x ∷ xs) ys p a h =
     or_none (bytes_eq x p) (is_among p xs) (other x (bytes_eq x p) refl (or_second (is_among x xs) (is_among x ys) (sym (among_append x xs ys) ∙ a.0)) h) (apart_not xs ys p a.1 h)
@@ -48,7 +48,7 @@ only_some : (b : Bool) (o : Object) → is_some (only_if b (Some o)) ≡ b
 only_some true o = refl
 only_some false o = refl
 
-listed_is : (p : Path) (q : Option Path) → is_among p (listed_path q) ≡ is_path p q
+pub listed_is : (p : Path) (q : Option Path) → is_among p (listed_path q) ≡ is_path p q
 listed_is p None = refl
 listed_is p (Some q) = or_false (bytes_eq q p)
   where
@@ -57,7 +57,7 @@ listed_is p (Some q) = or_false (bytes_eq q p)
     or_false false = refl
 
 -- a node is found exactly at the paths of the row
-there : (p : Path) (r : Objects) → is_some (node_in p r) ≡ is_among p (row_paths r)
+pub there : (p : Path) (r : Objects) → is_some (node_in p r) ≡ is_among p (row_paths r)
 there p none = refl
 there p (node h inner rest) =
     or_else_some (only_if (is_path p (node_path h)) (Some (record { head = h; inner = inner }))) (or_else (node_in p inner) (node_in p rest))
@@ -95,7 +95,7 @@ found_rest p h inner rest out other =
 abbrev Tells : (Path → Kind) → Objects → Type 0
 Tells g r = (p : Path) → is_among p (row_paths r) ≡ true → g p ≡ kind_or_obj (node_in p r)
 
-or_true : (a : Bool) → (a || true) ≡ true
+pub or_true : (a : Bool) → (a || true) ≡ true
 or_true true = refl
 or_true false = refl
 

@@ -1,2 +1,14 @@
 pub mod Alike
+pub mod Counted
+pub mod Firsts
+pub mod Fits
+pub mod Listed
+pub mod Opens
+pub mod Planned
+pub mod Recorded
 pub mod Refusing
+pub mod Rests
+pub mod Ruled
+pub mod Seen
+pub mod Sizes
+pub mod Worst

@@ -1,1 +1,7 @@
+pub mod Numbers
+pub mod Sought
+pub mod Told
 pub mod Passes
+pub mod Sizes
+pub mod Abouts
+pub mod Opened

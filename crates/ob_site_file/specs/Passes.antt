@@ -1,21 +1,21 @@
 -- What each pass over a document finds, in the order of the refusals.
-use Rattle.std.specs.Prelude.{◌≡◌, ◌+◌, ℕ, List, [], Option, Some, None, Ok, Err}
+use Rattle.std.specs.Prelude.{◌≡◌, ℕ, false, List, [], Some, None, Result, Ok, Err}
 use Rattle.url.specs.Parts.{Parts}
 use Rattle.ob_object.specs.Object.{Object, node, none}
 use Rattle.ob_contracts.specs.Inherit.{Contracts}
 use Rattle.ob_contracts.specs.Standard.{standard}
 use Rattle.ob_contracts.specs.declared.adding.LibFault.{LibFault}
 use Rattle.ob_contracts.specs.declared.adding.LibFault.TheVariants as lib
-use Rattle.ob_hrefs.specs.Hrefs.{site_path, root_of, bad_href, made_object}
 use Rattle.ob_site_rules.specs.Build.{Path}
+use Rattle.ob_site_rules.specs.Sites.{SiteState}
 use Rattle.ob_site_rules.specs.Writes.{site_contracts}
 use Rattle.ob_opening.specs.declared.roles.Roles.{Roles}
 use Rattle.ob_opening.specs.Roles.{no_roles, all_roles, worded_contracts}
 use Rattle.ob_opening.specs.Loading as loading
-use Rattle.ob_opening.specs.Loading.{add_contracts, paths_in, taken_twice}
+use Rattle.ob_opening.specs.Loading.{Part, add_contracts, parts_of, paths_in, taken_twice, bad_part}
 use Rattle.ob_opening.specs.Opening.{standard_words, opening}
 use Rattle.ob_site_file.specs.declared.fault.LoadFault.{LoadFault}
-use Rattle.ob_site_file.specs.declared.fault.LoadFault.TheVariants.{Read, Document, RootHref, Href, Contract, PathTwice, Rule, Size, Inconsistent, Memory}
+use Rattle.ob_site_file.specs.declared.fault.LoadFault.TheVariants.{Read, Document, RootHref, Href, Contract, PathTwice, Rule, Size, Memory}
 
 -- the refusal of a contract; want of memory is that of the whole
 abbrev pub contract_fault : LibFault → LoadFault
@@ -32,43 +32,49 @@ site_roles root = all_roles (worded_contracts standard_words (site_contracts roo
 abbrev pub site_paths : Object → List Path
 site_paths root = paths_in (site_roles root) 0 no_roles (node root.head root.inner none)
 
--- The standard library takes the contracts of a root, and none of its paths stands twice or is computed.
+-- its own objects that are kept
+abbrev pub site_parts : Object → List Part
+site_parts root = parts_of (site_roles root) 0 false no_roles (node root.head root.inner none)
+
+-- The standard library takes the contracts of a root, none of its paths stands twice or is computed, and none of its parts breaks
+-- a rule of the roles.
 pub record IsApart (base : Parts) (root : Object) : Type 0 where
   pub library : Contracts
   pub taken : add_contracts (Ok standard) (site_contracts root) ≡ Ok library
   pub once : taken_twice base.path [] (site_paths root) ≡ None
+  pub sound : bad_part (site_parts root) ≡ None
 
--- why a root with paths opens nothing
+-- The standard library takes them, and no path stands twice or is computed, but this part breaks a rule.
+pub record IsBadAt (base : Parts) (root : Object) (part : ℕ) : Type 0 where
+  pub library : Contracts
+  pub taken : add_contracts (Ok standard) (site_contracts root) ≡ Ok library
+  pub once : taken_twice base.path [] (site_paths root) ≡ None
+  pub bad : bad_part (site_parts root) ≡ Some part
+
+-- why a root with paths opens nothing, before its size is asked for
 abbrev pub RefusesMade : Parts → Object → LoadFault → Type 0
 RefusesMade base root (Contract fault) = add_contracts (Ok standard) (site_contracts root) ≡ Err fault
 RefusesMade base root (PathTwice path) = (library : Contracts) × ((add_contracts (Ok standard) (site_contracts root) ≡ Ok library) × (taken_twice base.path [] (site_paths root) ≡ Some path))
-RefusesMade base root (Rule part) = IsApart base root
-RefusesMade base root Size = IsApart base root
+RefusesMade base root (Rule part) = IsBadAt base root part
+RefusesMade base root Size = ⊥
 RefusesMade base root Memory = Unit {0}
 RefusesMade base root Read = ⊥
 RefusesMade base root (Document refused) = ⊥
 RefusesMade base root RootHref = ⊥
 RefusesMade base root (Href part) = ⊥
-RefusesMade base root Inconsistent = ⊥
 
--- A document whose root has the URL of a root, each href of whose nodes is a path of the site, whose contracts are taken, and in
--- which no path stands twice or is computed.
-pub record IsJudged (root : Object) : Type 0 where
-  pub base : Parts
-  pub url : root_of root ≡ Some base
-  pub hrefs : bad_href (site_path base) 1 root.inner ≡ None
-  pub apart : IsApart base (made_object (site_path base) (Some base.path) root)
+-- The fault is the very refusal of the definition; want of memory may come at any place.
+abbrev pub IsRefusal : Result SiteState loading.LoadFault → LoadFault → Type 0
+IsRefusal expected RootHref = expected ≡ Err loading.RootHref
+IsRefusal expected (Href part) = expected ≡ Err (loading.Href part)
+IsRefusal expected (Contract fault) = expected ≡ Err (loading.Contract fault)
+IsRefusal expected (PathTwice path) = expected ≡ Err (loading.PathTwice path)
+IsRefusal expected (Rule part) = expected ≡ Err (loading.BadRule part)
+IsRefusal expected Size = expected ≡ Err loading.Size
+IsRefusal expected Memory = Unit {0}
+IsRefusal expected Read = ⊥
+IsRefusal expected (Document refused) = ⊥
 
--- Why a document opens nothing: RootHref, Href, Contract and PathTwice are the definition's own refusals, and Rule and Size come
--- only behind them.
+-- why a document opens nothing
 abbrev pub Refuses : Object → ℕ → LoadFault → Type 0
-Refuses root boot RootHref = opening root boot ≡ Err loading.RootHref
-Refuses root boot (Href part) = opening root boot ≡ Err (loading.Href part)
-Refuses root boot (Contract fault) = opening root boot ≡ Err (loading.Contract fault)
-Refuses root boot (PathTwice path) = opening root boot ≡ Err (loading.PathTwice path)
-Refuses root boot (Rule part) = IsJudged root
-Refuses root boot Size = IsJudged root
-Refuses root boot Memory = Unit {0}
-Refuses root boot Read = ⊥
-Refuses root boot (Document refused) = ⊥
-Refuses root boot Inconsistent = ⊥
+Refuses root boot fault = IsRefusal (opening root boot) fault

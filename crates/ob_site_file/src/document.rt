@@ -1,17 +1,23 @@
 //! What a document opens.
-ghost use Rattle.std.specs.Prelude.{◌≡◌, ◌+◌, ◌<◌, ◌^◌, ℕ, Some, None, IsTrue, IfOk, IfErr};
+ghost use Rattle.std.specs.Prelude.{◌≡◌, ◌+◌, ◌<◌, ◌^◌, ℕ, Some, None, Ok, map, nat_lt, IsTrue, IfOk, IfErr};
 ghost use Rattle.ob_hrefs.specs.Hrefs.{site_path, root_of, bad_href};
-ghost use Rattle.ob_site_file.specs.Passes.{IsApart, IsJudged, Refuses, RefusesMade};
 ghost use Rattle.ob_object.specs.Object.{parts};
+ghost use Rattle.ob_opening.specs.Opening.{opening};
+ghost use Rattle.ob_site_rules.specs.Shown.{shown_root};
+ghost use Rattle.ob_state.specs.States.{entry_of, AreCounted};
+ghost use Rattle.ob_site_file.specs.Opened.{Plans, site_of, opened_made};
+ghost use Rattle.ob_site_file.specs.Passes.{site_roles, IsRefusal, Refuses};
 
+use crate::derived::Counting;
 use crate::fault::LoadFault;
-use crate::judging::judged;
+use crate::judging::{Basis, judged};
 use crate::plan::{logs_of, plan_of};
+use crate::size::is_too_large;
 use ob_answers::Plan;
+use ob_contracts::Library;
 use ob_href::Base;
 use ob_hrefs::{bad_href, made_root, root_of};
 use ob_object::Obj;
-use ob_opening::Roles;
 use ob_roles::{all_parts, kept_root};
 use ob_state::Log;
 use ob_times::Moment;
@@ -48,48 +54,71 @@ fn check_hrefs(alloc: Global, base: &Base, root: &Obj) -> Result<(), LoadFault>
     }
 }
 
-/// What a document opens: what is fixed, the root with its own objects, and the logs of the histories with all of
-/// their records.
+/// What a document opens: what is fixed, the library with the contracts of the site, the root with its own objects, and the
+/// logs of the histories with all of their records.
 #[derive(Drop)]
 pub struct Opened {
     pub plan: Plan,
+    pub library: Library,
     pub tree: Obj,
     pub logs: Vec<(Text, Log)>,
 }
 
-// What a root opens, with these own objects, where its objects have these roles.
+// What a root opens whose contracts are in a library, and whose objects have these roles.
 fn planned(
     alloc: Global,
     base: Base,
-    roles: &[Roles],
+    judged: Basis,
     root: &Obj,
     boot: Moment,
 ) -> Result<Opened, AllocError>
     requires { parts root.now < 2 ^ 64 }
+    ensures { IfOk result (λ o. judged.roles.items ≡ site_roles root.now → Plans base boot root.now judged.library o) }
 {
-    let parts = all_parts(alloc, roles, root)?;
+    let Basis { library, roles } = judged;
+    let parts = all_parts(alloc, roles.as_slice(), root)?;
     let plan = plan_of(alloc, base, root, parts.as_slice(), boot)?;
     let logs = logs_of(alloc, parts.as_slice())?;
-    let tree = kept_root(alloc, roles, root)?;
-    Ok(Opened { plan, tree, logs })
+    let tree = kept_root(alloc, roles.as_slice(), root)?;
+    Ok(Opened {
+        plan,
+        library,
+        tree,
+        logs,
+    })
 }
 
-// What a root opens that has paths in place of texts that lead to the site.
+// Whether what is opened shows too much.
+fn is_large(alloc: Global, opened: &Opened) -> Result<bool, AllocError>
+    ensures { IfOk result (λ large. large ≡ nat_lt 200_000 (parts (shown_root (site_of opened.now).plan (site_of opened.now).world.site))) }
+{
+    let counting = Counting::of(alloc, &opened.library, &opened.plan, opened.logs.as_slice())?;
+    let large = is_too_large(alloc, &counting, &opened.tree)?;
+    Ok(large)
+}
+
+// What a root opens that has paths in place of texts that lead to the site, or the first refusal behind those of hrefs.
 fn open_made(alloc: Global, base: Base, root: &Obj, boot: Moment) -> Result<Opened, LoadFault>
     requires { parts root.now < 2 ^ 64 }
-    ensures apart { IfOk result (λ _. IsApart base root.now) }
-    ensures err { IfErr result (RefusesMade base root.now) }
+    ensures ok { IfOk result (λ o. opened_made base boot root.now ≡ Ok (site_of o)) }
+    ensures counted { IfOk result (λ o. AreCounted (map entry_of o.logs.items)) }
+    ensures err { IfErr result (IsRefusal (opened_made base boot root.now)) }
 {
-    match judged(alloc, &base, root) {
-        Ok(roles) => Ok(planned(alloc, base, roles.as_slice(), root, boot)?),
-        Err(fault) => Err(fault),
+    let judged = judged(alloc, &base, root)?;
+    let opened = planned(alloc, base, judged, root, boot)?;
+    let large = is_large(alloc, &opened)?;
+    if large {
+        Err(LoadFault::Size)
+    } else {
+        Ok(opened)
     }
 }
 
 /// What a document's root opens at a moment, or the first refusal in order. A root that can't be counted in 64 bits is
 /// refused for want of memory.
 pub fn opening(alloc: Global, root: &Obj, boot: Moment) -> Result<Opened, LoadFault>
-    ensures judged { IfOk result (λ _. IsJudged root.now) }
+    ensures opened { IfOk result (λ o. opening root.now boot ≡ Ok (site_of o)) }
+    ensures counted { IfOk result (λ o. AreCounted (map entry_of o.logs.items)) }
     ensures refused { IfErr result (Refuses root.now boot) }
 {
     if !is_countable(root) {

@@ -35,10 +35,6 @@ pub enum LoadFault {
     /// The root shows more than 200,000 parts.
     #[error("Size")]
     Size,
-    /// What was opened isn't consistent with its plan. No site file is known that opens so: where the refusals before
-    /// this one don't come, a state is consistent.
-    #[error("Inconsistent")]
-    Inconsistent,
     /// There was no memory.
     #[error("Memory")]
     Memory,

@@ -1,4 +1,14 @@
 //! The items of own lists, with their numbers.
+ghost use Rattle.std.specs.Prelude.{◌≡◌, ◌+◌, ◌<◌, ◌^◌, map};
+ghost use Rattle.std.specs.Option.{option_copied};
+ghost use Rattle.ob_object.specs.Object.{in_row, count};
+ghost use Rattle.ob_object.specs.declared.kind.Kind.TheVariants as kind;
+ghost use Rattle.ob_history.specs.Records.{is_value_kind};
+ghost use Rattle.ob_opening.specs.Roles.{is_part};
+ghost use Rattle.ob_opening.specs.Loading.{numbered, items_of, child_of};
+ghost use Rattle.ob_roles.specs.Told.{part as site_part};
+ghost use Rattle.ob_site_file.specs.Numbers.{IsNumbered, earlier};
+
 use ob_object::{Kind, Obj};
 use ob_roles::Part;
 
@@ -9,11 +19,23 @@ pub(crate) struct Items<'a> {
     pub(crate) objects: &'a [Obj],
 }
 
-/// The items of the own list of a name; none where there is no such list.
-pub(crate) fn items_of<'a>(part: &Part<'a>, name: &str) -> Items<'a> {
+// Whether an object is the own list of a name.
+fn is_list(object: &Obj, name: &str) -> bool
+    ensures { result ≡ is_part name.now kind.List object.now.head }
+{
+    object.is_named(name) && object.kind().same(Kind::List)
+}
+
+/// The items of the own list of a name; none where there is no such list. Their numbers are exact where those of the part fit 64
+/// bits.
+pub(crate) fn items_of<'a>(part: &Part<'a>, name: &str) -> Items<'a>
+    ensures objects { result.objects.now ≡ map (λ i. i.1) (items_of name.now (site_part part.now)) }
+    ensures items { IsNumbered (site_part part.now) → numbered result.number result.objects.now ≡ items_of name.now (site_part part.now) }
+    ensures within { IsNumbered (site_part part.now) → result.number + count (in_row result.objects.now) < 2 ^ 64 }
+{
     let mut number = part.number.saturating_add(1);
     for child in part.own.children() {
-        if child.is_named(name) && child.kind().same(Kind::List) {
+        if is_list(child, name) {
             return Items {
                 number: number.saturating_add(1),
                 objects: child.children(),
@@ -28,7 +50,9 @@ pub(crate) fn items_of<'a>(part: &Part<'a>, name: &str) -> Items<'a> {
 }
 
 /// The child of a name, if it is of a kind.
-pub(crate) fn child_of<'a>(object: &'a Obj, name: &str, kind: Kind) -> Option<&'a Obj> {
+pub(crate) fn child_of<'a>(object: &'a Obj, name: &str, kind: Kind) -> Option<&'a Obj>
+    ensures { option_copied result ≡ child_of name.now kind object.now }
+{
     match object.child(name) {
         Some(child) => {
             if child.kind().same(kind) {
@@ -42,7 +66,9 @@ pub(crate) fn child_of<'a>(object: &'a Obj, name: &str, kind: Kind) -> Option<&'
 }
 
 /// Whether a kind is one of the ten that have values.
-pub(crate) fn is_value_kind(kind: Kind) -> bool {
+pub(crate) fn is_value_kind(kind: Kind) -> bool
+    ensures { result ≡ is_value_kind kind }
+{
     match kind {
         Kind::Bool
         | Kind::Int
@@ -59,7 +85,9 @@ pub(crate) fn is_value_kind(kind: Kind) -> bool {
 }
 
 /// The earlier of two numbers.
-pub(crate) fn earlier(first: Option<u64>, second: Option<u64>) -> Option<u64> {
+pub(crate) fn earlier(first: Option<u64>, second: Option<u64>) -> Option<u64>
+    ensures { result ≡ earlier first second }
+{
     match (first, second) {
         (Some(one), Some(other)) => Some(one.min(other)),
         (Some(one), None) => Some(one),

@@ -4,14 +4,13 @@ ghost use Rattle.url.specs.Parts.{Parts};
 ghost use Rattle.ob_object.specs.Object.{parts};
 ghost use Rattle.ob_contracts.specs.Inherit.{Contracts};
 ghost use Rattle.ob_contracts.specs.Standard.{standard, with_added};
-ghost use Rattle.ob_opening.specs.Loading.{add_contracts, taken_twice};
+ghost use Rattle.ob_opening.specs.Loading.{add_contracts, taken_twice, bad_part};
 ghost use Rattle.ob_site_rules.specs.Writes.{site_contracts};
-ghost use Rattle.ob_site_file.specs.Passes.{site_roles, site_paths, IsApart, RefusesMade};
+ghost use Rattle.ob_site_file.specs.Passes.{site_roles, site_paths, site_parts, IsApart, RefusesMade};
 
 use crate::bad::bad_part;
 use crate::fault::LoadFault;
 use crate::nodes::nodes_of;
-use crate::size::{Counting, is_too_large};
 use ob_contracts::Library;
 use ob_href::Base;
 use ob_object::Obj;
@@ -57,35 +56,31 @@ fn check_paths(alloc: Global, base: &Base, roles: &[Roles], root: &Obj) -> Resul
 // That no part of a root breaks a rule of its roles.
 fn check_rules(alloc: Global, roles: &[Roles], root: &Obj) -> Result<(), LoadFault>
     requires { parts root.now < 2 ^ 64 }
-    ensures { (base : Parts) → IsApart base root.now → IfErr result (RefusesMade base root.now) }
+    ensures ok { IfOk result (λ _. roles.now ≡ site_roles root.now → bad_part (site_parts root.now) ≡ None) }
+    ensures err { (base : Parts) (lib : Contracts) → roles.now ≡ site_roles root.now → add_contracts (Ok standard) (site_contracts root.now) ≡ Ok lib → taken_twice base.path [] (site_paths root.now) ≡ None → IfErr result (RefusesMade base root.now) }
 {
     let parts = all_parts(alloc, roles, root)?;
-    let nodes = nodes_of(alloc, parts.as_slice())?;
-    match bad_part(alloc, &nodes, parts.as_slice())? {
+    let listed = parts.as_slice();
+    let nodes = nodes_of(alloc, listed)?;
+    match bad_part(alloc, &nodes, listed)? {
         Some(part) => Err(LoadFault::Rule { part }),
         None => Ok(()),
     }
 }
 
-// That a root doesn't show too much.
-fn check_size(
-    alloc: Global,
-    library: &Library,
-    roles: &[Roles],
-    root: &Obj,
-) -> Result<(), LoadFault>
-    ensures { (base : Parts) → IsApart base root.now → IfErr result (RefusesMade base root.now) }
-{
-    let counting = Counting { library, roles };
-    let large = is_too_large(alloc, &counting, root)?;
-    if large { Err(LoadFault::Size) } else { Ok(()) }
+/// What is judged of a root: the library with its contracts, and the roles of its objects.
+#[derive(Drop)]
+pub(crate) struct Basis {
+    pub(crate) library: Library,
+    pub(crate) roles: Vec<Roles>,
 }
 
-/// The roles of the objects of a root that has paths in place of texts that lead to the site, or the first refusal in the
-/// order Contract, PathTwice, Rule, Size.
-pub(crate) fn judged(alloc: Global, base: &Base, root: &Obj) -> Result<Vec<Roles>, LoadFault>
+/// The library and the roles of a root that has paths in place of texts that lead to the site, or the first refusal in the
+/// order Contract, PathTwice, Rule.
+pub(crate) fn judged(alloc: Global, base: &Base, root: &Obj) -> Result<Basis, LoadFault>
     requires { parts root.now < 2 ^ 64 }
-    ensures roles { IfOk result (λ rs. rs.items ≡ site_roles root.now) }
+    ensures library { IfOk result (λ j. add_contracts (Ok standard) (site_contracts root.now) ≡ Ok j.library) }
+    ensures roles { IfOk result (λ j. j.roles.items ≡ site_roles root.now) }
     ensures apart { IfOk result (λ _. IsApart base.now root.now) }
     ensures err { IfErr result (RefusesMade base.now root.now) }
 {
@@ -93,6 +88,5 @@ pub(crate) fn judged(alloc: Global, base: &Base, root: &Obj) -> Result<Vec<Roles
     let roles = roles_in(alloc, &library, root)?;
     check_paths(alloc, base, roles.as_slice(), root)?;
     check_rules(alloc, roles.as_slice(), root)?;
-    check_size(alloc, &library, roles.as_slice(), root)?;
-    Ok(roles)
+    Ok(Basis { library, roles })
 }

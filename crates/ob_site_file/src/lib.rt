@@ -6,6 +6,7 @@
 
 mod about;
 mod bad;
+mod derived;
 mod document;
 mod fault;
 mod histories;
@@ -16,6 +17,7 @@ mod plan;
 mod records;
 mod rules;
 mod size;
+mod stored;
 
 pub use document::{Opened, opening};
 pub use fault::LoadFault;

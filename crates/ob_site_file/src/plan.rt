@@ -1,11 +1,19 @@
 //! What is fixed when a site is opened, and the logs of its histories.
+ghost use Rattle.std.specs.Prelude.{◌≡◌, ◌++◌, ◌∷◌, [], false, map, filter, None, option_map, IfOk};
+ghost use Rattle.ob_answers.specs.Plans.{point_rule, plan as plan_of};
+ghost use Rattle.ob_opening.specs.Loading.{path_of, histories_in, root_lobby};
+ghost use Rattle.ob_roles.specs.Told.{part as site_part};
+ghost use Rattle.ob_site_rules.specs.State.{Plan as SitePlan};
+ghost use Rattle.ob_state.specs.States.{entry_of, AreCounted};
+ghost use Rattle.ob_site_file.specs.Opened.{history_entry, whole_log, rules_at, subject_of, plan_with};
+
 use crate::about::put_about;
 use crate::bad::subject_in;
 use crate::histories::{log_of, source_path};
 use crate::items::items_of;
 use crate::nodes::nodes_of;
 use crate::rules::put_rules;
-use ob_answers::Plan;
+use ob_answers::{Plan, PointRule};
 use ob_href::Base;
 use ob_object::Obj;
 use ob_roles::{Part, node_path};
@@ -14,26 +22,44 @@ use ob_times::Moment;
 use ob_values::Text;
 use std::alloc::{AllocError, Global};
 
-fn path_of(part: &Part) -> Result<Text, AllocError> {
+fn path_of(part: &Part) -> Result<Text, AllocError>
+    ensures { IfOk result (λ p. p ≡ path_of (site_part part.now)) }
+{
     match node_path(part.own.head()) {
         Some(path) => path.copy(),
         None => Ok(Text::empty()),
     }
 }
 
+// Puts the path of a part last, if it is a writable point.
+fn put_point(points: &mut Vec<Text>, part: &Part) -> Result<(), AllocError>
+    ensures { IfOk result (λ _. points.new.items ≡ points.old.items ++ map path_of (filter (λ p. p.roles.point) (site_part part.now ∷ []))) }
+{
+    if !part.roles.point {
+        return Ok(());
+    }
+    let path = path_of(part)?;
+    points.push(path)?;
+    Ok(())
+}
+
 // Puts the paths of the writable points last.
-fn put_points(points: &mut Vec<Text>, parts: &[Part]) -> Result<(), AllocError> {
+fn put_points(points: &mut Vec<Text>, parts: &[Part]) -> Result<(), AllocError>
+    ensures { IfOk result (λ _. points.new.items ≡ points.old.items ++ map path_of (filter (λ p. p.roles.point) (map site_part parts.now))) }
+{
     for part in parts {
-        if part.roles.point {
-            let path = path_of(part)?;
-            points.push(path)?;
-        }
+        put_point(points, part)?;
     }
     Ok(())
 }
 
-// Puts the path of a history last, with that of its source.
-fn put_history(histories: &mut Vec<(Text, Option<Text>)>, part: &Part) -> Result<(), AllocError> {
+// Puts the path of a part last, with that of its source, if it is a history.
+fn put_history(histories: &mut Vec<(Text, Option<Text>)>, part: &Part) -> Result<(), AllocError>
+    ensures { IfOk result (λ _. histories.new.items ≡ histories.old.items ++ map history_entry (histories_in (site_part part.now ∷ []))) }
+{
+    if !part.roles.history {
+        return Ok(());
+    }
     let source = source_path(part.own)?;
     let path = path_of(part)?;
     histories.push((path, source))?;
@@ -43,17 +69,19 @@ fn put_history(histories: &mut Vec<(Text, Option<Text>)>, part: &Part) -> Result
 fn put_histories(
     histories: &mut Vec<(Text, Option<Text>)>,
     parts: &[Part],
-) -> Result<(), AllocError> {
+) -> Result<(), AllocError>
+    ensures { IfOk result (λ _. histories.new.items ≡ histories.old.items ++ map history_entry (histories_in (map site_part parts.now))) }
+{
     for part in parts {
-        if part.roles.history {
-            put_history(histories, part)?;
-        }
+        put_history(histories, part)?;
     }
     Ok(())
 }
 
 // What is fixed of a site of which only the root's path is known, whether it is a lobby, and when it is opened.
-fn bare_plan(alloc: Global, base: Base, lobby: bool, boot: Moment) -> Result<Plan, AllocError> {
+fn bare_plan(alloc: Global, base: Base, lobby: bool, boot: Moment) -> Result<Plan, AllocError>
+    ensures { IfOk result (λ plan. plan_of plan ≡ record { base = base; root = base.path; boot = boot; lobby = lobby; points = []; histories = []; subject = None; rules = []; about = [] }) }
+{
     let root = base.path(alloc)?;
     Ok(Plan {
         base,
@@ -68,19 +96,39 @@ fn bare_plan(alloc: Global, base: Base, lobby: bool, boot: Moment) -> Result<Pla
     })
 }
 
-// Gives a plan the alarm subject and its rules, if there is one.
-fn put_subject(alloc: Global, plan: &mut Plan, parts: &[Part]) -> Result<(), AllocError> {
+// The path of the alarm subject, if there is one.
+fn subject_path(parts: &[Part]) -> Result<Option<Text>, AllocError>
+    ensures { IfOk result (λ path. path ≡ option_map path_of (subject_of (map site_part parts.now))) }
+{
+    match subject_in(parts) {
+        Some(subject) => {
+            let path = path_of(subject)?;
+            Ok(Some(path))
+        }
+        None => Ok(None),
+    }
+}
+
+// Puts the rules of the alarm subject last, if there is one.
+fn put_subject_rules(
+    alloc: Global,
+    rules: &mut Vec<PointRule>,
+    parts: &[Part],
+) -> Result<(), AllocError>
+    ensures { IfOk result (λ _. map point_rule rules.new.items ≡ map point_rule rules.old.items ++ rules_at (map site_part parts.now) (subject_of (map site_part parts.now))) }
+{
     let Some(subject) = subject_in(parts) else {
         return Ok(());
     };
-    let path = path_of(subject)?;
-    plan.subject = Some(path);
     let nodes = nodes_of(alloc, parts)?;
-    put_rules(&mut plan.rules, &nodes, items_of(subject, "rules").objects)
+    put_rules(rules, &nodes, items_of(subject, "rules").objects)?;
+    Ok(())
 }
 
 // Whether the first part, which is the root, is a lobby.
-fn is_lobby(parts: &[Part]) -> bool {
+fn is_lobby(parts: &[Part]) -> bool
+    ensures { result ≡ root_lobby (map site_part parts.now) }
+{
     match parts.first() {
         Some(root) => root.roles.lobby,
         None => false,
@@ -94,24 +142,41 @@ pub(crate) fn plan_of(
     root: &Obj,
     parts: &[Part],
     boot: Moment,
-) -> Result<Plan, AllocError> {
+) -> Result<Plan, AllocError>
+    ensures { IfOk result (λ plan. plan_of plan ≡ plan_with base boot root.now (map site_part parts.now)) }
+{
+    let subject = subject_path(parts)?;
     let mut plan = bare_plan(alloc, base, is_lobby(parts), boot)?;
+    plan.subject = subject;
     put_points(&mut plan.points, parts)?;
     put_histories(&mut plan.histories, parts)?;
-    put_subject(alloc, &mut plan, parts)?;
+    put_subject_rules(alloc, &mut plan.rules, parts)?;
     put_about(&mut plan.about, root)?;
     Ok(plan)
 }
 
+// Puts the log of a part last, if it is a history.
+fn put_log(alloc: Global, logs: &mut Vec<(Text, Log)>, part: &Part) -> Result<(), AllocError>
+    ensures logs { IfOk result (λ _. map entry_of logs.new.items ≡ map entry_of logs.old.items ++ map whole_log (histories_in (site_part part.now ∷ []))) }
+    ensures counted { IfOk result (λ _. AreCounted (map entry_of logs.old.items) → AreCounted (map entry_of logs.new.items)) }
+{
+    if !part.roles.history {
+        return Ok(());
+    }
+    let log = log_of(alloc, part)?;
+    let path = path_of(part)?;
+    logs.push((path, log))?;
+    Ok(())
+}
+
 /// The logs of the histories among parts, each under its path.
-pub(crate) fn logs_of(alloc: Global, parts: &[Part]) -> Result<Vec<(Text, Log)>, AllocError> {
+pub(crate) fn logs_of(alloc: Global, parts: &[Part]) -> Result<Vec<(Text, Log)>, AllocError>
+    ensures logs { IfOk result (λ logs. map entry_of logs.items ≡ map whole_log (histories_in (map site_part parts.now))) }
+    ensures counted { IfOk result (λ logs. AreCounted (map entry_of logs.items)) }
+{
     let mut logs = Vec::new(alloc);
     for part in parts {
-        if part.roles.history {
-            let path = path_of(part)?;
-            let log = log_of(alloc, part)?;
-            logs.push((path, log))?;
-        }
+        put_log(alloc, &mut logs, part)?;
     }
     Ok(logs)
 }

@@ -1,8 +1,14 @@
 //! The records that the items of a history's `data` are.
-ghost use Rattle.std.specs.Prelude.{◌≡◌, IfOk, IfSome, IsTrue};
-ghost use Rattle.std.specs.List.{list_all};
+ghost use Rattle.std.specs.Prelude.{◌≡◌, ◌+◌, ◌<◌, ◌^◌, true, false, codes, Some, None, option_map, option_and_then, IfOk, IfSome, IfNone, IsTrue};
+ghost use Rattle.std.specs.List.{list_all, filter_map};
+ghost use Rattle.std.specs.Option.{option_copied};
 ghost use Rattle.ob_object.specs.Fits.{fits_slot};
+ghost use Rattle.ob_object.specs.Object.{in_row, count};
+ghost use Rattle.ob_object.specs.declared.kind.Kind.TheVariants as kind;
 ghost use Rattle.ob_contracts.specs.Inherit.{slot_or_default};
+ghost use Rattle.ob_history.specs.declared.records.Record.{Record as Stored};
+ghost use Rattle.ob_opening.specs.Loading.{time_of, child_of, value_of_record, record_in, is_late, is_bad_item, after_item, bad_records, numbered, least};
+ghost use Rattle.ob_site_file.specs.Told.{record_by};
 
 use crate::items::{Items, child_of, is_value_kind};
 use ob_history::Record;
@@ -13,7 +19,9 @@ use std::alloc::{AllocError, Global};
 /// The last instant that a record may have, in nanoseconds.
 const LAST: i128 = 253_402_300_799_999_000_000;
 
-fn time_of(slot: &Slot) -> Option<Abstime> {
+fn time_of(slot: &Slot) -> Option<Abstime>
+    ensures { result ≡ time_of slot.now }
+{
     match slot {
         Slot::Is(Value::Abstime(time)) => Some(*time),
         _ => None,
@@ -21,7 +29,9 @@ fn time_of(slot: &Slot) -> Option<Abstime> {
 }
 
 // The time of a record, which its item gives itself.
-fn own_time(item: &Obj) -> Option<Abstime> {
+fn own_time(item: &Obj) -> Option<Abstime>
+    ensures { result ≡ option_and_then (λ t. time_of t.head.slot) (child_of (codes "timestamp") kind.Abstime item.now) }
+{
     match child_of(item, "timestamp", Kind::Abstime) {
         Some(child) => time_of(child.slot()),
         None => None,
@@ -29,7 +39,9 @@ fn own_time(item: &Obj) -> Option<Abstime> {
 }
 
 // The value of a record.
-fn own_value(item: &Obj) -> Option<&Obj> {
+fn own_value(item: &Obj) -> Option<&Obj>
+    ensures { option_copied result ≡ value_of_record item.now }
+{
     match item.child("value") {
         Some(child) => {
             if is_value_kind(child.kind()) {
@@ -43,7 +55,9 @@ fn own_value(item: &Obj) -> Option<&Obj> {
 }
 
 /// The time and the value of the record that an item is, if it is one: by its own children alone.
-pub(crate) fn record_parts(item: &Obj) -> Option<(Abstime, &Obj)> {
+pub(crate) fn record_parts(item: &Obj) -> Option<(Abstime, &Obj)>
+    ensures { option_map record_by result ≡ record_in item.now }
+{
     if !item.kind().same(Kind::Obj) {
         return None;
     }
@@ -66,7 +80,8 @@ fn slot_or_default(object: &Obj) -> Result<Slot, AllocError>
 
 // The record that an item is, if it is one.
 fn record_in(item: &Obj) -> Result<Option<Record>, AllocError>
-    ensures { IfOk result (λ made. IfSome made (λ r. IsTrue (fits_slot r.kind r.slot))) }
+    ensures made { IfOk result (λ made. made ≡ record_in item.now) }
+    ensures fits { IfOk result (λ made. IfSome made (λ r. IsTrue (fits_slot r.kind r.slot))) }
 {
     match record_parts(item) {
         Some((time, value)) => {
@@ -83,7 +98,8 @@ fn record_in(item: &Obj) -> Result<Option<Record>, AllocError>
 
 /// The records that items are.
 pub(crate) fn records_in(alloc: Global, items: &[Obj]) -> Result<Vec<Record>, AllocError>
-    ensures { IfOk result (λ rs. IsTrue (list_all (λ r. fits_slot r.kind r.slot) rs.items)) }
+    ensures records { IfOk result (λ rs. rs.items ≡ filter_map record_in items.now) }
+    ensures fits { IfOk result (λ rs. IsTrue (list_all (λ r. fits_slot r.kind r.slot) rs.items)) }
 {
     let mut records = Vec::new(alloc);
     for item in items {
@@ -95,30 +111,46 @@ pub(crate) fn records_in(alloc: Global, items: &[Obj]) -> Result<Vec<Record>, Al
 }
 
 // Whether a time is before the one in front of it, or after the last moment.
-fn is_late(before: Option<Abstime>, time: Abstime) -> bool {
+fn is_late(before: Option<Abstime>, time: Abstime) -> bool
+    ensures { (r : Stored) → r.time ≡ time → result ≡ is_late before r }
+{
     let instant = time.instant();
-    if instant > LAST {
-        return true;
-    }
     match before {
-        Some(before) => instant < before.instant(),
-        None => false,
+        Some(before) => instant < before.instant() || LAST < instant,
+        None => LAST < instant,
+    }
+}
+
+// The time of the record that an item is, if it is one in its order.
+fn next_time(before: Option<Abstime>, item: &Obj) -> Option<Abstime>
+    ensures none { IfNone result (is_bad_item before (record_in item.now) ≡ true) }
+    ensures some { IfSome result (λ t. (is_bad_item before (record_in item.now) ≡ false) × (after_item before (record_in item.now) ≡ Some t)) }
+{
+    match record_parts(item) {
+        Some((time, _value)) => {
+            if is_late(before, time) {
+                None
+            } else {
+                Some(time)
+            }
+        }
+        None => None,
     }
 }
 
 /// The number of the first item that is no record, or out of order.
-pub(crate) fn bad_record(items: &Items) -> Option<u64> {
+pub(crate) fn bad_record(items: &Items) -> Option<u64>
+    requires { items.now.number + count (in_row items.now.objects.now) < 2 ^ 64 }
+    ensures { result ≡ least (bad_records None (numbered items.now.number items.now.objects.now)) }
+{
     let mut before = None;
     let mut number = items.number;
     for item in items.objects {
-        let Some((time, _value)) = record_parts(item) else {
+        let Some(time) = next_time(before, item) else {
             return Some(number);
         };
-        if is_late(before, time) {
-            return Some(number);
-        }
         before = Some(time);
-        number = number.saturating_add(item.parts());
+        number += item.parts();
     }
     None
 }

@@ -1,6 +1,19 @@
 //! The rules of the alarm subject.
+ghost use Rattle.std.specs.Prelude.{◌≡◌, ◌+◌, ◌<◌, ◌^◌, ◌++◌, ◌∷◌, [], not, codes, map, List, Some, option_map, option_and_then, IfOk, IfSome, IsTrue};
+ghost use Rattle.std.specs.List.{filter_map};
+ghost use Rattle.std.specs.Option.{option_copied};
+ghost use Rattle.ob_alarms.specs.Limits.{is_below};
+ghost use Rattle.ob_answers.specs.Plans.{point_rule};
+ghost use Rattle.ob_object.specs.Object.{in_row, count};
+ghost use Rattle.ob_object.specs.declared.kind.Kind.TheVariants as kinds;
+ghost use Rattle.ob_site_rules.specs.Build.{Path};
+ghost use Rattle.ob_site_rules.specs.Writes.{number_in};
+ghost use Rattle.ob_opening.specs.Loading.{Part as SitePart, truth_in, child_of, own_number, source_ref, rule_from, rule_in, bad_rules, numbered, least};
+ghost use Rattle.ob_site_file.specs.Sought.{Sees};
+ghost use Rattle.ob_site_file.specs.Told.{rule_by, rule_at, num_kind, Has, IsNext};
+
 use crate::items::{Items, child_of};
-use crate::nodes::{Nodes, kind_at};
+use crate::nodes::Nodes;
 use ob_alarms::Num;
 use ob_answers::PointRule;
 use ob_object::{Kind, Obj, Slot};
@@ -17,7 +30,9 @@ struct Limits {
     needs_ack: bool,
 }
 
-fn number_in(slot: &Slot) -> Option<Num> {
+fn number_in(slot: &Slot) -> Option<Num>
+    ensures { result ≡ number_in slot.now }
+{
     match slot {
         Slot::Is(Value::Int(number)) => Some(Num::Int(*number)),
         Slot::Is(Value::Real(number)) => Some(Num::Real(*number)),
@@ -25,7 +40,9 @@ fn number_in(slot: &Slot) -> Option<Num> {
     }
 }
 
-fn truth_in(slot: &Slot) -> Option<bool> {
+fn truth_in(slot: &Slot) -> Option<bool>
+    ensures { result ≡ truth_in slot.now }
+{
     match slot {
         Slot::Is(Value::Bool(truth)) => Some(*truth),
         _ => None,
@@ -33,14 +50,19 @@ fn truth_in(slot: &Slot) -> Option<bool> {
 }
 
 // The number that an own child of a name and a kind has.
-fn own_number(item: &Obj, name: &str, kind: Kind) -> Option<Num> {
+fn own_number(item: &Obj, name: &str, kind: Kind) -> Option<Num>
+    ensures number { result ≡ own_number name.now kind item.now }
+    ensures kind { IfSome result (λ n. num_kind n ≡ kind) }
+{
     match child_of(item, name, kind) {
-        Some(child) => number_in(child.slot()),
+        Some(child) => number_in(&child.head().slot),
         None => None,
     }
 }
 
-fn own_truth(item: &Obj, name: &str) -> Option<bool> {
+fn own_truth(item: &Obj, name: &str) -> Option<bool>
+    ensures { result ≡ option_and_then (λ c. truth_in c.head.slot) (child_of name.now kinds.Bool item.now) }
+{
     match child_of(item, name, Kind::Bool) {
         Some(child) => truth_in(child.slot()),
         None => None,
@@ -48,7 +70,10 @@ fn own_truth(item: &Obj, name: &str) -> Option<bool> {
 }
 
 // Whether a number is below another one of its kind.
-fn is_below(one: &Num, other: &Num) -> bool {
+fn is_below(one: &Num, other: &Num) -> bool
+    requires { num_kind one.now ≡ num_kind other.now }
+    ensures { result ≡ is_below one.now other.now }
+{
     match (one, other) {
         (Num::Int(one), Num::Int(other)) => *one < *other,
         (Num::Real(one), Num::Real(other)) => one.is_below(other),
@@ -57,7 +82,11 @@ fn is_below(one: &Num, other: &Num) -> bool {
 }
 
 // The limits that an item gives itself, for a source of a kind.
-fn limits_in(item: &Obj, kind: Kind) -> Option<Limits> {
+fn limits_in(item: &Obj, kind: Kind) -> Option<Limits>
+    ensures { (p : Path) → option_map (rule_by p) result
+        ≡ rule_from (Some p) (own_number (codes "low") kind item.now) (own_number (codes "high") kind item.now)
+        (option_and_then (λ c. truth_in c.head.slot) (child_of (codes "needsAck") kinds.Bool item.now)) }
+{
     let low = own_number(item, "low", kind)?;
     let high = own_number(item, "high", kind)?;
     let needs_ack = own_truth(item, "needsAck")?;
@@ -72,32 +101,42 @@ fn limits_in(item: &Obj, kind: Kind) -> Option<Limits> {
 }
 
 /// The path that an own ref `source` leads to.
-pub(crate) fn source_of(object: &Obj) -> Option<&Text> {
+pub(crate) fn source_of(object: &Obj) -> Option<&Text>
+    ensures { option_copied result ≡ option_and_then (λ r. r.head.href) (source_ref object.now) }
+{
     match child_of(object, "source", Kind::Ref) {
         Some(source) => source.href(),
         None => None,
     }
 }
 
-// The kind of the point that an item has as its source.
-fn point_kind(nodes: &Nodes, source: &Text) -> Option<Kind> {
-    let kind = kind_at(nodes, source)?;
-    if kind.same(Kind::Int) || kind.same(Kind::Real) {
-        Some(kind)
-    } else {
-        None
-    }
-}
-
 // The source and the limits of the rule that an item is, if it is one.
-fn rule_parts<'a>(nodes: &Nodes, item: &'a Obj) -> Option<(&'a Text, Limits)> {
+fn rule_parts<'a>(nodes: &Nodes, item: &'a Obj) -> Option<(&'a Text, Limits)>
+    ensures { (ps : List SitePart) → Sees nodes.now ps → option_map rule_at result ≡ rule_in ps item.now }
+{
     if !item.kind().same(Kind::Obj) {
         return None;
     }
     let source = source_of(item)?;
-    let kind = point_kind(nodes, source)?;
+    let kind = nodes.number_kind(source)?;
     let limits = limits_in(item, kind)?;
     Some((source, limits))
+}
+
+// The sources of rules.
+type Sources<'a> = BTreeSet<&'a str>;
+
+// Whether an item is a rule whose source no earlier one has. Then its source is put among theirs.
+fn is_next<'a>(sources: &mut Sources<'a>, nodes: &Nodes, item: &'a Obj) -> Result<bool, AllocError>
+    ensures { IfOk result (λ fresh. (ps : List SitePart) (before : List Path) → Sees nodes.now ps → Has sources.old before → IsNext ps before item.now fresh sources.new) }
+{
+    match rule_parts(nodes, item) {
+        Some((source, _limits)) => {
+            let fresh = sources.insert(source.as_str())?;
+            Ok(fresh)
+        }
+        None => Ok(false),
+    }
 }
 
 /// The number of the first item of `rules` that is no rule, or has the source of an earlier one.
@@ -105,24 +144,26 @@ pub(crate) fn bad_rule(
     alloc: Global,
     nodes: &Nodes,
     items: &Items,
-) -> Result<Option<u64>, AllocError> {
+) -> Result<Option<u64>, AllocError>
+    requires { items.now.number + count (in_row items.now.objects.now) < 2 ^ 64 }
+    ensures { IfOk result (λ bad. (ps : List SitePart) → Sees nodes.now ps → bad ≡ least (bad_rules ps [] (numbered items.now.number items.now.objects.now))) }
+{
     let mut number = items.number;
-    let mut seen = BTreeSet::new(alloc);
+    let mut sources = BTreeSet::new(alloc);
     for item in items.objects {
-        let Some((source, _limits)) = rule_parts(nodes, item) else {
-            return Ok(Some(number));
-        };
-        let fresh = seen.insert(source.as_str())?;
+        let fresh = is_next(&mut sources, nodes, item)?;
         if !fresh {
             return Ok(Some(number));
         }
-        number = number.saturating_add(item.parts());
+        number += item.parts();
     }
     Ok(None)
 }
 
 // Puts the rule that an item is last, if it is one.
-fn put_rule(rules: &mut Vec<PointRule>, nodes: &Nodes, item: &Obj) -> Result<(), AllocError> {
+fn put_rule(rules: &mut Vec<PointRule>, nodes: &Nodes, item: &Obj) -> Result<(), AllocError>
+    ensures { IfOk result (λ _. (ps : List SitePart) → Sees nodes.now ps → map point_rule rules.new.items ≡ map point_rule rules.old.items ++ filter_map (rule_in ps) (item.now ∷ [])) }
+{
     if let Some((source, limits)) = rule_parts(nodes, item) {
         let source = source.copy()?;
         rules.push(PointRule {
@@ -140,7 +181,9 @@ pub(crate) fn put_rules(
     rules: &mut Vec<PointRule>,
     nodes: &Nodes,
     items: &[Obj],
-) -> Result<(), AllocError> {
+) -> Result<(), AllocError>
+    ensures { IfOk result (λ _. (ps : List SitePart) → Sees nodes.now ps → map point_rule rules.new.items ≡ map point_rule rules.old.items ++ filter_map (rule_in ps) items.now) }
+{
     for item in items {
         put_rule(rules, nodes, item)?;
     }

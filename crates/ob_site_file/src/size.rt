@@ -1,8 +1,18 @@
 //! How many parts the shown root has, counted without building it.
+ghost use Rattle.std.specs.Prelude.{◌≡◌, ◌+◌, ◌++◌, ◌∷◌, ◌||◌, [], List, ℕ, Some, cond, map, nat_lt, filter, IfOk};
+ghost use Rattle.std.specs.Option.{option_copied};
+ghost use Rattle.ob_object.specs.Object.{Object, children, count, in_row, listed, parts};
+ghost use Rattle.ob_object.specs.WellFormed.{has_name};
+ghost use Rattle.ob_contracts.specs.Found.{found, lent};
+ghost use Rattle.ob_contracts.specs.Inherit.{contract_of, present, sources, overridden, missing, is_new, or_else, words_in, result_of};
+ghost use Rattle.ob_site_rules.specs.State.{Plan as SitePlan, State as SiteState};
+ghost use Rattle.ob_site_rules.specs.Shown.{node_path, derived, with_roles, shown_root};
+ghost use Rattle.ob_site_file.specs.Sizes.{has_text, HasNames, is_fresh, capped, IsCounting, dressed_at, stood, row_count};
+
+use crate::derived::{Counting, Derived, Texts, derived_children};
 use ob_contracts::Library;
 use ob_object::{Head, Obj, Words};
-use ob_opening::Roles;
-use ob_roles::{Names, drops, find_over, implied_by, names_in, role_at};
+use ob_roles::{Names, find_over, implied_by, names_in};
 use ob_values::Text;
 use std::alloc::{AllocError, Global};
 use std::collections::BTreeSet;
@@ -10,105 +20,39 @@ use std::collections::BTreeSet;
 /// The most parts that a shown root has.
 const MOST: u64 = 200_000;
 
-// The number of parts in the children of an object that have names.
-fn named_parts(object: &Obj) -> u64 {
-    let mut total: u64 = 0;
-    for child in object.children() {
-        if child.name().is_some() {
-            total = total.saturating_add(child.parts());
-        }
-    }
-    total
+// The number of parts of an object, if it has a name that isn't there yet. The name is then there.
+fn parts_if_new<'a>(there: &mut Texts<'a>, object: &'a Obj) -> Result<u64, AllocError>
+    ensures parts { IfOk result (λ n. capped n ≡ capped (cond (is_fresh there.old object.now.head.name) (parts object.now) 0)) }
+    ensures there { IfOk result (λ _. (n : List ℕ) → has_text there.new n ≡ (has_text there.old n || has_name n object.now.head.name)) }
+{
+    let Some(name) = object.name() else {
+        return Ok(0);
+    };
+    let fresh = there.insert(name.as_str())?;
+    if fresh { Ok(object.parts()) } else { Ok(0) }
 }
 
-/// The names of children that are there.
-type There<'a> = BTreeSet<&'a str>;
-
-// The number of parts of a derived child, which takes the children of what it overrides unless it is a ref.
-fn derived_parts<'a>(
-    there: &mut There<'a>,
-    names: &Names<'a>,
-    name: &'static str,
-    is_ref: bool,
-) -> Result<u64, AllocError> {
-    there.insert(name)?;
-    match names.get(&name) {
-        Some(over) => {
-            if is_ref {
-                Ok(1)
-            } else {
-                Ok(named_parts(over).saturating_add(1))
-            }
-        }
-        None => Ok(1),
-    }
-}
-
-// The number of parts of the children that the role of a lobby derives.
-fn lobby_parts<'a>(there: &mut There<'a>, names: &Names<'a>) -> Result<u64, AllocError> {
-    let about = derived_parts(there, names, "about", true)?;
-    let batch = derived_parts(there, names, "batch", false)?;
-    let service = derived_parts(there, names, "watchService", true)?;
-    Ok(about.saturating_add(batch).saturating_add(service))
-}
-
-// The number of parts of the children that the roles of a history and of an alarm subject derive.
-fn event_parts<'a>(there: &mut There<'a>, names: &Names<'a>) -> Result<u64, AllocError> {
-    let count = derived_parts(there, names, "count", false)?;
-    let query = derived_parts(there, names, "query", false)?;
-    let feed = derived_parts(there, names, "feed", false)?;
-    Ok(count.saturating_add(query).saturating_add(feed))
-}
-
-// The number of parts of the children that only a history derives.
-fn bound_parts<'a>(there: &mut There<'a>, names: &Names<'a>) -> Result<u64, AllocError> {
-    let start = derived_parts(there, names, "start", false)?;
-    let end = derived_parts(there, names, "end", false)?;
-    Ok(start.saturating_add(end))
-}
-
-// The number of parts of all children that roles derive, whose names are then there. No object is a history and an alarm
-// subject, since both derive one path.
-fn all_derived<'a>(
-    there: &mut There<'a>,
-    names: &Names<'a>,
-    roles: Roles,
-) -> Result<u64, AllocError> {
-    let mut total: u64 = 0;
-    if roles.lobby {
-        total = total.saturating_add(lobby_parts(there, names)?);
-    }
-    if roles.point {
-        total = total.saturating_add(derived_parts(there, names, "writePoint", false)?);
-    }
-    if roles.history || roles.subject {
-        total = total.saturating_add(event_parts(there, names)?);
-    }
-    if roles.history {
-        total = total.saturating_add(bound_parts(there, names)?);
-    }
-    Ok(total)
-}
-
-// The number of parts in the named children of a source whose names aren't there.
-fn new_parts<'a>(there: &mut There<'a>, source: &'a Obj) -> Result<u64, AllocError> {
+// The number of parts in the named children of a source whose names aren't there. They are then there.
+fn new_parts<'a>(there: &mut Texts<'a>, source: &'a Obj) -> Result<u64, AllocError>
+    ensures parts { IfOk result (λ n. (before : List Object) → HasNames there.old before → capped n ≡ capped (count (in_row (filter (is_new before) (children source.now))))) }
+    ensures there { IfOk result (λ _. (before : List Object) → HasNames there.old before → HasNames there.new (before ++ children source.now)) }
+{
     let mut total: u64 = 0;
     for child in source.children() {
-        if let Some(name) = child.name() {
-            let fresh = there.insert(name.as_str())?;
-            if fresh {
-                total = total.saturating_add(child.parts());
-            }
-        }
+        let parts = parts_if_new(there, child)?;
+        total = total.saturating_add(parts);
     }
     Ok(total)
 }
 
 // The number of parts in the children that are inherited, counted until they are too many.
-fn missing_parts<'a>(there: &mut There<'a>, from: &[&'a Obj]) -> Result<u64, AllocError> {
+fn missing_parts<'a>(there: &mut Texts<'a>, from: &[&'a Obj]) -> Result<u64, AllocError>
+    ensures { IfOk result (λ n. (before : List Object) → HasNames there.old before → capped n ≡ capped (count (in_row (missing before (lent from.now))))) }
+{
     let mut total: u64 = 0;
     for source in from {
-        total = total.saturating_add(new_parts(there, source)?);
+        let parts = new_parts(there, source)?;
+        total = total.saturating_add(parts);
         if total > MOST {
             return Ok(total);
         }
@@ -116,21 +60,69 @@ fn missing_parts<'a>(there: &mut There<'a>, from: &[&'a Obj]) -> Result<u64, All
     Ok(total)
 }
 
-/// What the parts of a site are counted by: its contracts, and the roles of its objects.
-#[derive(Clone, Copy)]
-pub(crate) struct Counting<'a> {
-    pub(crate) library: &'a Library,
-    pub(crate) roles: &'a [Roles],
+// Puts the contract of a word last, if it names one.
+fn put_found<'a>(
+    from: &mut Vec<&'a Obj>,
+    library: &'a Library,
+    word: &Text,
+) -> Result<(), AllocError>
+    ensures { IfOk result (λ _. lent from.new.items ≡ lent from.old.items ++ present (contract_of library.now word.now ∷ [])) }
+{
+    match library.get(word.as_str()) {
+        Some(contract) => {
+            from.push(contract)?;
+            Ok(())
+        }
+        None => Ok(()),
+    }
+}
+
+// Puts the child that is overridden last, if there is one.
+fn put_over<'a>(from: &mut Vec<&'a Obj>, over: Option<&'a Obj>) -> Result<(), AllocError>
+    ensures { IfOk result (λ _. lent from.new.items ≡ lent from.old.items ++ present (option_copied over.entry ∷ [])) }
+{
+    match over {
+        Some(over) => {
+            from.push(over)?;
+            Ok(())
+        }
+        None => Ok(()),
+    }
+}
+
+// The contracts that words name, and the child that is overridden.
+fn contracts_for<'a>(
+    alloc: Global,
+    library: &'a Library,
+    words: &[Text],
+    over: Option<&'a Obj>,
+) -> Result<Vec<&'a Obj>, AllocError>
+    ensures { IfOk result (λ from. lent from.items ≡ present (map (contract_of library.now) words.now ++ option_copied over.entry ∷ [])) }
+{
+    let mut from = Vec::new(alloc);
+    for word in words {
+        put_found(&mut from, library, word)?;
+    }
+    put_over(&mut from, over)?;
+    Ok(from)
+}
+
+fn words_in(words: Option<&Words>) -> &[Text]
+    ensures { result.now ≡ words_in (option_copied words.entry) }
+{
+    match words {
+        Some(words) => words.as_slice(),
+        None => &[],
+    }
 }
 
 // The words that name the contracts of an object.
-fn words_of<'a>(head: &'a Head, implied: Option<&'a Words>) -> &'a [Text] {
+fn words_of<'a>(head: &'a Head, implied: Option<&'a Words>) -> &'a [Text]
+    ensures { result.now ≡ words_in (or_else head.now.is (option_copied implied.entry)) }
+{
     match &head.is {
         Some(words) => words.as_slice(),
-        None => match implied {
-            Some(words) => words.as_slice(),
-            None => &[],
-        },
+        None => words_in(implied),
     }
 }
 
@@ -141,64 +133,164 @@ fn sources<'a>(
     head: &'a Head,
     implied: Option<&'a Words>,
     over: Option<&'a Obj>,
-) -> Result<Vec<&'a Obj>, AllocError> {
-    let mut from = Vec::new(alloc);
+) -> Result<Vec<&'a Obj>, AllocError>
+    ensures { IfOk result (λ from. lent from.items ≡ sources library.now head.now (option_copied implied.entry) (option_copied over.entry)) }
+{
     if head.kind.is_ref() {
-        return Ok(from);
+        return Ok(Vec::new(alloc));
     }
-    for word in words_of(head, implied) {
-        if let Some(contract) = library.get(word.as_str()) {
-            from.push(contract)?;
-        }
-    }
-    if let Some(over) = over {
-        from.push(over)?;
-    }
+    let from = contracts_for(alloc, library, words_of(head, implied), over)?;
     Ok(from)
 }
 
-// The number of parts that an object of this number shows, counted until they are too many.
+/// What the children of an object inherit from: the words that a list or a feed gives, and what stands under their names in
+/// the sources.
+#[derive(Clone, Copy)]
+struct Above<'a, 'b> {
+    library: &'a Library,
+    gives: Option<&'a Words>,
+    names: &'b Names<'a>,
+}
+
+// The child that a derived one of a name overrides.
+fn over_of<'a>(names: &Names<'a>, name: &'a str) -> Option<&'a Obj>
+    ensures { (ss : List Object) → ((k : List ℕ) → found names.now k ≡ overridden (Some k) ss) → option_copied result ≡ overridden (Some name.now) ss }
+{
+    names.get(&name).copied()
+}
+
+// The number of parts of a child that roles derive.
+fn derived_one<'a>(alloc: Global, above: &Above<'a, '_>, child: &Derived) -> Result<u64, AllocError>
+    ensures { IfOk result (λ n. (ss : List Object) → ((k : List ℕ) → found above.now.names.now k ≡ overridden (Some k) ss)
+        → capped n ≡ capped (parts (result_of above.now.library.now (stood child.now) (option_copied above.now.gives) (overridden (Some child.now.name.now) ss)))) }
+{
+    if child.is_ref {
+        return Ok(1);
+    }
+    let over = over_of(above.names, child.name);
+    let from = contracts_for(alloc, above.library, words_in(above.gives), over)?;
+    let mut there = BTreeSet::new(alloc);
+    let more = missing_parts(&mut there, from.as_slice())?;
+    Ok(more.saturating_add(1))
+}
+
+// The number of parts of the children that roles derive.
+fn derived_parts<'a>(
+    alloc: Global,
+    above: &Above<'a, '_>,
+    derived: &[Derived],
+) -> Result<u64, AllocError>
+    ensures { IfOk result (λ n. (ss : List Object) → ((k : List ℕ) → found above.now.names.now k ≡ overridden (Some k) ss)
+        → capped n ≡ capped (row_count above.now.library.now (option_copied above.now.gives) ss (in_row (map stood derived.now)))) }
+{
+    let mut total: u64 = 0;
+    for child in derived {
+        let parts = derived_one(alloc, above, child)?;
+        total = total.saturating_add(parts);
+    }
+    Ok(total)
+}
+
+// Puts the name of an object, if it has one.
+fn put_name<'a>(there: &mut Texts<'a>, object: &'a Obj) -> Result<(), AllocError>
+    ensures { IfOk result (λ _. (n : List ℕ) → has_text there.new n ≡ (has_text there.old n || has_name n object.now.head.name)) }
+{
+    match object.name() {
+        Some(name) => {
+            there.insert(name.as_str())?;
+            Ok(())
+        }
+        None => Ok(()),
+    }
+}
+
+// The names of the own children of an object.
+fn own_names<'a>(alloc: Global, object: &'a Obj) -> Result<Texts<'a>, AllocError>
+    ensures { IfOk result (λ set. HasNames set (children object.now)) }
+{
+    let mut there = BTreeSet::new(alloc);
+    for child in object.children() {
+        put_name(&mut there, child)?;
+    }
+    Ok(there)
+}
+
+// The names of the own children of an object, and of those that its roles derive.
+fn names_there<'a>(
+    alloc: Global,
+    object: &'a Obj,
+    derived: &[Derived],
+) -> Result<Texts<'a>, AllocError>
+    ensures { IfOk result (λ set. HasNames set (children object.now ++ map stood derived.now)) }
+{
+    let mut there = own_names(alloc, object)?;
+    for child in derived {
+        there.insert(child.name)?;
+    }
+    Ok(there)
+}
+
+// The number of parts that the roles of an object derive, and that it inherits.
+fn added_parts<'a>(
+    alloc: Global,
+    counting: &Counting,
+    object: &'a Obj,
+    above: &Above<'a, '_>,
+    from: &[&'a Obj],
+) -> Result<u64, AllocError>
+    ensures { IfOk result (λ n. (plan : SitePlan) (s : SiteState) (ss : List Object) → IsCounting counting.now plan s → ((k : List ℕ) → found above.now.names.now k ≡ overridden (Some k) ss)
+        → capped n ≡ capped (row_count above.now.library.now (option_copied above.now.gives) ss (in_row (derived plan s (node_path object.now.head)))
+        + count (in_row (missing (listed (with_roles plan s object.now.inner) ++ derived plan s (node_path object.now.head)) (lent from.now))))) }
+{
+    let derived = derived_children(alloc, counting, object.head())?;
+    let more = derived_parts(alloc, above, derived.as_slice())?;
+    let mut there = names_there(alloc, object, derived.as_slice())?;
+    let missing = missing_parts(&mut there, from)?;
+    Ok(more.saturating_add(missing))
+}
+
+// The number of parts that an own object shows, where a list or a feed round it gives words, and where it overrides a child
+// of a source. They are counted until they are too many.
 fn shown_parts<'a>(
     alloc: Global,
     counting: &Counting<'a>,
     object: &'a Obj,
-    number: u64,
     implied: Option<&'a Words>,
     over: Option<&'a Obj>,
-) -> Result<u64, AllocError> {
+) -> Result<u64, AllocError>
+    ensures { IfOk result (λ n. (plan : SitePlan) (s : SiteState) → IsCounting counting.now plan s
+        → capped n ≡ capped (parts (result_of s.library (dressed_at plan s object.now) (option_copied implied.entry) (option_copied over.entry)))) }
+{
     let head = object.head();
-    let own = role_at(counting.roles, number);
     let from = sources(alloc, counting.library, head, implied, over)?;
     let gives = implied_by(head, from.as_slice());
     let names = names_in(alloc, from.as_slice())?;
-    let mut there = BTreeSet::new(alloc);
     let mut total: u64 = 1;
-    let mut at = number.saturating_add(1);
     for child in object.children() {
-        let below = child.head();
-        if !drops(own, below) {
-            let over = find_over(&names, below);
-            total = total.saturating_add(shown_parts(alloc, counting, child, at, gives, over)?);
-            if total > MOST {
-                return Ok(total);
-            }
-            if let Some(name) = child.name() {
-                there.insert(name.as_str())?;
-            }
+        let below = find_over(&names, child.head());
+        let parts = shown_parts(alloc, counting, child, gives, below)?;
+        total = total.saturating_add(parts);
+        if total > MOST {
+            return Ok(total);
         }
-        at = at.saturating_add(child.parts());
     }
-    total = total.saturating_add(all_derived(&mut there, &names, own)?);
-    total = total.saturating_add(missing_parts(&mut there, from.as_slice())?);
-    Ok(total)
+    let above = Above {
+        library: counting.library,
+        gives,
+        names: &names,
+    };
+    let added = added_parts(alloc, counting, object, &above, from.as_slice())?;
+    Ok(total.saturating_add(added))
 }
 
-/// Whether the root shows more than 200,000 parts.
-pub(crate) fn is_too_large(
+/// Whether a root shows more than 200,000 parts.
+pub(crate) fn is_too_large<'a>(
     alloc: Global,
-    counting: &Counting,
-    root: &Obj,
-) -> Result<bool, AllocError> {
-    let parts = shown_parts(alloc, counting, root, 0, None, None)?;
+    counting: &Counting<'a>,
+    root: &'a Obj,
+) -> Result<bool, AllocError>
+    ensures { IfOk result (λ large. (plan : SitePlan) (s : SiteState) → IsCounting counting.now plan s → s.tree ≡ root.now → large ≡ nat_lt 200_000 (parts (shown_root plan s))) }
+{
+    let parts = shown_parts(alloc, counting, root, None, None)?;
     Ok(parts > MOST)
 }

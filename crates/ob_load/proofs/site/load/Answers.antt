@@ -1,6 +1,6 @@
 use Rattle.std.proofs.Common.{ℕ, List, rules, subst}
-use Rattle.ob_load.specs.Loads.{RefusesBytes}
-use Rattle.ob_load.proofs.Contents.{told_of}
+use Rattle.ob_load.specs.Loads.{IsSite, RefusesBytes}
+use Rattle.ob_load.proofs.Contents.{told_of, told_site}
 use Rattle.ob_load.proofs.site.load.Goals as goal
 
 pub returns-in_err-loaded-clause-refused : goal.returns-in_err-loaded-clause-refused
@@ -9,3 +9,9 @@ returns-in_err-loaded-clause-refused g c =
     let e = told_of (g.F.Files.content c.args.files.now c.args.name.now) c.in_ok-bytes.bytes.items c.args.boot f c.in_ok-bytes.ensures.bytes
     (subst (λ (l : List ℕ). RefusesBytes l c.args.boot f) c.deref.ensures.value c.in_err-loaded.ensures.refused) in
     search rules
+
+pub returns-clause-site : goal.returns-clause-site
+returns-clause-site g c =
+    let l = c.in_ok-loaded.loaded in
+    told_site (g.F.Files.content c.args.files.now c.args.name.now) c.in_ok-bytes.bytes.items c.args.boot l.ns l.site c.in_ok-bytes.ensures.bytes
+    (subst (λ (bytes : List ℕ). IsSite bytes c.args.boot l.ns l.site) c.deref.ensures.value c.in_ok-loaded.ensures.site)

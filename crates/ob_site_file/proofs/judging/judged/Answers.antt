@@ -1,10 +1,8 @@
-use Rattle.std.proofs.Common.{◌≡◌, List, rules, ◌∙◌}
-use Rattle.ob_contracts.specs.Inherit.{Contracts}
-use Rattle.ob_contracts.specs.Standard.{standard, with_added}
+use Rattle.std.proofs.Common.{◌≡◌, rules, ◌∙◌}
+use Rattle.ob_contracts.specs.Standard.{standard}
 use Rattle.ob_site_rules.specs.Writes.{site_contracts}
 use Rattle.ob_opened.proofs.Taking.{added_are_taken}
-use Rattle.ob_opening.specs.declared.roles.Roles.{Roles}
-use Rattle.ob_site_file.specs.Passes.{site_roles, IsApart}
+use Rattle.ob_site_file.specs.Passes.{site_roles}
 use Rattle.ob_site_file.proofs.judging.judged.Goals as goal
 
 pub returns-in_err-library-clause-err : goal.returns-in_err-library-clause-err
@@ -25,18 +23,8 @@ returns-in_err-check_rules-clause-err c =
     let taken = c.in_ok-library.ensures.ok in
     let added = (added_are_taken standard c.in_ok-library.library (site_contracts root) taken).1 in
     let same : c.as_slice.result.now ≡ site_roles root = c.as_slice.ensures.value ∙ c.in_ok-roles.ensures added in
-    let apart : IsApart c.args.base.now root = record { library = c.in_ok-library.library; taken = taken; once = c.in_ok-check_paths.ensures.ok same } in
-    let e = c.in_err-check_rules.ensures c.args.base.now apart in
-    search rules
-
-pub returns-in_err-check_size-clause-err : goal.returns-in_err-check_size-clause-err
-returns-in_err-check_size-clause-err c =
-    let root = c.args.root.now in
-    let taken = c.in_ok-library.ensures.ok in
-    let added = (added_are_taken standard c.in_ok-library.library (site_contracts root) taken).1 in
-    let same : c.as_slice.result.now ≡ site_roles root = c.as_slice.ensures.value ∙ c.in_ok-roles.ensures added in
-    let apart : IsApart c.args.base.now root = record { library = c.in_ok-library.library; taken = taken; once = c.in_ok-check_paths.ensures.ok same } in
-    let e = c.in_err-check_size.ensures c.args.base.now apart in
+    let same2 : c.as_slice-2.result.now ≡ site_roles root = c.as_slice-2.ensures.value ∙ c.in_ok-roles.ensures added in
+    let e = c.in_err-check_rules.ensures.err c.args.base.now c.in_ok-library.library same2 taken (c.in_ok-check_paths.ensures.ok same) in
     search rules
 
 pub returns-clause-roles : goal.returns-clause-roles
@@ -50,4 +38,4 @@ returns-clause-apart c =
     let taken = c.in_ok-library.ensures.ok in
     let added = (added_are_taken standard c.in_ok-library.library (site_contracts root) taken).1 in
     let same : c.as_slice.result.now ≡ site_roles root = c.as_slice.ensures.value ∙ c.in_ok-roles.ensures added in
-    record { library = c.in_ok-library.library; taken = taken; once = c.in_ok-check_paths.ensures.ok same }
+    record { library = c.in_ok-library.library; taken = taken; once = c.in_ok-check_paths.ensures.ok same; sound = c.in_ok-check_rules.ensures.ok (c.as_slice-2.ensures.value ∙ c.in_ok-roles.ensures added) }

@@ -1,5 +1,4 @@
-use Rattle.std.proofs.Common.{◌≡◌, ◌∙◌, subst}
-use Rattle.ob_contracts.specs.Inherit.{Contracts}
+use Rattle.std.proofs.Common.{◌∙◌, subst}
 use Rattle.ob_contracts.specs.Standard.{standard, with_added}
 use Rattle.ob_opening.specs.Opening.{standard_words}
 use Rattle.ob_opening.specs.Roles.{worded_contracts}

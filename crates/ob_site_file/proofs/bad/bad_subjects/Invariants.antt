@@ -1,0 +1,8 @@
+use Rattle.std.proofs.Common.{List}
+use Rattle.ob_opening.specs.Loading.{Part}
+use Rattle.ob_site_file.specs.Sought.{Sees}
+use Rattle.ob_site_file.proofs.Worst.{SubjectsLeft}
+use Rattle.ob_site_file.proofs.bad.bad_subjects.Given as goal
+
+abbrev pub invariant-loop-part : goal.invariant-loop-part
+invariant-loop-part l = (ps : List Part) → Sees l.nodes ps → SubjectsLeft ps l.parts l.part-index l.found l.first

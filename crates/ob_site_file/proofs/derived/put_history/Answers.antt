@@ -1,0 +1,15 @@
+use Rattle.std.proofs.Common.{◌≡◌, codes, true, false, [], ◌∷◌, map, rules}
+use Rattle.ob_site_file.specs.Sizes.{stood, stand_in}
+use Rattle.ob_site_file.proofs.Sizes.{one_more, if_there, if_not, HistoryShapes}
+use Rattle.ob_site_file.proofs.derived.put_history.Goals as goal
+
+pub returns-then-not-there : goal.returns-then-not-there
+returns-then-not-there c =
+    let is : c.args.there ≡ false = search rules in
+    if_not c.args.there (map stood c.args.list.now.items) HistoryShapes is
+
+pub returns : goal.returns
+returns c =
+    let is : c.args.there ≡ true = search rules in
+    if_there c.args.there (map stood c.args.list.now.items) (map stood c.put-5.new.list.items) HistoryShapes is
+    (one_more (map stood c.args.list.now.items) (map stood c.put.new.list.items) (map stood c.put-5.new.list.items) (stand_in false (codes "count")) (stand_in false (codes "start") ∷ stand_in false (codes "end") ∷ stand_in false (codes "query") ∷ stand_in false (codes "feed") ∷ []) c.in_ok-put.ensures (one_more (map stood c.put.new.list.items) (map stood c.put-2.new.list.items) (map stood c.put-5.new.list.items) (stand_in false (codes "start")) (stand_in false (codes "end") ∷ stand_in false (codes "query") ∷ stand_in false (codes "feed") ∷ []) c.in_ok-put-2.ensures (one_more (map stood c.put-2.new.list.items) (map stood c.put-3.new.list.items) (map stood c.put-5.new.list.items) (stand_in false (codes "end")) (stand_in false (codes "query") ∷ stand_in false (codes "feed") ∷ []) c.in_ok-put-3.ensures (one_more (map stood c.put-3.new.list.items) (map stood c.put-4.new.list.items) (map stood c.put-5.new.list.items) (stand_in false (codes "query")) (stand_in false (codes "feed") ∷ []) c.in_ok-put-4.ensures c.in_ok-put-5.ensures))))

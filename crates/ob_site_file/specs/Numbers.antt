@@ -1,0 +1,19 @@
+-- Numbers of parts.
+use Rattle.std.specs.Prelude.{ℕ, ◌+◌, ◌<◌, ◌^◌, min, List, [], ◌∷◌, Option, Some, None}
+use Rattle.ob_object.specs.Object.{parts}
+use Rattle.ob_opening.specs.Loading.{Part}
+
+-- the lesser of two numbers, of those that are there
+abbrev pub earlier : Option ℕ → Option ℕ → Option ℕ
+earlier None b = b
+earlier (Some m) None = Some m
+earlier (Some m) (Some n) = Some (min m n)
+
+-- the number of a part, and those of what is in it, fit 64 bits
+abbrev pub IsNumbered : Part → Type 0
+IsNumbered p = p.number + parts p.own < 2 ^ 64
+
+-- those of all parts do
+abbrev pub AreNumbered : List Part → Type 0
+AreNumbered [] = Unit {0}
+AreNumbered (p ∷ ps) = IsNumbered p × AreNumbered ps

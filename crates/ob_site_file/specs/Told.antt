@@ -1,0 +1,43 @@
+-- What items tell of records and rules.
+use Rattle.std.specs.Prelude.{◌≡◌, ℕ, Bool, not, IsTrue, List}
+use Rattle.std.specs.Ordering.{nat_cmp}
+use Rattle.std.specs.Cmp.Lexicographic.{slice_cmp}
+use Rattle.std.specs.BTreeSet.{BTreeSet, contains_by}
+use denote.Ref.{Bor}
+use Rattle.ob_times.specs.Times.{Instant}
+use Rattle.ob_object.specs.declared.kind.Kind.{Kind}
+use Rattle.ob_object.specs.declared.kind.Kind.TheVariants as kind
+use Rattle.ob_object.specs.Object.{Object}
+use Rattle.ob_contracts.specs.Inherit.{slot_or_default}
+use Rattle.ob_history.specs.declared.records.Record.{Record}
+use Rattle.ob_alarms.specs.declared.rule.Num.{Num}
+use Rattle.ob_alarms.specs.declared.rule.Num.TheVariants as num
+use Rattle.ob_site_rules.specs.Build.{Path}
+use Rattle.ob_site_rules.specs.State.{PointRule, is_among}
+use Rattle.ob_opening.specs.Loading.{Part, rule_in, is_bad_rule, after_rule}
+use Rattle.ob_site_file.specs.declared.rules.Limits.{Limits}
+
+-- the record of a time and a value
+abbrev pub record_by : Instant × Bor Object → Record
+record_by x = record { time = x.0; kind = x.1.now.head.kind; slot = slot_or_default x.1.now.head.kind x.1.now.head.slot }
+
+-- the kind of objects with a number
+abbrev pub num_kind : Num → Kind
+num_kind (num.Int z) = kind.Int
+num_kind (num.Real z) = kind.Real
+
+-- the rule of a source and limits
+abbrev pub rule_by : Path → Limits → PointRule
+rule_by p l = record { source = p; low = l.low; high = l.high; needs_ack = l.needs_ack }
+
+abbrev pub rule_at : Bor (List ℕ) × Limits → PointRule
+rule_at x = rule_by x.0.now x.1
+
+-- the paths that are among these
+abbrev pub Has : BTreeSet (Bor (List ℕ)) → List Path → Type 0
+Has set paths = (p : Path) → contains_by (λ k. slice_cmp nat_cmp p k.now) set ≡ is_among p paths
+
+-- an item is a rule whose source isn't among those before it, and is then among them, or it isn't
+pub record IsNext (ps : List Part) (before : List Path) (item : Object) (fresh : Bool) (new : BTreeSet (Bor (List ℕ))) : Type 0 where
+  pub same : is_bad_rule before (rule_in ps item) ≡ not fresh
+  pub has : IsTrue fresh → Has new (after_rule before (rule_in ps item))
