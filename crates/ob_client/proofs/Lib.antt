@@ -1,0 +1,7 @@
+pub mod FeedLemmas
+pub mod ShownLemmas
+pub mod TableLemmas
+pub mod OnceLemmas
+pub mod ChangeLemmas
+pub mod MirrorLemmas
+pub mod SessionLemmas

@@ -1,0 +1,7 @@
+use Rattle.std.proofs.Common.{◌≡◌, map, take}
+use Rattle.ob_watching.specs.WatchOuts.{without_name}
+use Rattle.ob_client.proofs.FeedLemmas.{grown}
+use Rattle.ob_client.proofs.kept.push_events.Given as goal
+
+abbrev pub invariant-loop-event : goal.invariant-loop-event
+invariant-loop-event l = l.feed ≡ grown l.fn.feed (map without_name (take l.event-index l.events))

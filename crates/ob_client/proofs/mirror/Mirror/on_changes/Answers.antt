@@ -1,0 +1,27 @@
+use Rattle.std.proofs.Common.{◌≡◌, List, map, ap, sym, ◌∙◌, true}
+use Rattle.std.specs.Str.{bytes_eq}
+use Rattle.ob_watching.specs.Replay.{changed_by}
+use Rattle.ob_watching.specs.WatchOuts.{Held, entry_read}
+use Rattle.ob_client.specs.Entries.{entries_once}
+use Rattle.ob_client.specs.Mirrors.{Mirrored, all_follow}
+use Rattle.ob_client.specs.Tables.{values, put_all}
+use Rattle.ob_client.proofs.ChangeLemmas.{changed_all}
+use Rattle.ob_client.proofs.MirrorLemmas.{known_entries, known_once, changed_is}
+use Rattle.ob_client.proofs.mirror.Mirror.on_changes.Goals as goal
+
+pub returns : goal.returns
+returns c =
+    let os = c.in-Some.entries.now in
+    let e = known_entries c.in_ok-entries.field-0 c.in-Some.entries (entries_once c.args.reply) c.in-Some.is c.in_ok-entries.ensures in
+    let k = known_once c.args.reply os e in
+    let old = values c.self.inside.table.entries in
+    let stale = c.self.inside.is_stale in
+    let held = c.in_ok-put_all.ensures.ok ∙ ap (λ (ns : List Held). put_all ns old) c.in_ok-news.ensures ∙ changed_all os old k.1 in
+    let follow : all_follow old os ≡ true = cc (c.all_follow.ensures, c.if-not-all_follow.false) in (
+      os,
+      (e, sym (ap (λ (m : Mirrored). all_follow m.held os) c.self.view_is) ∙ follow),
+      sym (ap (λ (m : Mirrored). m.stale) c.self.view_is) ∙ c.if-self.false,
+      ap (λ (hs : List Held). let m : Mirrored = record { held = hs; stale = stale } in m) held
+          ∙ ap (λ (m : Mirrored). let n : Mirrored = record { held = changed_by bytes_eq (map (entry_read true) os) m.held; stale = m.stale } in n) c.self.view_is
+          ∙ sym (changed_is c.args.reply c.args.self.now os k.0),
+    )

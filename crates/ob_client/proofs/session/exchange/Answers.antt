@@ -1,0 +1,15 @@
+use Rattle.ob_client.specs.Sessions.{Answers}
+use Rattle.ob_client.proofs.SessionLemmas.{asks_whole, asks_again, reads_from, reads_none, same_inlet}
+use Rattle.ob_client.proofs.session.exchange.Goals as goal
+
+pub returns-in-Ok-clause-asks : goal.returns-in-Ok-clause-asks
+returns-in-Ok-clause-asks g c = asks_whole _ _ _ _ _ _ c.answer.ensures.apart.0 c.in-Ok.ensures.asks
+
+pub returns-in-Ok-clause-reads : goal.returns-in-Ok-clause-reads
+returns-in-Ok-clause-reads g c = reads_from Answers _ _ _ _ _ _ (same_inlet _ _ _ _ c.ask.ensures.apart.0 c.ask.ensures.apart.1) c.answer.ensures.reads
+
+pub returns-in-Err-clause-reads : goal.returns-in-Err-clause-reads
+returns-in-Err-clause-reads g c = reads_none _ _ c.args.framer.now c.in-Err.fault (same_inlet _ _ _ _ c.ask.ensures.apart.0 c.ask.ensures.apart.1) c.in-Err.ensures.causes
+
+pub returns-in-Err-clause-asks : goal.returns-in-Err-clause-asks
+returns-in-Err-clause-asks g c = asks_again _ _ _ c.in-Err.fault c.in-Err.ensures.asks

@@ -1,0 +1,6 @@
+pub mod Entries
+pub mod Shown
+pub mod Feeds
+pub mod Mirrors
+pub mod Tables
+pub mod Sessions

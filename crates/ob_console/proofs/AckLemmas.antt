@@ -1,0 +1,39 @@
+-- What an acknowledgement answers.
+use Rattle.std.proofs.Common.{◌≡◌, ◌⊎◌, refl, sym, ap, subst, inl, inr}
+use Rattle.std.specs.Prelude.{Some, Result, Ok, Err}
+use Rattle.url.specs.Parts.{Parts}
+use Rattle.ob_href.specs.Href.{resolved_path}
+use Rattle.ob_href.specs.declared.fault.HrefFault.{HrefFault}
+use Rattle.ob_href.specs.declared.fault.HrefFault.TheVariants as href
+use Rattle.ob_object.specs.Object.{Object}
+use Rattle.ob_watching.specs.WatchOuts.{Text}
+use Rattle.ob_client.specs.declared.call_fault.CallFault.{CallFault}
+use Rattle.ob_console.specs.Acks.{Standing, Calls, Acknowledges, FindsTarget, ack_request, answer_as, leads_to, path_or_origin, fault_of}
+use Rattle.ob_console.specs.declared.ack_call.AckFault.{AckFault}
+use Rattle.ob_console.specs.declared.ack_call.AckFault.TheVariants.{NoSuch, Origin, Call, Memory}
+
+-- the op was called
+pub answered : (target user : Text) (old new : Standing) (answer : Result Object CallFault) → Calls (ack_request target user) old new answer → Acknowledges (Ok target) user old new (answer_as answer)
+answered target user old new (Ok o) h = (target, refl, h)
+answered target user old new (Err f) h = (target, refl, h)
+
+-- at the place that was found
+pub at_target : (leads : Result Text AckFault) (target user : Text) (old new : Standing) (result : Result Object AckFault) → leads ≡ Ok target → Acknowledges (Ok target) user old new result → Acknowledges leads user old new result
+at_target leads target user old new result e h = subst (λ (l : Result Text AckFault). Acknowledges l user old new result) (sym e) h
+
+-- nothing was found
+pub refused : (leads : Result Text AckFault) (user : Text) (at : Standing) (fault : AckFault) → FindsTarget leads (Err fault) → Acknowledges leads user at at (Err fault)
+refused leads user at NoSuch h = (h, refl)
+refused leads user at Origin h = (h, refl)
+refused leads user at (Call f) h = absurd h
+refused leads user at Memory h = refl
+
+-- where an href leads
+pub found_there : (base : Parts) (op target : Text) → resolved_path base op ≡ Ok target → leads_to base (Some op) ≡ Ok target
+found_there base op target e = ap path_or_origin e
+
+pub found_nowhere : (base : Parts) (op : Text) (e : HrefFault) → (resolved_path base op ≡ Err e) ⊎ (e ≡ href.Memory) → FindsTarget (leads_to base (Some op)) (Err (fault_of e))
+found_nowhere base op href.NotUrl h = elim h [ inl x ↦ ap path_or_origin x | inr x ↦ absurd (let f : href.NotUrl ≡ href.Memory = x in cc) ]
+found_nowhere base op href.Fragment h = elim h [ inl x ↦ ap path_or_origin x | inr x ↦ absurd (let f : href.Fragment ≡ href.Memory = x in cc) ]
+found_nowhere base op href.OtherOrigin h = elim h [ inl x ↦ ap path_or_origin x | inr x ↦ absurd (let f : href.OtherOrigin ≡ href.Memory = x in cc) ]
+found_nowhere base op href.Memory h = tt

@@ -1,0 +1,6 @@
+pub mod LegLemmas
+pub mod TalkLemmas
+pub mod PartLemmas
+pub mod TakingLemmas
+pub mod TurnLemmas
+pub mod DriverLemmas

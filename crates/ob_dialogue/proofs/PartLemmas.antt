@@ -1,0 +1,83 @@
+-- Requests and lines, one part after the other.
+use Rattle.std.proofs.Common.{◌≡◌, ℕ, zero, suc, ◌+◌, ◌<◌, true, false, cond, List, [], ◌∷◌, ◌++◌, map, length, take, get_or, Option, Some, None, Result, Ok, Err, refl, sym, ap, ◌∙◌, append_assoc, append-nil, add-one, inl, inr}
+use Rattle.std.specs.Prelude.{slice_get, option_map}
+use Rattle.std.specs.List.{filter}
+use Rattle.std.proofs.lemmas.List.{take_more, map-append}
+use Rattle.std.proofs.lemmas.List.Elements.{filter-append}
+use Rattle.ob_href.specs.Href.{Gives}
+use Rattle.ob_href.specs.declared.fault.HrefFault.{HrefFault}
+use Rattle.ob_href.specs.declared.fault.HrefFault.TheVariants as href
+use Rattle.ob_object.specs.Object.{Object, in_row, listed-in_row}
+use Rattle.ob_object.specs.WellFormed.{with_child}
+use Rattle.ob_watching.specs.WatchOuts.{Text, Held}
+use Rattle.ob_client.specs.Entries.{is_err}
+use Rattle.ob_client.specs.Shown.{shown}
+use Rattle.ob_dialogue.specs.Plans.{some_of}
+use Rattle.ob_dialogue.specs.Stages.{uri_of, hrefs_of}
+use Rattle.ob_dialogue.specs.Printing.{line, lines_of, items_text}
+use Rattle.ob_dialogue.specs.Told.{Finds}
+
+-- ---- places
+
+pub found_of : {T : Type 0} (answer expected : Result T HrefFault) (found : Option T) → Gives answer expected → Finds answer (Ok found) → found ≡ some_of expected
+found_of (Ok x) expected found g f = (let h : found ≡ Some x = cc in h) ∙ sym (ap some_of g)
+found_of (Err href.Memory) expected found g f = absurd f
+found_of (Err href.NotUrl) expected found g f =
+    elim g [ inl e ↦ (let h : found ≡ None = cc in h) ∙ sym (ap some_of e) | inr m ↦ absurd (let h : href.NotUrl ≡ href.Memory = m in cc) ]
+found_of (Err href.Fragment) expected found g f =
+    elim g [ inl e ↦ (let h : found ≡ None = cc in h) ∙ sym (ap some_of e) | inr m ↦ absurd (let h : href.Fragment ≡ href.Memory = m in cc) ]
+found_of (Err href.OtherOrigin) expected found g f =
+    elim g [ inl e ↦ (let h : found ≡ None = cc in h) ∙ sym (ap some_of e) | inr m ↦ absurd (let h : href.OtherOrigin ≡ href.Memory = m in cc) ]
+
+-- ---- hrefs of an add
+
+hrefs_then : (ts : List Text) (t : Text) → with_child (hrefs_of ts) (uri_of t) ≡ hrefs_of (ts ++ t ∷ [])
+hrefs_then ts t =
+    ap (λ (os : List Object). let x : Object = record { head = (hrefs_of ts).head; inner = in_row (os ++ uri_of t ∷ []) } in x) (listed-in_row (map uri_of ts))
+    ∙ ap (λ (os : List Object). let x : Object = record { head = (hrefs_of ts).head; inner = in_row os } in x) (sym (map-append uri_of ts (t ∷ [])))
+
+pub hrefs_more : (ts : List Text) (i : ℕ) (t : Text) → i < length ts → t ≡ get_or ts i t → with_child (hrefs_of (take i ts)) (uri_of t) ≡ hrefs_of (take (i + 1) ts)
+hrefs_more ts i t lt at =
+    hrefs_then (take i ts) t ∙ ap (λ (x : Text). hrefs_of (take i ts ++ x ∷ [])) at ∙ sym (ap hrefs_of (take_more ts i t lt))
+
+-- ---- lines
+
+items_next : (hs : List Held) (i : ℕ) (o : Object) → Some o ≡ option_map shown (slice_get hs i) → items_text (take i hs) ++ line o ≡ items_text (take (suc i) hs)
+items_next [] i o h = absurd (let e : Some o ≡ None = h in cc)
+items_next (x ∷ hs) zero o h =
+    let same : o ≡ shown x = cc in
+    ap line same ∙ sym (append-nil (line (shown x)))
+items_next (x ∷ hs) (suc i) o h = append_assoc (line (shown x)) (items_text (take i hs)) (line o) ∙ ap (λ (t : List ℕ). line (shown x) ++ t) (items_next hs i o h)
+
+-- a line more
+pub items_more : (hs : List Held) (i : ℕ) (o : Object) → Some o ≡ option_map shown (slice_get hs i) → items_text (take i hs) ++ line o ≡ items_text (take (i + 1) hs)
+items_more hs i o h = items_next hs i o h ∙ ap (λ (n : ℕ). items_text (take n hs)) (sym (add-one i))
+
+-- no line more
+pub items_all : (hs : List Held) (i : ℕ) → None ≡ option_map shown (slice_get hs i) → items_text (take i hs) ≡ items_text hs
+items_all [] zero h = refl
+items_all [] (suc i) h = refl
+items_all (x ∷ hs) zero h = absurd (let e : None ≡ Some (shown x) = h in cc)
+items_all (x ∷ hs) (suc i) h = ap (λ (t : List ℕ). line (shown x) ++ t) (items_all hs i h)
+
+abbrev none_of : List Object
+none_of = []
+
+lines_then : (os ps : List Object) → lines_of (os ++ ps) ≡ lines_of os ++ lines_of ps
+lines_then [] ps = refl
+lines_then (o ∷ os) ps = ap (λ (t : List ℕ). line o ++ t) (lines_then os ps) ∙ sym (append_assoc (line o) (lines_of os) (lines_of ps))
+
+-- an err more
+pub errs_more : (es : List Object) (i : ℕ) (e : Object) → i < length es → e ≡ get_or es i e → is_err e ≡ true → lines_of (filter is_err (take i es)) ++ line e ≡ lines_of (filter is_err (take (i + 1) es))
+errs_more es i e lt at err =
+    let kept : filter is_err (e ∷ []) ≡ e ∷ [] = ap (λ b. cond b (e ∷ []) []) err in
+    ap (λ (t : List ℕ). lines_of (filter is_err (take i es)) ++ t) (sym (append-nil (line e)) ∙ sym (ap lines_of kept))
+    ∙ sym (lines_then (filter is_err (take i es)) (filter is_err (e ∷ [])))
+    ∙ ap lines_of (sym (filter-append is_err (take i es) (e ∷ [])) ∙ ap (λ (x : Object). filter is_err (take i es ++ x ∷ [])) at ∙ sym (ap (filter is_err) (take_more es i e lt)))
+
+-- an entry that is passed over
+pub errs_same : (es : List Object) (i : ℕ) (e : Object) → i < length es → e ≡ get_or es i e → is_err e ≡ false → lines_of (filter is_err (take i es)) ≡ lines_of (filter is_err (take (i + 1) es))
+errs_same es i e lt at other =
+    let gone : filter is_err (e ∷ []) ≡ none_of = ap (λ b. cond b (e ∷ []) none_of) other in
+    ap lines_of (sym (append-nil (filter is_err (take i es))) ∙ ap (λ (os : List Object). filter is_err (take i es) ++ os) (sym gone)
+    ∙ sym (filter-append is_err (take i es) (e ∷ [])) ∙ ap (λ (x : Object). filter is_err (take i es ++ x ∷ [])) at ∙ sym (ap (filter is_err) (take_more es i e lt)))

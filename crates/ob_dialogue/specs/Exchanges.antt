@@ -1,0 +1,54 @@
+-- A request and its reply.
+use Rattle.std.specs.Prelude.{◌≡◌, ℕ, List, Option, Some, None, Ok, Err}
+use Rattle.ob_io.specs.Links.{Inlet}
+use Rattle.ob_object.specs.Object.{Object}
+use Rattle.ob_http.specs.Asking.{request_text}
+use Rattle.ob_watching.specs.WatchOuts.{Text}
+use Rattle.ob_client.specs.Sessions.{body_text, Answers, Asks, Reads}
+use Rattle.ob_client.specs.declared.call_fault.CallFault.{CallFault}
+use Rattle.ob_client.specs.declared.call_fault.CallFault.TheVariants as fault
+use Rattle.ob_dialogue.specs.Plans.{Request}
+use Rattle.ob_dialogue.specs.Stages.{Stage, request_at}
+use Rattle.ob_dialogue.specs.declared.link.Exchange.{Exchange}
+use Rattle.ob_dialogue.specs.declared.link.Exchange.TheVariants as exchange
+
+-- what is told of a link, and the bytes that are kept of it
+pub record Wire : Type 0 where
+  pub inlet : Inlet
+  pub sent : Option (List ℕ)
+  pub kept : List ℕ
+
+abbrev pub wire : Inlet → Option (List ℕ) → List ℕ → Wire
+wire inlet sent kept = record { inlet = inlet; sent = sent; kept = kept }
+
+-- the text of a request, as this host is asked
+abbrev pub text_of : Text → Request → List ℕ
+text_of host q = request_text q.verb q.target host (body_text q.body)
+
+-- this was asked, and so was it answered
+pub record Called (host : Text) (s : Stage) (old new : Wire) (reply : Object) : Type 0 where
+  pub request : Request
+  pub is : request_at s ≡ Some request
+  pub asks : Asks {T = Object} old.sent new.sent (text_of host request) (Ok reply)
+  pub reads : Reads Answers old.inlet new.inlet old.kept new.kept (Ok reply)
+
+-- this was asked, and the call gave no object
+pub record Faulted (host : Text) (s : Stage) (old new : Wire) (f : CallFault) : Type 0 where
+  pub request : Request
+  pub is : request_at s ≡ Some request
+  pub asks : Asks {T = Object} old.sent new.sent (text_of host request) (Err f)
+  pub reads : Reads Answers old.inlet new.inlet old.kept new.kept (Err f)
+
+abbrev pub Exchanges : Text → Stage → Wire → Wire → Exchange → Type 0
+Exchanges host s old new exchange.Over = (request_at s ≡ None) × (new ≡ old)
+Exchanges host s old new exchange.Memory = new ≡ old
+Exchanges host s old new (exchange.Reply o) = Called host s old new o
+Exchanges host s old new (exchange.Fault f) = Faulted host s old new f
+
+abbrev pub Replied : Exchange → Type 0
+Replied (exchange.Reply o) = Unit {0}
+Replied _ = ⊥
+
+abbrev pub FailedByLink : Exchange → Type 0
+FailedByLink (exchange.Fault f) = f ≡ fault.Link
+FailedByLink _ = ⊥

@@ -1,0 +1,10 @@
+pub mod Plans
+pub mod Stages
+pub mod Printing
+pub mod Taking
+pub mod Words
+pub mod Turns
+pub mod Links
+pub mod Legs
+pub mod Exchanges
+pub mod Told

@@ -1,0 +1,148 @@
+//! What is printed.
+ghost use Rattle.std.specs.Prelude.{◌≡◌, ◌++◌, IfOk, OnOk, filter, option_map};
+ghost use Rattle.ob_client.specs.Entries.{is_err};
+ghost use Rattle.ob_console.specs.Told as boards;
+ghost use Rattle.ob_dialogue.specs.Printing.{line, lines_of, items_text, events_of, board_in, body_text, add_heading, poll_heading};
+ghost use Rattle.ob_dialogue.specs.Told as told;
+
+use crate::plan::Topic;
+use crate::stage::Watching;
+use ob_client::Mirror;
+use ob_console::{Board, BoardFault, print_board};
+use ob_encode::write;
+use ob_object::{Kind, Obj};
+use std::alloc::{AllocError, Global};
+
+/// The heading of an add.
+pub(crate) fn add_heading(alloc: Global) -> Result<Vec<u8>, AllocError>
+    ensures { IfOk result (λ text. text.items ≡ add_heading) }
+{
+    let mut text = Vec::new(alloc);
+    text.extend_from_slice(b"# add\n")?;
+    Ok(text)
+}
+
+/// The heading of a poll.
+pub(crate) fn poll_heading(alloc: Global, poll: u64) -> Result<Vec<u8>, AllocError>
+    ensures { IfOk result (λ text. text.items ≡ poll_heading poll) }
+{
+    let heading = format!(in alloc; "# {poll}\n")?;
+    let mut text = Vec::new(alloc);
+    text.extend_from_slice(heading.as_bytes())?;
+    Ok(text)
+}
+
+// An object on a line.
+fn line(out: &mut Vec<u8>, object: &Obj) -> Result<(), AllocError>
+    ensures { OnOk result (out.new.items ≡ out.old.items ++ line object.now) }
+{
+    write(None, object, out)?;
+    out.push(b'\n')?;
+    Ok(())
+}
+
+// A line for each item of the mirror.
+fn items(alloc: Global, mirror: &Mirror) -> Result<Vec<u8>, AllocError>
+    ensures { IfOk result (λ text. text.items ≡ items_text mirror.now.held) }
+{
+    let mut out = Vec::new(alloc);
+    for place in 0..u64::MAX {
+        match mirror.at(place) {
+            Some(object) => line(&mut out, object)?,
+            None => return Ok(out),
+        }
+    }
+    Err(AllocError)
+}
+
+// The entries of a WatchOut.
+fn entries(reply: &Obj) -> &[Obj]
+    ensures { told.AreEntries reply.now result.now }
+{
+    match reply.child("values") {
+        Some(values) => values.children(),
+        None => &[],
+    }
+}
+
+// A line for each err.
+fn err_lines(alloc: Global, entries: &[Obj]) -> Result<Vec<u8>, AllocError>
+    ensures { IfOk result (λ text. text.items ≡ lines_of (filter is_err entries.now)) }
+{
+    let mut out = Vec::new(alloc);
+    for entry in entries {
+        if entry.kind().same(Kind::Err) {
+            line(&mut out, entry)?;
+        }
+    }
+    Ok(out)
+}
+
+/// The lines that stand behind the items of an add: of the errs of the reply, where items are printed.
+pub(crate) fn errs(alloc: Global, topic: &Topic, reply: &Obj) -> Result<Vec<u8>, AllocError>
+    ensures { IfOk result (λ text. told.AreErrs (told.watched topic.now) reply.now text.items) }
+{
+    match topic {
+        Topic::Watch { hrefs: _ } => err_lines(alloc, entries(reply)),
+        Topic::Console {
+            subject: _,
+            ack: _,
+            user: _,
+        } => Ok(Vec::new(alloc)),
+    }
+}
+
+// The events of the feed that was added.
+fn events_in(watching: &Watching) -> &[Obj]
+    ensures { result.now ≡ events_of watching.now.asked.items watching.now.mirror.held }
+{
+    match watching.asked.first() {
+        Some(feed) => watching.mirror.events(feed.as_str()),
+        None => &[],
+    }
+}
+
+// What the making of a board answers. An error only for want of memory.
+fn made(answer: Result<Board, BoardFault>) -> Result<Option<Board>, AllocError>
+    ensures { told.Makes answer result }
+{
+    match answer {
+        Ok(board) => Ok(Some(board)),
+        Err(BoardFault::Shape { place: _ }) => Ok(None),
+        Err(BoardFault::Memory) => Err(AllocError),
+    }
+}
+
+/// The board of the feed that was added; None where an event is no alarm.
+pub(crate) fn board_in(alloc: Global, watching: &Watching) -> Result<Option<Board>, AllocError>
+    ensures { IfOk result (λ board. option_map boards.lines_of board ≡ board_in (told.watching watching.now)) }
+{
+    made(Board::of(alloc, events_in(watching)))
+}
+
+/// What stands under a heading: the items, or the board.
+pub(crate) fn body(
+    alloc: Global,
+    topic: &Topic,
+    watching: &Watching,
+) -> Result<Option<Vec<u8>>, AllocError>
+    ensures { IfOk result (λ text. option_map told.bytes text ≡ body_text (told.watched topic.now) (told.watching watching.now)) }
+{
+    match topic {
+        Topic::Watch { hrefs: _ } => {
+            let text = items(alloc, &watching.mirror)?;
+            Ok(Some(text))
+        }
+        Topic::Console {
+            subject: _,
+            ack: _,
+            user: _,
+        } => {
+            let Some(board) = board_in(alloc, watching)? else {
+                return Ok(None);
+            };
+            let text = print_board(alloc, &board)?;
+            Ok(Some(text))
+        }
+    }
+}

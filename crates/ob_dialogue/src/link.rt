@@ -1,0 +1,224 @@
+//! A dialogue on one link.
+ghost use Rattle.std.specs.Prelude.{◌≡◌, ◌⊎◌, ◌≤◌, Ok, false};
+ghost use Rattle.ob_io.specs.Faults.{Rose};
+ghost use Rattle.ob_io.specs.Links.{inlet};
+ghost use Rattle.ob_dialogue.specs.Legs.{Goes, Leg, had, ending_of, ended_by};
+ghost use Rattle.ob_dialogue.specs.Exchanges.{Exchanges, Replied, FailedByLink, wire};
+ghost use Rattle.ob_dialogue.specs.Told as told;
+
+use crate::ending::{Ending, Peer};
+use crate::plan::Plan;
+use crate::request::request_at;
+use crate::stage::{Stage, is_poll, mended};
+use crate::taking::{Outcome, taken};
+use ob_client::{CallFault, Session};
+use ob_io::{Link, Sink, write_all};
+use ob_object::Obj;
+use std::alloc::{AllocError, Global};
+
+/// Why a dialogue goes on no more on a link.
+#[derive(Drop)]
+pub(crate) enum Pause {
+    /// It ended.
+    Ended(Ending),
+    /// A poll is mended on a further link: this one failed.
+    Failed(Stage),
+    /// A poll is mended on a further link: this one ended.
+    Cut(Stage),
+}
+
+/// What comes of asking.
+#[derive(Drop)]
+pub(crate) enum Exchange {
+    /// Nothing more is to be asked.
+    Over,
+    /// There was no memory to ask.
+    Memory,
+    /// The reply's object.
+    Reply(Obj),
+    /// The call gave none.
+    Fault(CallFault),
+}
+
+/// What comes of a request and its reply.
+#[derive(Drop)]
+pub(crate) enum Turned {
+    /// The dialogue goes on.
+    Next(Stage),
+    /// It doesn't, on this link.
+    Paused(Pause),
+}
+
+// What a fault of a call makes of a stage.
+fn broken(stage: Stage, fault: CallFault, mends: bool) -> Pause
+    requires { told.IsLive stage }
+    ensures ends { ending_of (told.pause result) ≡ ended_by fault }
+    ensures goes { Goes mends (Ok (told.stage stage)) (told.pause result) }
+    ensures live { told.PauseIsLive result }
+{
+    let can_mend = mends && is_poll(&stage);
+    match fault {
+        CallFault::Link => {
+            if can_mend {
+                Pause::Failed(mended(stage))
+            } else {
+                Pause::Ended(Ending::Link)
+            }
+        }
+        CallFault::Ended => {
+            if can_mend {
+                Pause::Cut(mended(stage))
+            } else {
+                Pause::Ended(Ending::Peer(Peer::Ended))
+            }
+        }
+        CallFault::PeerStatus { number } => Pause::Ended(Ending::Peer(Peer::Status(number))),
+        CallFault::PeerDocument(refused) => Pause::Ended(Ending::Peer(Peer::Document(refused))),
+        CallFault::PeerFrame(fault) => Pause::Ended(Ending::Peer(Peer::Frame(fault))),
+        CallFault::Dead => Pause::Ended(Ending::Memory),
+        CallFault::Memory => Pause::Ended(Ending::Memory),
+    }
+}
+
+// Asks what comes next, and reads the reply.
+fn ask<L: Link>(alloc: Global, stage: &Stage, session: &mut Session<L>) -> Exchange
+    requires { session.old.is_dead ≡ false }
+    ensures exchanges { Exchanges session.old.host (told.stage stage.now)
+        (wire (inlet (L.left session.old.link) (L.taken session.old.link)) (L.held session.old.link) session.old.framer)
+        (wire (inlet (L.left session.new.link) (L.taken session.new.link)) (L.held session.new.link) session.new.framer)
+        result }
+    ensures alive { Replied result → session.new.is_dead ≡ false }
+    ensures host { session.new.host ≡ session.old.host }
+    ensures later { (L.read_faults session.old.link ≤ L.read_faults session.new.link)
+        × (L.write_faults session.old.link ≤ L.write_faults session.new.link) }
+    ensures link { FailedByLink result → Rose (L.read_faults session.old.link) (L.read_faults session.new.link)
+        ⊎ Rose (L.write_faults session.old.link) (L.write_faults session.new.link) }
+{
+    let Ok(asked) = request_at(alloc, stage) else {
+        return Exchange::Memory;
+    };
+    let Some(request) = asked else {
+        return Exchange::Over;
+    };
+    match session.call(request.verb, &request.target, request.body.as_ref()) {
+        Ok(reply) => Exchange::Reply(reply),
+        Err(fault) => Exchange::Fault(fault),
+    }
+}
+
+// The dialogue goes on, or the other side ended it.
+fn reached(next: Result<Stage, Peer>) -> Turned
+    requires { told.NextIsLive next }
+    ensures reaches { told.Reaches (told.reached next) result }
+    ensures live { told.TurnedIsLive result }
+    ensures link { told.TurnsByLink result → ⊥ }
+    ensures sink { told.TurnsBySink result → ⊥ }
+{
+    match next {
+        Ok(stage) => Turned::Next(stage),
+        Err(peer) => Turned::Paused(Pause::Ended(Ending::Peer(peer))),
+    }
+}
+
+// The sink failed.
+fn cut_off(_next: Result<Stage, Peer>) -> Turned
+    ensures { told.IsCutOff result }
+{
+    Turned::Paused(Pause::Ended(Ending::Write))
+}
+
+// Prints what a reply gives.
+fn print<K: Sink>(sink: &mut K, lines: &[u8], next: Result<Stage, Peer>) -> Turned
+    requires { told.NextIsLive next }
+    ensures prints { told.Prints (K.held sink.old) (K.held sink.new) (told.step lines.now next) result }
+    ensures live { told.TurnedIsLive result }
+    ensures later { K.faults sink.old ≤ K.faults sink.new }
+    ensures sink { told.TurnsBySink result → Rose (K.faults sink.old) (K.faults sink.new) }
+    ensures link { told.TurnsByLink result → ⊥ }
+{
+    match write_all(sink, lines) {
+        Ok(()) => reached(next),
+        Err(_) => cut_off(next),
+    }
+}
+
+// Prints what a reply gives at a stage.
+fn give<K: Sink>(alloc: Global, plan: &Plan, stage: Stage, reply: Obj, sink: &mut K) -> Turned
+    requires { told.IsLive stage }
+    ensures gives { told.Gives (K.held sink.old) (K.held sink.new) (told.program plan.now) (told.stage stage) reply result }
+    ensures live { told.TurnedIsLive result }
+    ensures later { K.faults sink.old ≤ K.faults sink.new }
+    ensures sink { told.TurnsBySink result → Rose (K.faults sink.old) (K.faults sink.new) }
+    ensures link { told.TurnsByLink result → ⊥ }
+{
+    match taken(alloc, plan, stage, reply) {
+        Ok(outcome) => {
+            let Outcome { lines, next } = outcome;
+            print(sink, &lines, next)
+        }
+        Err(AllocError) => Turned::Paused(Pause::Ended(Ending::Memory)),
+    }
+}
+
+// Writes a request, reads its reply and prints what it gives.
+fn turn<L: Link, K: Sink>(
+    alloc: Global,
+    plan: &Plan,
+    stage: Stage,
+    session: &mut Session<L>,
+    sink: &mut K,
+    mends: bool,
+) -> Turned
+    requires live { told.IsLive stage }
+    requires alive { session.old.is_dead ≡ false }
+    ensures turns { told.Turns (told.program plan.now) session.old.host mends (told.stage stage)
+        (had (inlet (L.left session.old.link) (L.taken session.old.link)) (L.held session.old.link) session.old.framer (K.held sink.old))
+        (had (inlet (L.left session.new.link) (L.taken session.new.link)) (L.held session.new.link) session.new.framer (K.held sink.new))
+        result }
+    ensures live { told.TurnedIsLive result }
+    ensures alive { told.IsNext result → session.new.is_dead ≡ false }
+    ensures host { session.new.host ≡ session.old.host }
+    ensures later { (L.read_faults session.old.link ≤ L.read_faults session.new.link)
+        × (L.write_faults session.old.link ≤ L.write_faults session.new.link) × (K.faults sink.old ≤ K.faults sink.new) }
+    ensures link { told.TurnsByLink result → Rose (L.read_faults session.old.link) (L.read_faults session.new.link)
+        ⊎ Rose (L.write_faults session.old.link) (L.write_faults session.new.link) }
+    ensures sink { told.TurnsBySink result → Rose (K.faults sink.old) (K.faults sink.new) }
+{
+    match ask(alloc, &stage, session) {
+        Exchange::Over => Turned::Paused(Pause::Ended(Ending::Done)),
+        Exchange::Memory => Turned::Paused(Pause::Ended(Ending::Memory)),
+        Exchange::Fault(fault) => Turned::Paused(broken(stage, fault, mends)),
+        Exchange::Reply(reply) => give(alloc, plan, stage, reply, sink),
+    }
+}
+
+/// The dialogue from a stage on, on one link.
+pub(crate) fn on_link<L: Link, K: Sink>(
+    alloc: Global,
+    plan: &Plan,
+    stage: Stage,
+    session: &mut Session<L>,
+    sink: &mut K,
+    mends: bool,
+) -> Pause
+    requires live { told.IsLive stage }
+    requires alive { session.old.is_dead ≡ false }
+    ensures leg { Leg (told.program plan.now) session.old.host mends (Ok (told.stage stage))
+        (had (inlet (L.left session.old.link) (L.taken session.old.link)) (L.held session.old.link) session.old.framer (K.held sink.old))
+        (had (inlet (L.left session.new.link) (L.taken session.new.link)) (L.held session.new.link) session.new.framer (K.held sink.new))
+        (told.pause result) }
+    ensures live { told.PauseIsLive result }
+    ensures later { K.faults sink.old ≤ K.faults sink.new }
+    ensures link { told.IsLinkFault result → Rose (L.read_faults session.old.link) (L.read_faults session.new.link)
+        ⊎ Rose (L.write_faults session.old.link) (L.write_faults session.new.link) }
+    ensures sink { told.IsSinkFault result → Rose (K.faults sink.old) (K.faults sink.new) }
+{
+    let mut stage = stage;
+    'turns: for _turn in 0..u64::MAX {
+        match turn(alloc, plan, stage, session, sink, mends) {
+            Turned::Next(next) => stage = next,
+            Turned::Paused(pause) => return pause,
+        }
+    }
+    Pause::Ended(Ending::Memory)
+}
