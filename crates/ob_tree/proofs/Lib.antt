@@ -1,0 +1,14 @@
+pub mod LaidOut
+pub mod Reading
+pub mod Changing
+pub mod Naming
+pub mod Placed
+pub mod Standing
+pub mod Leaves
+pub mod Touched
+pub mod Contexts
+pub mod Parts
+pub mod Growing
+pub mod Wholes
+pub mod Named
+pub mod Within

@@ -1,0 +1,7 @@
+use Rattle.std.proofs.Common.{IsTrue, subst, sym, ◌∙◌}
+use Rattle.ob_object.specs.declared.head.Head.{Head}
+use Rattle.ob_object.specs.Fits.{fits_head}
+use Rattle.ob_tree.proofs.laying.put_leaf.Goals as goal
+
+pub from_head-requires : goal.from_head-requires
+from_head-requires c = subst (λ (h : Head). IsTrue (fits_head h)) (sym (c.in_ok-head.ensures ∙ c.head.ensures.value)) c.head.ensures.fits

@@ -1,0 +1,21 @@
+//! The tree of a site: every object a place of its own, and each node found by its path.
+//!
+//! A `Tree` stands for an object, the stamp of each part, and the number of steps (`specs/Trees.antt`).
+//! The parts of the object are numbered in document order, from 0. Each is kept as
+//! an object without children, beside the number of the part that it is in and of the first part behind it.
+#![tactic(auto)]
+
+mod children;
+mod fault;
+mod laying;
+mod node;
+mod paths;
+mod shown;
+mod spot;
+mod touching;
+mod tree;
+
+pub use fault::TreeFault;
+pub use node::NodeId;
+pub use paths::node_path;
+pub use tree::Tree;

@@ -1,0 +1,95 @@
+//! What a tree shows at an object: all that it inherits where it stands.
+ghost use Rattle.std.specs.Prelude.{◌≡◌, ◌<◌, length, slice_get, Some, IfOk, OnOk, false};
+ghost use Rattle.ob_object.specs.Object.{children};
+ghost use Rattle.ob_object.specs.WellFormed.{is_taken, with_child};
+ghost use Rattle.ob_standing.specs.Standings.{context};
+ghost use Rattle.ob_tree.specs.Laid.{object_of, said};
+ghost use Rattle.ob_tree.specs.Shown.{part_at, standing_at, AreLaid};
+
+use crate::spot::Spot;
+use ob_contracts::Library;
+use ob_object::{Head, Obj};
+use ob_standing::Standing;
+use std::alloc::{AllocError, Global};
+
+/// The object of a number, without its children.
+pub(crate) fn leaf_in(leaves: &[Obj], place: usize) -> &Obj
+    requires { place < length leaves.now }
+    ensures { slice_get leaves.now place ≡ Some result.now }
+{
+    &leaves[place]
+}
+
+/// What the object of a number says of itself.
+pub(crate) fn head_in(leaves: &[Obj], place: usize) -> &Head
+    requires { place < length leaves.now }
+    ensures { slice_get (said leaves.now) place ≡ Some result.now }
+{
+    leaf_in(leaves, place).head()
+}
+
+/// Where the object of a number stands.
+pub(crate) fn spot_in(spots: &[Spot], place: usize) -> Spot
+    requires { place < length spots.now }
+    ensures { slice_get spots.now place ≡ Some result }
+{
+    spots[place]
+}
+
+/// Where the object of a number stands among those round it.
+pub(crate) fn standing_of<'a>(
+    library: &'a Library,
+    leaves: &'a [Obj],
+    spots: &[Spot],
+    at: usize,
+) -> Standing<'a>
+    requires laid { AreLaid (said leaves.now) spots.now }
+    requires within { at < length leaves.now }
+    ensures { Some (context result) ≡ standing_at library.now at (object_of (said leaves.now) spots.now) }
+{
+    let spot = spot_in(spots, at);
+    match spot.parent {
+        Some(parent) => {
+            let round = standing_of(library, leaves, spots, parent);
+            let own = leaf_in(leaves, parent);
+            let child = leaf_in(leaves, at);
+            round.inside(own, child.name())
+        }
+        None => Standing::at_root(library),
+    }
+}
+
+/// Puts a child last whose name no child has.
+fn put_last(made: &mut Obj, child: Obj) -> Result<(), AllocError>
+    requires { is_taken child.head.name (children made.old) ≡ false }
+    ensures { OnOk result (made.new ≡ with_child made.old child) }
+{
+    match made.push_new(child) {
+        Ok(()) => Ok(()),
+        Err(_) => Err(AllocError),
+    }
+}
+
+/// A copy of an object with all that is in it.
+pub(crate) fn grown(
+    alloc: Global,
+    leaves: &[Obj],
+    spots: &[Spot],
+    at: usize,
+) -> Result<Obj, AllocError>
+    requires laid { AreLaid (said leaves.now) spots.now }
+    requires within { at < length leaves.now }
+    ensures { IfOk result (λ made. Some made ≡ part_at at (object_of (said leaves.now) spots.now)) }
+{
+    let head = head_in(leaves, at).copy()?;
+    let spot = spot_in(spots, at);
+    let mut made = Obj::from_head(alloc, head);
+    let mut next = at + 1;
+    for place in 0..spot.len {
+        let child = grown(alloc, leaves, spots, next)?;
+        let behind = spot_in(spots, next);
+        put_last(&mut made, child)?;
+        next = behind.end;
+    }
+    Ok(made)
+}

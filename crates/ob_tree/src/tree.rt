@@ -1,0 +1,301 @@
+//! The tree.
+ghost use Rattle.std.specs.Prelude.{◌≡◌, ℕ, ◌<◌, ◌+◌, ◌^◌, ◌-◌, [], map, length, replicate, IsTrue, Some, None, IfSome, IfOk, MatchResult, option_map, option_and_then, slice_get};
+ghost use Rattle.std.specs.Option.{option_copied};
+ghost use Rattle.ob_object.specs.declared.head.Head.{Head};
+ghost use Rattle.ob_object.specs.Fits.{fits_slot};
+ghost use Rattle.ob_object.specs.Object.{parts};
+ghost use Rattle.ob_tree.specs.Paths.{node_path, place_of, first_twice};
+ghost use Rattle.ob_tree.specs.Laid.{head_at, leaf, parent_at, paths, changed};
+ghost use Rattle.ob_tree.specs.Stamps.{touched};
+ghost use Rattle.ob_tree.specs.Children.{child_at, place_at};
+ghost use Rattle.ob_tree.specs.Shown.{shown_at, standing_at};
+ghost use Rattle.ob_standing.specs.Standings.{context};
+ghost use Rattle.ob_tree.specs.Trees.{Stamped, IsUnbuilt};
+
+use crate::children::child_of;
+use crate::fault::TreeFault;
+use crate::laying::{lay_leaves, lay_spots, places_of};
+use crate::node::NodeId;
+use crate::paths::node_path;
+use crate::shown::{grown, standing_of};
+use crate::spot::Spot;
+use crate::touching::{renumber, stamp_up};
+use ob_contracts::Library;
+use ob_object::{Obj, Slot, Status};
+use ob_standing::Standing;
+use ob_values::Text;
+use std::alloc::{AllocError, Global};
+use std::collections::BTreeMap;
+use std::marker::Model;
+
+/// The tree of a site.
+pub struct Tree {
+    // Each object without its children, in document order.
+    leaves: Vec<Obj>,
+    // Where each stands.
+    spots: Vec<Spot>,
+    stamps: Vec<u64>,
+    // Where the node of each path stands.
+    places: BTreeMap<String, usize>,
+    steps: u64,
+}
+
+impl Drop for Tree {
+    // By one call for each part, so that to drop a tree is one call to whoever may have to.
+    fn drop(self) {
+        let Tree {
+            leaves,
+            spots,
+            stamps,
+            places,
+            steps: _,
+        } = self;
+        drop(leaves);
+        drop(spots);
+        drop(stamps);
+        drop(places);
+    }
+}
+
+impl Model for Tree {
+    ghost use Rattle.ob_object.specs.contracts.object.Obj.{the_row};
+    ghost use Rattle.ob_tree.specs.Laid.{object_of, said};
+    ghost use Rattle.ob_tree.specs.Trees.{Stamped, stamped_code, IsArena};
+
+    ghost Value = { Stamped };
+
+    ghost coded = { stamped_code the_row.coded };
+
+    ghost view = { λ a. record { root = object_of (said a.leaves.items) a.spots.items; stamps = a.stamps.items; steps = a.steps } };
+
+    ghost invariant = { λ a. IsArena a.leaves.items a.spots.items a.stamps.items a.places };
+}
+
+/// So many stamps that were never set.
+fn unstamped(alloc: Global, count: usize) -> Result<Vec<u64>, AllocError>
+    ensures { IfOk result (λ stamps. stamps.items ≡ replicate count 0) }
+{
+    vec![in alloc; 0; count]
+}
+
+/// An object laid out: its parts, where they stand, their stamps and the nodes by their paths, or the first
+/// path that a node before has.
+fn laid(alloc: Global, root: &Obj) -> Result<Result<Tree, Text>, AllocError>
+    ensures { IfOk result (λ made. MatchResult made
+        (λ tree. (first_twice [] (paths root.now) ≡ None) × (tree ≡ record { root = root.now; stamps = replicate (parts root.now) 0; steps = 0 }))
+        (λ path. first_twice [] (paths root.now) ≡ Some path)) }
+{
+    let _head = root.head();
+    let mut leaves = Vec::new(alloc);
+    lay_leaves(alloc, &mut leaves, root)?;
+    let mut spots = Vec::new(alloc);
+    lay_spots(&mut spots, None, root)?;
+    let stamps = unstamped(alloc, leaves.len())?;
+    match places_of(alloc, &leaves)? {
+        Ok(places) => Ok(Ok(Tree {
+            leaves,
+            spots,
+            stamps,
+            places,
+            steps: 0,
+        })),
+        Err(path) => Ok(Err(path)),
+    }
+}
+
+impl Tree {
+    /// The tree of an object, in which nothing was touched. PathTwice exactly where two nodes have one path,
+    /// with the first path in document order that a node before has; Memory only for want of memory.
+    pub fn build(alloc: Global, root: Obj) -> Result<Tree, TreeFault>
+        ensures { MatchResult result
+            (λ tree. (first_twice [] (paths root) ≡ None) × (tree ≡ record { root = root; stamps = replicate (parts root) 0; steps = 0 }))
+            (λ fault. IsUnbuilt root fault) }
+    {
+        match laid(alloc, &root) {
+            Ok(Ok(tree)) => Ok(tree),
+            Ok(Err(path)) => Err(TreeFault::PathTwice { path }),
+            Err(_) => Err(TreeFault::Memory),
+        }
+    }
+
+    /// The node of a path.
+    pub fn get(&self, path: &Text) -> Option<NodeId>
+        ensures place { option_map (λ id. id.number) result ≡ place_of path.now (paths self.now.root) }
+        ensures within { IfSome result (λ id. id.number < parts self.now.root) }
+    {
+        match self.places.get(path.as_str()) {
+            Some(place) => Some(NodeId {
+                number: *place as u64,
+            }),
+            None => None,
+        }
+    }
+
+    /// The number of objects: each number below it is that of one.
+    pub fn len(&self) -> u64
+        ensures { result ≡ parts self.now.root }
+    {
+        self.leaves.as_slice().len() as u64
+    }
+
+    /// The object without its children.
+    pub fn own(&self, id: NodeId) -> &Obj
+        requires { id.number < parts self.now.root }
+        ensures { Some result.now ≡ option_map leaf (head_at id.number self.now.root) }
+    {
+        &self.leaves[id.number as usize]
+    }
+
+    /// The path, if it is a node.
+    pub fn path(&self, id: NodeId) -> Option<&Text>
+        requires { id.number < parts self.now.root }
+        ensures { option_copied result ≡ option_and_then node_path (head_at id.number self.now.root) }
+    {
+        node_path(self.own(id).head())
+    }
+
+    /// The object that it is in.
+    pub fn parent(&self, id: NodeId) -> Option<NodeId>
+        requires { id.number < parts self.now.root }
+        ensures parent { option_map (λ id. id.number) result ≡ parent_at id.number self.now.root }
+        ensures within { IfSome result (λ parent. parent.number < id.number) }
+    {
+        match self.spots[id.number as usize].parent {
+            Some(place) => Some(NodeId {
+                number: place as u64,
+            }),
+            None => None,
+        }
+    }
+
+    /// The child of a name, looked for among the children one by one.
+    pub fn child(&self, id: NodeId, name: &str) -> Option<NodeId>
+        requires { id.number < parts self.now.root }
+        ensures child { option_map (λ id. id.number) result ≡ child_at id.number name.now self.now.root }
+        ensures within { IfSome result (λ child. child.number < parts self.now.root) }
+    {
+        let leaves = self.leaves.as_slice();
+        let spots = self.spots.as_slice();
+        match child_of(leaves, spots, id.number as usize, name) {
+            Some(place) => Some(NodeId {
+                number: place as u64,
+            }),
+            None => None,
+        }
+    }
+
+    /// The number of an object among those of another, in document order, that one being 0. None where it is
+    /// not one of them, or where the number is no u32.
+    pub fn place(&self, id: NodeId, inside: NodeId) -> Option<u32>
+        requires { inside.number < parts self.now.root }
+        ensures { result ≡ place_at id.number inside.number self.now.root }
+    {
+        let spot = self.spots[inside.number as usize];
+        if id.number < inside.number {
+            return None;
+        }
+        if spot.end as u64 <= id.number {
+            return None;
+        }
+        let place = id.number - inside.number;
+        if place < 4_294_967_296 {
+            Some(place as u32)
+        } else {
+            None
+        }
+    }
+
+    /// Sets the slot, whose value is of the kind, and gives the old one.
+    pub fn set(&mut self, id: NodeId, slot: Slot) -> Slot
+        requires within { id.number < parts self.old.root }
+        requires fits { (h : Head) → head_at id.number self.old.root ≡ Some h → IsTrue (fits_slot h.kind slot) }
+        ensures old { Some result ≡ option_map (λ h. h.slot) (head_at id.number self.old.root) }
+        ensures new { self.new ≡ record self.old { root = changed (λ h. record h { slot = slot }) id.number self.old.root } }
+        ensures len { parts self.new.root ≡ parts self.old.root }
+        ensures others { (k : ℕ) → (k ≡ id.number → ⊥) → head_at k self.new.root ≡ head_at k self.old.root }
+    {
+        self.leaves[id.number as usize].replace_slot(slot)
+    }
+
+    /// Sets the status, and gives the old one.
+    pub fn set_status(&mut self, id: NodeId, status: Status) -> Option<Status>
+        requires { id.number < parts self.old.root }
+        ensures old { Some result ≡ option_map (λ h. h.facets.status) (head_at id.number self.old.root) }
+        ensures new { self.new ≡ record self.old { root = changed (λ h. record h { facets = record h.facets { status = Some status } }) id.number self.old.root } }
+        ensures len { parts self.new.root ≡ parts self.old.root }
+        ensures others { (k : ℕ) → (k ≡ id.number → ⊥) → head_at k self.new.root ≡ head_at k self.old.root }
+    {
+        self.leaves[id.number as usize].replace_status(Some(status))
+    }
+
+    /// The number of steps.
+    pub fn steps(&self) -> u64
+        ensures { result ≡ self.now.steps }
+    {
+        self.steps
+    }
+
+    /// Begins a step.
+    pub fn begin(&mut self)
+        requires { self.old.steps < 2 ^ 64 - 1 }
+        ensures { self.new ≡ record self.old { steps = self.old.steps + 1 } }
+    {
+        self.steps += 1;
+    }
+
+    /// Stamps an object and all round it with the number of steps.
+    pub fn touch(&mut self, id: NodeId)
+        requires { id.number < parts self.old.root }
+        ensures { self.new ≡ record self.old { stamps = touched id.number self.old.steps self.old.root self.old.stamps } }
+    {
+        let stamps = self.stamps.as_mut_slice();
+        stamp_up(
+            stamps,
+            self.spots.as_slice(),
+            id.number as usize,
+            self.steps,
+        );
+    }
+
+    /// The number of steps at the last touch of the object or of one in it.
+    pub fn stamp(&self, id: NodeId) -> u64
+        requires { id.number < parts self.now.root }
+        ensures { Some result ≡ slice_get self.now.stamps id.number }
+    {
+        self.stamps[id.number as usize]
+    }
+
+    /// Sets all stamps and the number of steps to 1.
+    pub fn renumber(&mut self)
+        ensures { self.new ≡ record self.old { stamps = replicate (parts self.old.root) 1; steps = 1 } }
+    {
+        renumber(self.stamps.as_mut_slice());
+        self.steps = 1;
+    }
+
+    /// Where an object stands.
+    pub fn standing<'a>(&'a self, library: &'a Library, id: NodeId) -> Standing<'a>
+        requires { id.number < parts self.now.root }
+        ensures { Some (context result) ≡ standing_at library.now id.number self.now.root }
+    {
+        let leaves = self.leaves.as_slice();
+        let spots = self.spots.as_slice();
+        standing_of(library, leaves, spots, id.number as usize)
+    }
+
+    /// What is shown at an object: it and all that is in it, with all that they inherit where they stand. An
+    /// error only for want of memory.
+    ///
+    /// Source: oBIX 1.1, chapter 7 (Contracts).
+    pub fn whole(&self, alloc: Global, library: &Library, id: NodeId) -> Result<Obj, AllocError>
+        requires { id.number < parts self.now.root }
+        ensures { IfOk result (λ made. Some made ≡ shown_at library.now id.number self.now.root) }
+    {
+        let at = id.number as usize;
+        let leaves = self.leaves.as_slice();
+        let spots = self.spots.as_slice();
+        let object = grown(alloc, leaves, spots, at)?;
+        let standing = standing_of(library, leaves, spots, at);
+        standing.whole(alloc, &object)
+    }
+}
