@@ -1,5 +1,6 @@
 pub mod Number
 pub mod Arguments
+pub mod Texts
 pub mod Command
 pub mod Words
 pub mod Named

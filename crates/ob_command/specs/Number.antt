@@ -11,3 +11,11 @@ is_numeral text = nat_lt 0 (length text) && nat_le (length text) 18 && list_all 
 -- the number that the digits write, where it is at most that
 abbrev pub number_up_to : ℕ → List ℕ → Option ℕ
 number_up_to most text = if is_numeral text && nat_le (number text) most then Some (number text) else None
+
+abbrev pub from_least : ℕ → Option ℕ → Option ℕ
+from_least least None = None
+from_least least (Some n) = if nat_le least n then Some n else None
+
+-- the number that the digits write, where it is in that range
+abbrev pub number_between : (least most : ℕ) → List ℕ → Option ℕ
+number_between least most text = from_least least (number_up_to most text)

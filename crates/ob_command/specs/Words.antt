@@ -1,20 +1,15 @@
 -- The parts of a command line that the code holds.
+use Rattle.std.specs.Prelude.{List, map, string_bytes, if◌then◌else◌}
 use Rattle.ob_command.specs.declared.argument.Argument.{Argument}
-use Rattle.ob_command.specs.declared.argument.Argument.TheVariants.{Operand, Set}
-use Rattle.ob_command.specs.declared.argument.Few.{Few}
-use Rattle.ob_command.specs.declared.argument.Few.TheVariants.{Nothing, One, Several}
-use Rattle.ob_command.specs.declared.argument.Given.{Given}
+use Rattle.ob_command.specs.declared.argument.Argument.TheVariants.{Operand, Set, Bare}
+use Rattle.ob_command.specs.declared.argument.Arguments.{Arguments}
 use Rattle.ob_command.specs.Arguments as words
-use Rattle.ob_command.specs.Command as commands
 
 abbrev pub argument_of : Argument → words.Argument
 argument_of (Operand word) = words.operand word.now
 argument_of (Set name value) = words.option name.now value.now
+argument_of (Bare name) = words.bare name.now
 
-abbrev pub few_of : Few → commands.Few
-few_of Nothing = commands.nothing
-few_of (One word) = commands.one word.now
-few_of Several = commands.several
-
-abbrev pub given_of : Given → commands.Given
-given_of g = record { operand = few_of g.operand; at = few_of g.at; tick = few_of g.tick; others = g.others }
+-- the arguments that the words are, which are all operands behind `--`
+abbrev pub arguments_of : Arguments → List words.Argument
+arguments_of a = if a.plain then map words.operand (map string_bytes a.words.now) else words.arguments (map string_bytes a.words.now)

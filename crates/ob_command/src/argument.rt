@@ -1,16 +1,11 @@
 //! The words behind the command: operands, and options with their values.
-ghost use Rattle.std.specs.Prelude.{◌≡◌, ◌≤◌, ◌<◌, ◌∷◌, false, length, map, option_map, string_bytes, codes, bytes_eq, None, MatchOption};
-ghost use Rattle.ob_command.specs.Arguments.{operand, is_option, arguments, with_one};
-ghost use Rattle.ob_command.specs.Command.{joined, given_with, all_given, nothing_given, given};
-ghost use Rattle.ob_command.specs.Words.{argument_of, few_of, given_of};
+ghost use Rattle.std.specs.Prelude.{◌≡◌, ◌≤◌, ◌<◌, ◌^◌, ◌∷◌, [], true, false, length, map, string_bytes, codes, bytes_eq, None, IfSome, MatchOption};
+ghost use Rattle.std.specs.List.{list_any};
+ghost use Rattle.ob_command.specs.Arguments.{is_option, arguments, operands, values, has_only};
+ghost use Rattle.ob_command.specs.Command.{number_given, number_or};
+ghost use Rattle.ob_command.specs.Words.{argument_of, arguments_of};
 
-/// Nothing, one word, or more than one.
-#[derive(Clone, Copy)]
-pub(crate) enum Few<'a> {
-    Nothing,
-    One(&'a str),
-    Several,
-}
+use crate::number::number_between;
 
 /// What a word is, before `--`.
 #[derive(Clone, Copy)]
@@ -19,104 +14,16 @@ pub(crate) enum Argument<'a> {
     Operand(&'a str),
     /// The option of a name, with its value.
     Set(&'a str, &'a str),
+    /// An option of a name, without a value.
+    Bare(&'a str),
 }
 
-/// What was given: the operands, the values of `--at` and of `--tick`, and whether there is another option.
+/// Words as arguments, one after the other.
 #[derive(Clone, Copy)]
-pub(crate) struct Given<'a> {
-    pub operand: Few<'a>,
-    pub at: Few<'a>,
-    pub tick: Few<'a>,
-    pub others: bool,
-}
-
-impl<'a> Few<'a> {
-    fn joined(self, word: &'a str) -> Few<'a>
-        ensures { few_of result ≡ joined (few_of self.entry) word.now }
-    {
-        match self {
-            Few::Nothing => Few::One(word),
-            Few::One(_) | Few::Several => Few::Several,
-        }
-    }
-}
-
-impl<'a> Given<'a> {
-    fn nothing() -> Given<'a>
-        ensures { given_of result ≡ nothing_given }
-    {
-        Given {
-            operand: Few::Nothing,
-            at: Few::Nothing,
-            tick: Few::Nothing,
-            others: false,
-        }
-    }
-
-    fn with(self, argument: Argument<'a>) -> Given<'a>
-        ensures { given_of result ≡ given_with (given_of self.entry) (argument_of argument.entry) }
-    {
-        let Given {
-            operand,
-            at,
-            tick,
-            others,
-        } = self;
-        match argument {
-            Argument::Operand(word) => Given {
-                operand: operand.joined(word),
-                at,
-                tick,
-                others,
-            },
-            Argument::Set("--at", value) => Given {
-                operand,
-                at: at.joined(value),
-                tick,
-                others,
-            },
-            Argument::Set("--tick", value) => Given {
-                operand,
-                at,
-                tick: tick.joined(value),
-                others,
-            },
-            Argument::Set(_, _) => Given {
-                operand,
-                at,
-                tick,
-                others: true,
-            },
-        }
-    }
-
-    fn with_operands(self, words: &'a [String]) -> Given<'a>
-        ensures { given_of result ≡ all_given (given_of self.entry) (map operand (map string_bytes words.now)) }
-    {
-        let mut given = self;
-        for word in words {
-            given = given.with(Argument::Operand(word.as_str()));
-        }
-        given
-    }
-
-    /// What was given with the first argument of these words too, and the words behind that.
-    fn step(self, words: &'a [String]) -> Option<(Given<'a>, &'a [String])>
-        requires { 0 < length words.now }
-        ensures { MatchOption result
-            (option_map (all_given (given_of self.entry)) (arguments (map string_bytes words.now)) ≡ None)
-            (λ next. (option_map (all_given (given_of self.entry)) (arguments (map string_bytes words.now)) ≡ option_map (all_given (given_of next.0)) (arguments (map string_bytes next.1.now)))
-            × (length next.1.now < length words.now)) }
-    {
-        let [word, behind @ ..] = words else {
-            return None;
-        };
-        if word.as_str() == "--" {
-            return Some((self.with_operands(behind), &[]));
-        }
-        let (argument, left) = next_argument(word.as_str(), behind)?;
-        Some((self.with(argument), left))
-    }
+pub(crate) struct Arguments<'a> {
+    pub words: &'a [String],
+    /// Whether `--` stands before them, so that each is an operand.
+    pub plain: bool,
 }
 
 fn is_option(word: &str) -> bool
@@ -128,37 +35,166 @@ fn is_option(word: &str) -> bool
     }
 }
 
-/// What a word other than `--` is, with the words behind it, and the words that are left then.
-fn next_argument<'a>(word: &'a str, rest: &'a [String]) -> Option<(Argument<'a>, &'a [String])>
-    requires { bytes_eq word.now (codes "--") ≡ false }
-    ensures { MatchOption result (arguments (word.now ∷ map string_bytes rest.now) ≡ None)
-        (λ next. (arguments (word.now ∷ map string_bytes rest.now) ≡ with_one (argument_of next.0) (arguments (map string_bytes next.1.now)))
-        × (length next.1.now ≤ length rest.now)) }
+/// Whether a word is one of these.
+fn is_among(word: &str, words: &[&str]) -> bool
+    ensures { result ≡ list_any (λ other. bytes_eq other word.now) (map (λ other. other.now) words.now) }
 {
+    for other in words {
+        if *other == word {
+            return true;
+        }
+    }
+    false
+}
+
+/// What a word other than `--` is, with the words behind it, and the arguments that are left then.
+fn next_argument<'a>(word: &'a str, rest: &'a [String]) -> (Argument<'a>, Arguments<'a>)
+    requires { bytes_eq word.now (codes "--") ≡ false }
+    ensures next { arguments (word.now ∷ map string_bytes rest.now) ≡ argument_of result.0 ∷ arguments_of result.1 }
+    ensures shorter { length result.1.words.now ≤ length rest.now }
+{
+    let left = Arguments::of(rest);
     if !is_option(word) {
-        return Some((Argument::Operand(word), rest));
+        return (Argument::Operand(word), left);
     }
     if let Some((name, value)) = word.split_once('=') {
-        return Some((Argument::Set(name, value), rest));
+        return (Argument::Set(name, value), left);
     }
     match rest {
-        [value, behind @ ..] if !is_option(value.as_str()) => {
-            Some((Argument::Set(word, value.as_str()), behind))
-        }
-        _ => None,
+        [value, behind @ ..] if !is_option(value.as_str()) => (
+            Argument::Set(word, value.as_str()),
+            Arguments::of(behind),
+        ),
+        _ => (Argument::Bare(word), left),
     }
 }
 
-/// What the words behind the command give, if they are arguments.
-pub(crate) fn read_given<'a>(words: &'a [String]) -> Option<Given<'a>>
-    ensures { option_map given_of result ≡ given (map string_bytes words.now) }
-{
-    let mut given = Given::nothing();
-    let mut rest = words;
-    while !rest.is_empty() {
-        let (next, left) = given.step(rest)?;
-        given = next;
-        rest = left;
+impl<'a> Arguments<'a> {
+    /// The words as arguments.
+    pub(crate) fn of(words: &'a [String]) -> Arguments<'a>
+        ensures value { arguments_of result ≡ arguments (map string_bytes words.now) }
+        ensures words { result.words.now ≡ words.now }
+    {
+        Arguments {
+            words,
+            plain: false,
+        }
     }
-    Some(given)
+
+    /// The first argument, and those behind it; `None` where there is none.
+    fn split_first(self) -> Option<(Argument<'a>, Arguments<'a>)>
+        ensures { MatchOption result (arguments_of self.entry ≡ [])
+            (λ next. (arguments_of self.entry ≡ argument_of next.0 ∷ arguments_of next.1) × (length next.1.words.now < length self.entry.words.now)) }
+    {
+        let [word, behind @ ..] = self.words else {
+            return None;
+        };
+        if self.plain {
+            return Some((
+                Argument::Operand(word.as_str()),
+                Arguments::behind_dashes(behind),
+            ));
+        }
+        if word.as_str() != "--" {
+            return Some(next_argument(word.as_str(), behind));
+        }
+        let [word, behind @ ..] = behind else {
+            return None;
+        };
+        Some((
+            Argument::Operand(word.as_str()),
+            Arguments::behind_dashes(behind),
+        ))
+    }
+
+    /// The words as operands.
+    fn behind_dashes(words: &'a [String]) -> Arguments<'a>
+        ensures { (result.words.now ≡ words.now) × (result.plain ≡ true) }
+    {
+        Arguments { words, plain: true }
+    }
+
+    /// Whether there is no option but those of these names, each with a value.
+    pub(crate) fn has_only(self, names: &[&str]) -> bool
+        ensures { result ≡ has_only (map (λ name. name.now) names.now) (arguments_of self.entry) }
+    {
+        let mut rest = self;
+        while let Some((argument, left)) = rest.split_first() {
+            let is_allowed = match argument {
+                Argument::Operand(_) => true,
+                Argument::Set(name, _) => is_among(name, names),
+                Argument::Bare(_) => false,
+            };
+            if !is_allowed {
+                return false;
+            }
+            rest = left;
+        }
+        true
+    }
+
+    /// The first operand, and the arguments behind it.
+    pub(crate) fn next_operand(self) -> Option<(&'a str, Arguments<'a>)>
+        ensures { MatchOption result (operands (arguments_of self.entry) ≡ [])
+            (λ next. operands (arguments_of self.entry) ≡ next.0.now ∷ operands (arguments_of next.1)) }
+    {
+        let mut rest = self;
+        while let Some((argument, left)) = rest.split_first() {
+            if let Argument::Operand(word) = argument {
+                return Some((word, left));
+            }
+            rest = left;
+        }
+        None
+    }
+
+    /// The first value of the option of a name, and the arguments behind it.
+    fn next_value(self, name: &str) -> Option<(&'a str, Arguments<'a>)>
+        ensures { MatchOption result (values name.now (arguments_of self.entry) ≡ [])
+            (λ next. values name.now (arguments_of self.entry) ≡ next.0.now ∷ values name.now (arguments_of next.1)) }
+    {
+        let mut rest = self;
+        while let Some((argument, left)) = rest.split_first() {
+            if let Argument::Set(other, value) = argument
+                && other == name
+            {
+                return Some((value, left));
+            }
+            rest = left;
+        }
+        None
+    }
+
+    /// The number that an option is given, if it is given; `None` where it is given twice, or no number in this range.
+    pub(crate) fn number_given(self, name: &str, least: u64, most: u64) -> Option<Option<u64>>
+        requires { most < 10 ^ 18 }
+        ensures value { result ≡ number_given least most (values name.now (arguments_of self.entry)) }
+        ensures fits { IfSome result (λ given. IfSome given (λ number. number ≤ most)) }
+    {
+        match self.next_value(name) {
+            None => Some(None),
+            Some((text, behind)) => match behind.next_value(name) {
+                None => match number_between(text.as_bytes(), least, most) {
+                    Some(number) => Some(Some(number)),
+                    None => None,
+                },
+                Some(_) => None,
+            },
+        }
+    }
+
+    /// The number that an option is given, or `default` where it isn't given; `None` where it is given twice, or no number
+    /// in this range.
+    pub(crate) fn number_or(self, name: &str, least: u64, most: u64, default: u64) -> Option<u64>
+        requires small { most < 10 ^ 18 }
+        requires default { default ≤ most }
+        ensures value { result ≡ number_or least most default (values name.now (arguments_of self.entry)) }
+        ensures fits { IfSome result (λ number. number ≤ most) }
+    {
+        match self.number_given(name, least, most) {
+            Some(Some(number)) => Some(number),
+            Some(None) => Some(default),
+            None => None,
+        }
+    }
 }

@@ -6,5 +6,8 @@
 mod argument;
 mod command;
 mod number;
+mod server;
+mod text;
 
-pub use command::{Command, Service, read_command};
+pub use command::{Command, read_command};
+pub use server::{Serve, Stdio};

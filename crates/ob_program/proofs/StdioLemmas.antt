@@ -1,6 +1,6 @@
 -- What the service of a file's site comes to, and what that says of the exit.
-use Rattle.std.proofs.Common.{◌≡◌, ◌≢◌, ℕ, ◌≤◌, ◌<◌, ◌^◌, ◌⊎◌, inl, inr, refl, sym, ap, subst, ◌∙◌, arith, List, length, Option, Some, None}
-use Rattle.std.specs.Prelude.{IfSome}
+use Rattle.std.proofs.Common.{◌≡◌, ◌≢◌, ℕ, ◌≤◌, ◌<◌, ◌^◌, ◌⊎◌, inl, inr, refl, sym, ap, subst, ◌∙◌, arith, List, length, Option, Some, None, ◌+◌, ◌-◌, []}
+use Rattle.std.specs.Prelude.{IfSome, IsSome}
 use Rattle.ob_io.specs.Faults.{Rose}
 use Rattle.ob_io.specs.Links.{inlet}
 use Rattle.ob_server.specs.Alone.{ServesAlone}
@@ -18,13 +18,14 @@ use Rattle.ob_program.specs.declared.stdio.StdioEnd.TheVariants.{Served, Refused
 use Rattle.ob_load.specs.Loads.{IsSite, RefusesBytes, IsOutside}
 use Rattle.ob_site_file.specs.declared.fault.LoadFault.{LoadFault}
 use Rattle.ob_site_file.specs.declared.fault.LoadFault.TheVariants as faults
-use Rattle.ob_program.specs.Stdio.{exit_of, end_of_fault, site_bytes, ServesSite, HasCause, IsIdle, IsRefusedAs, Comes, IsUnserved}
+use Rattle.ob_program.specs.Stdio.{exit_of, end_of_fault, site_bytes, ServesSite, HasCause, IsIdle, IsRefusedAs, Comes, StdioComes, StdioRan, IsUnserved}
+use Rattle.ob_program.specs.Outside.{Streams, ClockTold}
 
 -- a sound site was served
-pub serves_site : (file ns : Option (List ℕ)) (opening : SiteState) (left taken left' taken' held held' given given' : Option (List ℕ)) (end : LinkEnd) → IfSome file (λ whole. IsSite (site_bytes whole) ns) → IsSoundSite opening
-    → ServesAlone acts opening ns (inlet left taken) (inlet left' taken') held held' given given' end → ServesSite file left taken left' taken' held held' given given' end
-serves_site file ns opening left taken left' taken' held held' given given' end spelled sound alone =
-    record { ns = ns; spelled = spelled; opening = opening; sound = sound; alone = alone; watches = keeps_watches opening sound alone.calls alone.legal }
+pub serves_site : (file : Option (List ℕ)) (boot : ℕ) (ns : Option (List ℕ)) (opening : SiteState) (left taken left' taken' held held' given given' : Option (List ℕ)) (end : LinkEnd) → IfSome file (λ whole. IsSite (site_bytes whole) boot ns opening) → IsSoundSite opening
+    → ServesAlone acts opening ns (inlet left taken) (inlet left' taken') held held' given given' end → ServesSite file boot left taken left' taken' held held' given given' end
+serves_site file boot ns opening left taken left' taken' held held' given given' end opened sound alone =
+    record { ns = ns; opening = opening; opened = opened; sound = sound; alone = alone; watches = keeps_watches opening sound alone.calls alone.legal }
 
 -- ---- counts
 
@@ -94,7 +95,6 @@ comes_refused fault file boot left taken held given h = by_fault fault h
     by_fault (faults.PathTwice path) k = (idle, told_refused (faults.PathTwice path) file boot (λ no. no) k)
     by_fault (faults.Rule part) k = (idle, told_refused (faults.Rule part) file boot (λ no. no) k)
     by_fault faults.Size k = (idle, told_refused faults.Size file boot (λ no. no) k)
-    by_fault faults.Inconsistent k = (idle, told_refused faults.Inconsistent file boot (λ no. no) k)
 
 -- a service at another spelling of its boot's moment
 pub comes_at : (file : Option (List ℕ)) (boot boot' : ℕ) (end : StdioEnd) (left taken left' taken' held held' given given' : Option (List ℕ)) → boot ≡ boot'
@@ -116,7 +116,6 @@ refused_cause fault files files' reads writes clocks later read = by_fault fault
     by_fault (faults.PathTwice path) k = unserved_cause _ files files' reads writes clocks later (λ link is. absurd (cc is)) (λ is. cc is) (λ is. absurd (cc is))
     by_fault (faults.Rule part) k = unserved_cause _ files files' reads writes clocks later (λ link is. absurd (cc is)) (λ is. cc is) (λ is. absurd (cc is))
     by_fault faults.Size k = unserved_cause _ files files' reads writes clocks later (λ link is. absurd (cc is)) (λ is. cc is) (λ is. absurd (cc is))
-    by_fault faults.Inconsistent k = unserved_cause _ files files' reads writes clocks later (λ link is. absurd (cc is)) (λ is. cc is) (λ is. absurd (cc is))
 
 pub refused_serves_none : (fault : LoadFault) (link : LinkEnd) → end_of_fault fault ≡ Served link → ⊥
 refused_serves_none faults.Read link is = cc is
@@ -128,7 +127,6 @@ refused_serves_none (faults.Contract fault) link is = cc is
 refused_serves_none (faults.PathTwice path) link is = cc is
 refused_serves_none (faults.Rule part) link is = cc is
 refused_serves_none faults.Size link is = cc is
-refused_serves_none faults.Inconsistent link is = cc is
 
 -- ---- counts, over clocks
 
@@ -292,3 +290,36 @@ pub complete_told : (end : StdioEnd) (exit : Exit) (files files' reads reads' wr
 complete_told end exit files files' reads reads' writes writes' clocks clocks' None is c whole = tt
 complete_told end exit files files' reads reads' writes writes' clocks clocks' (Some all) is c whole = λ short framed f r w k.
     subst (λ (x : Exit). (x ≡ exits.Ok) ⊎ ((x ≡ exits.Refused) ⊎ (x ≡ exits.Memory))) (sym is) (ends_well end files files' reads reads' writes writes' clocks clocks' all c whole short framed f r w k)
+
+-- the service came to this end, which is the exit
+pub stdio_ran : (file : Option (List ℕ)) (at : Option ℕ) (tick files files' : ℕ) (s s' : Streams) (t t' : ClockTold) (end : StdioEnd) (exit : Exit) → exit ≡ exit_of end
+    → StdioComes file at tick end s.left None s'.left None s.held s'.held t.given t'.given
+    → HasCause end files files' s.reads s'.reads s.writes s'.writes t.faults t'.faults
+    → ((link : LinkEnd) → end ≡ Served link → ServesWhole s.left s.reads s'.reads s.writes s'.writes t.faults t'.faults link)
+    → StdioRan file at tick files files' s s' t t' exit
+stdio_ran file at tick files files' s s' t t' end exit is comes cause whole = record {
+  end = end;
+  exit_is = is;
+  comes = comes;
+  read = read_rose end exit files files' s.reads s'.reads s.writes s'.writes t.faults t'.faults is cause;
+  write = write_rose end exit files files' s.reads s'.reads s.writes s'.writes t.faults t'.faults is cause;
+  clock = clock_rose end exit files files' s.reads s'.reads s.writes s'.writes t.faults t'.faults is cause;
+  complete = complete_told end exit files files' s.reads s'.reads s.writes s'.writes t.faults t'.faults s.left is cause whole;
+}
+
+-- ---- moments
+
+few_moments : (n : ℕ) → n ≤ 2 ^ 40 → 0 + (n + 1) < 2 ^ 64 - 1
+few_moments n h = omega arith
+
+told_empty : (given : Option (List ℕ)) → given ≡ Some [] → IsSome given
+told_empty given is = subst (λ (g : Option (List ℕ)). IsSome g) (sym is) refl
+
+-- a clock that has given no moment yet still tells its moments when a service is over
+pub moments_told : (file : Option (List ℕ)) (boot : ℕ) (end : StdioEnd) (left taken left' taken' held held' given : Option (List ℕ))
+    → Comes file boot end left taken left' taken' held held' (Some []) given → IsSome given
+moments_told file boot (Served end) left taken left' taken' held held' given h = h.alone.serves.went.lasts (few_moments (length h.alone.serves.moments) h.alone.serves.few)
+moments_told file boot (Refused fault) left taken left' taken' held held' given h = told_empty given h.0.given_is
+moments_told file boot ReadFault left taken left' taken' held held' given h = told_empty given h.given_is
+moments_told file boot ClockFault left taken left' taken' held held' given h = told_empty given h.given_is
+moments_told file boot Memory left taken left' taken' held held' given h = told_empty given h.given_is

@@ -1,7 +1,9 @@
 -- What checking a document's file comes to.
-use Rattle.std.specs.Prelude.{◌≡◌, ℕ, true, List, [], ◌∷◌, ◌++◌, IfSome}
+use Rattle.std.specs.Prelude.{◌≡◌, ◌⊎◌, ℕ, true, List, [], ◌∷◌, ◌++◌, IfSome}
 use Rattle.std.specs.declared.option.Option.{Option}
 use Rattle.ob_encode.specs.Canonical.{canonical_text}
+use Rattle.ob_grammar.specs.Spelling.{Spells}
+use Rattle.ob_io.specs.Faults.{Rose}
 use Rattle.ob_io.specs.Told.{Gains, IsFront}
 use Rattle.ob_xml.specs.declared.doc.Doc.{Doc}
 use Rattle.ob_xml.specs.Judged.{Judged, document}
@@ -37,3 +39,16 @@ pub record ChecksFile (content before after : Option (List ℕ)) (end : CheckEnd
   pub bytes : List ℕ
   pub checks : Checks bytes before after (exit_of_check end)
   pub told : IfSome content (λ whole. Checks whole before after (exit_of_check end))
+
+-- The check came to this exit. Where the file is told, its bytes were written in their canonical form or refused: with status
+-- 0 it is the document that they spell by the grammar; bytes that are no document are refused, and one that they are is
+-- written, where nothing fails. A fault has its cause in a count.
+pub record CheckRan (content : Option (List ℕ)) (files files' : ℕ) (before after : Option (List ℕ)) (writes writes' : ℕ) (exit : Exit) : Type 0 where
+  pub some_bytes : (bytes : List ℕ) × Checks bytes before after exit
+  pub checks : IfSome content (λ bytes. Checks bytes before after exit)
+  pub spells : IfSome content (λ bytes. exit ≡ exits.Ok → (doc : Doc) × Spells bytes doc.ns doc.root × Gains before (printed doc) after)
+  pub refuses : IfSome content (λ bytes. IsFaulty bytes → (Rose files files' → ⊥) → (exit ≡ exits.Refused) ⊎ (exit ≡ exits.Memory))
+  pub complete : IfSome content (λ bytes. (doc : Doc) → Judged bytes true (document doc) → (Rose files files' → ⊥) → (Rose writes writes' → ⊥)
+      → (exit ≡ exits.Ok) ⊎ (exit ≡ exits.Memory))
+  pub read : exit ≡ exits.ReadFault → Rose files files'
+  pub write : exit ≡ exits.WriteFault → Rose writes writes'

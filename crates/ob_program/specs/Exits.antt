@@ -11,6 +11,7 @@ status_of exits.ReadFault = 3
 status_of exits.WriteFault = 4
 status_of exits.Frame = 5
 status_of exits.Truncated = 6
+status_of exits.PortFault = 9
 status_of exits.ClockFault = 10
 status_of exits.Budget = 11
 status_of exits.Memory = 12

@@ -1,8 +1,8 @@
 -- What the service of a file's site comes to.
-use Rattle.std.specs.Prelude.{◌≡◌, ◌⊎◌, ◌≤◌, ⊤, ℕ, List, [], ◌∷◌, Option, Some, None, IfSome, min, take}
+use Rattle.std.specs.Prelude.{◌≡◌, ◌⊎◌, ◌≤◌, ◌<◌, ◌^◌, ⊤, ℕ, List, [], ◌∷◌, Option, Some, None, IfSome, IsSome, min, take, length}
 use Rattle.ob_io.specs.Faults.{Rose}
 use Rattle.ob_io.specs.Links.{inlet}
-use Rattle.ob_io.specs.Ticks.{last_moment}
+use Rattle.ob_io.specs.Ticks.{last_moment, pace_of, AreFirstOf}
 use Rattle.ob_io.specs.Told.{Gains}
 use Rattle.ob_server.specs.Alone.{ServesAlone}
 use Rattle.ob_server.specs.declared.end.LinkEnd.{LinkEnd}
@@ -13,6 +13,8 @@ use Rattle.ob_site_desk.specs.Seen.{KeepsWatches}
 use Rattle.ob_load.specs.Loads.{IsSite, RefusesBytes, IsOutside}
 use Rattle.ob_site_file.specs.declared.fault.LoadFault.{LoadFault}
 use Rattle.ob_site_file.specs.declared.fault.LoadFault.TheVariants as faults
+use Rattle.ob_server.specs.Complete.{IsWellFramed}
+use Rattle.ob_program.specs.Outside.{Streams, ClockTold}
 use Rattle.ob_program.specs.declared.exit.Exit.{Exit}
 use Rattle.ob_program.specs.declared.exit.Exit.TheVariants as exits
 use Rattle.ob_program.specs.declared.stdio.StdioEnd.{StdioEnd}
@@ -46,13 +48,14 @@ end_of_fault fault = Refused fault
 abbrev pub site_bytes : List ℕ → List ℕ
 site_bytes whole = take 16_777_217 whole
 
--- From some sound state of a site a link was served: its requests were answered by the replies that the site gives one after
--- the other from that state on, and the laws of watches hold of all of them. Where the file is told, its bytes spell a
--- document whose xmlns the answers have, and in which no href, contract or path is refused.
-pub record ServesSite (file left taken left' taken' held held' given given' : Option (List ℕ)) (end : LinkEnd) : Type 0 where
+-- From a sound state of a site a link was served: its requests were answered by the replies that the site gives one after the
+-- other from that state on, and the laws of watches hold of all of them. Where the file is told, it is the state that the
+-- definition of the opening gives for the document that the file's bytes spell and the boot's moment, and the answers have that
+-- document's xmlns.
+pub record ServesSite (file : Option (List ℕ)) (boot : ℕ) (left taken left' taken' held held' given given' : Option (List ℕ)) (end : LinkEnd) : Type 0 where
   pub ns : Option (List ℕ)
-  pub spelled : IfSome file (λ whole. IsSite (site_bytes whole) ns)
   pub opening : SiteState
+  pub opened : IfSome file (λ whole. IsSite (site_bytes whole) boot ns opening)
   pub sound : IsSoundSite opening
   pub alone : ServesAlone acts opening ns (inlet left taken) (inlet left' taken') held held' given given' end
   pub watches : KeepsWatches opening alone.calls
@@ -69,20 +72,22 @@ IsRefusedAs file boot fault = IfSome file (λ whole. RefusesBytes (site_bytes wh
 
 -- What an end says of a service that boots at a moment.
 abbrev pub Comes : Option (List ℕ) → ℕ → StdioEnd → (left taken left' taken' held held' given given' : Option (List ℕ)) → Type 0
-Comes file boot (Served end) left taken left' taken' held held' given given' = ServesSite file left taken left' taken' held held' given given' end
+Comes file boot (Served end) left taken left' taken' held held' given given' = ServesSite file boot left taken left' taken' held held' given given' end
 Comes file boot (Refused fault) left taken left' taken' held held' given given' = IsIdle left left' held held' given given' × IsRefusedAs file boot fault
 Comes file boot ReadFault left taken left' taken' held held' given given' = IsIdle left left' held held' given given'
 Comes file boot ClockFault left taken left' taken' held held' given given' = IsIdle left left' held held' given given'
 Comes file boot Memory left taken left' taken' held held' given given' = IsIdle left left' held held' given given'
 
 -- Without a moment to begin at, the clock's next moment is the boot's, and the requests have those behind it, where it
--- tells its moments. Else the clock isn't asked, and a clock that has given no moment yet is asked in its place.
-abbrev pub StdioComes : Option (List ℕ) → Option ℕ → StdioEnd → (left taken left' taken' held held' given given' : Option (List ℕ)) → Type 0
-StdioComes file None end left taken left' taken' held held' given given' =
+-- tells its moments. Else the clock isn't asked: one that begins there and goes by the tick is asked in its place, and it tells
+-- its moments to the end: they are `at`, `at + tick` and so on, or the last moment that there is.
+abbrev pub StdioComes : Option (List ℕ) → Option ℕ → ℕ → StdioEnd → (left taken left' taken' held held' given given' : Option (List ℕ)) → Type 0
+StdioComes file None tick end left taken left' taken' held held' given given' =
     ((end ≡ ClockFault) × Gains given [] given' × (left' ≡ left) × (held' ≡ held))
     ⊎ ((boot : ℕ) × (booted : Option (List ℕ)) × Gains given (boot ∷ []) booted × Comes file boot end left taken left' taken' held held' booted given')
-StdioComes file (Some at) end left taken left' taken' held held' given given' =
-    (given' ≡ given) × ((ticked : Option (List ℕ)) × Comes file (min at last_moment) end left taken left' taken' held held' (Some []) ticked)
+StdioComes file (Some at) tick end left taken left' taken' held held' given given' =
+    (given' ≡ given) × ((ticked : Option (List ℕ)) × Comes file (min at last_moment) end left taken left' taken' held held' (Some []) ticked
+    × IsSome ticked × IfSome ticked (λ moments. AreFirstOf (pace_of at tick) moments))
 
 abbrev pub IsUnserved : StdioEnd → Type 0
 IsUnserved (Served end) = ⊥
@@ -102,3 +107,17 @@ pub record HasCause (end : StdioEnd) (files files' reads reads' writes writes' c
   pub write : end ≡ Served ends.WriteFault → Rose writes writes'
   pub boot : end ≡ ClockFault → Rose clocks clocks'
   pub clock : end ≡ Served ends.ClockFault → Rose clocks clocks'
+
+-- The service of a file's site over a source and a sink came to some end, which is the exit; where a link's taken bytes aren't
+-- told, nothing is said of them by themselves. A fault has its cause in a count. Where the file opens a site and the source's
+-- bytes are whole requests, fewer than 2^40, and nothing fails, they are answered to their end.
+pub record StdioRan (file : Option (List ℕ)) (at : Option ℕ) (tick files files' : ℕ) (s s' : Streams) (t t' : ClockTold) (exit : Exit) : Type 0 where
+  pub end : StdioEnd
+  pub exit_is : exit ≡ exit_of end
+  pub comes : StdioComes file at tick end s.left None s'.left None s.held s'.held t.given t'.given
+  pub read : exit ≡ exits.ReadFault → Rose files files' ⊎ Rose s.reads s'.reads
+  pub write : exit ≡ exits.WriteFault → Rose s.writes s'.writes
+  pub clock : exit ≡ exits.ClockFault → Rose t.faults t'.faults
+  pub complete : IfSome s.left (λ all. length all < 2 ^ 40 → IsWellFramed all
+      → ¬ (Rose files files') → ¬ (Rose s.reads s'.reads) → ¬ (Rose s.writes s'.writes) → ¬ (Rose t.faults t'.faults)
+      → (exit ≡ exits.Ok) ⊎ ((exit ≡ exits.Refused) ⊎ (exit ≡ exits.Memory)))

@@ -2,17 +2,17 @@
 ghost use Rattle.std.specs.Prelude.{◌≡◌, ◌≢◌, ◌≤◌, ◌++◌, IfOk};
 ghost use Rattle.ob_io.specs.Faults.{Rose};
 ghost use Rattle.ob_xml.specs.declared.doc.Doc.{Doc};
-ghost use Rattle.ob_program.specs.Check.{printed, ChecksFile};
+ghost use Rattle.ob_program.specs.Check.{printed, ChecksFile, CheckRan};
 
 use crate::document::{DocumentFault, read_file};
-use crate::exit::Exit;
+use crate::exit::{Exit, tell};
 use ob_io::{Files, Sink, write_all};
 use ob_xml::{Doc, Refused, encode};
 use std::alloc::{AllocError, Global};
 
 /// How a check ends.
 #[derive(Clone, Copy, PartialEq, Eq)]
-pub enum CheckEnd {
+pub(crate) enum CheckEnd {
     /// The canonical document was written.
     Printed,
     /// The file's bytes are no document.
@@ -26,7 +26,7 @@ impl CheckEnd {
     ghost use Rattle.ob_program.specs.Check.{exit_of_check};
 
     /// The exit that it leads to.
-    pub fn exit(&self) -> Exit
+    fn exit(&self) -> Exit
         ensures { result ≡ exit_of_check self.now }
     {
         match self {
@@ -39,7 +39,7 @@ impl CheckEnd {
     }
 
     /// What is printed of it; nothing where all is well.
-    pub fn line(&self, alloc: Global) -> Result<Vec<u8>, AllocError> {
+    fn line(&self, alloc: Global) -> Result<Vec<u8>, AllocError> {
         match self {
             CheckEnd::Printed => Ok(Vec::new(alloc)),
             CheckEnd::Refused(refused) => refusal_line(alloc, refused),
@@ -71,7 +71,7 @@ fn print(alloc: Global, doc: Doc) -> Result<Vec<u8>, AllocError>
 }
 
 /// Writes the canonical text of a file's document and a line feed.
-pub fn check<F: Files, K: Sink>(alloc: Global, name: &str, files: &mut F, sink: &mut K) -> CheckEnd
+fn check<F: Files, K: Sink>(alloc: Global, name: &str, files: &mut F, sink: &mut K) -> CheckEnd
     ensures checks { ChecksFile (F.content files.old name.now) (K.held sink.old) (K.held sink.new) result }
     ensures read_fault { result ≡ CheckEnd.ReadFault → Rose (F.faults files.old) (F.faults files.new) }
     ensures write_fault { result ≡ CheckEnd.WriteFault → Rose (K.faults sink.old) (K.faults sink.new) }
@@ -90,4 +90,23 @@ pub fn check<F: Files, K: Sink>(alloc: Global, name: &str, files: &mut F, sink: 
         Ok(()) => CheckEnd::Printed,
         Err(_) => CheckEnd::WriteFault,
     }
+}
+
+/// Writes the canonical text of a file's document and a line feed, and tells on `errors` what went wrong.
+pub(crate) fn run_check<F: Files, K: Sink, E: Sink>(
+    alloc: Global,
+    name: &str,
+    files: &mut F,
+    sink: &mut K,
+    errors: &mut E,
+) -> Exit
+    ensures ran { CheckRan (F.content files.old name.now) (F.faults files.old) (F.faults files.new)
+        (K.held sink.old) (K.held sink.new) (K.faults sink.old) (K.faults sink.new) result }
+    ensures refused { result ≡ Exit.Refused → sink.new ≡ sink.old }
+{
+    ob_xml::one_verdict();
+    ob_documents::spelled();
+    let end = check(alloc, name, files, sink);
+    tell(errors, end.line(alloc));
+    end.exit()
 }

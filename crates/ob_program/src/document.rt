@@ -8,7 +8,7 @@ use ob_xml::{Decoder, Doc, Refused, Why};
 use std::alloc::Global;
 
 /// Why no document was read.
-#[derive(Clone, Copy, Debug, PartialEq, Eq)]
+#[derive(Clone, Copy, PartialEq, Eq)]
 pub enum DocumentFault {
     /// The bytes are none.
     Refused(Refused),

@@ -19,6 +19,8 @@ pub enum Exit {
     Frame,
     /// The source ended inside a request.
     Truncated,
+    /// The port could not listen or gave no door, or a door failed.
+    PortFault,
     ClockFault,
     /// 2^40 bytes were taken from the source.
     Budget,
@@ -40,6 +42,7 @@ impl Exit {
             Exit::WriteFault => 4,
             Exit::Frame => 5,
             Exit::Truncated => 6,
+            Exit::PortFault => 9,
             Exit::ClockFault => 10,
             Exit::Budget => 11,
             Exit::Memory => 12,

@@ -1,13 +1,15 @@
 //! The program `obix` over an outside that is handed in: `run`, whose contract is about bytes.
 //!
-//! `stdio SITE` opens the site of a file and answers the requests of the source on the sink. `check FILE` reads a
-//! document and writes its canonical text.
+//! `stdio SITE` opens the site of a file and answers the requests of the source on the sink, and `serve SITE HOST PORT` those
+//! of links on threads. `check FILE` reads a document and writes its canonical text.
 #![tactic(auto)]
 
 mod check;
 mod document;
 mod exit;
+mod lines;
 mod program;
+mod serve;
 mod stdio;
 
 pub use exit::Exit;

@@ -1,21 +1,22 @@
 //! `stdio`: the requests of the source, answered from the site of a file.
-ghost use Rattle.std.specs.Prelude.{◌≡◌, ◌≤◌, min, length};
+ghost use Rattle.std.specs.Prelude.{◌≡◌, ◌≤◌, min, length, IsSome};
 ghost use Rattle.ob_io.specs.Ticks.{last_moment};
 ghost use Rattle.ob_io.specs.Faults.{Rose};
 ghost use Rattle.ob_server.specs.declared.end.LinkEnd.{LinkEnd};
 ghost use Rattle.ob_server.specs.Complete.{ServesWhole};
-ghost use Rattle.ob_program.specs.Stdio.{Comes, StdioComes, IsUnserved, HasCause};
+ghost use Rattle.ob_program.specs.Outside.{streams, clock_told};
+ghost use Rattle.ob_program.specs.Stdio.{Comes, StdioComes, IsUnserved, HasCause, StdioRan};
 
 use crate::exit::{Exit, tell};
-use ob_command::Service;
+use crate::lines::site_line;
+use ob_command::Stdio;
 use ob_http::FrameFault;
-use ob_io::{Clock, Files, Link, Sink, Ticker};
+use ob_io::{Clock, Files, Link, Pair, Sink, Source, Ticker};
 use ob_load::{LoadFault, Loaded, load};
 use ob_server::{LinkEnd, serve_alone};
 use ob_times::Moment;
 use std::alloc::{AllocError, Global};
 use std::sync::Wait;
-
 /// The last moment that there is, in milliseconds since 1970.
 const LAST_MOMENT: u64 = 253_402_300_799_999;
 
@@ -48,13 +49,12 @@ impl StdioEnd {
             | LoadFault::Contract(_)
             | LoadFault::PathTwice { .. }
             | LoadFault::Rule { .. }
-            | LoadFault::Size
-            | LoadFault::Inconsistent => StdioEnd::Refused(fault),
+            | LoadFault::Size => StdioEnd::Refused(fault),
         }
     }
 
     /// The exit that it leads to.
-    pub(crate) fn exit(&self) -> Exit
+    fn exit(&self) -> Exit
         ensures { result ≡ exit_of self.now }
     {
         match self {
@@ -75,7 +75,7 @@ impl StdioEnd {
     }
 
     /// What is printed of it; nothing where all is well.
-    pub(crate) fn line(&self, alloc: Global) -> Result<Vec<u8>, AllocError> {
+    fn line(&self, alloc: Global) -> Result<Vec<u8>, AllocError> {
         match self {
             StdioEnd::Served(LinkEnd::Closed) => Ok(Vec::new(alloc)),
             StdioEnd::Served(LinkEnd::Asked) => Ok(Vec::new(alloc)),
@@ -91,14 +91,6 @@ impl StdioEnd {
             StdioEnd::ClockFault => b"obix: clock fault\n".to_vec(alloc),
             StdioEnd::Memory => b"obix: out of memory\n".to_vec(alloc),
         }
-    }
-
-    /// Tells it on `errors`, and gives the exit that it leads to.
-    pub(crate) fn told<E: Sink>(self, alloc: Global, errors: &mut E) -> Exit
-        ensures { result ≡ exit_of self }
-    {
-        tell(errors, self.line(alloc));
-        self.exit()
     }
 }
 
@@ -119,15 +111,6 @@ fn frame_line(alloc: Global, fault: FrameFault, place: u64) -> Result<Vec<u8>, A
     let word = frame_word(fault);
     let text = format!(in alloc; "obix: frame {word} at {place}\n")?;
     text.as_bytes().to_vec(alloc)
-}
-
-/// What is printed of a file that opens no site.
-fn site_line(alloc: Global, fault: &LoadFault) -> Result<Vec<u8>, AllocError> {
-    let words = fault.words(alloc)?;
-    let mut line = b"obix: refused: ".to_vec(alloc)?;
-    line.extend_from_slice(words.as_bytes())?;
-    line.extend_from_slice(b"\n")?;
-    Ok(line)
 }
 
 /// A moment, the last that there is where the number is larger.
@@ -152,6 +135,7 @@ fn serve_site<R: Wait, F: Files, L: Link, C: Clock>(
 ) -> StdioEnd
     ensures comes { Comes (F.content files.old site.now) boot result (L.left link.old) (L.taken link.old) (L.left link.new) (L.taken link.new) (L.held link.old) (L.held link.new) (C.given clock.old) (C.given clock.new) }
     ensures unused { IsUnserved result → link.new ≡ link.old }
+    ensures pace { C.pace clock.new ≡ C.pace clock.old }
     ensures cause { HasCause result (F.faults files.old) (F.faults files.new) (L.read_faults link.old) (L.read_faults link.new)
         (L.write_faults link.old) (L.write_faults link.new) (C.faults clock.old) (C.faults clock.new) }
     ensures whole { (end : LinkEnd) → result ≡ StdioEnd.Served end → ServesWhole (L.left link.old) (L.read_faults link.old) (L.read_faults link.new)
@@ -169,15 +153,16 @@ fn serve_site<R: Wait, F: Files, L: Link, C: Clock>(
 
 /// Opens the site of a file, and answers the requests of a link from it. The boot and the requests are at the moments
 /// of the clock or, with `at`, at those of a clock that begins there and goes by `tick` milliseconds.
-pub(crate) fn stdio<R: Wait, F: Files, L: Link, C: Clock>(
+fn stdio<R: Wait, F: Files, L: Link, C: Clock>(
     rt: &R,
     alloc: Global,
-    service: Service<'_>,
+    service: Stdio<'_>,
     files: &mut F,
     link: &mut L,
     clock: &mut C,
 ) -> StdioEnd
-    ensures comes { StdioComes (F.content files.old service.entry.site.now) service.entry.at result (L.left link.old) (L.taken link.old) (L.left link.new) (L.taken link.new) (L.held link.old) (L.held link.new) (C.given clock.old) (C.given clock.new) }
+    ensures unasked { IsSome service.entry.at → clock.new ≡ clock.old }
+    ensures comes { StdioComes (F.content files.old service.entry.site.now) service.entry.at service.entry.tick result (L.left link.old) (L.taken link.old) (L.left link.new) (L.taken link.new) (L.held link.old) (L.held link.new) (C.given clock.old) (C.given clock.new) }
     ensures unused { IsUnserved result → link.new ≡ link.old }
     ensures cause { HasCause result (F.faults files.old) (F.faults files.new) (L.read_faults link.old) (L.read_faults link.new)
         (L.write_faults link.old) (L.write_faults link.new) (C.faults clock.old) (C.faults clock.new) }
@@ -204,4 +189,27 @@ pub(crate) fn stdio<R: Wait, F: Files, L: Link, C: Clock>(
         link,
         &mut ticker,
     )
+}
+
+/// Opens the site of a file, answers the requests of the link's source on its sink, and tells on `errors` what went wrong.
+pub(crate) fn run_stdio<R: Wait, F: Files, S: Source, K: Sink, E: Sink, C: Clock>(
+    rt: &R,
+    alloc: Global,
+    service: Stdio<'_>,
+    files: &mut F,
+    link: &mut Pair<S, K>,
+    errors: &mut E,
+    clock: &mut C,
+) -> Exit
+    ensures ran { StdioRan (F.content files.old service.entry.site.now) service.entry.at service.entry.tick (F.faults files.old) (F.faults files.new)
+        (streams (S.left link.old.source) (K.held link.old.sink) (S.faults link.old.source) (K.faults link.old.sink))
+        (streams (S.left link.new.source) (K.held link.new.sink) (S.faults link.new.source) (K.faults link.new.sink))
+        (clock_told (C.faults clock.old) (C.given clock.old) (C.pace clock.old) (C.twins clock.old))
+        (clock_told (C.faults clock.new) (C.given clock.new) (C.pace clock.new) (C.twins clock.new)) result }
+    ensures refused { result ≡ Exit.Refused → link.new ≡ link.old }
+    ensures unasked { IsSome service.entry.at → clock.new ≡ clock.old }
+{
+    let end = stdio(rt, alloc, service, files, link, clock);
+    tell(errors, end.line(alloc));
+    end.exit()
 }

@@ -1,9 +1,10 @@
-//! The program `obix`: hands `ob_program`'s `run` the words of the command line, the disk, the three standard streams and
-//! the system's clock, and ends with its status.
+//! The program `obix`: hands `ob_program`'s `run` the words of the command line, the disk, the three standard streams, the
+//! network and the system's clock, and ends with its status.
 #![tactic(auto)]
 
 use ob_io::{DiskFiles, Pair, Sink, StdSink, StdSource, SystemClock, write_all};
 use ob_program::{Exit, run};
+use ob_sockets::TcpPort;
 use std::alloc::Global;
 use std::env;
 use std::io::ErrorKind;
@@ -62,6 +63,7 @@ fn main(rt: HostRuntime) -> ExitCode {
                 source: StdSource::new(rt.stdin()),
                 sink: StdSink::new(rt.stdout()),
             };
+            let mut port = TcpPort::new(&rt);
             let mut clock = SystemClock::new(&rt);
             run(
                 &rt,
@@ -70,6 +72,7 @@ fn main(rt: HostRuntime) -> ExitCode {
                 &mut files,
                 &mut link,
                 &mut errors,
+                &mut port,
                 &mut clock,
             )
         }

@@ -9,8 +9,8 @@ use Rattle.ob_program.proofs.stdio.serve_site.Goals as goal
 pub returns-in-Ok-clause-comes : goal.returns-in-Ok-clause-comes
 returns-in-Ok-clause-comes g c =
     let file : Option (List ℕ) = g.F.Files.content c.args.files.now c.args.site.now in
-    let spelled = subst (λ (ns : Option (List ℕ)). IfSome file (λ whole. IsSite (site_bytes whole) ns)) (sym c.as_ref.ensures.value) c.in-Ok.ensures.site in
-    serves_site file _ _ _ _ _ _ _ _ _ _ _ spelled c.is_sound.ensures c.serve_alone-end.ensures.serves
+    let opened = subst (λ (ns : Option (List ℕ)). IfSome file (λ whole. IsSite (site_bytes whole) c.args.boot ns c.in-Ok.field-0.site)) (sym c.as_ref.ensures.value) c.in-Ok.ensures.site in
+    serves_site file c.args.boot _ _ _ _ _ _ _ _ _ _ _ opened c.is_sound.ensures c.serve_alone-end.ensures.serves
 
 pub returns-in-Err-clause-comes : goal.returns-in-Err-clause-comes
 returns-in-Err-clause-comes g c =

@@ -1,7 +1,7 @@
-use Rattle.std.proofs.Common.{refl, Some, []}
+use Rattle.std.proofs.Common.{refl, subst, Option, Some, []}
 use Rattle.std.specs.Prelude.{min}
-use Rattle.ob_io.specs.Ticks.{ticks, told_ticks, last_moment}
-use Rattle.ob_program.proofs.StdioLemmas.{whole_since, whole_apart, comes_at}
+use Rattle.ob_io.specs.Ticks.{ticks, told_ticks, last_moment, Pace, KeepsPace, told_ticks_keep}
+use Rattle.ob_program.proofs.StdioLemmas.{whole_since, whole_apart, comes_at, moments_told}
 use Rattle.ob_program.proofs.stdio.stdio.Goals as goal
 
 pub returns-in_default-clause-whole : goal.returns-in_default-clause-whole
@@ -15,13 +15,18 @@ pub returns-clause-comes : goal.returns-clause-comes
 unfolding ticks
 returns-clause-comes g c =
     let ticked = told_ticks c.serve_site-2.new.clock.at c.serve_site-2.new.clock.tick c.serve_site-2.new.clock.k in
+    let comes = comes_at (g.F.Files.content c.args.files.now c.args.service.site.now) c.moment.result (min c.in-Some.at last_moment) c.serve_site-2.result
+    (g.L.Link.left c.args.link.now) (g.L.Link.taken c.args.link.now) (g.L.Link.left c.serve_site-2.new.link) (g.L.Link.taken c.serve_site-2.new.link)
+    (g.L.Link.held c.args.link.now) (g.L.Link.held c.serve_site-2.new.link) (Some []) ticked c.moment.ensures c.serve_site-2.ensures.comes in
     rw c.in-Some.is (
       refl,
       (
         ticked,
-        comes_at (g.F.Files.content c.args.files.now c.args.service.site.now) c.moment.result (min c.in-Some.at last_moment) c.serve_site-2.result
+        comes,
+        moments_told (g.F.Files.content c.args.files.now c.args.service.site.now) (min c.in-Some.at last_moment) c.serve_site-2.result
             (g.L.Link.left c.args.link.now) (g.L.Link.taken c.args.link.now) (g.L.Link.left c.serve_site-2.new.link) (g.L.Link.taken c.serve_site-2.new.link)
-            (g.L.Link.held c.args.link.now) (g.L.Link.held c.serve_site-2.new.link) (Some []) ticked c.moment.ensures c.serve_site-2.ensures.comes,
+            (g.L.Link.held c.args.link.now) (g.L.Link.held c.serve_site-2.new.link) ticked comes,
+        subst (λ (p : Option Pace). KeepsPace p ticked) c.serve_site-2.ensures.pace (told_ticks_keep c.serve_site-2.new.clock.at c.serve_site-2.new.clock.tick c.serve_site-2.new.clock.k),
       ),
     )
 

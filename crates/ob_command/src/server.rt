@@ -1,0 +1,95 @@
+//! The commands that serve a site, and the one that checks a document.
+ghost use Rattle.std.specs.Prelude.{◌≡◌, option_map};
+ghost use Rattle.ob_command.specs.Command.{stdio_of, serve_of, check_of};
+ghost use Rattle.ob_command.specs.Words.{arguments_of};
+ghost use Rattle.ob_command.specs.Named.{command_of};
+
+use crate::argument::Arguments;
+use crate::command::Command;
+use crate::number::number_between;
+
+/// The last moment that there is, in milliseconds since 1970.
+const LAST_MOMENT: u64 = 253_402_300_799_999;
+
+/// The largest number of 18 digits.
+const LARGEST_NUMBER: u64 = 999_999_999_999_999_999;
+
+/// A site that is served on the standard streams, and when.
+#[derive(Clone, Copy)]
+pub struct Stdio<'a> {
+    /// The site file.
+    pub site: &'a str,
+    /// The moment of the boot and of the first request, in milliseconds since 1970, where the clock isn't asked.
+    pub at: Option<u64>,
+    /// The milliseconds from the moment of a request to that of the next.
+    pub tick: u64,
+}
+
+/// A site that is served at a port.
+#[derive(Clone, Copy)]
+pub struct Serve<'a> {
+    /// The site file.
+    pub site: &'a str,
+    /// The name or address that is listened at.
+    pub host: &'a str,
+    pub port: u16,
+    /// How many workers there are.
+    pub workers: u8,
+    /// How many links each of them serves.
+    pub quota: u32,
+}
+
+/// The command of the arguments `SITE [--at MS] [--tick MS]`.
+pub(crate) fn stdio_of(given: Arguments<'_>) -> Option<Command<'_>>
+    ensures { option_map command_of result ≡ stdio_of (arguments_of given.entry) }
+{
+    if !given.has_only(&["--at", "--tick"]) {
+        return None;
+    }
+    let (site, behind) = given.next_operand()?;
+    if behind.next_operand().is_some() {
+        return None;
+    }
+    let at = given.number_given("--at", 0, LAST_MOMENT)?;
+    let tick = given.number_or("--tick", 0, LARGEST_NUMBER, 0)?;
+    Some(Command::Stdio(Stdio { site, at, tick }))
+}
+
+/// The command of the arguments `SITE HOST PORT [--workers N] [--quota M]`.
+pub(crate) fn serve_of(given: Arguments<'_>) -> Option<Command<'_>>
+    ensures { option_map command_of result ≡ serve_of (arguments_of given.entry) }
+{
+    if !given.has_only(&["--workers", "--quota"]) {
+        return None;
+    }
+    let (site, behind) = given.next_operand()?;
+    let (host, behind) = behind.next_operand()?;
+    let (port, behind) = behind.next_operand()?;
+    if behind.next_operand().is_some() {
+        return None;
+    }
+    let port = number_between(port.as_bytes(), 0, 65_535)?;
+    let workers = given.number_or("--workers", 1, 64, 4)?;
+    let quota = given.number_or("--quota", 1, 1_000_000, 1)?;
+    Some(Command::Serve(Serve {
+        site,
+        host,
+        port: port as u16,
+        workers: workers as u8,
+        quota: quota as u32,
+    }))
+}
+
+/// The command of the argument `FILE`.
+pub(crate) fn check_of(given: Arguments<'_>) -> Option<Command<'_>>
+    ensures { option_map command_of result ≡ check_of (arguments_of given.entry) }
+{
+    if !given.has_only(&[]) {
+        return None;
+    }
+    let (file, behind) = given.next_operand()?;
+    if behind.next_operand().is_some() {
+        return None;
+    }
+    Some(Command::Check(file))
+}
