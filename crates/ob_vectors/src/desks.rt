@@ -103,7 +103,7 @@ fn tell_all<R: Wait + AllocGlobal>(
 }
 
 impl<'a, R: Wait> Desks<'a, R> {
-    /// Desks of sites that these lines describe.
+    /// Desks of sites that have their documents in this file.
     pub(crate) fn new(rt: &'a R, sites: &'a str) -> Desks<'a, R> {
         Desks { rt, sites }
     }

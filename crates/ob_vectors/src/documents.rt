@@ -4,13 +4,25 @@ use crate::table::{Asked, Table};
 use ob_xml::{Decoder, Doc, Refused};
 use std::alloc::{AllocError, Global};
 
-/// What a decoder answers to all pieces.
+// The refusal of a decoder that refuses one more piece for the same, or else one at a place that no document has.
+fn still(mut decoder: Decoder, refused: Refused) -> Refused {
+    let again = decoder.feed(b"<obj/>");
+    drop(decoder);
+    match again {
+        Err(other) if other == refused => refused,
+        _ => Refused {
+            at: u64::MAX,
+            why: refused.why,
+        },
+    }
+}
+
+/// What a decoder answers to all pieces, and to one more where it refuses one of them.
 pub(crate) fn read(alloc: Global, pieces: &[&[u8]]) -> Result<Doc, Refused> {
     let mut decoder = Decoder::new(alloc);
     for piece in pieces {
         if let Err(refused) = decoder.feed(piece) {
-            drop(decoder);
-            return Err(refused);
+            return Err(still(decoder, refused));
         }
     }
     decoder.finish()
@@ -21,8 +33,7 @@ pub(crate) fn read_by(alloc: Global, text: &[u8], size: usize) -> Result<Doc, Re
     let mut decoder = Decoder::new(alloc);
     for piece in text.chunks(size.max(1)) {
         if let Err(refused) = decoder.feed(piece) {
-            drop(decoder);
-            return Err(refused);
+            return Err(still(decoder, refused));
         }
     }
     decoder.finish()

@@ -8,11 +8,15 @@ mod calendar;
 mod calls;
 mod contracts;
 mod desks;
+mod dialogues;
 mod documents;
 mod filters;
 mod histories;
 mod hrefs;
+mod links;
+mod loads;
 mod messages;
+mod moments;
 mod objects;
 mod outside;
 mod pieces;
@@ -31,10 +35,13 @@ use calendar::{Calendars, Days};
 use calls::Calls;
 use contracts::Contracts;
 use desks::Desks;
+use dialogues::Dialogues;
 use documents::Documents;
 use filters::Filters;
 use histories::Histories;
 use hrefs::Hrefs;
+use links::Links;
+use loads::Loads;
 use messages::{Messages, Replies};
 use objects::Objects;
 use outside::Outside;
@@ -102,7 +109,21 @@ fn run_contracts<R: Print + Files + AllocGlobal>(rt: &R) -> io::Result<()> {
 fn run_sites<R: Print + Files + AllocGlobal + Wait>(rt: &R) -> io::Result<()> {
     let lines = fs::read_to_string(rt, "sites.txt")?;
     run(rt, "requests.rows", &mut Requests::new(lines.as_str()))?;
-    run(rt, "desks.rows", &mut Desks::new(rt, lines.as_str()))
+    run(rt, "desks.rows", &mut Desks::new(rt, lines.as_str()))?;
+    run_connections(rt, lines.as_str())
+}
+
+// The requests on sites again, as bytes over connections: whole, and byte by byte.
+fn run_connections<R: Print + Files + AllocGlobal + Wait>(
+    rt: &R,
+    documents: &str,
+) -> io::Result<()> {
+    let mut whole = Dialogues::new(rt, rt.alloc(), documents, 65_536);
+    run(rt, "requests.rows", &mut whole)?;
+    let mut bytewise = Dialogues::new(rt, rt.alloc(), documents, 1);
+    run(rt, "requests.rows", &mut bytewise)?;
+    run(rt, "loads.rows", &mut Loads)?;
+    run(rt, "links.rows", &mut Links::new(rt, documents))
 }
 
 fn main(rt: HostRuntime) -> io::Result<()> {

@@ -2,6 +2,7 @@
 use crate::sites::open;
 use crate::spelled::{object, push_bytes, split_word};
 use crate::table::{Asked, Table};
+use crate::words::text_of;
 use ob_encode::encode;
 use ob_object::Obj;
 use ob_plain::{Machine, Site};
@@ -79,7 +80,7 @@ pub(crate) fn tell_reply(
 }
 
 impl<'a> Requests<'a> {
-    /// No site, and the lines that describe those that are opened.
+    /// No site, and the documents of those that are opened.
     pub(crate) fn new(sites: &'a str) -> Requests<'a> {
         Requests {
             sites,
@@ -132,11 +133,12 @@ impl<'a> Requests<'a> {
 
 impl Table for Requests<'_> {
     fn answer(&mut self, alloc: Global, asked: Asked, told: &mut String) -> Result<(), AllocError> {
-        if let Some(name) = asked.text.strip_prefix("open ") {
+        let row = text_of(asked.bytes);
+        if let Some(name) = row.strip_prefix("open ") {
             return told.push_str(self.open(alloc, name));
         }
-        match asked.text.strip_prefix("*") {
-            None => self.ask(alloc, asked.text, None, told),
+        match row.strip_prefix("*") {
+            None => self.ask(alloc, row, None, told),
             Some(rest) => match numbered(rest) {
                 Some((count, row)) => self.ask(alloc, row, Some(count), told),
                 None => told.push_str("no such row"),

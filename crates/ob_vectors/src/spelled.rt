@@ -22,7 +22,10 @@ pub(crate) fn object(alloc: Global, said: &str) -> Option<Obj> {
         return None;
     }
     match decoder.finish() {
-        Ok(doc) => Some(doc.root),
+        Ok(doc) => {
+            let (_, root) = doc.into_parts();
+            Some(root)
+        }
         Err(_) => None,
     }
 }

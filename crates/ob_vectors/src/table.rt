@@ -1,8 +1,8 @@
 //! Tables of rows: files that say of each input what is to come out.
 //!
 //! A row is a line: its input, ` =>`, and behind a blank what is to come out, unless that is nothing. A line that begins with
-//! `###` is a remark. ␣, ␉, ␊, ␍, ⏎ (CR LF), ␀ and ␡ stand for those bytes, and `‹C3A9›` for the bytes of these numbers
-//! of base 16, on either side.
+//! `###` is a remark. ␣, ␉, ␊, ␍, ⏎ (CR LF), ␀ and ␡ stand for those bytes, `‹C3A9›` for the bytes of these numbers of
+//! base 16, and `‹41*8192›` for so many times these bytes, on either side.
 use std::alloc::{AllocError, Global};
 use std::rt::Files;
 use std::{fs, io};
@@ -72,12 +72,21 @@ fn push_hex(bytes: &mut Vec<u8>, digits: &[u8]) -> Result<(), AllocError> {
     Ok(())
 }
 
+// The bytes of `C3A9`, or of `41*8192`.
+fn push_spelled(bytes: &mut Vec<u8>, spelled: &str) -> Result<(), AllocError> {
+    let (digits, count) = spelled.split_once('*').unwrap_or((spelled, "1"));
+    for _ in 0..count.parse::<u32>().unwrap_or(0) {
+        push_hex(bytes, digits.as_bytes())?;
+    }
+    Ok(())
+}
+
 // The bytes that a side of a row stands for.
 fn push_meant(bytes: &mut Vec<u8>, side: &str) -> Result<(), AllocError> {
     for part in side.split('‹') {
         match part.split_once('›') {
-            Some((digits, plain)) => {
-                push_hex(bytes, digits.as_bytes())?;
+            Some((spelled, plain)) => {
+                push_spelled(bytes, spelled)?;
                 push_plain(bytes, plain)?;
             }
             None => push_plain(bytes, part)?,
