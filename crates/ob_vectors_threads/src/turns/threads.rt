@@ -19,7 +19,7 @@ struct Minutes {
 
 impl Model for Minutes {
     ghost use Rattle.std.specs.Prelude.{List};
-    ghost use Rattle.ob_vectors_turn.specs.declared.turns.threads.Line.{Line};
+    ghost use Rattle.ob_vectors_threads.specs.declared.turns.threads.Line.{Line};
 
     ghost Value = { List Line };
 

@@ -1,0 +1,15 @@
+//! Threads that share one machine: sums and minutes that a desk which answered from another state would tell otherwise,
+//! and the site of a plant, served to links of which one waits for the other.
+#![tactic(auto)]
+
+mod counter;
+#[cfg(test)]
+mod joined;
+#[cfg(test)]
+mod links;
+#[cfg(test)]
+mod plant;
+#[cfg(test)]
+mod turns;
+
+pub use counter::{Add, Counter, counted};
