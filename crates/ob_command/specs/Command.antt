@@ -1,10 +1,14 @@
 -- The command that the words behind the program's name are.
-use Rattle.std.specs.Prelude.{ℕ, if◌then◌else◌, List, [], ◌∷◌, codes, bytes_eq, Option, Some, None, option_map}
+use Rattle.std.specs.Prelude.{ℕ, Bool, true, false, ◌||◌, if◌then◌else◌, List, [], ◌∷◌, codes, bytes_eq, Option, Some, None, option_map, Result, Ok, Err}
 use Rattle.std.specs.List.{list_all}
-use Rattle.std.specs.Option.{unwrap_or}
+use Rattle.std.specs.Option.{option_and_then, unwrap_or}
+use Rattle.url.specs.Parts.{Parts}
+use Rattle.url.specs.Parser.{parse_url}
+use Rattle.ob_href.specs.Href.{as_base, resolved_path}
+use Rattle.ob_href.specs.declared.fault.HrefFault.{HrefFault}
 use Rattle.ob_command.specs.Arguments.{Argument, arguments, operands, values, has_only}
 use Rattle.ob_command.specs.Number.{number_between}
-use Rattle.ob_command.specs.Texts.{is_text}
+use Rattle.ob_command.specs.Texts.{is_text, text_if, texts_if, optional_text}
 
 pub data Command : Type 0 where
   -- the site file; the moment that the clock begins at, if it is given; the milliseconds from one moment to the next
@@ -13,6 +17,10 @@ pub data Command : Type 0 where
   serve : (site host : List ℕ) → (port workers quota : ℕ) → Command
   -- the document's file
   check : (file : List ℕ) → Command
+  -- the URL of a lobby; what is watched there; how often it is polled, and how many broken polls are mended
+  watch : (url : Parts) → (hrefs : List (List ℕ)) → (polls retries : ℕ) → Command
+  -- the URL of a lobby; the alarm subject; how often its feed is polled; the alarm to acknowledge, if one is given, and who does
+  console : (url : Parts) → (subject : List ℕ) → (polls : ℕ) → (ack : Option (List ℕ)) → (user : List ℕ) → Command
 
 -- ---- the values of an option, which is given at most once
 
@@ -25,6 +33,12 @@ number_given least most (text ∷ (other ∷ more)) = None
 -- the number, or another one where none is given
 abbrev pub number_or : (least most default : ℕ) → List (List ℕ) → Option ℕ
 number_or least most default given = option_map (λ n. unwrap_or n default) (number_given least most given)
+
+-- the word, if it is given
+abbrev pub word_given : List (List ℕ) → Option (Option (List ℕ))
+word_given [] = Some None
+word_given (word ∷ []) = Some (Some word)
+word_given (word ∷ (other ∷ more)) = None
 
 -- ---- the commands
 
@@ -70,14 +84,67 @@ check_with _ = None
 abbrev pub check_of : List Argument → Option Command
 check_of given = if has_only [] given then check_with (operands given) else None
 
+abbrev http_only : Result Parts HrefFault → Option Parts
+http_only (Ok url) = if bytes_eq url.scheme (codes "https") then None else Some url
+http_only (Err e) = None
+
+-- the http URL without a fragment that the text is read as
+abbrev pub server_url : List ℕ → Option Parts
+server_url text = http_only (as_base (parse_url None text))
+
+abbrev pub watch_at : (url : List ℕ) → (hrefs : List (List ℕ)) → (polls retries : ℕ) → Option Command
+watch_at url hrefs polls retries = option_and_then (λ hs. option_map (λ u. watch u hs polls retries) (server_url url)) (texts_if hrefs)
+
+abbrev pub watch_with : (operands : List (List ℕ)) → (polls retries : Option ℕ) → Option Command
+watch_with (url ∷ (href ∷ hrefs)) (Some polls) (Some retries) = watch_at url (href ∷ hrefs) polls retries
+watch_with _ _ _ = None
+
+-- `URL HREF.. [--polls N] [--retry R]`
+abbrev pub watch_of : List Argument → Option Command
+watch_of given =
+    if has_only (codes "--polls" ∷ codes "--retry" ∷ []) given
+    then watch_with (operands given) (number_or 0 1_000_000 1 (values (codes "--polls") given)) (number_or 0 100 0 (values (codes "--retry") given))
+    else None
+
+abbrev is_path : Result (List ℕ) HrefFault → Bool
+is_path (Ok path) = true
+is_path (Err e) = false
+
+-- the URL, where the text names something on its server
+abbrev pub leads_from : (text : List ℕ) → Parts → Option Parts
+leads_from text url = if is_path (resolved_path url text) then Some url else None
+
+abbrev pub console_at : (url subject : List ℕ) → (polls : ℕ) → (ack : Option (List ℕ)) → (user : List ℕ) → Option Command
+console_at url subject polls ack user =
+    option_and_then (λ s. option_and_then (λ n. option_and_then (λ a. option_map (λ u. console u s polls a n)
+    (option_and_then (leads_from subject) (server_url url))) (optional_text ack)) (text_if user)) (text_if subject)
+
+abbrev pub console_with : (operands : List (List ℕ)) → (polls : Option ℕ) → (ack user : Option (Option (List ℕ))) → Option Command
+console_with (url ∷ (subject ∷ [])) (Some polls) (Some ack) (Some user) = console_at url subject polls ack (unwrap_or user (codes "console"))
+console_with _ _ _ _ = None
+
+-- `URL SUBJECT [--polls N] [--ack HREF] [--user NAME]`
+abbrev pub console_of : List Argument → Option Command
+console_of given =
+    if has_only (codes "--polls" ∷ codes "--ack" ∷ codes "--user" ∷ []) given
+    then console_with (operands given) (number_or 0 1_000_000 1 (values (codes "--polls") given)) (word_given (values (codes "--ack") given)) (word_given (values (codes "--user") given))
+    else None
+
 abbrev pub named : List ℕ → List Argument → Option Command
 named word given =
     if bytes_eq word (codes "stdio") then stdio_of given
     else (if bytes_eq word (codes "serve") then serve_of given
     else (if bytes_eq word (codes "check") then check_of given
-    else None))
+    else (if bytes_eq word (codes "watch") then watch_of given
+    else (if bytes_eq word (codes "console") then console_of given
+    else None))))
 
 -- one of the commands above with its arguments; all other words are no command
 abbrev pub command : List (List ℕ) → Option Command
 command [] = None
 command (word ∷ words) = if list_all is_text (word ∷ words) then named word (arguments words) else None
+
+-- The words begin with the name of a client's command: their URL is read into memory.
+abbrev pub is_client : List (List ℕ) → Bool
+is_client [] = false
+is_client (word ∷ words) = bytes_eq word (codes "watch") || bytes_eq word (codes "console")

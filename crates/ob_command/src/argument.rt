@@ -1,8 +1,8 @@
 //! The words behind the command: operands, and options with their values.
-ghost use Rattle.std.specs.Prelude.{◌≡◌, ◌≤◌, ◌<◌, ◌^◌, ◌∷◌, [], true, false, length, map, string_bytes, codes, bytes_eq, None, IfSome, MatchOption};
+ghost use Rattle.std.specs.Prelude.{◌≡◌, ◌≤◌, ◌<◌, ◌^◌, ◌∷◌, [], true, false, length, map, option_map, option_copied, string_bytes, codes, bytes_eq, None, IfSome, MatchOption};
 ghost use Rattle.std.specs.List.{list_any};
 ghost use Rattle.ob_command.specs.Arguments.{is_option, arguments, operands, values, has_only};
-ghost use Rattle.ob_command.specs.Command.{number_given, number_or};
+ghost use Rattle.ob_command.specs.Command.{number_given, number_or, word_given};
 ghost use Rattle.ob_command.specs.Words.{argument_of, arguments_of};
 
 use crate::number::number_between;
@@ -163,6 +163,19 @@ impl<'a> Arguments<'a> {
             rest = left;
         }
         None
+    }
+
+    /// The word that an option is given, if it is given; `None` where it is given twice.
+    pub(crate) fn word_given(self, name: &str) -> Option<Option<&'a str>>
+        ensures { option_map option_copied result ≡ word_given (values name.now (arguments_of self.entry)) }
+    {
+        match self.next_value(name) {
+            None => Some(None),
+            Some((word, behind)) => match behind.next_value(name) {
+                None => Some(Some(word)),
+                Some(_) => None,
+            },
+        }
     }
 
     /// The number that an option is given, if it is given; `None` where it is given twice, or no number in this range.

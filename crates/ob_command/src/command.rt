@@ -1,14 +1,16 @@
 //! The commands.
-ghost use Rattle.std.specs.Prelude.{◌≡◌, map, option_map, string_bytes};
-ghost use Rattle.ob_command.specs.Command.{command};
+ghost use Rattle.std.specs.Prelude.{◌≡◌, true, map, option_map, string_bytes, MatchResult};
+ghost use Rattle.ob_command.specs.Command.{command, is_client};
 ghost use Rattle.ob_command.specs.Named.{command_of};
 
 use crate::argument::Arguments;
+use crate::client::{Console, Watch, console_of, watch_of};
 use crate::server::{Serve, Stdio, check_of, serve_of, stdio_of};
 use crate::text::are_texts;
+use std::alloc::{AllocError, Global};
 
 /// What is to be done.
-#[derive(Clone, Copy)]
+#[derive(Drop)]
 pub enum Command<'a> {
     /// The requests of the source are answered from a site file.
     Stdio(Stdio<'a>),
@@ -16,6 +18,10 @@ pub enum Command<'a> {
     Serve(Serve<'a>),
     /// The document of a file is checked and written in its canonical form.
     Check(&'a str),
+    /// Objects of a server are watched and written.
+    Watch(Watch),
+    /// The alarms of a subject are watched and written.
+    Console(Console),
 }
 
 /// The command that the words are, where they are one:
@@ -23,23 +29,33 @@ pub enum Command<'a> {
 /// - `stdio SITE [--at MS] [--tick MS]`
 /// - `serve SITE HOST PORT [--workers N] [--quota M]`
 /// - `check FILE`
+/// - `watch URL HREF.. [--polls N] [--retry R]`
+/// - `console URL SUBJECT [--polls N] [--ack HREF] [--user NAME]`
 ///
 /// An option stands anywhere behind the command, at most once, as `--x V` or `--x=V`; `--` ends the options. Numbers
-/// have 1 to 18 digits, and each word is text that XML can carry.
-pub fn read_command(words: &[String]) -> Option<Command<'_>>
-    ensures { option_map command_of result ≡ command (map string_bytes words.now) }
+/// have 1 to 18 digits, and each word is text that XML can carry. URL is an http URL without a fragment, and SUBJECT names
+/// something on its server. An error only for want of memory, and only for the commands of clients.
+pub fn read_command<'a>(
+    alloc: Global,
+    words: &'a [String],
+) -> Result<Option<Command<'a>>, AllocError>
+    ensures { MatchResult result
+        (λ read. option_map command_of read ≡ command (map string_bytes words.now))
+        (λ _. is_client (map string_bytes words.now) ≡ true) }
 {
     let [word, behind @ ..] = words else {
-        return None;
+        return Ok(None);
     };
     if !are_texts(words) {
-        return None;
+        return Ok(None);
     }
     let given = Arguments::of(behind);
     match word.as_str() {
-        "stdio" => stdio_of(given),
-        "serve" => serve_of(given),
-        "check" => check_of(given),
-        _ => None,
+        "stdio" => Ok(stdio_of(given)),
+        "serve" => Ok(serve_of(given)),
+        "check" => Ok(check_of(given)),
+        "watch" => watch_of(alloc, given),
+        "console" => console_of(alloc, given),
+        _ => Ok(None),
     }
 }

@@ -1,8 +1,16 @@
-//! Words that XML can carry.
-ghost use Rattle.std.specs.Prelude.{◌≡◌, map, string_bytes};
+//! Words that XML can carry, and URLs.
+ghost use Rattle.std.specs.Prelude.{◌≡◌, ◌+◌, ◌∷◌, ◌++◌, if◌then◌else◌, map, string_bytes, option_map, true, Some, None, IfOk};
 ghost use Rattle.std.specs.List.{list_all};
 ghost use Rattle.ob_scan.specs.Constructs.{is_char};
-ghost use Rattle.ob_command.specs.Texts.{is_text};
+ghost use Rattle.ob_command.specs.Arguments.{operands};
+ghost use Rattle.ob_command.specs.Command.{server_url};
+ghost use Rattle.ob_command.specs.Texts.{is_text, text_if, texts_if};
+ghost use Rattle.ob_command.specs.Words.{arguments_of};
+
+use crate::argument::Arguments;
+use ob_href::{Base, HrefFault};
+use ob_values::Text;
+use std::alloc::{AllocError, Global};
 
 fn is_xml_char(character: char) -> bool
     ensures { result ≡ is_char character }
@@ -33,4 +41,55 @@ pub(crate) fn are_texts(words: &[String]) -> bool
         }
     }
     true
+}
+
+/// The word as a text, if XML can carry it. An error only for want of memory.
+pub(crate) fn read_text(alloc: Global, word: &str) -> Result<Option<Text>, AllocError>
+    ensures { IfOk result (λ text. text ≡ text_if word.now) }
+{
+    if !is_text(word) {
+        return Ok(None);
+    }
+    let text = copied(alloc, word)?;
+    Ok(Some(text))
+}
+
+/// A word that XML can carry, as a text. An error only for want of memory.
+fn copied(alloc: Global, word: &str) -> Result<Text, AllocError>
+    requires { is_text word.now ≡ true }
+    ensures { IfOk result (λ text. text ≡ word.now) }
+{
+    let string = String::from_str(alloc, word)?;
+    Text::from_string(string)
+}
+
+/// The operands as texts, if XML can carry each. An error only for want of memory.
+pub(crate) fn read_texts(
+    alloc: Global,
+    given: Arguments<'_>,
+) -> Result<Option<Vec<Text>>, AllocError>
+    ensures { IfOk result (λ texts. option_map (λ t. t.items) texts ≡ texts_if (operands (arguments_of given.entry))) }
+{
+    let mut texts = Vec::new(alloc);
+    let mut rest = given;
+    while let Some((word, left)) = rest.next_operand() {
+        let Some(text) = read_text(alloc, word)? else {
+            return Ok(None);
+        };
+        texts.push(text)?;
+        rest = left;
+    }
+    Ok(Some(texts))
+}
+
+/// The http URL without a fragment that a word is, if it is one. An error only for want of memory.
+pub(crate) fn read_url(alloc: Global, word: &str) -> Result<Option<Base>, AllocError>
+    ensures { IfOk result (λ url. url ≡ server_url word.now) }
+{
+    match Base::new(alloc, word) {
+        Ok(url) if url.is_https() => Ok(None),
+        Ok(url) => Ok(Some(url)),
+        Err(HrefFault::Memory) => Err(AllocError),
+        Err(_) => Ok(None),
+    }
 }

@@ -5,3 +5,4 @@ pub mod StdioLemmas
 pub mod ServingLemmas
 pub mod ServeLemmas
 pub mod ApartLemmas
+pub mod ClientLemmas

@@ -5,4 +5,5 @@ pub mod Reading
 pub mod Stdio
 pub mod Check
 pub mod Serving
+pub mod Client
 pub mod Run

@@ -1,5 +1,6 @@
 -- What is told of the outside, before and after a run.
-use Rattle.std.specs.Prelude.{ℕ, List, Option}
+use Rattle.std.specs.Prelude.{ℕ, Bool, List, Option}
+use Rattle.ob_io.specs.Dials.{Dial, Visit}
 -- what is told of a port and of a clock
 pub use Rattle.ob_server.specs.GivenBack.{PortTold, port_told, ClockTold, clock_told}
 
@@ -12,3 +13,13 @@ pub record Streams : Type 0 where
 
 abbrev pub streams : Option (List ℕ) → Option (List ℕ) → ℕ → ℕ → Streams
 streams left held reads writes = record { left = left; held = held; reads = reads; writes = writes }
+
+-- the dialer: what was dialled, the links that it has back, whether the last call failed, and the count of faults
+pub record Dialled : Type 0 where
+  pub dials : Option (List Dial)
+  pub visits : Option (List Visit)
+  pub rose : Bool
+  pub faults : ℕ
+
+abbrev pub dialled : Option (List Dial) → Option (List Visit) → Bool → ℕ → Dialled
+dialled dials visits rose faults = record { dials = dials; visits = visits; rose = rose; faults = faults }

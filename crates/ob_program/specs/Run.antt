@@ -1,30 +1,43 @@
 -- What a run comes to, by the command that its words are.
-use Rattle.std.specs.Prelude.{ℕ, Bool, List, Option, Some, None}
+use Rattle.std.specs.Prelude.{◌≡◌, ℕ, Bool, true, List, Option, Some, None}
 use Rattle.ob_command.specs.Command as commands
 use Rattle.ob_command.specs.Command.{Command}
+use Rattle.ob_dialogue.specs.Plans.{Program, Hrefs, Alarms}
 use Rattle.ob_io.specs.Visits.{Visit}
 use Rattle.ob_program.specs.declared.exit.Exit.{Exit}
-use Rattle.ob_program.specs.Outside.{Streams, PortTold, ClockTold}
+use Rattle.ob_program.specs.declared.exit.Exit.TheVariants as exits
+use Rattle.ob_program.specs.Outside.{Streams, PortTold, Dialled, ClockTold}
 use Rattle.ob_program.specs.Stdio.{StdioRan}
 use Rattle.ob_program.specs.Check.{CheckRan}
 use Rattle.ob_program.specs.Serving.{ServeRan}
+use Rattle.ob_program.specs.Client.{ClientRan}
+
+-- Memory was wanting to read the URL or a text of a client's words, and this is as it was.
+abbrev pub IsUnread : (words : List (List ℕ)) → Exit → (untouched : Type 0) → Type 0
+IsUnread words exit untouched = (exit ≡ exits.Memory) × (commands.is_client words ≡ true) × untouched
 
 module _ {D C : Type 0} (faults handed returned : D → ℕ) (visits : D → Option (List Visit)) (closed : D → Bool) (given : C → Option (List ℕ)) (misses : C → ℕ) where
   -- the command was done
-  abbrev pub Ran : (content : List ℕ → Option (List ℕ)) → (files files' : ℕ) → (s s' : Streams) → (p p' : PortTold) → (t t' : ClockTold)
+  abbrev pub Ran : (content : List ℕ → Option (List ℕ)) → (files files' : ℕ) → (s s' : Streams) → (p p' : PortTold) → (d d' : Dialled) → (t t' : ClockTold)
       → Command → Exit → Type 0
-  Ran content files files' s s' p p' t t' (commands.stdio site at tick) exit =
+  Ran content files files' s s' p p' d d' t t' (commands.stdio site at tick) exit =
       StdioRan (content site) at tick files files' s s' t t' exit
-  Ran content files files' s s' p p' t t' (commands.serve site host port workers quota) exit =
+  Ran content files files' s s' p p' d d' t t' (commands.serve site host port workers quota) exit =
       ServeRan faults handed returned visits closed given misses (content site) host port workers quota files files'
       s.held s'.held s.writes s'.writes p p' t t' exit
-  Ran content files files' s s' p p' t t' (commands.check file) exit =
+  Ran content files files' s s' p p' d d' t t' (commands.check file) exit =
       CheckRan (content file) files files' s.held s'.held s.writes s'.writes exit
+  Ran content files files' s s' p p' d d' t t' (commands.watch url hrefs polls retries) exit =
+      ClientRan (record { url = url; watched = Hrefs hrefs; polls = polls; retries = retries }) s.held s'.held s.writes s'.writes d d' exit
+  Ran content files files' s s' p p' d d' t t' (commands.console url subject polls ack user) exit =
+      ClientRan (record { url = url; watched = Alarms subject ack user; polls = polls; retries = 0 }) s.held s'.held s.writes s'.writes d d' exit
 
 -- the parts of the outside that a command has nothing to do with are as they were
-abbrev pub LeavesAlone : Option Command → (files source sink port clock : Type 0) → Type 0
-LeavesAlone None files source sink port clock = files × source × sink × port × clock
-LeavesAlone (Some (commands.stdio site None tick)) files source sink port clock = port
-LeavesAlone (Some (commands.stdio site (Some at) tick)) files source sink port clock = port × clock
-LeavesAlone (Some (commands.serve site host place workers quota)) files source sink port clock = source
-LeavesAlone (Some (commands.check file)) files source sink port clock = source × port × clock
+abbrev pub LeavesAlone : Option Command → (files source sink port dialer clock : Type 0) → Type 0
+LeavesAlone None files source sink port dialer clock = files × source × sink × port × dialer × clock
+LeavesAlone (Some (commands.stdio site None tick)) files source sink port dialer clock = port × dialer
+LeavesAlone (Some (commands.stdio site (Some at) tick)) files source sink port dialer clock = port × dialer × clock
+LeavesAlone (Some (commands.serve site host place workers quota)) files source sink port dialer clock = source × dialer
+LeavesAlone (Some (commands.check file)) files source sink port dialer clock = source × port × dialer × clock
+LeavesAlone (Some (commands.watch url hrefs polls retries)) files source sink port dialer clock = files × source × port × clock
+LeavesAlone (Some (commands.console url subject polls ack user)) files source sink port dialer clock = files × source × port × clock

@@ -19,6 +19,10 @@ pub enum Exit {
     Frame,
     /// The source ended inside a request.
     Truncated,
+    /// A dial failed, or a call on the link that was given back last.
+    LinkFault,
+    /// A server's reply isn't one that the dialogue can go on with.
+    Peer,
     /// The port could not listen or gave no door, or a door failed.
     PortFault,
     ClockFault,
@@ -42,6 +46,8 @@ impl Exit {
             Exit::WriteFault => 4,
             Exit::Frame => 5,
             Exit::Truncated => 6,
+            Exit::LinkFault => 7,
+            Exit::Peer => 8,
             Exit::PortFault => 9,
             Exit::ClockFault => 10,
             Exit::Budget => 11,

@@ -1,10 +1,11 @@
 //! The program `obix` over an outside that is handed in: `run`, whose contract is about bytes.
 //!
 //! `stdio SITE` opens the site of a file and answers the requests of the source on the sink, and `serve SITE HOST PORT` those
-//! of links on threads. `check FILE` reads a document and writes its canonical text.
+//! of links on threads. `check FILE` reads a document and writes its canonical text. `watch` and `console` are clients.
 #![tactic(auto)]
 
 mod check;
+mod client;
 mod document;
 mod exit;
 mod lines;

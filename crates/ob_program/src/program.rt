@@ -1,16 +1,17 @@
 //! The top call: the words of a command line, done over the outside that is handed in.
-ghost use Rattle.std.specs.Prelude.{◌≡◌, ◌↔◌, map, string_bytes, None, IfSome};
+ghost use Rattle.std.specs.Prelude.{◌≡◌, ◌↔◌, ◌⊎◌, map, string_bytes, None, IfSome};
 ghost use Rattle.ob_command.specs.Command.{command};
 ghost use Rattle.ob_program.specs.Causes.{CauseOf};
-ghost use Rattle.ob_program.specs.Outside.{streams, port_told, clock_told};
-ghost use Rattle.ob_program.specs.Run.{Ran, LeavesAlone};
+ghost use Rattle.ob_program.specs.Outside.{streams, dialled, port_told, clock_told};
+ghost use Rattle.ob_program.specs.Run.{IsUnread, Ran, LeavesAlone};
 
 use crate::check::run_check;
-use crate::exit::Exit;
+use crate::client::{console_plan, run_client, watch_plan};
+use crate::exit::{Exit, tell};
 use crate::serve::run_serve;
 use crate::stdio::run_stdio;
 use ob_command::{Command, read_command};
-use ob_io::{Clock, Door, Files, Pair, Port, Sink, Source, write_all};
+use ob_io::{Clock, Dialer, Door, Files, Pair, Port, Sink, Source, write_all};
 use std::alloc::Global;
 use std::sync::Wait;
 use std::thread::Threads;
@@ -19,7 +20,9 @@ use std::thread::Threads;
 ///
 /// `stdio SITE [--at MS] [--tick MS]` opens the site of a file, and answers the requests of the link's source on its sink.
 /// `serve SITE HOST PORT [--workers N] [--quota M]` answers those of links that come to a port. `check FILE` writes the
-/// canonical text of a file's document, and a line feed. What went wrong is told on `errors`, whose own faults change nothing.
+/// canonical text of a file's document, and a line feed. `watch URL HREF.. [--polls N] [--retry R]` and `console URL SUBJECT
+/// [--polls N] [--ack HREF] [--user NAME]` write what a server tells of objects and of alarms. What went wrong is told on
+/// `errors`, whose own faults change nothing.
 ///
 /// The answers of `stdio` and `serve` are those of the site that the definition of the opening gives for the document that the
 /// file's bytes spell and the boot's moment, with the document's xmlns.
@@ -30,6 +33,7 @@ pub fn run<
     K: Sink,
     E: Sink,
     P: Port,
+    W: Dialer,
     C: Clock + Send,
 >(
     rt: &R,
@@ -39,22 +43,27 @@ pub fn run<
     link: &mut Pair<S, K>,
     errors: &mut E,
     port: &mut P,
+    dialer: &mut W,
     clock: &mut C,
 ) -> Exit
 where
     <P::D as Door>::L: Send,
-    ensures usage { (result ≡ Exit.Usage) ↔ (command (map string_bytes words.now) ≡ None) }
+    // Status 1 comes exactly where the words are no command; but to read a client's words there may be no memory.
+    ensures usage { ((result ≡ Exit.Usage) ↔ (command (map string_bytes words.now) ≡ None))
+        ⊎ IsUnread (map string_bytes words.now) result ((link.new.sink ≡ link.old.sink) × (dialer.new ≡ dialer.old)) }
     ensures apart { LeavesAlone (command (map string_bytes words.now)) (files.new ≡ files.old) (link.new.source ≡ link.old.source)
-        (link.new.sink ≡ link.old.sink) (port.new ≡ port.old) (clock.new ≡ clock.old) }
+        (link.new.sink ≡ link.old.sink) (port.new ≡ port.old) (dialer.new ≡ dialer.old) (clock.new ≡ clock.old) }
     // Whatever the command is, a fault has its cause in a count.
     ensures cause { CauseOf result (F.faults files.old) (F.faults files.new)
         (streams (S.left link.old.source) (K.held link.old.sink) (S.faults link.old.source) (K.faults link.old.sink))
         (streams (S.left link.new.source) (K.held link.new.sink) (S.faults link.new.source) (K.faults link.new.sink))
         (port_told (P.faults port.old) (P.opened port.old) (P.returned port.old) (P.listens port.old) (P.doors port.old))
         (port_told (P.faults port.new) (P.opened port.new) (P.returned port.new) (P.listens port.new) (P.doors port.new))
+        (dialled (W.dials dialer.old) (W.visits dialer.old) (W.rose dialer.old) (W.faults dialer.old))
+        (dialled (W.dials dialer.new) (W.visits dialer.new) (W.rose dialer.new) (W.faults dialer.new))
         (clock_told (C.faults clock.old) (C.given clock.old) (C.pace clock.old) (C.twins clock.old))
         (clock_told (C.faults clock.new) (C.given clock.new) (C.pace clock.new) (C.twins clock.new)) }
-    // The command was done, and this is how it ended.
+    // The command was done, and this is how it ended; but to read a client's words there may be no memory.
     ensures ran { IfSome (command (map string_bytes words.now)) (λ asked.
         Ran P.D.faults P.D.handed P.D.returned P.D.visits P.D.is_closed C.given C.faults
         (F.content files.old) (F.faults files.old) (F.faults files.new)
@@ -62,10 +71,20 @@ where
         (streams (S.left link.new.source) (K.held link.new.sink) (S.faults link.new.source) (K.faults link.new.sink))
         (port_told (P.faults port.old) (P.opened port.old) (P.returned port.old) (P.listens port.old) (P.doors port.old))
         (port_told (P.faults port.new) (P.opened port.new) (P.returned port.new) (P.listens port.new) (P.doors port.new))
+        (dialled (W.dials dialer.old) (W.visits dialer.old) (W.rose dialer.old) (W.faults dialer.old))
+        (dialled (W.dials dialer.new) (W.visits dialer.new) (W.rose dialer.new) (W.faults dialer.new))
         (clock_told (C.faults clock.old) (C.given clock.old) (C.pace clock.old) (C.twins clock.old))
-        (clock_told (C.faults clock.new) (C.given clock.new) (C.pace clock.new) (C.twins clock.new)) asked result) }
+        (clock_told (C.faults clock.new) (C.given clock.new) (C.pace clock.new) (C.twins clock.new)) asked result)
+        ⊎ IsUnread (map string_bytes words.now) result ((link.new.sink ≡ link.old.sink) × (dialer.new ≡ dialer.old)) }
 {
-    let Some(command) = read_command(words) else {
+    let read = match read_command(alloc, words) {
+        Ok(read) => read,
+        Err(fault) => {
+            tell(errors, Err(fault));
+            return Exit::Memory;
+        }
+    };
+    let Some(command) = read else {
         let _ = write_all(errors, b"obix: usage\n");
         return Exit::Usage;
     };
@@ -82,5 +101,11 @@ where
             clock,
         ),
         Command::Check(name) => run_check(alloc, name, files, &mut link.sink, errors),
+        Command::Watch(watch) => {
+            run_client(alloc, watch_plan(watch), dialer, &mut link.sink, errors)
+        }
+        Command::Console(console) => {
+            run_client(alloc, console_plan(console), dialer, &mut link.sink, errors)
+        }
     }
 }

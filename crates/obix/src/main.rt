@@ -4,7 +4,7 @@
 
 use ob_io::{DiskFiles, Pair, Sink, StdSink, StdSource, SystemClock, write_all};
 use ob_program::{Exit, run};
-use ob_sockets::TcpPort;
+use ob_sockets::{TcpDialer, TcpPort};
 use std::alloc::Global;
 use std::env;
 use std::io::ErrorKind;
@@ -64,6 +64,7 @@ fn main(rt: HostRuntime) -> ExitCode {
                 sink: StdSink::new(rt.stdout()),
             };
             let mut port = TcpPort::new(&rt);
+            let mut dialer = TcpDialer::new(&rt);
             let mut clock = SystemClock::new(&rt);
             run(
                 &rt,
@@ -73,6 +74,7 @@ fn main(rt: HostRuntime) -> ExitCode {
                 &mut link,
                 &mut errors,
                 &mut port,
+                &mut dialer,
                 &mut clock,
             )
         }
