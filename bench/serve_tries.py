@@ -1,5 +1,6 @@
 """The tries of bench/serve.sh. Bounded in time and count; all traffic is on 127.0.0.1."""
 import argparse
+import errno
 import http.client
 import multiprocessing
 import os
@@ -151,8 +152,9 @@ def noise(program, megabytes):
             link.sendall(piece)
             link.shutdown(socket.SHUT_WR)
             assert link.recv(100)[:12] in (b"HTTP/1.1 400", b"HTTP/1.1 431", b"")
-        except ConnectionError:
-            pass   # the server closed the link before all was sent
+        except OSError as fault:   # the server closed the link before all was sent
+            if not isinstance(fault, ConnectionError) and fault.errno != errno.ENOTCONN:
+                raise
         link.close()
     link = http.client.HTTPConnection("127.0.0.1", server.port, timeout=20)
     assert asked(link, "GET", "/obix/p0")[0] == 200
