@@ -37,17 +37,6 @@ fn value_child(alloc: Global, kind: Kind, name: Text, slot: Slot) -> Obj
     )
 }
 
-/// Puts a child last whose name no child has.
-fn put_last(object: &mut Obj, child: Obj) -> Result<(), AllocError>
-    requires { is_taken child.head.name (children object.old) ≡ false }
-    ensures { IfOk result (λ _. object.new ≡ with_child object.old child) }
-{
-    match object.push_new(child) {
-        Ok(()) => Ok(()),
-        Err(_child) => Err(AllocError),
-    }
-}
-
 /// When something happened, as a slot.
 fn time_slot(turn: &Option<Turn>) -> Slot
     ensures { result ≡ time_slot turn.now }
@@ -81,7 +70,7 @@ fn put_value(
     ensures { IfOk result (λ _. object.new ≡ with_child object.old (leaf (value_head kind name.now slot))) }
 {
     let name = Text::from_ascii(alloc, name)?;
-    put_last(object, value_child(alloc, kind, name, slot))
+    object.push_last(value_child(alloc, kind, name, slot))
 }
 
 fn named_head(
@@ -137,10 +126,7 @@ fn put_source(alloc: Global, object: &mut Obj, path: &Text) -> Result<(), AllocE
 {
     let name = Text::from_ascii(alloc, "source")?;
     let href = path.copy()?;
-    put_last(
-        object,
-        Obj::from_head(alloc, named_head(Kind::Ref, name, Some(href), None, None)),
-    )
+    object.push_last(Obj::from_head(alloc, named_head(Kind::Ref, name, Some(href), None, None)))
 }
 
 /// When an alarm was raised, and when it ended.
@@ -241,7 +227,7 @@ fn put_ack(
     put_value(alloc, object, Kind::Abstime, "ackTimestamp", ack_time(ack))?;
     let user = user_slot(ack)?;
     put_value(alloc, object, Kind::Str, "ackUser", user)?;
-    put_last(object, ack_op(alloc, alarm_path)?)
+    object.push_last(ack_op(alloc, alarm_path)?)
 }
 
 /// What an alarm is, and where.

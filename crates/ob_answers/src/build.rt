@@ -9,34 +9,17 @@ ghost use Rattle.ob_answers.specs.Names.{is_name, are_new};
 ghost use Rattle.ob_answers.specs.Told as told;
 
 use crate::contract::Contract;
-use ob_object::{Facets, Head, Kind, Obj, Slot};
+use ob_object::{Head, Kind, Obj, Slot};
 use ob_times::Abstime;
 use ob_values::{Text, Value};
 use std::alloc::{AllocError, Global};
-
-/// A kind, and nothing else.
-pub fn head_of(kind: Kind) -> Head
-    ensures { result ≡ empty_head kind }
-{
-    Head {
-        kind,
-        name: None,
-        href: None,
-        is: None,
-        of: None,
-        input: None,
-        output: None,
-        slot: Slot::Absent,
-        facets: Facets::none(),
-    }
-}
 
 /// An obj's head with one contract, and its path if one is given.
 pub fn obj_head(alloc: Global, href: Option<Text>, is: Contract) -> Result<Head, AllocError>
     ensures { IfOk result (λ h. h ≡ record (empty_head kind.Obj) { href = href; is = word (told.contract is) }) }
 {
     let words = is.words(alloc)?;
-    let mut head = head_of(Kind::Obj);
+    let mut head = Head::empty(Kind::Obj);
     head.href = href;
     head.is = Some(words);
     Ok(head)
@@ -52,17 +35,6 @@ pub fn put(objects: &mut Vec<Obj>, object: Obj) -> Result<(), AllocError>
     }
 }
 
-/// Puts a child last that has no name, or one that no child has.
-fn put_last(object: &mut Obj, child: Obj) -> Result<(), AllocError>
-    requires { is_taken child.head.name (children object.old) ≡ false }
-    ensures { IfOk result (λ _. object.new ≡ with_child object.old child) }
-{
-    match object.push_new(child) {
-        Ok(()) => Ok(()),
-        Err(_child) => Err(AllocError),
-    }
-}
-
 /// An object of a head and children, none of which has the name of one before it.
 pub fn whole(alloc: Global, head: Head, children: Vec<Obj>) -> Result<Obj, AllocError>
     requires fits { IsTrue (fits_head head) }
@@ -71,7 +43,7 @@ pub fn whole(alloc: Global, head: Head, children: Vec<Obj>) -> Result<Obj, Alloc
 {
     let mut object = Obj::from_head(alloc, head);
     for child in children {
-        put_last(&mut object, child)?;
+        object.push_last(child)?;
     }
     Ok(object)
 }
@@ -95,7 +67,7 @@ pub fn valued(alloc: Global, kind: Kind, name: &str, slot: Slot) -> Result<Obj, 
     ensures { IfOk result (λ o. o ≡ valued kind name.now slot) }
 {
     let name = Text::from_ascii(alloc, name)?;
-    let mut head = head_of(kind);
+    let mut head = Head::empty(kind);
     head.name = Some(name);
     head.slot = slot;
     Ok(Obj::from_head(alloc, head))
@@ -128,7 +100,7 @@ pub fn ref_to(alloc: Global, name: &str, path: Text, is: Contract) -> Result<Obj
 {
     let name = Text::from_ascii(alloc, name)?;
     let words = is.words(alloc)?;
-    let mut head = head_of(Kind::Ref);
+    let mut head = Head::empty(Kind::Ref);
     head.name = Some(name);
     head.href = Some(path);
     head.is = Some(words);
@@ -150,7 +122,7 @@ pub fn op_at(
     let name = Text::from_ascii(alloc, name)?;
     let input = takes.words(alloc)?;
     let output = gives.words(alloc)?;
-    let mut head = head_of(Kind::Op);
+    let mut head = Head::empty(Kind::Op);
     head.name = Some(name);
     head.href = Some(path);
     head.input = Some(input);
@@ -173,7 +145,7 @@ pub fn feed_at(
     let name = Text::from_ascii(alloc, name)?;
     let of = of.words(alloc)?;
     let input = takes.words(alloc)?;
-    let mut head = head_of(Kind::Feed);
+    let mut head = Head::empty(Kind::Feed);
     head.name = Some(name);
     head.href = Some(path);
     head.of = Some(of);

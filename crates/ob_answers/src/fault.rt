@@ -3,9 +3,8 @@ ghost use Rattle.std.specs.Prelude.{◌≡◌, IfOk, Some, option_map};
 ghost use Rattle.ob_site_rules.specs.Faults.{err, fault_is, fault_display};
 ghost use Rattle.ob_answers.specs.Told as told;
 
-use crate::build::head_of;
 use crate::contract::Contract;
-use ob_object::{Kind, Obj, Words};
+use ob_object::{Head, Kind, Obj, Words};
 use ob_values::Text;
 use std::alloc::{AllocError, Global};
 
@@ -98,7 +97,7 @@ pub fn refusal(alloc: Global, fault: Fault) -> Result<Obj, AllocError>
 {
     let is = fault.contract(alloc)?;
     let display = fault.display(alloc)?;
-    let mut head = head_of(Kind::Err);
+    let mut head = Head::empty(Kind::Err);
     head.is = is;
     head.facets.display = Some(display);
     Ok(Obj::from_head(alloc, head))

@@ -11,11 +11,11 @@ ghost use Rattle.ob_answers.specs.Plans.{plan as plan_of};
 ghost use Rattle.ob_answers.specs.Names.{is_name};
 ghost use Rattle.ob_answers.specs.Abouts.{server_children, vendor_children, product_children};
 
-use crate::build::{head_of, named, obj_head, one_child, op_at, put, timed, valued, whole};
+use crate::build::{named, obj_head, one_child, op_at, put, timed, valued, whole};
 use crate::contract::Contract;
 use crate::paths::ack_path;
 use crate::plan::Plan;
-use ob_object::{Kind, Obj, Slot};
+use ob_object::{Head, Kind, Obj, Slot};
 use ob_values::{Moment, Text, Value};
 use std::alloc::{AllocError, Global};
 
@@ -237,7 +237,7 @@ pub fn batch_out(alloc: Global, results: Vec<Obj>) -> Result<Obj, AllocError>
     ensures { IfOk result (λ o. o ≡ batch_out results.items) }
 {
     let words = Contract::BatchOut.words(alloc)?;
-    let mut head = head_of(Kind::List);
+    let mut head = Head::empty(Kind::List);
     head.is = Some(words);
     whole(alloc, head, results)
 }

@@ -4,12 +4,12 @@ ghost use Rattle.ob_site_rules.specs.Build.{time_slot};
 ghost use Rattle.ob_site_rules.specs.Shown.{lobby_children, write_point_op, count_child, subject_children};
 ghost use Rattle.ob_answers.specs.Plans.{plan as plan_of};
 
-use crate::build::{feed_at, head_of, op_at, put, ref_to};
+use crate::build::{feed_at, op_at, put, ref_to};
 use crate::contract::Contract;
 use crate::fixed::batch_op;
 use crate::paths::below;
 use crate::plan::Plan;
-use ob_object::{Kind, Obj, Slot};
+use ob_object::{Head, Kind, Obj, Slot};
 use ob_values::{Text, Value};
 use std::alloc::{AllocError, Global};
 
@@ -56,7 +56,7 @@ pub fn count_child(alloc: Global, count: u64) -> Result<Obj, AllocError>
     ensures { IfOk result (λ o. o ≡ count_child count) }
 {
     let name = Text::from_ascii(alloc, "count")?;
-    let mut head = head_of(Kind::Int);
+    let mut head = Head::empty(Kind::Int);
     head.name = Some(name);
     head.slot = Slot::Is(Value::Int(count as i64));
     head.facets.min = Some(Value::Int(0));

@@ -8,11 +8,11 @@ ghost use Rattle.ob_answers.specs.Names.{is_name};
 ghost use Rattle.ob_answers.specs.Plans.{plan as plan_of};
 ghost use Rattle.ob_answers.specs.Told as told;
 
-use crate::build::{head_of, nameless, obj_head, one_child, op_at, put, whole};
+use crate::build::{nameless, obj_head, one_child, op_at, put, whole};
 use crate::contract::Contract;
 use crate::paths::watch_path;
 use crate::plan::Plan;
-use ob_object::{Kind, Obj, Slot};
+use ob_object::{Head, Kind, Obj, Slot};
 use ob_times::Reltime;
 use ob_values::{Text, Value};
 use std::alloc::{AllocError, Global};
@@ -51,7 +51,7 @@ fn lease_child(alloc: Global, path: &Text, lease: u64) -> Result<Obj, AllocError
 {
     let name = Text::from_ascii(alloc, "lease")?;
     let href = path.followed_by(alloc, "lease")?;
-    let mut head = head_of(Kind::Reltime);
+    let mut head = Head::empty(Kind::Reltime);
     head.name = Some(name);
     head.href = Some(href);
     head.slot = Slot::Is(span(lease));
@@ -173,7 +173,7 @@ pub fn watch_out(alloc: Global, entries: Vec<Obj>) -> Result<Obj, AllocError>
     ensures { IfOk result (λ o. o ≡ watch_out entries.items) }
 {
     let name = Text::from_ascii(alloc, "values")?;
-    let mut head = head_of(Kind::List);
+    let mut head = Head::empty(Kind::List);
     head.name = Some(name);
     let values = whole(alloc, head, entries)?;
     let head = obj_head(alloc, None, Contract::WatchOut)?;

@@ -10,7 +10,7 @@ use crate::board::Board;
 use ob_client::{CallFault, Session};
 use ob_href::{Base, HrefFault, Path, resolve};
 use ob_io::Link;
-use ob_object::{Facets, Head, Kind, Obj, Slot, Words};
+use ob_object::{Head, Kind, Obj, Slot, Words};
 use ob_values::{Text, Value, Verb};
 use std::alloc::{AllocError, Global};
 use thiserror::Error;
@@ -77,28 +77,11 @@ fn fault_of(fault: HrefFault) -> AckFault
     }
 }
 
-// The head of a kind with nothing else.
-fn head_of(kind: Kind) -> Head
-    ensures { result ≡ empty_head kind }
-{
-    Head {
-        kind,
-        name: None,
-        href: None,
-        is: None,
-        of: None,
-        input: None,
-        output: None,
-        slot: Slot::Absent,
-        facets: Facets::none(),
-    }
-}
-
 // The str `ackUser`.
 fn user_child(alloc: Global, user: &Text) -> Result<Obj, AllocError>
     ensures { IfOk result (λ o. o ≡ user_child user.now) }
 {
-    let mut head = head_of(Kind::Str);
+    let mut head = Head::empty(Kind::Str);
     head.name = Some(Text::from_ascii(alloc, "ackUser")?);
     head.slot = Slot::Is(Value::Str(user.copy()?));
     Ok(Obj::from_head(alloc, head))
@@ -120,7 +103,7 @@ fn one_word(alloc: Global) -> Result<Words, AllocError>
 pub fn ack_in(alloc: Global, user: &Text) -> Result<Obj, AllocError>
     ensures { IfOk result (λ o. o ≡ ack_in user.now) }
 {
-    let mut head = head_of(Kind::Obj);
+    let mut head = Head::empty(Kind::Obj);
     head.is = Some(one_word(alloc)?);
     let mut input = Obj::from_head(alloc, head);
     let child = user_child(alloc, user)?;

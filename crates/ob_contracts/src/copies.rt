@@ -1,28 +1,10 @@
 //! Copies of lent parts, each put where none is.
 ghost use Rattle.std.specs.Prelude.{◌≡◌, None, OnOk};
 ghost use Rattle.std.specs.Option.{option_copied};
-ghost use Rattle.ob_object.specs.Object.{empty_head};
 
-use ob_object::{Facets, Head, Kind, Slot, Words};
+use ob_object::Words;
 use ob_values::{Text, Value};
 use std::alloc::AllocError;
-
-/// A head of a kind, and nothing else.
-pub(crate) fn empty_head(kind: Kind) -> Head
-    ensures { result ≡ empty_head kind }
-{
-    Head {
-        kind,
-        name: None,
-        href: None,
-        is: None,
-        of: None,
-        input: None,
-        output: None,
-        slot: Slot::Absent,
-        facets: Facets::none(),
-    }
-}
 
 /// Puts a copy of a text that may be there into an empty place.
 pub(crate) fn put_text(place: &mut Option<Text>, text: Option<&Text>) -> Result<(), AllocError>

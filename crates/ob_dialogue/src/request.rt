@@ -8,7 +8,7 @@ ghost use Rattle.ob_dialogue.specs.Told as told;
 
 use crate::place::Place;
 use crate::stage::{Stage, Watching};
-use ob_object::{Facets, Head, Kind, Obj, Slot, Words};
+use ob_object::{Head, Kind, Obj, Slot, Words};
 use ob_values::{Text, Value, Verb};
 use std::alloc::{AllocError, Global};
 
@@ -42,28 +42,11 @@ fn post(target: &Text, body: Option<Obj>) -> Result<Option<Request>, AllocError>
     }))
 }
 
-// The head of a kind with nothing else.
-fn head_of(kind: Kind) -> Head
-    ensures { result ≡ empty_head kind }
-{
-    Head {
-        kind,
-        name: None,
-        href: None,
-        is: None,
-        of: None,
-        input: None,
-        output: None,
-        slot: Slot::Absent,
-        facets: Facets::none(),
-    }
-}
-
 // A uri with this value.
 fn uri(alloc: Global, text: &Text) -> Result<Obj, AllocError>
     ensures { IfOk result (λ o. o ≡ uri_of text.now) }
 {
-    let mut head = head_of(Kind::Uri);
+    let mut head = Head::empty(Kind::Uri);
     head.slot = Slot::Is(Value::Uri(text.copy()?));
     Ok(Obj::from_head(alloc, head))
 }
@@ -91,7 +74,7 @@ fn push_uri(alloc: Global, list: &mut Obj, text: &Text) -> Result<(), AllocError
 fn no_hrefs(alloc: Global) -> Result<Obj, AllocError>
     ensures { IfOk result (λ o. o ≡ hrefs_of []) }
 {
-    let mut head = head_of(Kind::List);
+    let mut head = Head::empty(Kind::List);
     head.name = Some(Text::from_ascii(alloc, "hrefs")?);
     Ok(Obj::from_head(alloc, head))
 }
@@ -123,7 +106,7 @@ fn one_word(alloc: Global) -> Result<Words, AllocError>
 pub(crate) fn watch_in(alloc: Global, texts: &[Text]) -> Result<Obj, AllocError>
     ensures { IfOk result (λ o. o ≡ watch_in texts.now) }
 {
-    let mut head = head_of(Kind::Obj);
+    let mut head = Head::empty(Kind::Obj);
     head.is = Some(one_word(alloc)?);
     let mut input = Obj::from_head(alloc, head);
     let list = hrefs(alloc, texts)?;

@@ -6,9 +6,9 @@ ghost use Rattle.ob_site_rules.specs.Watched.{is_alarm_feed, feed_there};
 ghost use Rattle.ob_site_rules.specs.Replies.{content_object, dropped_child};
 ghost use Rattle.ob_answers.specs.Plans.{plan as plan_of};
 
-use ob_answers::build::{head_of, put, valued, whole};
+use ob_answers::build::{put, valued, whole};
 use ob_answers::{Contract, Plan, below};
-use ob_object::{Kind, Obj, Slot};
+use ob_object::{Head, Kind, Obj, Slot};
 use ob_values::{Text, Value};
 use std::alloc::{AllocError, Global};
 
@@ -37,7 +37,7 @@ pub fn feed_there(alloc: Global, plan: &Plan, path: &Text) -> Result<Obj, AllocE
         Contract::HistoryRecord
     };
     let of = contract.words(alloc)?;
-    let mut head = head_of(Kind::Feed);
+    let mut head = Head::empty(Kind::Feed);
     head.of = Some(of);
     Ok(Obj::from_head(alloc, head))
 }

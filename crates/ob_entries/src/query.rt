@@ -7,9 +7,9 @@ ghost use Rattle.ob_answers.specs.Told as told;
 ghost use Rattle.ob_entries.specs.Queries.{counts_of, data_of};
 
 use ob_answers::Contract;
-use ob_answers::build::{head_of, obj_head, put, timed, valued, whole};
+use ob_answers::build::{obj_head, put, timed, valued, whole};
 use ob_history::Filter;
-use ob_object::{Kind, Obj, Slot};
+use ob_object::{Head, Kind, Obj, Slot};
 use ob_times::Abstime;
 use ob_values::{Text, Value};
 use std::alloc::{AllocError, Global};
@@ -60,7 +60,7 @@ fn data(alloc: Global, of: Contract, objects: Vec<Obj>) -> Result<Obj, AllocErro
 {
     let name = Text::from_ascii(alloc, "data")?;
     let of = of.words(alloc)?;
-    let mut head = head_of(Kind::List);
+    let mut head = Head::empty(Kind::List);
     head.name = Some(name);
     head.of = Some(of);
     whole(alloc, head, objects)

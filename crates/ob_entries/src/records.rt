@@ -8,10 +8,10 @@ ghost use Rattle.ob_entries.specs.Histories.{span_children, query_child, feed_ch
 ghost use Rattle.ob_entries.specs.Queries.{values_fit};
 
 use crate::query::{is_asked, query_out};
-use ob_answers::build::{feed_at, head_of, op_at, put, timed, valued, whole};
+use ob_answers::build::{feed_at, op_at, put, timed, valued, whole};
 use ob_answers::{Contract, below, count_child};
 use ob_history::{Filter, Record};
-use ob_object::{Kind, Obj};
+use ob_object::{Head, Kind, Obj};
 use ob_times::Abstime;
 use ob_values::Text;
 use std::alloc::{AllocError, Global};
@@ -27,7 +27,7 @@ pub fn record_object(alloc: Global, kept: &Record) -> Result<Obj, AllocError>
     let mut children = Vec::new(alloc);
     put(&mut children, timed(alloc, "timestamp", Some(kept.time))?)?;
     put(&mut children, valued(alloc, kept.kind, "value", slot)?)?;
-    whole(alloc, head_of(Kind::Obj), children)
+    whole(alloc, Head::empty(Kind::Obj), children)
 }
 
 /// Records as objects, in their order.

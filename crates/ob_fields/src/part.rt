@@ -13,6 +13,7 @@ use ob_values::{
     read_time,
 };
 use std::alloc::{AllocError, Global};
+use thiserror::Error;
 
 /// What an attribute says of an object.
 #[derive(Drop)]
@@ -29,10 +30,12 @@ pub enum Part {
 }
 
 /// Why an attribute says nothing.
-#[derive(Clone, Copy, PartialEq, Eq)]
+#[derive(Clone, Copy, Debug, PartialEq, Eq, Error)]
 pub enum PartFault {
     /// Its text can't be read as what the attribute takes.
+    #[error("{0}")]
     Value(ValueFault),
+    #[error("Memory")]
     Memory,
 }
 

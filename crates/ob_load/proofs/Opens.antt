@@ -19,7 +19,7 @@ use Rattle.ob_site_rules.specs.Sites as whole
 use Rattle.ob_state.proofs.Keeping.{rolled_counted}
 use Rattle.ob_state.specs.States.{AreCounted, entry_of, state_of, unspared, IsOf}
 use Rattle.ob_state.specs.declared.state.State.{State}
-use Rattle.ob_site_file.specs.Opened as file
+use Rattle.ob_opened.specs.Ordered as ordered
 use Rattle.ob_site_file.specs.Opened.{site_of, site_with, state_with}
 use Rattle.ob_site_file.specs.declared.document.Opened.{Opened}
 
@@ -39,7 +39,7 @@ same_times : (ls : List (Path × Log)) → flat_map (λ (l : Path × Log). map (
 same_times [] = refl
 same_times (l ∷ ls) = ap₂ (λ ms ns. ms ++ ns) (same_moments l.1.kept) (same_times ls)
 
-same_opening : (boot : ℕ) (ls : List (Path × Log)) → file.opening_time boot ls ≡ plain.opening_time boot ls
+same_opening : (boot : ℕ) (ls : List (Path × Log)) → ordered.opening_time boot ls ≡ plain.opening_time boot ls
 same_opening boot ls = same_greatest boot (flat_map (λ (l : Path × Log). map (λ (r : Record). min (loading.ms_up r.time) loading.last_moment) l.1.kept) ls) ∙ ap (plain.greatest boot) (same_times ls)
 
 same_site : (p : Plan) (s : SiteState) → plain.opened p s ≡ site_with p s

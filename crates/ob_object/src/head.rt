@@ -147,7 +147,7 @@ impl Head {
     }
 
     /// A kind, and nothing else.
-    pub(crate) fn empty(kind: Kind) -> Head
+    pub fn empty(kind: Kind) -> Head
         ensures { result ≡ empty_head kind }
     {
         Head {

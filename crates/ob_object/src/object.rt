@@ -15,7 +15,9 @@ use crate::status::Status;
 use crate::words::Words;
 use ob_values::Text;
 use std::alloc::{AllocError, Global};
+use std::fmt::{self, Debug, Formatter, Write};
 use std::marker::Model;
+use thiserror::Error;
 
 /// An object: its head and its children, in order.
 /// Source: oBIX 1.1, chapter 4.
@@ -53,12 +55,24 @@ impl Model for Obj {
 }
 
 /// Why a child was not taken.
-#[derive(Drop)]
+#[derive(Drop, Error)]
 pub enum PushFault {
     /// A child has its name.
+    #[error("SameName")]
     SameName { child: Obj },
     /// There was no memory for one child more.
+    #[error("Memory")]
     Memory { child: Obj },
+}
+
+/// The cause alone, since an object has no words of its own.
+impl Debug for PushFault {
+    fn fmt<W: Write>(&self, f: &mut Formatter<W>) -> fmt::Result {
+        match self {
+            PushFault::SameName { .. } => f.write_str("SameName"),
+            PushFault::Memory { .. } => f.write_str("Memory"),
+        }
+    }
 }
 
 /// The object at a place, the first being 0.
@@ -397,6 +411,20 @@ impl Obj {
         match self.children.push(child) {
             Ok(()) => Ok(()),
             Err(refused) => Err(refused.value),
+        }
+    }
+
+    /// Puts a child last that has no name, or one that no child has. Where it finds no memory the child is dropped, and
+    /// the object is as it was.
+    ///
+    /// It looks at no other child, so n children take time in proportion to n.
+    pub fn push_last(&mut self, child: Obj) -> Result<(), AllocError>
+        requires { is_taken child.head.name (children self.old) ≡ false }
+        ensures { MatchResult result (λ _. self.new ≡ with_child self.old child) (λ _. self.new ≡ self.old) }
+    {
+        match self.push_new(child) {
+            Ok(()) => Ok(()),
+            Err(_child) => Err(AllocError),
         }
     }
 

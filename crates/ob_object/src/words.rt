@@ -6,6 +6,7 @@ ghost use Rattle.ob_object.specs.Words.{is_word, is_white, IsWordPushed};
 use ob_values::Text;
 use std::alloc::{AllocError, Global};
 use std::marker::Model;
+use thiserror::Error;
 
 /// A list of words, none empty and none with white space, seen as the list of their texts.
 #[derive(Drop)]
@@ -26,11 +27,13 @@ impl Model for Words {
 }
 
 /// Why a word was not taken.
-#[derive(Drop)]
+#[derive(Drop, Debug, Error)]
 pub enum WordFault {
     /// The text is empty or has white space.
+    #[error("NotWord")]
     NotWord { word: Text },
     /// There was no memory for one word more.
+    #[error("Memory")]
     Memory { word: Text },
 }
 

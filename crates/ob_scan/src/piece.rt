@@ -1,15 +1,19 @@
 //! What the scanner answers.
 
 use crate::wait::Wait;
+use thiserror::Error;
 
 /// Why a construct is refused.
-#[derive(Clone, Copy, PartialEq, Eq)]
+#[derive(Clone, Copy, Debug, PartialEq, Eq, Error)]
 pub enum Why {
     /// It is malformed.
+    #[error("Markup")]
     Markup,
     /// A run outside tags has something other than white space.
+    #[error("Text")]
     Text,
     /// The input ends before the document does.
+    #[error("Ended")]
     Ended,
 }
 
@@ -65,7 +69,8 @@ pub enum Found<'a> {
 }
 
 /// A refused construct, or the end inside one.
-#[derive(Clone, Copy, PartialEq, Eq)]
+#[derive(Clone, Copy, Debug, PartialEq, Eq, Error)]
+#[error("{why} at {at}")]
 pub struct ScanFault {
     pub at: usize,
     pub why: Why,

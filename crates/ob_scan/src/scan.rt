@@ -1,6 +1,6 @@
 //! The construct at a place.
 
-ghost use Rattle.std.specs.Prelude.{◌≡◌, ◌≤◌, length, drop, true};
+ghost use Rattle.std.specs.Prelude.{min, ◌≡◌, ◌≤◌, length, drop, true};
 ghost use Rattle.ob_scan.specs.Reading.{Gives};
 ghost use Rattle.ob_scan.specs.Constructs.{Scanned, found, more, refused, wanting, judged, attribute_at, attribute_found, checked, empty_end_at, tag_part, in_tag, blank, outside, behind_element, declared, declares, behind_mark, mark_at, marked, starting, behind_lead, scan};
 ghost use Rattle.ob_scan.specs.View.{construct_of, scanned_of, Answers, Advances, HasValue};
@@ -168,8 +168,8 @@ fn scan_front<'a>(bytes: &'a [u8], here: &'a [u8], place: Place, end: bool) -> S
     }
 }
 
-/// The construct at a place of the bytes, which end there if `end` is true.
-pub fn next_piece(bytes: &[u8], at: usize, place: Place, end: bool) -> Result<Found<'_>, ScanFault>
+// The construct at a place in the bytes.
+fn piece_at(bytes: &[u8], at: usize, place: Place, end: bool) -> Result<Found<'_>, ScanFault>
     requires { at ≤ length bytes.now }
     ensures found { Answers place bytes.now at result (scan place end (drop at bytes.now)) }
     ensures advances { Advances at result }
@@ -189,4 +189,14 @@ pub fn next_piece(bytes: &[u8], at: usize, place: Place, end: bool) -> Result<Fo
         }),
         Scan::Fault(k, why) => Err(ScanFault { at: at + k, why }),
     }
+}
+
+/// The construct at a place of the bytes, which end there if `end` is true. A place behind the last byte is read as the end.
+pub fn next_piece(bytes: &[u8], at: usize, place: Place, end: bool) -> Result<Found<'_>, ScanFault>
+    ensures found { Answers place bytes.now (min at (length bytes.now)) result (scan place end (drop (min at (length bytes.now)) bytes.now)) }
+    ensures advances { Advances (min at (length bytes.now)) result }
+    ensures values { HasValue result }
+    ensures waits { WaitsOn place (drop (min at (length bytes.now)) bytes.now) result }
+{
+    piece_at(bytes, at.min(bytes.len()), place, end)
 }

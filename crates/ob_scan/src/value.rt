@@ -13,12 +13,15 @@ use crate::character::{Progress, is_single, next_progress};
 use crate::reading::whole;
 use ob_values::Text;
 use std::alloc::{AllocError, Global};
+use thiserror::Error;
 
 /// Why a value stands for no text.
-#[derive(Clone, Copy, PartialEq, Eq)]
+#[derive(Clone, Copy, Debug, PartialEq, Eq, Error)]
 pub enum RawFault {
     /// The first place at which a reference is refused, or a byte is part of no character.
+    #[error("Markup at {at}")]
     Markup { at: usize },
+    #[error("Memory")]
     Memory,
 }
 

@@ -1,6 +1,6 @@
 -- What the parts of a document's root open, in which no part breaks a rule of the roles.
-use Rattle.std.specs.Prelude.{ℕ, min, codes, List, [], map, filter, find, Option, Some, None, option_map, option_and_then, ◌≡◌, Result, Ok}
-use Rattle.std.specs.List.{filter_map, flat_map}
+use Rattle.std.specs.Prelude.{ℕ, codes, List, [], map, filter, find, Option, Some, None, option_map, option_and_then, ◌≡◌, Result, Ok}
+use Rattle.std.specs.List.{filter_map}
 use Rattle.url.specs.Parts.{Parts}
 use Rattle.ob_object.specs.Object.{Object}
 use Rattle.ob_contracts.specs.Inherit.{Contracts}
@@ -11,7 +11,8 @@ use Rattle.ob_site_rules.specs.State.{PointRule, Plan, Log, State, roll}
 use Rattle.ob_site_rules.specs.Sites.{SiteState}
 use Rattle.ob_site_rules.specs.Writes.{site_contracts}
 use Rattle.ob_opening.specs.Opening.{standard_words}
-use Rattle.ob_opening.specs.Loading.{Part, path_of, capacity_of, records_of, histories_in, source_ref, items_of, rule_in, about_texts, root_lobby, ms_up, last_moment, greatest, kept_root, add_contracts, opened_by, LoadFault}
+use Rattle.ob_opening.specs.Loading.{Part, path_of, capacity_of, records_of, histories_in, source_ref, items_of, rule_in, about_texts, root_lobby, kept_root, add_contracts, opened_by, LoadFault}
+use Rattle.ob_opened.specs.Ordered.{opening_time}
 use Rattle.ob_state.specs.States.{entry_of, AreCounted}
 use Rattle.ob_site_file.specs.Passes.{site_roles, site_parts}
 use Rattle.ob_site_file.specs.declared.document.Opened.{Opened}
@@ -45,10 +46,6 @@ plan_with base boot root ps = record {
   rules = rules_at ps (subject_of ps);
   about = about_texts root;
 }
-
--- the first moment that isn't before the boot, nor before a record, of those that there are
-abbrev pub opening_time : ℕ → List (Path × Log) → ℕ
-opening_time boot logs = greatest boot (flat_map (λ l. map (λ r. min (ms_up r.time) last_moment) l.1.kept) logs)
 
 -- what changes of a site with these logs, before the oldest records of each history roll off
 abbrev pub state_with : Contracts → Object → List (Path × Log) → State

@@ -18,7 +18,7 @@ use crate::names::Names;
 use crate::open::Open;
 use crate::refused::Why;
 use ob_fields::{Part, TextField, is_word, read_kind};
-use ob_object::{Facets, Head, Kind, Obj, Slot};
+use ob_object::{Head, Kind, Obj};
 use ob_scan::Place;
 use ob_values::{Text, ValueFault};
 use std::alloc::Global;
@@ -112,17 +112,7 @@ fn new_head(kind: Kind) -> Head
     ensures value { result ≡ empty_head kind }
     ensures fits { IsTrue (fits_head result) }
 {
-    Head {
-        kind,
-        name: None,
-        href: None,
-        is: None,
-        of: None,
-        input: None,
-        output: None,
-        slot: Slot::Absent,
-        facets: Facets::none(),
-    }
+    Head::empty(kind)
 }
 
 /// The start of a tag of the kind.

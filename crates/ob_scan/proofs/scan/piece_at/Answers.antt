@@ -6,7 +6,7 @@ use Rattle.ob_scan.specs.Waiting.{IsWaiting}
 use Rattle.ob_scan.proofs.Meanings.{Fine, scan_fine, has_value}
 use Rattle.ob_scan.proofs.Waits.{more_before}
 use Rattle.ob_scan.proofs.Places.{found_at, refused_at, advances, lead_short, first_at}
-use Rattle.ob_scan.proofs.scan.next_piece.Goals as goal
+use Rattle.ob_scan.proofs.scan.piece_at.Goals as goal
 
 from_place : (bytes : List ℕ) (at : ℕ) → at ≤ length bytes → take (length bytes - at) (drop at bytes) ≡ drop at bytes
 from_place bytes at le = grind (arith, common_steps)
