@@ -28,7 +28,7 @@ use Rattle.ob_shown_laws.proofs.Reaching.{alike_append, alike_itself, alike_list
 use Rattle.ob_shown_laws.proofs.Owning.{leaves_itself, path_off, own_nodes}
 
 -- a row that is alike is looked through as the other is
-first_alike : (p : Path) (r : HandedDown) (h k : Head) (inner more : Objects) → without_values h ≡ without_values k
+pub first_alike : (p : Path) (r : HandedDown) (h k : Head) (inner more : Objects) → without_values h ≡ without_values k
     → standing_in p r (node k inner more)
     ≡ or_else (only_if (is_path p (node_path h)) (Some (record { context = under r h.name; object = record { head = k; inner = inner } })))
     (or_else (standing_in p (handed_down (under r h.name) h) inner) (standing_in p r more))
@@ -122,7 +122,7 @@ derived_stay plan s t e (Some p) =
     (subject_stay (is_path p plan.subject) p (length s.alarms) (length t.alarms))))
 
 -- looking through a row and then another
-standing_in-behind : (p : Path) (r : HandedDown) (os : Objects) (zs : List Object) → standing_in p r (in_row (listed os ++ zs)) ≡ or_else (standing_in p r os) (standing_in p r (in_row zs))
+pub standing_in-behind : (p : Path) (r : HandedDown) (os : Objects) (zs : List Object) → standing_in p r (in_row (listed os ++ zs)) ≡ or_else (standing_in p r os) (standing_in p r (in_row zs))
 standing_in-behind p r none zs = refl
 standing_in-behind p r (node h below rest) zs =
     ap (λ o. or_else here (or_else deep o)) (standing_in-behind p r rest zs)

@@ -23,7 +23,7 @@ use Rattle.ob_shown_laws.proofs.Alikes.{under_alike, handed_alike, watched, same
 use Rattle.ob_shown_laws.proofs.Touches.{holds_at, any_in, TellsAt, TellsIn, node_by_nodes, path_alike, in_alike, there, tells_nodes}
 
 -- dressed trees of states that differ in values are alike
-status_off : (plan : Plan) (s : State) (h : Head) (o : Option Path) → without_values (with_status_at plan s h o) ≡ without_values h
+pub status_off : (plan : Plan) (s : State) (h : Head) (o : Option Path) → without_values (with_status_at plan s h o) ≡ without_values h
 status_off plan s h None = refl
 status_off plan s h (Some p) = by_rule (rule_of plan p)
   where

@@ -98,7 +98,7 @@ node_by_nodes test c h k below inner p is a here deep =
     whole true true true A e = absurd cc
 
 -- Lookups tell the nodes: where no two have one path, each node is found at its own.
-bytes_itself : (t : List ℕ) → bytes_eq t t ≡ true
+pub bytes_itself : (t : List ℕ) → bytes_eq t t ≡ true
 bytes_itself t = (bytes_eq-Decides t t).1 refl
 
 pub path_alike : (h k : Head) → without_values h ≡ without_values k → node_path h ≡ node_path k
@@ -131,7 +131,7 @@ there p r (node h below rest) =
     x = record { context = under r h.name; object = record { head = h; inner = below } }
 
 -- which of a row's parts has the node
-found_here : (p : Path) (r : HandedDown) (h : Head) (below rest : Objects) → is_path p (node_path h) ≡ true
+pub found_here : (p : Path) (r : HandedDown) (h : Head) (below rest : Objects) → is_path p (node_path h) ≡ true
     → standing_in p r (node h below rest) ≡ Some (record { context = under r h.name; object = record { head = h; inner = below } })
 found_here p r h below rest e =
     ap (λ b. or_else (only_if b (Some x)) (or_else (standing_in p (handed_down (under r h.name) h) below) (standing_in p r rest))) e
@@ -156,7 +156,7 @@ found_below p r h below rest e f =
     x : Standing
     x = record { context = under r h.name; object = record { head = h; inner = below } }
 
-found_behind : (p : Path) (r : HandedDown) (h : Head) (below rest : Objects) → is_path p (node_path h) ≡ false → is_in p below ≡ false
+pub found_behind : (p : Path) (r : HandedDown) (h : Head) (below rest : Objects) → is_path p (node_path h) ≡ false → is_in p below ≡ false
     → standing_in p r (node h below rest) ≡ standing_in p r rest
 found_behind p r h below rest e f =
     ap (λ b. or_else (only_if b (Some x)) (or_else (standing_in p (handed_down (under r h.name) h) below) (standing_in p r rest))) e
@@ -165,16 +165,16 @@ found_behind p r h below rest e f =
     x : Standing
     x = record { context = under r h.name; object = record { head = h; inner = below } }
 
-or_left : (a b : Bool) → a ≡ true → (a || b) ≡ true
+pub or_left : (a b : Bool) → a ≡ true → (a || b) ≡ true
 or_left true b e = refl
 or_left false b e = absurd cc
 
-or_right : (a b : Bool) → b ≡ true → (a || b) ≡ true
+pub or_right : (a b : Bool) → b ≡ true → (a || b) ≡ true
 or_right true b e = refl
 or_right false b e = e
 
 -- what is true of the one side can't be where none may be
-not_both : (a b : Bool) → (a ≡ true → b ≡ false) → b ≡ true → a ≡ false
+pub not_both : (a b : Bool) → (a ≡ true → b ≡ false) → b ≡ true → a ≡ false
 not_both true b f e = absurd (true≢false (sym e ∙ f refl))
 not_both false b f e = refl
 
