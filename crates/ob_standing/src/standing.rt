@@ -2,8 +2,10 @@
 use crate::sources::overridden;
 use ob_contracts::{Library, View, effective, view};
 use ob_object::{Obj, Words};
+use ob_steps::Steps;
 use ob_values::Text;
 use std::alloc::{AllocError, Global};
+use std::sync::ledger::Ledger;
 
 /// Where an object stands: the library, the words that its list or feed gives to it, and the child that it
 /// overrides.
@@ -15,8 +17,9 @@ pub struct Standing<'a> {
 }
 
 impl<'a> Standing<'a> {
-    ghost use Rattle.std.specs.Prelude.{◌≡◌, IfOk};
+    ghost use Rattle.std.specs.Prelude.{◌≡◌, ◌+◌, ◌-◌, ◌^◌, min, IfOk, OnErr};
     ghost use Rattle.std.specs.Option.{option_copied};
+    ghost use Rattle.ob_object.specs.Object.{parts};
     ghost use Rattle.ob_contracts.specs.Inherit.{implied_by, inherited_head};
     ghost use Rattle.ob_contracts.specs.Shown.{shown};
     ghost use Rattle.ob_standing.specs.Contexts.{at_root, sources_in, handed_down, under, comes_to};
@@ -73,5 +76,45 @@ impl<'a> Standing<'a> {
         ensures { IfOk result (λ made. made ≡ comes_to (context self.now) object.now) }
     {
         effective(alloc, self.library, object, self.implied, self.over)
+    }
+
+    /// The same as `inside`, counted as one step: the view of the own object that it may take.
+    pub fn inside_counted<L: Ledger>(
+        &self,
+        own: &'a Obj,
+        name: Option<&Text>,
+        steps: &mut Steps<L>,
+    ) -> Standing<'a>
+        ensures inside { context result ≡ under (handed_down (context self.now) own.now.head) (option_copied name.entry) }
+        ensures steps { steps.new ≡ steps.old + 1 }
+    {
+        steps.add(1);
+        self.inside(own, name)
+    }
+
+    /// The same as `view`, counted as one step.
+    pub fn view_counted<L: Ledger>(&self, object: &'a Obj, steps: &mut Steps<L>) -> View<'a>
+        ensures view { shown result ≡ comes_to (context self.now) object.now }
+        ensures steps { steps.new ≡ steps.old + 1 }
+    {
+        steps.add(1);
+        self.view(object)
+    }
+
+    /// The same as `whole`, counted as one step for each object of the answer (`Obj::parts`). An error, which is
+    /// only for want of memory, counts none.
+    pub fn whole_counted<L: Ledger>(
+        &self,
+        alloc: Global,
+        object: &Obj,
+        steps: &mut Steps<L>,
+    ) -> Result<Obj, AllocError>
+        ensures whole { IfOk result (λ made. made ≡ comes_to (context self.now) object.now) }
+        ensures steps { IfOk result (λ made. steps.new ≡ steps.old + min (parts made) (2 ^ 64 - 1)) }
+        ensures none { OnErr result (steps.new ≡ steps.old) }
+    {
+        let made = self.whole(alloc, object)?;
+        steps.add(made.parts());
+        Ok(made)
     }
 }

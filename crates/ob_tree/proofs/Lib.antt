@@ -12,3 +12,6 @@ pub mod Growing
 pub mod Wholes
 pub mod Named
 pub mod Within
+pub mod Lasting
+pub mod Collecting
+pub mod Deep

@@ -3,4 +3,7 @@ pub mod Laid
 pub mod Stamps
 pub mod Shown
 pub mod Children
+pub mod Depths
 pub mod Trees
+pub mod LastTouch
+pub mod Differing

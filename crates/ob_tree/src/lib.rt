@@ -6,7 +6,9 @@
 #![tactic(auto)]
 
 mod children;
+mod differing;
 mod fault;
+mod laws;
 mod laying;
 mod node;
 mod paths;
@@ -16,6 +18,7 @@ mod touching;
 mod tree;
 
 pub use fault::TreeFault;
+pub use laws::{depths_are_levels, last_touches_stamp};
 pub use node::NodeId;
 pub use paths::node_path;
 pub use tree::Tree;

@@ -1,16 +1,19 @@
 //! What a tree shows at an object: all that it inherits where it stands.
-ghost use Rattle.std.specs.Prelude.{◌≡◌, ◌<◌, length, slice_get, Some, IfOk, OnOk, false};
+ghost use Rattle.std.specs.Prelude.{◌≡◌, ◌<◌, ◌+◌, length, slice_get, Some, IfOk, OnOk, false};
 ghost use Rattle.ob_object.specs.Object.{children};
 ghost use Rattle.ob_object.specs.WellFormed.{is_taken, with_child};
 ghost use Rattle.ob_standing.specs.Standings.{context};
 ghost use Rattle.ob_tree.specs.Laid.{object_of, said};
+ghost use Rattle.ob_tree.specs.Depths.{depth_at};
 ghost use Rattle.ob_tree.specs.Shown.{part_at, standing_at, AreLaid};
 
 use crate::spot::Spot;
 use ob_contracts::Library;
 use ob_object::{Head, Obj};
 use ob_standing::Standing;
+use ob_steps::Steps;
 use std::alloc::{AllocError, Global};
+use std::sync::ledger::{Blank, Ledger};
 
 /// The object of a number, without its children.
 pub(crate) fn leaf_in(leaves: &[Obj], place: usize) -> &Obj
@@ -36,27 +39,48 @@ pub(crate) fn spot_in(spots: &[Spot], place: usize) -> Spot
     spots[place]
 }
 
-/// Where the object of a number stands among those round it.
-pub(crate) fn standing_of<'a>(
+/// Where the object of a number stands among those round it, counted as one step for each of those.
+pub(crate) fn standing_of<'a, L: Ledger>(
     library: &'a Library,
     leaves: &'a [Obj],
     spots: &[Spot],
     at: usize,
+    steps: &mut Steps<L>,
 ) -> Standing<'a>
     requires laid { AreLaid (said leaves.now) spots.now }
     requires within { at < length leaves.now }
-    ensures { Some (context result) ≡ standing_at library.now at (object_of (said leaves.now) spots.now) }
+    ensures stands { Some (context result) ≡ standing_at library.now at (object_of (said leaves.now) spots.now) }
+    ensures steps { steps.new ≡ steps.old + depth_at at (object_of (said leaves.now) spots.now) }
 {
     let spot = spot_in(spots, at);
     match spot.parent {
         Some(parent) => {
-            let round = standing_of(library, leaves, spots, parent);
+            let round = standing_of(library, leaves, spots, parent, steps);
             let own = leaf_in(leaves, parent);
             let child = leaf_in(leaves, at);
-            round.inside(own, child.name())
+            round.inside_counted(own, child.name(), steps)
         }
         None => Standing::at_root(library),
     }
+}
+
+/// The same, by a counter of its own.
+pub(crate) fn uncounted_standing<'a, L: Ledger>(
+    library: &'a Library,
+    leaves: &'a [Obj],
+    spots: &[Spot],
+    at: usize,
+    blank: Blank,
+) -> Standing<'a>
+    requires laid { AreLaid (said leaves.now) spots.now }
+    requires within { at < length leaves.now }
+    requires name { blank.name ≡ L.name }
+    requires parts { blank.parts ≡ L.parts }
+    requires cut { 0 < blank.parts }
+    ensures { Some (context result) ≡ standing_at library.now at (object_of (said leaves.now) spots.now) }
+{
+    let mut steps = Steps::<L>::begin(blank);
+    standing_of(library, leaves, spots, at, &mut steps)
 }
 
 /// Puts a child last whose name no child has.

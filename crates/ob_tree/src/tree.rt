@@ -1,5 +1,5 @@
 //! The tree.
-ghost use Rattle.std.specs.Prelude.{◌≡◌, ℕ, ◌<◌, ◌+◌, ◌^◌, ◌-◌, [], map, length, replicate, IsTrue, Some, None, IfSome, IfOk, MatchResult, option_map, option_and_then, slice_get};
+ghost use Rattle.std.specs.Prelude.{◌≡◌, ℕ, ◌<◌, ◌+◌, ◌^◌, ◌-◌, min, [], map, length, replicate, IsTrue, Some, None, IfSome, IfOk, MatchResult, option_map, option_and_then, slice_get};
 ghost use Rattle.std.specs.Option.{option_copied};
 ghost use Rattle.ob_object.specs.declared.head.Head.{Head};
 ghost use Rattle.ob_object.specs.Fits.{fits_slot};
@@ -8,7 +8,8 @@ ghost use Rattle.ob_tree.specs.Paths.{node_path, place_of, first_twice};
 ghost use Rattle.ob_tree.specs.Laid.{head_at, leaf, parent_at, paths, changed};
 ghost use Rattle.ob_tree.specs.Stamps.{touched};
 ghost use Rattle.ob_tree.specs.Children.{child_at, place_at};
-ghost use Rattle.ob_tree.specs.Shown.{shown_at, standing_at};
+ghost use Rattle.ob_tree.specs.Depths.{depth_at};
+ghost use Rattle.ob_tree.specs.Shown.{part_at, shown_at, standing_at};
 ghost use Rattle.ob_standing.specs.Standings.{context};
 ghost use Rattle.ob_tree.specs.Trees.{Stamped, IsUnbuilt};
 
@@ -17,16 +18,18 @@ use crate::fault::TreeFault;
 use crate::laying::{lay_leaves, lay_spots, places_of};
 use crate::node::NodeId;
 use crate::paths::node_path;
-use crate::shown::{grown, standing_of};
+use crate::shown::{grown, standing_of, uncounted_standing};
 use crate::spot::Spot;
 use crate::touching::{renumber, stamp_up};
 use ob_contracts::Library;
 use ob_object::{Obj, Slot, Status};
 use ob_standing::Standing;
+use ob_steps::Steps;
 use ob_values::Text;
 use std::alloc::{AllocError, Global};
 use std::collections::BTreeMap;
-use std::marker::Model;
+use std::marker::{Brand, Model};
+use std::sync::ledger::{Blank, Ledger};
 
 /// The tree of a site.
 pub struct Tree {
@@ -280,7 +283,34 @@ impl Tree {
     {
         let leaves = self.leaves.as_slice();
         let spots = self.spots.as_slice();
-        standing_of(library, leaves, spots, id.number as usize)
+        let at = id.number as usize;
+        uncounted_standing::<Brand>(library, leaves, spots, at, Blank::new(1))
+    }
+
+    /// The same, counted as one step for each object round it.
+    pub fn standing_counted<'a, L: Ledger>(
+        &'a self,
+        library: &'a Library,
+        id: NodeId,
+        steps: &mut Steps<L>,
+    ) -> Standing<'a>
+        requires { id.number < parts self.now.root }
+        ensures stands { Some (context result) ≡ standing_at library.now id.number self.now.root }
+        ensures steps { steps.new ≡ steps.old + depth_at id.number self.now.root }
+    {
+        let leaves = self.leaves.as_slice();
+        let spots = self.spots.as_slice();
+        standing_of(library, leaves, spots, id.number as usize, steps)
+    }
+
+    /// A copy of an object with all that is in it, its own objects alone. An error only for want of memory.
+    pub fn copy(&self, alloc: Global, id: NodeId) -> Result<Obj, AllocError>
+        requires { id.number < parts self.now.root }
+        ensures { IfOk result (λ made. Some made ≡ part_at id.number self.now.root) }
+    {
+        let leaves = self.leaves.as_slice();
+        let spots = self.spots.as_slice();
+        grown(alloc, leaves, spots, id.number as usize)
     }
 
     /// What is shown at an object: it and all that is in it, with all that they inherit where they stand. An
@@ -291,11 +321,27 @@ impl Tree {
         requires { id.number < parts self.now.root }
         ensures { IfOk result (λ made. Some made ≡ shown_at library.now id.number self.now.root) }
     {
-        let at = id.number as usize;
-        let leaves = self.leaves.as_slice();
-        let spots = self.spots.as_slice();
-        let object = grown(alloc, leaves, spots, at)?;
-        let standing = standing_of(library, leaves, spots, at);
+        let object = self.copy(alloc, id)?;
+        let standing = self.standing(library, id);
         standing.whole(alloc, &object)
+    }
+
+    /// The same, counted: where it succeeds it adds one step for each object round the one that is shown, and one
+    /// for each object of the answer (`Obj::parts`).
+    pub fn whole_counted<L: Ledger>(
+        &self,
+        alloc: Global,
+        library: &Library,
+        id: NodeId,
+        steps: &mut Steps<L>,
+    ) -> Result<Obj, AllocError>
+        requires { id.number < parts self.now.root }
+        ensures whole { IfOk result (λ made. Some made ≡ shown_at library.now id.number self.now.root) }
+        ensures steps { IfOk result (λ made. steps.new
+            ≡ steps.old + depth_at id.number self.now.root + min (parts made) (2 ^ 64 - 1)) }
+    {
+        let object = self.copy(alloc, id)?;
+        let standing = self.standing_counted(library, id, steps);
+        standing.whole_counted(alloc, &object, steps)
     }
 }

@@ -1,4 +1,4 @@
 use Rattle.ob_tree.proofs.shown.+standing_of.Given as goal
 
 abbrev pub decreases-standing_of : goal.decreases-standing_of
-decreases-standing_of l = l.at
+decreases-standing_of g l = l.at

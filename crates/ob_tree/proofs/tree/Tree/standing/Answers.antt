@@ -6,14 +6,14 @@ use Rattle.ob_tree.proofs.Leaves.{leaf_within, are_laid}
 use Rattle.ob_tree.proofs.Wholes.{same_object}
 use Rattle.ob_tree.proofs.tree.Tree.standing.Goals as goal
 
-pub standing_of-requires-clause-laid : goal.standing_of-requires-clause-laid
-standing_of-requires-clause-laid c = are_laid _ _ _ _ _ _ c.self.invariant c.as_slice-leaves.ensures.value c.as_slice-spots.ensures.value
+pub uncounted_standing-requires-clause-laid : goal.uncounted_standing-requires-clause-laid
+uncounted_standing-requires-clause-laid c = are_laid _ _ _ _ _ _ c.self.invariant c.as_slice-leaves.ensures.value c.as_slice-spots.ensures.value
 
-pub standing_of-requires-clause-within : goal.standing_of-requires-clause-within
-standing_of-requires-clause-within c =
+pub uncounted_standing-requires-clause-within : goal.uncounted_standing-requires-clause-within
+uncounted_standing-requires-clause-within c =
     subst (λ (l : List Object). c.args.id.number < length l) (sym c.as_slice-leaves.ensures.value) (leaf_within c.args.self.now.root _ _ _ _ c.args.id.number c.self.invariant (ap (λ (t : Stamped). t.root) c.self.view_is) c.requires)
 
 pub returns : goal.returns
 returns c =
-    c.standing_of.ensures
+    c.uncounted_standing.ensures
     ∙ ap (standing_at c.args.library.now c.args.id.number) (same_object _ _ _ _ c.args.self.now.root c.as_slice-leaves.ensures.value c.as_slice-spots.ensures.value (ap (λ (t : Stamped). t.root) c.self.view_is))
