@@ -69,13 +69,13 @@ more_names xs ys zs e =
     let name : Object → Option Text = λ o. o.head.name in
     map-append name xs zs ∙ ap (λ ns. ns ++ names_of zs) e ∙ sym (map-append name ys zs)
 
-missing_names : (xs ys ss : List Object) → names_of xs ≡ names_of ys → missing xs ss ≡ missing ys ss
+pub missing_names : (xs ys ss : List Object) → names_of xs ≡ names_of ys → missing xs ss ≡ missing ys ss
 missing_names xs ys [] e = refl
 missing_names xs ys (s ∷ ss) e =
     ap₂ (λ (a b : List Object). a ++ b) (filter_names xs ys (children s) e)
     (missing_names (xs ++ children s) (ys ++ children s) ss (more_names xs ys (children s) e))
 
-names_alike : (os qs : Objects) → AreAlike os qs → names_of (listed os) ≡ names_of (listed qs)
+pub names_alike : (os qs : Objects) → AreAlike os qs → names_of (listed os) ≡ names_of (listed qs)
 names_alike none none a = refl
 names_alike none (node k inner more) a = absurd a
 names_alike (node h below rest) none a = absurd a

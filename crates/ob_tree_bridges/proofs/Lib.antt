@@ -1,3 +1,4 @@
 pub mod Places
 pub mod Bridging
 pub mod Owned
+pub mod Followed

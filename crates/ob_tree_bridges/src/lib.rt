@@ -4,6 +4,7 @@
 #![tactic(auto)]
 
 ghost use Rattle.ob_tree_bridges.specs.Bridges.{NodesAreNumbered, PathsAreDifferent, SlotIsSet, TreeShows};
+ghost use Rattle.ob_tree_bridges.specs.Following.{StampsFollow};
 ghost use Rattle.ob_tree_bridges.specs.OwnTree.{OwnTreesTell, OwnTreesTellChanges};
 
 /// What a site shows at a path is what the tree of its dressed root shows at the number of that path.
@@ -36,4 +37,10 @@ pub fn own_trees_tell()
 /// itself otherwise is told by its own head in both.
 pub fn own_trees_tell_changes()
     ensures { OwnTreesTellChanges }
+{}
+
+/// A step that touches the own nodes which show themselves otherwise, of those that it looked at, stamps exactly
+/// the own nodes of which a watch shows something else, where it left every other path alone.
+pub fn stamps_follow()
+    ensures { StampsFollow }
 {}
