@@ -1,9 +1,8 @@
 -- What a mirror that heard the replies holds is what they replay to.
-use Rattle.std.proofs.Common.{◌≡◌, ℕ, Bool, true, false, cond, List, [], ◌∷◌, ◌++◌, refl, sym, ap, subst, ◌∙◌, inl, inr}
+use Rattle.std.proofs.Common.{◌≡◌, ℕ, Bool, true, false, cond, List, [], ◌∷◌, ◌++◌, refl, sym, ap, ◌∙◌, inl, inr}
 use Rattle.std.specs.Prelude.{Option, Some, None, Ok}
 use Rattle.std.specs.Str.{bytes_eq}
 use Rattle.std.proofs.lemmas.Bool.Decides.{Decides-eqb}
-use Rattle.ob_machine.specs.History.{after}
 use Rattle.ob_machine.specs.declared.call.Answer.{Answer}
 use Rattle.ob_machine.specs.declared.call.Answer.TheVariants.{Done, NoMemory}
 use Rattle.ob_object.specs.declared.kind.Kind.TheVariants as kind
@@ -20,7 +19,22 @@ use Rattle.ob_site_laws.specs.SiteLaws.{acts, of_plan, IsSoundSite, ClientsHold,
 use Rattle.ob_site_laws.specs.SiteLaws as site
 use Rattle.ob_client.specs.Mirrors.{Mirrored, added, removed, Refreshes, Adds, Changes}
 use Rattle.ob_client.specs.Mirrors as mirrors
-use Rattle.ob_client_laws.specs.Hearing.{IfOut, IfDone, Hears, HearsAll, BeginsAnew, IsReady, HoldsWatched, MirrorsHold, MirrorsHoldAll}
+use Rattle.ob_client_laws.specs.Hearing.{IfOut, IfDone, BeginsAnew, IsReady}
+
+-- ---- what was taken
+
+-- each WatchOut was taken
+abbrev pub Takes : (plan : Plan) → Asks (of_plan plan) → Answer Object → Mirrored → Mirrored → Type 0
+Takes plan op NoMemory old new = new ≡ old
+Takes plan (Add asked) (Done reply) old new = IfOut (entries_of reply) (Adds old new reply (Ok tt)) old new
+Takes plan (Remove texts) (Done reply) old new = IfDone (is_of_kind kind.Err reply) texts old new
+Takes plan PollChanges (Done reply) old new = IfOut (entries_of reply) (Changes old new reply (Ok tt)) old new
+Takes plan PollRefresh (Done reply) old new = IfOut (entries_of reply) (Refreshes old new reply (Ok tt)) old new
+Takes plan _ (Done reply) old new = new ≡ old
+
+abbrev pub TakesAll : (plan : Plan) → List (clients.Call (of_plan plan)) → Mirrored → Mirrored → Type 0
+TakesAll plan [] old new = new ≡ old
+TakesAll plan (c ∷ cs) old new = (mid : Mirrored) × Takes plan c.operation c.answer old mid × TakesAll plan cs mid new
 
 -- ---- one call
 
@@ -75,7 +89,7 @@ removes_held : (plan : Plan) (texts : List Text) (b : Bool) (old new : Mirrored)
 removes_held plan texts true old new h = ap held_of h
 removes_held plan texts false old new h = ap held_of h
 
-pub call_held : (plan : Plan) (op : Asks (of_plan plan)) (answer : Answer Object) (old new : Mirrored) → Hears plan op answer old new → new.held ≡ replay_call (of_plan plan) op answer old.held
+pub call_held : (plan : Plan) (op : Asks (of_plan plan)) (answer : Answer Object) (old new : Mirrored) → Takes plan op answer old new → new.held ≡ replay_call (of_plan plan) op answer old.held
 call_held plan op NoMemory old new h = ap held_of h
 call_held plan (Look part) (Done reply) old new h = ap held_of h
 call_held plan (Renew input) (Done reply) old new h = ap held_of h
@@ -88,7 +102,7 @@ call_held plan (Refuse fault) (Done reply) old new h = ap held_of h
 
 -- ---- all calls
 
-pub calls_held : (plan : Plan) (cs : List (clients.Call (of_plan plan))) (old new : Mirrored) → HearsAll plan cs old new → new.held ≡ replayed (of_plan plan) cs old.held
+pub calls_held : (plan : Plan) (cs : List (clients.Call (of_plan plan))) (old new : Mirrored) → TakesAll plan cs old new → new.held ≡ replayed (of_plan plan) cs old.held
 calls_held plan [] old new h = ap held_of h
 calls_held plan (c ∷ cs) old new h =
     calls_held plan cs h.0 new h.2 ∙ ap (replayed (of_plan plan) cs) (call_held plan c.operation c.answer old h.0 h.1)
@@ -107,26 +121,14 @@ refresh_replaces plan n e es read held = from held ∙ sym (from [])
         ∙ ap (λ a. replayed (of_plan plan) (calls (of_plan plan) n es) (replay_call (of_plan plan) PollRefresh a hs)) read.answer
         ∙ ap (λ (h : Heard). replayed (of_plan plan) (calls (of_plan plan) n es) (replay_heard bytes_eq (let op : Asks (of_plan plan) = PollRefresh in op) h hs)) read.heard
 
-anew_replaces : (plan : Plan) (n : ℕ) (part : List site.Call) → BeginsAnew plan n part → (held : List Held) → replayed (of_plan plan) (calls (of_plan plan) n part) held ≡ replay (of_plan plan) (calls (of_plan plan) n part)
+pub anew_replaces : (plan : Plan) (n : ℕ) (part : List site.Call) → BeginsAnew plan n part → (held : List Held) → replayed (of_plan plan) (calls (of_plan plan) n part) held ≡ replay (of_plan plan) (calls (of_plan plan) n part)
 anew_replaces plan n [] h held = absurd h
 anew_replaces plan n (e ∷ es) h held = refresh_replaces plan n e es h held
 
-pub heard_all : (plan : Plan) (n : ℕ) (part : List site.Call) (first mirror : Mirrored) → IsReady plan n part first → HearsAll plan (calls (of_plan plan) n part) first mirror → replay (of_plan plan) (calls (of_plan plan) n part) ≡ mirror.held
+pub heard_all : (plan : Plan) (n : ℕ) (part : List site.Call) (first mirror : Mirrored) → IsReady plan n part first → TakesAll plan (calls (of_plan plan) n part) first mirror → replay (of_plan plan) (calls (of_plan plan) n part) ≡ mirror.held
 heard_all plan n part first mirror ready hears =
     sym (calls_held plan (calls (of_plan plan) n part) first mirror hears
     ∙ elim ready [
-      | inl none ↦ ap (replayed (of_plan plan) (calls (of_plan plan) n part)) none
+      | inl fresh ↦ ap (λ (m : Mirrored). replayed (of_plan plan) (calls (of_plan plan) n part) m.held) fresh
       | inr anew ↦ anew_replaces plan n part anew first.held
     ])
-
-pub mirrors_hold : (n : ℕ) → ClientsHold n → MirrorsHold n
-mirrors_hold n law small start sound before part legal begins ends first mirror ready hears =
-    let plan = start.plan in
-    let h = law small start sound before part legal begins ends in
-    subst (λ (held : List Held). HoldsWatched plan n (after acts start before).world part held)
-    (heard_all plan n part first mirror ready hears)
-    (record { watch = h.watch; stands = h.stands; held = h.held; each = h.each; exact = h.exact })
-
-pub mirrors_hold_all : (n : ℕ) → ClientsHoldAll n → MirrorsHoldAll n
-mirrors_hold_all n law small start sound before part legal begins ends first mirror ready hears v stands keeps =
-    ap (λ (held : List Held). Some held) (sym (heard_all start.plan n part first mirror ready hears)) ∙ law small start sound before part legal begins ends v stands keeps

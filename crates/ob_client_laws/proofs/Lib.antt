@@ -1,1 +1,5 @@
 pub mod HearingLemmas
+mod CountLemmas
+mod TextLemmas
+mod FollowLemmas
+pub mod RefusingLemmas

@@ -1,22 +1,51 @@
 //! What a client holds that is given the site's replies on a watch: the mirror and the laws of watches together.
 //!
 //! A mirror answers each reply by the definition of replay, and the laws say what the replies of every legal history replay
-//! to; so what the mirror holds is what is watched (`specs/Hearing.antt`). The functions do nothing.
+//! to; so what the mirror holds is what is watched (`specs/Hearing.antt`), and it refuses none of them. The functions do
+//! nothing.
 #![tactic(auto)]
 
-ghost use Rattle.ob_client_laws.specs.Hearing.{MirrorsHold, MirrorsHoldAll};
+ghost use Rattle.ob_client_laws.specs.Counting.{CountsStay, OpensCounted};
+ghost use Rattle.ob_client_laws.specs.Hearing.{MirrorRefusesNone, MirrorsHold, MirrorsHoldAll};
 
-use ob_site_laws::{watch_replay, watch_replay_whole};
+use ob_opened as opened;
+use ob_site_laws::{sound_stays, watch_replay, watch_replay_whole};
 
-/// A mirror that takes each WatchOut on a watch and is told each remove that was done, from the watch's make on or from any
-/// pollRefresh on, holds after each answered poll what is watched: the same hrefs in the same order, each object as it is
-/// shown with its inherited parts, each kept event of a feed once, and what rolled off unreported counted.
+/// The events of each feed stay at most so many as a mirror counts, whatever is asked of the site.
+pub fn counts_stay()
+    ensures { CountsStay }
+{}
+
+/// In every site that a document of fewer than 2^63 parts opens, they are.
+pub fn opens_counted()
+    ensures { OpensCounted }
+{
+    opened::opens_counted();
+    opened::opens_consistent();
+}
+
+/// A mirror that heard the replies on a watch, from its make on or from any pollRefresh on, takes the next WatchOut on it,
+/// or has no memory for it: it refuses none, as of another shape or as stale.
+///
+/// Source: oBIX 1.1, chapter 12 (Watches); rolling feeds are this project's own.
+pub fn mirror_refuses_none(watch: u64)
+    ensures { MirrorRefusesNone watch }
+{
+    watch_replay(watch);
+    sound_stays();
+}
+
+/// A mirror that is handed each WatchOut on a watch, and has memory for it, and is told each remove that was done, from the
+/// watch's make on or from any pollRefresh on, holds after each answered poll what is watched: the same hrefs in the same
+/// order, each object as it is shown with its inherited parts, each kept event of a feed once, and what rolled off
+/// unreported counted.
 ///
 /// Source: oBIX 1.1, chapter 12 (Watches); rolling feeds are this project's own.
 pub fn mirror_holds(watch: u64)
     ensures { MirrorsHold watch }
 {
-    watch_replay(watch)
+    watch_replay(watch);
+    sound_stays();
 }
 
 /// Where the feeds of the watch are those of histories without a capacity, or of alarms, what the mirror holds equals, as a
@@ -24,5 +53,7 @@ pub fn mirror_holds(watch: u64)
 pub fn mirror_holds_whole(watch: u64)
     ensures { MirrorsHoldAll watch }
 {
-    watch_replay_whole(watch)
+    watch_replay(watch);
+    watch_replay_whole(watch);
+    sound_stays();
 }
