@@ -1,0 +1,19 @@
+//! Runs the program on the rows of its tables, which lie where it runs, over an outside in memory, and prints for each table
+//! how many rows it has, and each row that comes out otherwise than the table says.
+#![tactic(auto)]
+
+mod failing;
+mod inputs;
+mod outside;
+mod ran;
+mod runs;
+
+use runs::run_rows;
+use std::{fs, io};
+
+fn main(rt: HostRuntime) -> io::Result<()> {
+    let texts = fs::read_to_string(&rt, "texts.txt")?;
+    run_rows(&rt, "stdio.rows", texts.as_str())?;
+    run_rows(&rt, "serve.rows", texts.as_str())?;
+    run_rows(&rt, "clients.rows", texts.as_str())
+}
