@@ -1,0 +1,47 @@
+use Rattle.std.proofs.Common.{◌<◌, List, ◌++◌, ◌∷◌, [], length, sym, ap, ◌∙◌, subst}
+use Rattle.ob_times.specs.Times.{Instant, moment_instant}
+use Rattle.ob_history.specs.declared.records.Record.{Record}
+use Rattle.ob_answers.specs.Plans.{plan as plan_of}
+use Rattle.ob_site_rules.specs.State.{State}
+use Rattle.ob_site_rules.specs.Writes.{with_record}
+use Rattle.ob_site_state.specs.declared.change.Change.{Change}
+use Rattle.ob_site_state.specs.declared.change.Change.TheVariants as change
+use Rattle.ob_site_state.specs.Changes.{with_log, rewound}
+use Rattle.ob_site_state.specs.Contents.{state_in}
+use Rattle.ob_site_state.specs.Kept.{Kept}
+use Rattle.ob_site_state.specs.States.{kept}
+use Rattle.ob_site_state.proofs.Places.{follows_at}
+use Rattle.ob_site_state.proofs.Noting.{record_noted, record_back, before_as, seen_as}
+use Rattle.ob_site_state.proofs.state.State.record.Goals as goal
+
+pub record-requires-clause-in_order : goal.record-requires-clause-in_order
+record-requires-clause-in_order c =
+    let a = c.self.inside in
+    follows_at a.time (record { time = c.abstime-time.result; kind = c.args.kind; slot = c.args.slot }) c.abstime-time.ensures c.args.place (state_in a.contents).logs c.self.invariant.in_time
+
+pub invariant_of-self-2 : goal.invariant_of-self-2
+invariant_of-self-2 c =
+    let a = c.self.inside in
+    let s = state_in a.contents in
+    let r : Record = record { time = c.abstime-time.result; kind = c.args.kind; slot = c.args.slot } in
+    let ch : Change = change.Records c.args.place c.in_ok-len.len in
+    let rest = c.record.ensures.rest in
+    record_noted (plan_of a.plan) a.time s (state_in c.record.new.self) a.contents.board c.record.new.self.board a.since a.found.items c.push_reserved.new.self.items r c.args.place c.in_ok-len.len c.self.invariant rest.root rest.rules c.abstime-time.ensures
+    (subst (λ (k : Kept). c.args.place < length k.now.logs) (sym c.self.view_is) c.requires.there)
+    c.in_ok-len.ensures.len c.in_ok-len.ensures.ok
+    (c.push_reserved.ensures.items ∙ ap (λ (l : List Change). l ++ ch ∷ []) c.reserve.ensures.items)
+
+pub returns-clause-ok : goal.returns-clause-ok
+returns-clause-ok c =
+    let a = c.self.inside in
+    let s = state_in a.contents in
+    let t = state_in c.record.new.self in
+    let items = c.push_reserved.new.self.items in
+    let with : Instant → Record = λ time. record { time = time; kind = c.args.kind; slot = c.args.slot } in
+    let ch : Change = change.Records c.args.place c.in_ok-len.len in
+    let rest = c.record.ensures.rest in
+    seen_as (kept a) c.args.self.now (λ k. let x : State = record k.now { logs = with_log (with_record (with (moment_instant k.time))) c.args.place k.now.logs } in x) t (rewound items t) c.record.new.self.tree.stamps c.record.new.self.tree.steps c.self.view_is
+    (c.in_ok-len.ensures.ok ∙ ap (λ (i : Instant). let x : State = record s { logs = with_log (with_record (with i)) c.args.place s.logs } in x) c.abstime-time.ensures)
+    (before_as s t a.found.items items ch (record_back s t (with c.abstime-time.result) c.args.place c.in_ok-len.len c.in_ok-len.ensures.len c.in_ok-len.ensures.ok)
+    (c.push_reserved.ensures.items ∙ ap (λ (l : List Change). l ++ ch ∷ []) c.reserve.ensures.items))
+    rest.stamps rest.steps

@@ -1,0 +1,42 @@
+use Rattle.std.proofs.Common.{◌≡◌, ◌<◌, List, ◌++◌, ◌∷◌, [], Some, IsTrue, sym, ap, ◌∙◌, subst}
+use Rattle.ob_object.specs.declared.head.Head.{Head}
+use Rattle.ob_object.specs.Fits.{fits_slot}
+use Rattle.ob_object.specs.Object.{parts}
+use Rattle.ob_tree.specs.Laid.{head_at, changed}
+use Rattle.ob_answers.specs.Plans.{plan as plan_of}
+use Rattle.ob_site_rules.specs.State.{State}
+use Rattle.ob_site_state.specs.declared.change.Change.{Change}
+use Rattle.ob_site_state.specs.declared.change.Change.TheVariants as change
+use Rattle.ob_site_state.specs.Contents.{state_in}
+use Rattle.ob_site_state.specs.Kept.{Kept}
+use Rattle.ob_site_state.specs.States.{kept}
+use Rattle.ob_site_state.specs.Changes.{rewound}
+use Rattle.ob_site_state.proofs.Rewinding.{set_to}
+use Rattle.ob_site_state.proofs.Noting.{slot_noted, slot_back, before_as, seen_as}
+use Rattle.ob_site_state.proofs.state.State.set_slot.Goals as goal
+
+pub invariant_of-self-2 : goal.invariant_of-self-2
+invariant_of-self-2 c =
+    let a = c.self.inside in
+    let s = state_in a.contents in
+    let ch : Change = change.Slot c.args.node c.set-old.result in
+    let rest = c.set-old.ensures.rest in
+    slot_noted (plan_of a.plan) a.time s (state_in c.set-old.new.self) a.contents.board c.set-old.new.self.board a.since a.found.items c.push_reserved.new.self.items c.args.node c.set-old.result c.args.slot c.self.invariant rest.root rest.rules
+    (subst (λ (k : Kept). c.args.node.number < parts k.now.tree) (sym c.self.view_is) c.requires.within)
+    (subst (λ (k : Kept). (h : Head) → head_at c.args.node.number k.now.tree ≡ Some h → IsTrue (fits_slot h.kind c.args.slot)) (sym c.self.view_is) c.requires.fits)
+    c.set-old.ensures.old c.set-old.ensures.new
+    (c.push_reserved.ensures.items ∙ ap (λ (l : List Change). l ++ ch ∷ []) c.reserve.ensures.items)
+
+pub returns-clause-ok : goal.returns-clause-ok
+returns-clause-ok c =
+    let a = c.self.inside in
+    let s = state_in a.contents in
+    let t = state_in c.set-old.new.self in
+    let items = c.push_reserved.new.self.items in
+    let ch : Change = change.Slot c.args.node c.set-old.result in
+    let rest = c.set-old.ensures.rest in
+    let within : c.args.node.number < parts s.tree = subst (λ (k : Kept). c.args.node.number < parts k.now.tree) (sym c.self.view_is) c.requires.within in
+    seen_as (kept a) c.args.self.now (λ k. let x : State = record k.now { tree = changed (set_to c.args.slot) c.args.node.number k.now.tree } in x) t (rewound items t) c.set-old.new.self.tree.stamps c.set-old.new.self.tree.steps c.self.view_is c.set-old.ensures.new
+    (before_as s t a.found.items items ch (slot_back s t c.args.node c.set-old.result c.args.slot within c.set-old.ensures.old c.set-old.ensures.new)
+    (c.push_reserved.ensures.items ∙ ap (λ (l : List Change). l ++ ch ∷ []) c.reserve.ensures.items))
+    rest.stamps rest.steps

@@ -1,0 +1,26 @@
+use Rattle.std.proofs.Common.{List, sym, ap, subst}
+use Rattle.ob_answers.specs.Plans.{plan as plan_of}
+use Rattle.ob_site_state.specs.declared.change.Change.{Change}
+use Rattle.ob_site_state.specs.Changes.{rewound}
+use Rattle.ob_site_state.specs.Contents.{state_in}
+use Rattle.ob_site_state.specs.Kept.{IsKept}
+use Rattle.ob_site_state.specs.States.{kept}
+use Rattle.ob_site_state.proofs.Noting.{taken_back}
+use Rattle.ob_site_state.proofs.Settling.{undone_as}
+use Rattle.ob_site_state.proofs.state.State.undo.Goals as goal
+
+pub invariant_of-self : goal.invariant_of-self
+invariant_of-self c =
+    let a = c.self.inside in
+    let t = state_in c.take_all_back.new.self in
+    let rest = c.take_all_back.ensures.rest in
+    subst (λ (l : List Change). IsKept (plan_of a.plan) a.since t c.take_all_back.new.self.board a.since l) (sym c.take_all_back.ensures.none)
+    (taken_back (plan_of a.plan) a.time (state_in a.contents) t a.contents.board c.take_all_back.new.self.board a.since a.found.items c.self.invariant rest.root rest.rules c.take_all_back.ensures.new)
+
+pub returns : goal.returns
+returns c =
+    let a = c.self.inside in
+    let t = state_in c.take_all_back.new.self in
+    let rest = c.take_all_back.ensures.rest in
+    undone_as (kept a) c.args.self.now t (rewound c.take_all_back.new.found.items t) c.take_all_back.new.self.tree.stamps c.take_all_back.new.self.tree.steps c.self.view_is c.take_all_back.ensures.new
+    (ap (λ (l : List Change). rewound l t) c.take_all_back.ensures.none) rest.stamps rest.steps

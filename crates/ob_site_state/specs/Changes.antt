@@ -1,0 +1,92 @@
+-- What a step changed, and the state with it taken back.
+use Rattle.std.specs.Prelude.{◌≡◌, ℕ, ◌<◌, Bool, true, false, List, [], ◌∷◌, length, take, Some, IsTrue}
+use Rattle.ob_object.specs.declared.head.Head.{Head}
+use Rattle.ob_object.specs.Fits.{fits_slot}
+use Rattle.ob_object.specs.Object.{parts}
+use Rattle.ob_tree.specs.Laid.{head_at, changed}
+use Rattle.ob_alarms.specs.Lists.{changed_at}
+use Rattle.ob_alarms.specs.declared.alarm.Alarm.{Alarm}
+use Rattle.ob_alarms.specs.declared.alarm.Event.{Event}
+use Rattle.ob_alarms.specs.Changes.{before}
+use Rattle.ob_alarms.specs.declared.board.Turned.{Turned}
+use Rattle.ob_alarms.specs.declared.board.Turned.TheVariants as turned
+use Rattle.ob_alarms.specs.declared.board.AckResult.{AckResult}
+use Rattle.ob_alarms.specs.declared.board.AckResult.TheVariants as answer
+use Rattle.ob_site_rules.specs.Build.{Path}
+use Rattle.ob_site_rules.specs.State.{Log, State, rolled}
+use Rattle.ob_site_state.specs.declared.change.Change.{Change}
+use Rattle.ob_site_state.specs.declared.change.Change.TheVariants as change
+
+-- the alarms as they were before the last event
+abbrev pub alarms_before : List Event → List Alarm → List Alarm
+alarms_before [] alarms = alarms
+alarms_before (e ∷ []) alarms = before e alarms
+alarms_before (e ∷ f ∷ es) alarms = alarms_before (f ∷ es) alarms
+
+-- all events but the last
+abbrev pub events_before : List Event → List Event
+events_before [] = []
+events_before (e ∷ []) = []
+events_before (e ∷ f ∷ es) = e ∷ events_before (f ∷ es)
+
+-- a log with no more than the first so many of its records
+abbrev pub cut : ℕ → Log → Log
+cut len l = record l { kept = take len l.kept }
+
+-- the same logs, but for the one of a place
+abbrev pub with_log : (Log → Log) → ℕ → List (Path × Log) → List (Path × Log)
+with_log f place ls = changed_at place (λ l. (l.0, f l.1)) ls
+
+-- a value that turned an alarm is an event
+abbrev pub is_turn : Turned → Bool
+is_turn turned.Nothing = false
+is_turn _ = true
+
+-- an acknowledgement that is noted is an event
+abbrev pub is_done : AckResult → Bool
+is_done answer.Done = true
+is_done _ = false
+
+-- one change taken back
+abbrev pub undone : Change → State → State
+undone (change.Slot node slot) s = record s { tree = changed (λ h. record h { slot = slot }) node.number s.tree }
+undone (change.Records place len) s = record s { logs = with_log (cut len) place s.logs }
+undone change.Event s = record s { alarms = alarms_before s.events s.alarms; events = events_before s.events }
+undone (change.Contracts library) s = record s { library = library }
+
+-- changes taken back, the last one first
+abbrev pub rewound : List Change → State → State
+rewound [] s = s
+rewound (c ∷ cs) s = undone c (rewound cs s)
+
+-- An event came, which can be taken back; or else nothing changed.
+abbrev pub AddsEvent : Bool → State → State → Type 0
+AddsEvent false s t = t ≡ s
+AddsEvent true s t = (0 < length t.events) × (undone change.Event t ≡ s)
+
+-- there is what a change changed: an object that takes the slot, a history, an event
+abbrev pub CanUndo : Change → State → Type 0
+CanUndo (change.Slot node slot) s =
+    (node.number < parts s.tree) × ((h : Head) → head_at node.number s.tree ≡ Some h → IsTrue (fits_slot h.kind slot))
+CanUndo (change.Records place len) s = place < length s.logs
+CanUndo change.Event s = 0 < length s.events
+CanUndo (change.Contracts library) s = Unit {0}
+
+-- and so for each of them, once those behind it are taken back
+abbrev pub CanRewind : List Change → State → Type 0
+CanRewind [] s = Unit {0}
+CanRewind (c ∷ cs) s = CanUndo c (rewound cs s) × CanRewind cs s
+
+-- the logs of which those that a change gave a record have dropped their oldest ones
+abbrev pub settled_by : Change → List (Path × Log) → List (Path × Log)
+settled_by (change.Records place len) ls = with_log rolled place ls
+settled_by _ ls = ls
+
+abbrev pub settled_all : List Change → List (Path × Log) → List (Path × Log)
+settled_all [] ls = ls
+settled_all (c ∷ cs) ls = settled_all cs (settled_by c ls)
+
+-- a change is of a history that is there, where there are so many
+abbrev pub IsPlaced : ℕ → Change → Type 0
+IsPlaced n (change.Records place len) = place < n
+IsPlaced n _ = Unit {0}

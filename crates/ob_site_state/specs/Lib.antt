@@ -1,0 +1,5 @@
+pub mod Changes
+pub mod Kept
+pub mod Codes
+pub mod Contents
+pub mod States

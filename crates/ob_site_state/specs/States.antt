@@ -1,0 +1,20 @@
+-- A `State` as contracts see it.
+use Rattle.ob_answers.specs.Plans.{plan as plan_of}
+use Rattle.ob_site_state.specs.declared.state.State.TheInside.{Inside}
+use Rattle.ob_site_state.specs.Changes.{rewound}
+use Rattle.ob_site_state.specs.Contents.{state_in}
+use Rattle.ob_site_state.specs.Kept.{Kept, IsKept}
+
+abbrev pub kept : Inside → Kept
+kept a = record {
+  plan = plan_of a.plan;
+  time = a.time;
+  now = state_in a.contents;
+  since = a.since;
+  before = rewound a.found.items (state_in a.contents);
+  stamps = a.contents.tree.stamps;
+  steps = a.contents.tree.steps;
+}
+
+abbrev pub IsState : Inside → Type 0
+IsState a = IsKept (plan_of a.plan) a.time (state_in a.contents) a.contents.board a.since a.found.items

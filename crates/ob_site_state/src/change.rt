@@ -1,0 +1,17 @@
+//! What a step changed.
+use ob_contracts::Library;
+use ob_object::Slot;
+use ob_tree::NodeId;
+
+/// What a step changed, as it was before.
+#[derive(Drop)]
+pub enum Change {
+    /// The slot of an own object.
+    Slot { node: NodeId, slot: Slot },
+    /// How many records the history of this place kept.
+    Records { place: usize, len: u64 },
+    /// The alarms have one more event.
+    Event,
+    /// The library.
+    Contracts { library: Library },
+}

@@ -1,0 +1,183 @@
+//! What changes of a site: its library, its own objects, the logs of its histories and its alarms.
+ghost use Rattle.std.specs.Prelude.{◌≡◌, ◌<◌, ◌≤◌, ◌+◌, ◌^◌, [], Bool, true, false, map, length, slice_get, Some, option_map, IsTrue, IfOk, OnOk, OnErr};
+ghost use Rattle.ob_object.specs.declared.head.Head.{Head};
+ghost use Rattle.ob_object.specs.Fits.{fits_slot};
+ghost use Rattle.ob_object.specs.Object.{parts};
+ghost use Rattle.ob_tree.specs.Laid.{head_at, changed};
+ghost use Rattle.ob_alarms.specs.Limits.{Takes};
+ghost use Rattle.ob_alarms.specs.Changes.{on_value, on_ack};
+ghost use Rattle.ob_history.specs.Records.{MayFollow, IsRecord};
+ghost use Rattle.ob_site_rules.specs.Build.{Path};
+ghost use Rattle.ob_site_rules.specs.State.{Log as SiteLog, with_board};
+ghost use Rattle.ob_site_rules.specs.Writes.{events_ever, with_record};
+ghost use Rattle.ob_site_state.specs.Changes.{undone, rewound, settled_by, settled_all, with_log, CanUndo, CanRewind, IsPlaced, AddsEvent, is_turn, is_done};
+ghost use Rattle.ob_site_state.specs.Contents.{state_in, SameRest};
+
+use crate::change::Change;
+use crate::logs::{cut_at, record_at, settle_at};
+use ob_alarms::{AckResult, Alarms, Num, Turned};
+use ob_contracts::Library;
+use ob_history::{Log, Record};
+use ob_object::Slot;
+use ob_times::Moment;
+use ob_tree::{NodeId, Tree};
+use ob_values::Text;
+use std::alloc::AllocError;
+
+/// What changes of a site: the library, the own objects, the log of each history under its path, and the alarms.
+pub struct Contents {
+    pub library: Library,
+    pub tree: Tree,
+    pub logs: Vec<(Text, Log)>,
+    pub board: Alarms,
+}
+
+impl Drop for Contents {
+    // By one call for each part, so that to drop it is one call to whoever may have to.
+    fn drop(self) {
+        let Contents {
+            library,
+            tree,
+            logs,
+            board,
+        } = self;
+        drop(library);
+        drop(tree);
+        drop(logs);
+        drop(board);
+    }
+}
+
+/// Whether a value turned an alarm.
+fn is_turn(turned: Turned) -> bool
+    ensures { result ≡ is_turn turned }
+{
+    match turned {
+        Turned::Nothing => false,
+        Turned::Raised { number: _ } | Turned::Normal { number: _ } => true,
+    }
+}
+
+/// Whether an acknowledgement is noted.
+fn is_done(answer: &AckResult) -> bool
+    ensures { result ≡ is_done answer.now }
+{
+    match answer {
+        AckResult::Done => true,
+        AckResult::Already { user: _ } | AckResult::NoSuch { user: _ } => false,
+    }
+}
+
+impl Contents {
+    /// Sets the slot of an own object, and gives the old one.
+    pub(crate) fn set(&mut self, node: NodeId, slot: Slot) -> Slot
+        requires within { node.number < parts self.old.tree.root }
+        requires fits { (h : Head) → head_at node.number self.old.tree.root ≡ Some h → IsTrue (fits_slot h.kind slot) }
+        ensures old { Some result ≡ option_map (λ h. h.slot) (head_at node.number self.old.tree.root) }
+        ensures new { state_in self.new ≡ record (state_in self.old) { tree = changed (λ h. record h { slot = slot }) node.number self.old.tree.root } }
+        ensures rest { SameRest self.old self.new }
+    {
+        self.tree.set(node, slot)
+    }
+
+    /// Puts a record last in the log of a place, and gives how many it kept before.
+    pub(crate) fn record(&mut self, place: usize, entry: Record) -> Result<u64, AllocError>
+        requires there { place < length (state_in self.old).logs }
+        requires counted { (l : Path × SiteLog) → slice_get (state_in self.old).logs place ≡ Some l → events_ever l.1 + 1 < 2 ^ 63 }
+        requires in_order { (l : Path × SiteLog) → slice_get (state_in self.old).logs place ≡ Some l → MayFollow l.1.kept entry }
+        requires is_record { IsRecord entry }
+        ensures ok { OnOk result (state_in self.new ≡ record (state_in self.old) { logs = with_log (with_record entry) place (state_in self.old).logs }) }
+        ensures len { IfOk result (λ len. Some len ≡ option_map (λ l. length l.1.kept) (slice_get (state_in self.old).logs place)) }
+        ensures err { OnErr result (state_in self.new ≡ state_in self.old) }
+        ensures rest { SameRest self.old self.new }
+    {
+        record_at(self.logs.as_mut_slice(), place, entry)
+    }
+
+    /// Lets a rule act on a value of its source, and tells whether that is an event.
+    pub(crate) fn take_value(
+        &mut self,
+        rule: u64,
+        value: Option<Num>,
+        now: Moment,
+    ) -> Result<bool, AllocError>
+        requires { Takes self.old.board.rules rule value }
+        ensures ok { OnOk result (state_in self.new ≡ with_board (state_in self.old) (on_value self.old.board rule value now).0) }
+        ensures event { IfOk result (λ is. AddsEvent is (state_in self.old) (state_in self.new)) }
+        ensures err { OnErr result (state_in self.new ≡ state_in self.old) }
+        ensures rest { SameRest self.old self.new }
+    {
+        self.board.reserve(1)?;
+        let turned = self.board.on_value(rule, value, now);
+        Ok(is_turn(turned))
+    }
+
+    /// Acknowledges an alarm, and tells whether that is an event.
+    pub(crate) fn acknowledge(
+        &mut self,
+        number: u64,
+        user: Option<Text>,
+        now: Moment,
+    ) -> Result<bool, AllocError>
+        ensures ok { OnOk result (state_in self.new ≡ with_board (state_in self.old) (on_ack self.old.board number user now).0) }
+        ensures event { IfOk result (λ is. AddsEvent is (state_in self.old) (state_in self.new)) }
+        ensures err { OnErr result (state_in self.new ≡ state_in self.old) }
+        ensures rest { SameRest self.old self.new }
+    {
+        self.board.reserve(1)?;
+        let answer = self.board.ack(number, user, now);
+        Ok(is_done(&answer))
+    }
+
+    /// Takes a change back. It takes no memory.
+    pub(crate) fn take_back(&mut self, change: Change)
+        requires { CanUndo change (state_in self.old) }
+        ensures new { state_in self.new ≡ undone change (state_in self.old) }
+        ensures rest { SameRest self.old self.new }
+    {
+        match change {
+            Change::Slot { node, slot } => {
+                let _new = self.tree.set(node, slot);
+            }
+            Change::Records { place, len } => cut_at(self.logs.as_mut_slice(), place, len),
+            Change::Event => self.board.undo(),
+            Change::Contracts { library } => self.library = library,
+        }
+    }
+
+    /// Takes changes back, the last one first. It takes no memory.
+    pub(crate) fn take_all_back(&mut self, found: &mut Vec<Change>)
+        requires { CanRewind found.old.items (state_in self.old) }
+        ensures new { state_in self.new ≡ rewound found.old.items (state_in self.old) }
+        ensures none { found.new.items ≡ [] }
+        ensures rest { SameRest self.old self.new }
+    {
+        while let Some(change) = found.pop() {
+            self.take_back(change);
+        }
+    }
+
+    /// The history that a change gave a record, if it did, drops its oldest ones, down to its capacity.
+    fn settle_by(&mut self, change: &Change)
+        requires { IsPlaced (length (state_in self.old).logs) change.now }
+        ensures new { state_in self.new ≡ record (state_in self.old) { logs = settled_by change.now (state_in self.old).logs } }
+        ensures rest { SameRest self.old self.new }
+    {
+        match change {
+            Change::Records { place, len: _ } => settle_at(self.logs.as_mut_slice(), *place),
+            Change::Slot { node: _, slot: _ } | Change::Event | Change::Contracts { library: _ } =>
+                {}
+        }
+    }
+
+    /// Each history that a change gave a record drops its oldest ones, down to its capacity. It takes no memory.
+    pub(crate) fn settle(&mut self, found: &[Change])
+        requires { CanRewind found.now (state_in self.old) }
+        ensures new { state_in self.new ≡ record (state_in self.old) { logs = settled_all found.now (state_in self.old).logs } }
+        ensures rest { SameRest self.old self.new }
+    {
+        for change in found {
+            self.settle_by(change);
+        }
+    }
+}

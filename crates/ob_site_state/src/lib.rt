@@ -1,0 +1,14 @@
+//! The state of a site in place: its own objects as a tree, the logs of its histories, its alarms and its
+//! library, and what the last step changed of them, so that it can be taken back.
+//!
+//! `specs/Kept.antt` says what a `State` stands for: the state now, and the state before the step.
+#![tactic(auto)]
+
+mod change;
+mod contents;
+mod logs;
+mod state;
+
+pub use change::Change;
+pub use contents::Contents;
+pub use state::State;
