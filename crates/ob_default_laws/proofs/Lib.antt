@@ -1,0 +1,2 @@
+pub mod Unslotted
+pub mod Either

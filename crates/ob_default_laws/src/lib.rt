@@ -1,0 +1,25 @@
+//! Laws of a step that writes to parts of contracts: what it changes beside the own objects.
+//!
+//! Each function states a law by its contract and does nothing.
+#![tactic(auto)]
+
+ghost use Rattle.ob_default_laws.specs.Defaults.{ChangesAreEither, DefaultsDiffer, DefaultsSettle};
+
+/// The libraries that two kept trees give, which differ in slots alone, differ in slots alone.
+pub fn defaults_differ()
+    ensures { DefaultsDiffer }
+{}
+
+/// What a watch shows of a node is as before a step that sets own slots and then takes another library, which
+/// differs in slots alone, exactly where neither changes it: none undoes the other.
+///
+/// Source: oBIX 1.1, chapter 7 (Contracts): an own value goes before an inherited one.
+pub fn changes_are_either()
+    ensures { ChangesAreEither }
+{}
+
+/// So such a step leaves the watches as the comparison of all that they show would, where it stamps what the own
+/// slots have changed and what the library has.
+pub fn defaults_settle()
+    ensures { DefaultsSettle }
+{}
