@@ -23,4 +23,5 @@ CountsStay = (start : SiteState) → AreCounted start.world.site → (es : List 
 
 -- So it is in every state that a document opens: a record is a part of the document.
 abbrev pub OpensCounted : Type 0
-OpensCounted = (root : Object) (boot : ℕ) (st : SiteState) → IsWellFormed root → parts root < 2 ^ 63 → opening root boot ≡ Ok st → AreCounted st.world.site
+OpensCounted = (root : Object) (boot : ℕ) (st : SiteState) → IsWellFormed root → parts root < 2 ^ 63 →
+    opening root boot ≡ Ok st → AreCounted st.world.site
