@@ -14,7 +14,7 @@ use Rattle.ob_client.specs.declared.call_fault.CallFault.TheVariants as fault
 use Rattle.ob_dialogue.specs.Plans.{Program, Request}
 use Rattle.ob_dialogue.specs.Stages.{Stage, Over, Lobby, Service, Make, Subject, Adding, Acking, Polling, Mending, Deleting, request_at}
 use Rattle.ob_dialogue.specs.Taking.{taken}
-use Rattle.ob_dialogue.specs.Turns.{Reached, asked, shown, after, with_request}
+use Rattle.ob_dialogue.specs.Turns.{Reached, asked, shown, after, IsAsking, AreAnswers, with_request}
 use Rattle.ob_dialogue.specs.Links.{texts, HasNext, Came, EndsAt, is_break, is_printed}
 use Rattle.ob_dialogue.specs.Legs.{Pause, Ended, ending_of, ended_by, Goes, Had, Leg}
 use Rattle.ob_dialogue.specs.declared.ending.Peer.TheVariants as peer
@@ -43,6 +43,10 @@ front_behind xs ys zs (rest, e) = (rest, ap (λ l. xs ++ l) e ∙ sym (append_as
 pub shown_none : (p : Program) (at : Reached) → shown p at [] ≡ []
 shown_none p (Ok s) = refl
 shown_none p (Err e) = refl
+
+pub answers_none : (p : Program) (at : Reached) → AreAnswers p at []
+answers_none p (Ok s) = tt
+answers_none p (Err e) = tt
 
 pub after_none : (p : Program) (at : Reached) → after p at [] ≡ at
 after_none p (Ok s) = refl
@@ -74,14 +78,14 @@ next_of stream rs kept fault.Ended a = (kept, a)
 next_of stream rs kept fault.Dead a = tt
 next_of stream rs kept fault.Memory a = tt
 
-ends_of : (s : Stage) (f : CallFault) → EndsAt (Ok s) (ended_by f)
-ends_of s fault.Link = tt
-ends_of s (fault.PeerStatus n) = tt
-ends_of s (fault.PeerDocument f) = tt
-ends_of s (fault.PeerFrame f) = tt
-ends_of s fault.Ended = tt
-ends_of s fault.Dead = tt
-ends_of s fault.Memory = tt
+ends_of : (s : Stage) (f : CallFault) → IsAsking (Ok s) → EndsAt (Ok s) (ended_by f)
+ends_of s fault.Link asks = asks
+ends_of s (fault.PeerStatus n) asks = asks
+ends_of s (fault.PeerDocument f) asks = asks
+ends_of s (fault.PeerFrame f) asks = asks
+ends_of s fault.Ended asks = asks
+ends_of s fault.Dead asks = tt
+ends_of s fault.Memory asks = tt
 
 not_done : (f : CallFault) → ended_by f ≡ ending.Done → ⊥
 not_done fault.Link e = let g : ending.Link ≡ ending.Done = e in cc
@@ -134,6 +138,7 @@ still p host mends at h e whole ends unbroken quiet going = record {
   taken = [];
   takes = Takes-none h.inlet;
   came = λ stream before t. came_none stream [] before h.kept e t (quiet (stream ++ []) before);
+  answered = answers_none p at;
   ends = subst (λ (x : Reached). EndsAt x e) (sym (after_none p at)) ends;
   goes = λ b. absurd (unbroken b);
   at_end = λ f. absurd (going f);
@@ -190,7 +195,8 @@ leg_fault p host mends s q h i f pause is asks reads quiet ends goes = record {
   takes = reads.takes;
   came = λ stream before t. came_none stream reads.taken before h.kept (ending_of pause) t
       (subst (λ (e : Ending). HasNext (stream ++ reads.taken) before e) (sym ends) (next_of (stream ++ reads.taken) before i.kept f (reads.tells stream before t)));
-  ends = subst (λ (e : Ending). EndsAt (Ok s) e) (sym ends) (ends_of s f);
+  answered = tt;
+  ends = subst (λ (e : Ending). EndsAt (Ok s) e) (sym ends) (ends_of s f (ap is_some is));
   goes = goes;
   at_end = λ e. reads.ended (only_ended f (sym ends ∙ e));
 }
@@ -241,6 +247,7 @@ leg_more p host mends s q o h i j k pause next lines is asks reads is_next is_li
       takes = Takes-then h.inlet i.inlet k.inlet reads.taken leg.taken reads.takes (subst (λ (x : Inlet). Takes x k.inlet leg.taken) inlet leg.takes);
       came = λ stream before t. came_more stream reads.taken leg.taken before i.kept o leg.replies (ending_of pause) (reads.tells stream before t)
           (λ x b u. leg.came x b (subst (λ (y : List ℕ). AreTaken x b y) (sym kept) u));
+      answered = (ap is_some is, subst (λ (at : Reached). AreAnswers p at leg.replies) (sym is_next) leg.answered);
       ends = subst (λ (at : Reached). EndsAt at (ending_of pause)) same_after leg.ends;
       goes = subst (λ (at : Reached). Goes mends at pause) same_after leg.goes;
       at_end = leg.at_end;
@@ -278,6 +285,7 @@ leg_cut p host mends s q o h i j e text is asks reads printed front sent inlet w
             | inr m ↦ subst (λ (y : Ending). HasNext (x ++ []) b y) (sym m) tt
           ])) in
           subst (λ (y : List ℕ). Came (stream ++ y) before (o ∷ []) e) (append-nil reads.taken) a;
+      answered = (ap is_some is, answers_none p (taken p s o).next);
       ends = elim which [ inl w ↦ subst (λ (y : Ending). EndsAt (after p (taken p s o).next []) y) (sym w) tt | inr m ↦ subst (λ (y : Ending). EndsAt (after p (taken p s o).next []) y) (sym m) tt ];
       goes = λ b. (never (sym unbroken ∙ b));
       at_end = λ d. absurd (elim which [

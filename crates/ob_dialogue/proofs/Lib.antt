@@ -4,3 +4,4 @@ pub mod PartLemmas
 pub mod TakingLemmas
 pub mod TurnLemmas
 pub mod DriverLemmas
+pub mod CompleteLemmas

@@ -72,7 +72,6 @@ visits_none p mends s o = record {
   places = tt;
   all_back = refl;
   one = (refl, inr refl);
-  ends = tt;
   text = [];
   printed = Gains-none o.held;
   begun = none_front [];
@@ -92,7 +91,6 @@ visits_failed p mends s dials dials' visits visits' held d gained failed host po
   places = ((host, port), tt);
   all_back = none_dialled d failed;
   one = (refl, inl refl);
-  ends = tt;
   text = [];
   printed = Gains-none held;
   begun = none_front [];
@@ -112,8 +110,7 @@ visits_had p mends s dials dials' visits mid visits' h i pause d v leg link gain
   dialled_are = gained;
   places = ((host, port), tt);
   all_back = one_dialled d given;
-  one = (leg.goes, link);
-  ends = leg.ends;
+  one = (leg.goes, leg.ends, leg.answered, link);
   text = leg.text;
   printed = leg.printed;
   begun = leg.begun;
@@ -142,11 +139,11 @@ some_retries zero e = never e
 some_retries (suc n) e = omega arith
 
 one_link : (Told : Type 0) (p : Program) (retries : ℕ) (at : Reached) (os : List Object) (vs : List Visit) (e : Ending)
-    → HasOne Told p (nat_lt 0 retries) at os vs (Ended e) → EndsAt (after p at os) e → AreLinks Told p retries at (os ∷ []) vs e
-one_link Told p retries at os [] e (none, which) ends = (none, elim which [ inl l ↦ inl (ended_is e ending.Link l) | inr m ↦ inr (inl (ended_is e ending.Memory m)) ])
-one_link Told p retries at os (v ∷ []) e (goes, link) ends =
-    record { ends = ends; spent = λ b polled. no_retries retries (goes b polled); link = link }
-one_link Told p retries at os (v ∷ (w ∷ vs)) e one ends = absurd one
+    → HasOne Told p (nat_lt 0 retries) at os vs (Ended e) → AreLinks Told p retries at (os ∷ []) vs e
+one_link Told p retries at os [] e (none, which) = (none, elim which [ inl l ↦ inl (ended_is e ending.Link l) | inr m ↦ inr (inl (ended_is e ending.Memory m)) ])
+one_link Told p retries at os (v ∷ []) e (goes, ends, answered, link) =
+    record { answered = answered; ends = ends; spent = λ b polled. no_retries retries (goes b polled); link = link }
+one_link Told p retries at os (v ∷ (w ∷ vs)) e one = absurd one
 
 -- replies and nothing else are those of one link
 on_one : (os : List Object) → on_links (map (λ o. Reply o) os) ≡ os ∷ []
@@ -172,7 +169,7 @@ talks_once p retries s old new e v = record {
   places = v.places;
   all_back = v.all_back;
   are = subst (λ (ls : List (List Object)). AreLinks (IsSome new.visits) p retries (Ok s) ls v.visits e) (sym (on_one v.replies))
-      (one_link (IsSome new.visits) p retries (Ok s) v.replies v.visits e v.one v.ends);
+      (one_link (IsSome new.visits) p retries (Ok s) v.replies v.visits e v.one);
   text = v.text;
   printed = v.printed;
   front = subst (λ (all : List ℕ). IsFront v.text all) (sym (lines_of_one p (Ok s) v.replies)) v.begun;
@@ -221,10 +218,11 @@ more_links : (Told Told' : Type 0) (down : Told' → Told) (p : Program) (retrie
 more_links Told Told' down p retries at os [] ws links e pause t which (none, why) are =
     absurd (elim why [ inl l ↦ not_mending ending.Link t pause l which | inr m ↦ not_mending ending.Memory t pause m which ])
 more_links Told Told' down p retries at os (v ∷ []) ws [] e pause t which one are = absurd are
-more_links Told Told' down p retries at os (v ∷ []) ws (ps ∷ links) e pause t which (goes, link) are =
+more_links Told Told' down p retries at os (v ∷ []) ws (ps ∷ links) e pause t which (goes, ends, answered, link) are =
     let r = mending_goes (nat_lt 0 retries) (after p at os) pause t which goes in (
       record {
         some = some_retries retries r.0;
+        answered = answered;
         polled = r.1;
         link = λ told. elim (mending_ends pause t which) [
           | inl l ↦ inl (subst (λ (x : Ending). IsLink p at os x v) l (link (down told)))
@@ -263,7 +261,7 @@ talks_more p retries s t old mid new pause e which v rest =
   where
     resumed_at : (vs : List Visit) → HasOne (IsSome mid.visits) p (nat_lt 0 retries) (Ok s) v.replies vs pause → resumed (after p (Ok s) v.replies) ≡ Ok t
     resumed_at [] (none, why) = absurd (elim why [ inl l ↦ not_mending ending.Link t pause l which | inr m ↦ not_mending ending.Memory t pause m which ])
-    resumed_at (w ∷ []) (goes, link) = (mending_goes (nat_lt 0 retries) (after p (Ok s) v.replies) pause t which goes).2
+    resumed_at (w ∷ []) (goes, ends, answered, link) = (mending_goes (nat_lt 0 retries) (after p (Ok s) v.replies) pause t which goes).2
     resumed_at (w ∷ (x ∷ vs)) one = absurd one
 
 -- nothing was dialled

@@ -12,7 +12,7 @@ use Rattle.ob_client.specs.declared.call_fault.CallFault.{CallFault}
 use Rattle.ob_client.specs.declared.call_fault.CallFault.TheVariants as fault
 use Rattle.ob_dialogue.specs.Plans.{Program}
 use Rattle.ob_dialogue.specs.Stages.{Stage}
-use Rattle.ob_dialogue.specs.Turns.{Reached, asked, shown, after, polls, resumed}
+use Rattle.ob_dialogue.specs.Turns.{Reached, asked, shown, after, AreAnswers, polls, resumed}
 use Rattle.ob_dialogue.specs.Links.{texts, Came, EndsAt, is_break, is_printed, IsLink, AreOf, dialled, Outside}
 use Rattle.ob_dialogue.specs.declared.ending.Peer.TheVariants as peer
 use Rattle.ob_dialogue.specs.declared.ending.Ending.{Ending}
@@ -61,6 +61,7 @@ pub record Leg (p : Program) (host : Text) (mends : Bool) (at : Reached) (old ne
   pub takes : Takes old.inlet new.inlet taken
   pub came : (stream : List ℕ) (before : List Response) → AreTaken stream before old.kept
       → Came (stream ++ taken) before replies (ending_of pause)
+  pub answered : AreAnswers p at replies
   pub ends : EndsAt (after p at replies) (ending_of pause)
   pub goes : Goes mends (after p at replies) pause
   pub at_end : ending_of pause ≡ ending.Peer peer.Ended → IsAtEnd new.inlet.left
@@ -79,7 +80,8 @@ ended_by fault.Dead = ending.Memory
 abbrev pub HasOne : Type 0 → Program → Bool → Reached → List Object → List Visit → Pause → Type 0
 HasOne Told p mends at replies [] pause = (replies ≡ []) × ((pause ≡ Ended ending.Link) ⊎ (pause ≡ Ended ending.Memory))
 HasOne Told p mends at replies (v ∷ []) pause =
-    Goes mends (after p at replies) pause × (Told → IsLink p at replies (ending_of pause) v)
+    Goes mends (after p at replies) pause × EndsAt (after p at replies) (ending_of pause) × AreAnswers p at replies
+    × (Told → IsLink p at replies (ending_of pause) v)
 HasOne Told p mends at replies _ pause = ⊥
 
 -- what a dialogue did on a link that was dialled, up to this pause
@@ -92,7 +94,6 @@ pub record Visits (p : Program) (mends : Bool) (s : Stage) (old new : Outside) (
   pub places : AreOf p dials
   pub all_back : dialled dials ≡ length visits
   pub one : HasOne (IsSome new.visits) p mends (Ok s) replies visits pause
-  pub ends : EndsAt (after p (Ok s) replies) (ending_of pause)
   pub text : List ℕ
   pub printed : Gains old.held text new.held
   pub begun : IsFront text (shown p (Ok s) replies)

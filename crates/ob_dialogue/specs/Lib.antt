@@ -5,6 +5,7 @@ pub mod Taking
 pub mod Words
 pub mod Turns
 pub mod Links
+pub mod Completes
 pub mod Legs
 pub mod Exchanges
 pub mod Told

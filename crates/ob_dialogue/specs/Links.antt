@@ -13,7 +13,7 @@ use Rattle.ob_watching.specs.WatchOuts.{Text}
 use Rattle.ob_client.specs.Sessions.{body_text}
 use Rattle.ob_dialogue.specs.Plans.{Program, Request, host_of, port_in, host_field}
 use Rattle.ob_dialogue.specs.Stages.{Over}
-use Rattle.ob_dialogue.specs.Turns.{Reached, Turn, on_links, asked, after, polls, resumed, lines}
+use Rattle.ob_dialogue.specs.Turns.{Reached, Turn, on_links, asked, after, IsAsking, AreAnswers, polls, resumed, lines}
 use Rattle.ob_dialogue.specs.declared.ending.Peer.TheVariants as peer
 use Rattle.ob_dialogue.specs.declared.ending.Ending.{Ending}
 use Rattle.ob_dialogue.specs.declared.ending.Ending.TheVariants as ending
@@ -51,12 +51,19 @@ pub record Came (bytes : List ℕ) (before : List Response) (replies : List Obje
 
 -- ---- one link
 
--- how far the dialogue had come where it ended so
+-- how far the dialogue had come where it ended so: a fault of the link, and what is no reply's object, only where a request was
+-- asked
 abbrev pub EndsAt : Reached → Ending → Type 0
 EndsAt at ending.Done = at ≡ Ok Over
 EndsAt at (ending.Peer (peer.Err o)) = at ≡ Err (peer.Err o)
 EndsAt at (ending.Peer peer.Shape) = at ≡ Err peer.Shape
-EndsAt at _ = Unit {0}
+EndsAt at (ending.Peer (peer.Status n)) = IsAsking at
+EndsAt at (ending.Peer (peer.Document f)) = IsAsking at
+EndsAt at (ending.Peer (peer.Frame f)) = IsAsking at
+EndsAt at (ending.Peer peer.Ended) = IsAsking at
+EndsAt at ending.Link = IsAsking at
+EndsAt at ending.Write = Unit {0}
+EndsAt at ending.Memory = Unit {0}
 
 -- the link broke before a reply came
 abbrev pub is_break : Ending → Bool
@@ -80,6 +87,7 @@ pub record IsLink (p : Program) (at : Reached) (replies : List Object) (e : Endi
 
 -- the last link
 pub record IsLast (Told : Type 0) (p : Program) (retries : ℕ) (at : Reached) (replies : List Object) (v : Visit) (e : Ending) : Type 0 where
+  pub answered : AreAnswers p at replies
   pub ends : EndsAt (after p at replies) e
   -- a poll is broken for good only where no more are to be mended
   pub spent : is_break e ≡ true → polls (after p at replies) ≡ true → retries ≡ 0
@@ -88,6 +96,7 @@ pub record IsLast (Told : Type 0) (p : Program) (retries : ℕ) (at : Reached) (
 -- a link on which a poll was broken that is mended on the next one
 pub record IsMended (Told : Type 0) (p : Program) (retries : ℕ) (at : Reached) (replies : List Object) (v : Visit) : Type 0 where
   pub some : 0 < retries
+  pub answered : AreAnswers p at replies
   pub polled : polls (after p at replies) ≡ true
   pub link : Told → IsLink p at replies ending.Link v ⊎ IsLink p at replies (ending.Peer peer.Ended) v
 

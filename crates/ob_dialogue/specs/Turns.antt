@@ -1,5 +1,5 @@
 -- Dialogues: what is asked on each link and what is printed, computed from the turns that were had.
-use Rattle.std.specs.Prelude.{ℕ, Bool, false, List, [], ◌∷◌, ◌++◌, Option, Some, None, Result, Ok, Err}
+use Rattle.std.specs.Prelude.{ℕ, Bool, false, List, [], ◌∷◌, ◌++◌, IsSome, Option, Some, None, Result, Ok, Err}
 use Rattle.ob_object.specs.Object.{Object}
 use Rattle.ob_dialogue.specs.Plans.{Program, Place, Request, place_at}
 use Rattle.ob_dialogue.specs.Stages.{Stage, Lobby, request_at, is_poll, mended}
@@ -56,6 +56,18 @@ abbrev pub after : Program → Reached → List Object → Reached
 after p (Err fault) replies = Err fault
 after p (Ok s) [] = Ok s
 after p (Ok s) (o ∷ replies) = after p (taken p s o).next replies
+
+-- a request is asked
+abbrev pub IsAsking : Reached → Type 0
+IsAsking (Ok s) = IsSome (request_at s)
+IsAsking (Err fault) = ⊥
+
+-- each reply is one to a request
+abbrev pub AreAnswers : Program → Reached → List Object → Type 0
+AreAnswers p (Err fault) [] = Unit {0}
+AreAnswers p (Err fault) (o ∷ replies) = ⊥
+AreAnswers p (Ok s) [] = Unit {0}
+AreAnswers p (Ok s) (o ∷ replies) = IsSome (request_at s) × AreAnswers p (taken p s o).next replies
 
 -- ---- on all links
 

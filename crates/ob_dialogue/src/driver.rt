@@ -3,11 +3,13 @@ ghost use Rattle.std.specs.Prelude.{◌≡◌, ◌≤◌, Ok, true};
 ghost use Rattle.ob_io.specs.Faults.{Rose};
 ghost use Rattle.ob_dialogue.specs.Turns.{begins};
 ghost use Rattle.ob_dialogue.specs.Links.{TalksFrom, outside};
+ghost use Rattle.ob_dialogue.specs.Completes.{Completes};
 ghost use Rattle.ob_dialogue.specs.Legs.{Visits};
 ghost use Rattle.ob_dialogue.specs.Told as told;
 ghost use Rattle.ob_dialogue.specs.declared.ending.Ending.TheVariants as ending;
 
 use crate::ending::{Ending, Peer};
+use crate::laws::completes;
 use crate::link::{Pause, on_link};
 use crate::place::host_field;
 use crate::plan::Plan;
@@ -89,10 +91,13 @@ pub fn converse<W: Dialer, K: Sink>(
     ensures talks { TalksFrom (told.program plan.now) plan.now.retries (begins (told.program plan.now))
         (outside (W.dials dialer.old) (W.visits dialer.old) (K.held sink.old))
         (outside (W.dials dialer.new) (W.visits dialer.new) (K.held sink.new)) result }
+    ensures complete { Completes (told.program plan.now) (begins (told.program plan.now))
+        (W.visits dialer.old) (W.visits dialer.new) (W.faults dialer.old) (W.faults dialer.new) (K.faults sink.old) (K.faults sink.new) result }
     ensures later { (W.faults dialer.old ≤ W.faults dialer.new) × (K.faults sink.old ≤ K.faults sink.new) }
     ensures link { result ≡ ending.Link → Rose (W.faults dialer.old) (W.faults dialer.new) × (W.rose dialer.new ≡ true) }
     ensures sink { result ≡ ending.Write → Rose (K.faults sink.old) (K.faults sink.new) }
 {
+    completes();
     let Ok(stage) = first(alloc, plan) else {
         return Ending::Memory;
     };

@@ -7,6 +7,7 @@
 
 mod driver;
 mod ending;
+mod laws;
 mod lines;
 mod link;
 mod place;
@@ -17,4 +18,5 @@ mod taking;
 
 pub use driver::converse;
 pub use ending::{Ending, Peer};
+pub use laws::completes;
 pub use plan::{Plan, Topic};
