@@ -1,0 +1,6 @@
+pub mod Lists
+pub mod ItemLemmas
+pub mod UndoLemmas
+pub mod TableLemmas
+pub mod NewsLemmas
+pub mod LawLemmas

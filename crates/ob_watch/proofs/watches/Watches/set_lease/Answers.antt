@@ -1,0 +1,27 @@
+use Rattle.std.proofs.Common.{ap, sym, ◌∙◌, None, Some}
+use Rattle.std.specs.Option.{option_copied_mut}
+use Rattle.ob_watch.specs.Tables.{leased_for}
+use Rattle.ob_watch.proofs.TableLemmas.{is_held, none_written, numbered_same, one_written}
+use Rattle.ob_watch.proofs.watches.Watches.set_lease.Goals as goal
+
+pub returns-in-None-clause-held : goal.returns-in-None-clause-held
+returns-in-None-clause-held c =
+    is_held c.args.number c.self.inside.map.entries c.self.inside.next c.args.self.now c.self.view_is None (sym c.get_mut.ensures.value ∙ ap option_copied_mut c.in-None.is)
+
+pub returns-in-None-clause-leased : goal.returns-in-None-clause-leased
+returns-in-None-clause-leased c =
+    none_written c.args.number c.self.inside.map.entries c.self.inside.next c.args.self.now c.self.view_is (leased_for c.args.lease) c.get_mut.follows.lender-at-none.entries
+    (sym c.get_mut.ensures.value ∙ ap option_copied_mut c.in-None.is) (λ i. (c.get_mut.follows.holds-at-none i).entries)
+
+pub invariant_of-self-2 : goal.invariant_of-self-2
+invariant_of-self-2 c =
+    numbered_same c.self.inside.next c.self.inside.map.entries (c.get_mut.follows.lender c.renew.new.self).entries (c.get_mut.follows.holds c.renew.new.self).1 c.self.invariant
+
+pub returns-clause-held : goal.returns-clause-held
+returns-clause-held c =
+    is_held c.args.number c.self.inside.map.entries c.self.inside.next c.args.self.now c.self.view_is (Some c.in-Some.watch.now) (sym c.get_mut.ensures.value ∙ ap option_copied_mut c.in-Some.is)
+
+pub returns-clause-leased : goal.returns-clause-leased
+returns-clause-leased c =
+    one_written c.args.number c.self.inside.map.entries c.self.inside.next c.args.self.now c.self.view_is (leased_for c.args.lease) (c.get_mut.follows.lender c.renew.new.self).entries
+    c.in-Some.watch.now c.renew.new.self c.self.invariant (sym c.get_mut.ensures.value ∙ ap option_copied_mut c.in-Some.is) (c.renew.ensures) (c.get_mut.follows.holds c.renew.new.self).0

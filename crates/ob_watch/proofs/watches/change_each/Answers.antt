@@ -1,0 +1,16 @@
+use Rattle.std.proofs.Common.{map, length, ap, ◌∙◌, arith}
+use Rattle.ob_watch.specs.Items.{changed_by}
+use Rattle.ob_watch.specs.Tables.{watching}
+use Rattle.ob_watch.proofs.Lists.{altered_on, altered_end, length_altered}
+use Rattle.ob_watch.proofs.watches.change_each.Goals as goal
+
+pub index_mut-watch-requires : goal.index_mut-watch-requires
+index_mut-watch-requires g c = omega (arith, ap length c.loop-place.invariant ∙ length_altered (λ w. watching (map (changed_by (g.C.Change.made c.args.change.now)) w.items) w) c.loop-place.place c.args.held.now.entries)
+
+pub loop-place-preserved : goal.loop-place-preserved
+loop-place-preserved g c =
+    altered_on (λ w. watching (map (changed_by (g.C.Change.made c.args.change.now)) w.items) w) c.loop-place.place c.args.held.now.entries c.loop-place.held.entries _ _
+    c.loop-place.invariant c.index_mut-watch.ensures.value c.change.ensures
+
+pub returns : goal.returns
+returns g c = altered_end (λ w. watching (map (changed_by (g.C.Change.made c.args.change.now)) w.items) w) c.loop-place.place c.args.held.now.entries c.loop-place.held.entries (omega arith) c.loop-place.invariant

@@ -1,0 +1,11 @@
+pub mod Items
+pub mod Held
+pub mod Tables
+pub mod Restoring
+pub mod Undo
+pub mod Adding
+pub mod Reported
+pub mod Marks
+pub mod Flags
+pub mod Counted
+pub mod AsRules

@@ -1,0 +1,125 @@
+//! What happens to what is kept of the items of watches.
+ghost use Rattle.std.specs.Prelude.{◌≡◌};
+
+use crate::item::{Tracked, stamp_of};
+use ob_entries::passes;
+use ob_tree::Tree;
+use ob_values::{Abstime, Text};
+
+/// What happens to what is kept of an item, by the path that it names.
+pub(crate) trait Change {
+    ghost use Rattle.std.specs.Prelude.{List, ℕ};
+    ghost use Rattle.ob_watch.specs.declared.item.Tracked.{Tracked};
+
+    ghost made: { Self → List ℕ → Tracked → Tracked };
+
+    /// Makes the change.
+    fn make(&self, path: &Text, tracked: &mut Tracked)
+        ensures { tracked.new ≡ made self.now path.now tracked.old };
+}
+
+/// All is reported after a step.
+#[derive(Drop)]
+pub(crate) struct Report {
+    pub(crate) steps: u64,
+}
+
+impl Change for Report {
+    ghost use Rattle.ob_watch.specs.Items.{reported_by};
+
+    ghost made = { λ c _ k. reported_by c.steps k };
+
+    fn make(&self, _path: &Text, tracked: &mut Tracked) {
+        match tracked {
+            Tracked::Object { node: _, mark } => *mark = self.steps,
+            Tracked::Feed {
+                filter: _,
+                given,
+                total,
+                due,
+            } => {
+                *given = *total;
+                *due = false;
+            }
+        }
+    }
+}
+
+/// The feed at a path has had one more event, of this time.
+#[derive(Drop)]
+pub(crate) struct Event<'a> {
+    pub(crate) path: &'a Text,
+    pub(crate) time: Abstime,
+}
+
+impl Change for Event<'_> {
+    ghost use Rattle.ob_watch.specs.Items.{at_path, one_more_by};
+
+    ghost made = { λ c own k. at_path c.path.now (one_more_by c.time) own k };
+
+    fn make(&self, path: &Text, tracked: &mut Tracked) {
+        if path.as_str() != self.path.as_str() {
+            return;
+        }
+        if let Tracked::Feed {
+            filter,
+            given: _,
+            total,
+            due,
+        } = tracked
+        {
+            *due = *due || passes(filter, self.time);
+            *total = total.saturating_add(1);
+        }
+    }
+}
+
+/// So many events of the feed at a path rolled off.
+#[derive(Drop)]
+pub(crate) struct Roll<'a> {
+    pub(crate) path: &'a Text,
+    pub(crate) gone: u64,
+}
+
+impl Change for Roll<'_> {
+    ghost use Rattle.ob_watch.specs.Items.{at_path, rolled_by};
+
+    ghost made = { λ c own k. at_path c.path.now (rolled_by c.gone) own k };
+
+    fn make(&self, path: &Text, tracked: &mut Tracked) {
+        if path.as_str() != self.path.as_str() {
+            return;
+        }
+        if let Tracked::Feed {
+            filter: _,
+            given,
+            total: _,
+            due,
+        } = tracked
+        {
+            *due = *due || *given < self.gone;
+        }
+    }
+}
+
+/// Steps are counted from 1 again.
+#[derive(Drop)]
+pub(crate) struct Renumber<'a> {
+    pub(crate) tree: &'a Tree,
+}
+
+impl Change for Renumber<'_> {
+    ghost use Rattle.ob_watch.specs.Items.{anew_by};
+
+    ghost made = { λ c _ k. anew_by c.tree.now k };
+
+    fn make(&self, _path: &Text, tracked: &mut Tracked) {
+        if let Tracked::Object { node, mark } = tracked {
+            *mark = if *mark < stamp_of(self.tree, *node) {
+                0
+            } else {
+                1
+            };
+        }
+    }
+}

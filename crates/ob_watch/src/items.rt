@@ -1,0 +1,135 @@
+//! The items of a watch by their hrefs, in the order in which these were first added.
+ghost use Rattle.std.specs.Prelude.{◌≡◌, [], map, take, not, IfOk, OnErr, string_bytes};
+ghost use Rattle.std.specs.List.{filter};
+ghost use Rattle.ob_watch.specs.Items.{Differ, among, changed_by, found_item, has_text, put_item, put_over};
+
+use crate::change::Change;
+use crate::item::Item;
+use indexmap::IndexMap;
+use ob_values::Text;
+use std::alloc::{AllocError, Global};
+use std::marker::Model;
+
+// Items under the texts of their hrefs.
+type Map = IndexMap<String, Item>;
+
+/// The items of a watch by their hrefs, in the order in which these were first added. No two have one href.
+///
+/// Source: oBIX 1.1, chapter 12 (Watches).
+#[derive(Drop)]
+pub struct Items {
+    map: Map,
+}
+
+impl Model for Items {
+    ghost use Rattle.std.specs.Prelude.{List};
+    ghost use Rattle.ob_watch.specs.declared.item.Item.{Item};
+    ghost use Rattle.ob_watch.specs.Held.{items_of, StandUnderOwn};
+
+    ghost Value = { List Item };
+
+    ghost view = { λ m. items_of m.map.entries };
+
+    ghost invariant = { λ m. StandUnderOwn m.map.entries };
+}
+
+// Whether a text is one of these.
+fn is_among(texts: &[Text], text: &str) -> bool
+    ensures { result ≡ among texts.now text.now }
+{
+    texts.iter().any(|other| text == other.as_str())
+}
+
+// Makes a change of each item.
+fn change_each<C: Change>(held: &mut Map, change: &C)
+    ensures { held.new.entries ≡ map (λ e. (e.0, changed_by (C.made change.now) e.1)) held.old.entries }
+{
+    for place in 0..held.len() {
+        let item = &mut held[place];
+        item.change(change);
+    }
+}
+
+impl Items {
+    /// No items.
+    pub(crate) fn new(alloc: Global) -> Items
+        ensures { result ≡ [] }
+    {
+        Items {
+            map: IndexMap::new(alloc),
+        }
+    }
+
+    /// The items in their order. No two have one href.
+    pub fn as_slice(&self) -> &[Item]
+        ensures items { result.now ≡ self.now }
+        ensures differ { Differ self.now }
+    {
+        self.map.as_slice().values().as_slice()
+    }
+
+    /// Whether an item is of this href.
+    pub fn has(&self, text: &Text) -> bool
+        ensures { result ≡ has_text self.now text.now }
+    {
+        self.map.contains_key(text.as_str())
+    }
+
+    /// Puts an item in the place of the one of its href, which comes back, or last. Want of memory leaves all as
+    /// it was.
+    pub(crate) fn put(&mut self, alloc: Global, item: Item) -> Result<Option<Item>, AllocError>
+        ensures put { IfOk result (λ old. self.new ≡ put_item item self.old) }
+        ensures old { IfOk result (λ old. old ≡ found_item item.text self.old) }
+        ensures err { OnErr result (self.new ≡ self.old) }
+    {
+        let text = String::from_str(alloc, item.text().as_str())?;
+        let old = self.map.insert(text, item)?;
+        Ok(old)
+    }
+
+    /// Puts an item in the place of the one of its href, if there is one.
+    pub(crate) fn put_over(&mut self, item: Item)
+        ensures { self.new ≡ put_over item self.old }
+    {
+        match self.map.get_mut(item.text().as_str()) {
+            Some(old) => *old = item,
+            None => return,
+        }
+    }
+
+    /// Keeps the first so many items.
+    pub(crate) fn truncate(&mut self, count: usize)
+        ensures { self.new ≡ take count self.old }
+    {
+        self.map.truncate(count);
+    }
+
+    /// Drops the items of these hrefs.
+    pub(crate) fn remove(&mut self, texts: &[Text])
+        ensures { self.new ≡ filter (λ i. not (among texts.now i.text)) self.old }
+    {
+        self.map.retain(
+            |text: &String, _item: &mut Item| -> bool
+                ensures { (result ≡ not (among texts.entry.now (string_bytes text.now))) × (_item.new ≡ _item.old) }
+            { !is_among(texts, text.as_str()) },
+        );
+    }
+
+    /// Makes a change of each item.
+    pub(crate) fn change<C: Change>(&mut self, change: &C)
+        ensures { self.new ≡ map (changed_by (C.made change.now)) self.old }
+    {
+        change_each(&mut self.map, change);
+    }
+
+    /// A copy of the items. An error only for want of memory.
+    pub(crate) fn copy(&self, alloc: Global) -> Result<Items, AllocError>
+        ensures { IfOk result (λ copy. copy ≡ self.now) }
+    {
+        let mut copies = Items::new(alloc);
+        for item in self.as_slice() {
+            copies.put(alloc, item.copy()?)?;
+        }
+        Ok(copies)
+    }
+}

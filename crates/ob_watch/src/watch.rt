@@ -1,0 +1,215 @@
+//! One watch.
+ghost use Rattle.std.specs.Prelude.{◌≡◌, List, map, IfOk, IfSome, option_map, position, slice_get};
+ghost use Rattle.ob_watch.specs.declared.item.Item.{Item as KeptItem};
+ghost use Rattle.ob_watch.specs.Adding.{Adds};
+ghost use Rattle.ob_watch.specs.Items.{Differ, changed_by, has_text, is_due};
+ghost use Rattle.ob_watch.specs.Tables.{IsLease, is_full_watch, is_over, leased_for, new_watch, next_due, touched_at, watching, without};
+ghost use Rattle.ob_watch.specs.Undo.{Undoes};
+
+use crate::additions::Additions;
+use crate::change::Change;
+use crate::fault::WatchFault;
+use crate::item::Item;
+use crate::items::Items;
+use ob_tree::Tree;
+use ob_values::{Moment, Text};
+use std::alloc::{AllocError, Global};
+use std::marker::Model;
+
+/// The lease of a new watch, a minute, in nanoseconds.
+pub const FIRST_LEASE: u64 = 60_000_000_000;
+
+/// The shortest lease that can be asked for, a second, in nanoseconds.
+pub const SHORTEST_LEASE: u64 = 1_000_000_000;
+
+/// The longest lease that can be asked for, a day, in nanoseconds.
+pub const LONGEST_LEASE: u64 = 86_400_000_000_000;
+
+/// A watch: its lease in nanoseconds, of a second to a day; the moment of the last request to it in milliseconds
+/// since 1970; and its items in the order in which their hrefs were first added.
+///
+/// Source: oBIX 1.1, chapter 12 (Watches).
+pub struct Watch {
+    lease: u64,
+    touched: u64,
+    items: Items,
+}
+
+/// An item of a watch that is to be reported, and its place among them, from 0.
+pub struct Due<'a> {
+    pub place: usize,
+    pub item: &'a Item,
+}
+
+impl Drop for Watch {
+    // By one call for each part, so that to drop a watch is one call to whoever may have to.
+    fn drop(self) {
+        let Watch {
+            lease: _,
+            touched: _,
+            items,
+        } = self;
+        drop(items);
+    }
+}
+
+impl Model for Watch {
+    ghost use Rattle.ob_watch.specs.Tables.{IsLease, Leased};
+
+    ghost Value = { Leased };
+
+    ghost view = { λ w. record { lease = w.lease; touched = w.touched; items = w.items } };
+
+    ghost invariant = { λ w. IsLease w.lease };
+}
+
+// The first place whose item is to be reported.
+fn first_due(items: &[Item], tree: &Tree) -> Option<usize>
+    ensures { result ≡ position (is_due tree.now) items.now }
+{
+    items.iter().position(|item| item.is_due(tree))
+}
+
+// The first place from one on whose item is to be reported.
+fn next_due(items: &[Item], tree: &Tree, place: usize) -> Option<usize>
+    ensures { result ≡ next_due tree.now place items.now }
+{
+    let from = place.min(items.len());
+    let further = first_due(&items[from..], tree)?;
+    Some(from + further)
+}
+
+impl Watch {
+    /// A new watch, made at this moment, with a lease of a minute.
+    pub(crate) fn new(alloc: Global, now: Moment) -> Watch
+        ensures { result ≡ new_watch now }
+    {
+        Watch {
+            lease: FIRST_LEASE,
+            touched: now.ms(),
+            items: Items::new(alloc),
+        }
+    }
+
+    /// The lease in nanoseconds.
+    pub fn lease(&self) -> u64
+        ensures value { result ≡ self.now.lease }
+        ensures bounded { IsLease result }
+    {
+        self.lease
+    }
+
+    /// The items in their order. No two have one href.
+    pub fn items(&self) -> &[Item]
+        ensures items { result.now ≡ self.now.items }
+        ensures differ { Differ self.now.items }
+    {
+        self.items.as_slice()
+    }
+
+    /// Whether the lease has run out at this moment.
+    pub fn has_lapsed(&self, now: Moment) -> bool
+        ensures { result ≡ is_over now self.now }
+    {
+        let (touched, lease) = (self.touched, self.lease);
+        let end = touched as u128 * 1_000_000 + lease as u128;
+        end <= now.ms() as u128 * 1_000_000
+    }
+
+    /// Whether no new href can be added: the watch has 2,048 items.
+    pub fn is_full(&self) -> bool
+        ensures { result ≡ is_full_watch self.now }
+    {
+        self.items.as_slice().len() >= 2048
+    }
+
+    /// Whether an item is of this href.
+    pub fn has(&self, text: &Text) -> bool
+        ensures { result ≡ has_text self.now.items text.now }
+    {
+        self.items.has(text)
+    }
+
+    /// The first item from a place on that is to be reported.
+    ///
+    /// Source: oBIX 1.1, chapter 12 (Watch.pollChanges).
+    pub fn next_due(&self, tree: &Tree, place: usize) -> Option<Due<'_>>
+        ensures place { option_map (λ d. d.place) result ≡ next_due tree.now place self.now.items }
+        ensures item { IfSome result (λ d. slice_get self.now.items d.place ≡ Some d.item.now) }
+    {
+        let items = self.items.as_slice();
+        let place = next_due(items, tree, place)?;
+        let item = items.get(place)?;
+        Some(Due { place, item })
+    }
+
+    /// A request to the watch renews its lease.
+    pub(crate) fn touch(&mut self, now: Moment)
+        ensures { self.new ≡ touched_at now self.old }
+    {
+        self.touched = now.ms();
+    }
+
+    /// Another lease, in nanoseconds.
+    pub(crate) fn renew(&mut self, lease: u64)
+        requires { IsLease lease }
+        ensures { self.new ≡ leased_for lease self.old }
+    {
+        self.lease = lease;
+    }
+
+    /// Puts an item in the place of the one of its href, or last; ItemsFull where the watch has its most items
+    /// and none of that href. An error leaves the watch as it was.
+    pub(crate) fn add(
+        &mut self,
+        alloc: Global,
+        item: Item,
+        undo: &mut Additions,
+    ) -> Result<(), WatchFault>
+        ensures adds { Adds self.old self.new item result }
+        ensures back { (original : List KeptItem) → Undoes undo.old self.old.items original → Undoes undo.new self.new.items original }
+    {
+        if self.is_full() && !self.has(item.text()) {
+            return Err(WatchFault::ItemsFull);
+        }
+        match undo.put(alloc, &mut self.items, item) {
+            Ok(()) => Ok(()),
+            Err(_) => Err(WatchFault::Memory),
+        }
+    }
+
+    /// Leaves the items as they were before those were added.
+    pub(crate) fn take_back(&mut self, undo: Additions)
+        ensures { (original : List KeptItem) → Undoes undo self.old.items original → self.new ≡ watching original self.old }
+    {
+        undo.take_back(&mut self.items);
+    }
+
+    /// Drops the items of these hrefs.
+    pub(crate) fn remove(&mut self, texts: &[Text])
+        ensures { self.new ≡ without texts.now self.old }
+    {
+        self.items.remove(texts);
+    }
+
+    /// Watches these items instead.
+    pub(crate) fn put_items(&mut self, items: Items)
+        ensures { self.new ≡ watching items self.old }
+    {
+        self.items = items;
+    }
+
+    /// A copy of the items. An error only for want of memory.
+    pub(crate) fn copy_items(&self, alloc: Global) -> Result<Items, AllocError>
+        ensures { IfOk result (λ copy. copy ≡ self.now.items) }
+    {
+        self.items.copy(alloc)
+    }
+
+    /// Makes a change of each item.
+    pub(crate) fn change<C: Change>(&mut self, change: &C)
+        ensures { self.new ≡ watching (map (changed_by (C.made change.now)) self.old.items) self.old }
+    {
+        self.items.change(change);
+    }
+}

@@ -1,0 +1,387 @@
+//! The watches of a site.
+ghost use Rattle.std.specs.Prelude.{◌≡◌, ◌++◌, [], ◌∷◌, List, cond, map, count_by, OnOk, is_some, not, None, Some, IfOk, IfSome, nat_eq, length, option_map};
+ghost use Rattle.std.specs.List.{IsDistinct, list_any};
+ghost use Rattle.std.specs.Option.{option_copied};
+ghost use Rattle.indexmap.specs.IndexMap.{IsUnique};
+ghost use Rattle.ob_watching.specs.Tables.{lookup, numbers_of, replace};
+ghost use Rattle.ob_watch.specs.declared.item.Item.{Item as KeptItem};
+ghost use Rattle.ob_watch.specs.Adding.{AddsAt, Makes};
+ghost use Rattle.ob_watch.specs.Items.{changed_by, marked_anew, one_more, reported_at, rolled_to};
+ghost use Rattle.ob_watch.specs.Tables.{IsLease, at_number, has_no_place, holding, is_over, lapsed_at, leased_for, live, next_due, no_watches, touched_at, watching, with_all_items, without};
+ghost use Rattle.ob_watch.specs.Undo.{Undoes};
+ghost use Rattle.ob_watch.specs.Reported.{IsDue};
+
+use crate::additions::Additions;
+use crate::change::{Change, Event, Renumber, Report, Roll};
+use crate::fault::WatchFault;
+use crate::item::Item;
+use crate::items::Items;
+use crate::watch::{Due, Watch};
+use indexmap::IndexMap;
+use ob_tree::Tree;
+use ob_values::{Abstime, Moment, Text};
+use std::alloc::{AllocError, Global};
+use std::marker::Model;
+
+// Watches under their numbers.
+type Map = IndexMap<u64, Watch>;
+
+/// The watches that are held, by their numbers, the oldest first.
+///
+/// A watch whose lease has run out is held until `sweep`; no call that is told the moment knows it.
+#[derive(Drop)]
+pub struct Watches {
+    alloc: Global,
+    map: Map,
+    next: u64,
+}
+
+impl Model for Watches {
+    ghost use Rattle.ob_watch.specs.Held.{AreNumbered};
+    ghost use Rattle.ob_watch.specs.Tables.{Table};
+
+    ghost Value = { Table };
+
+    ghost view = { λ w. record { watches = w.map.entries; next = w.next } };
+
+    ghost invariant = { λ w. AreNumbered w.next w.map.entries };
+}
+
+// The watch of a number whose lease has not run out.
+fn live_watch(held: &Map, number: u64, now: Moment) -> Option<&Watch>
+    requires { IsUnique nat_eq held.now }
+    ensures { option_copied result ≡ lookup number (live now held.now.entries) }
+{
+    let watch = held.get(&number)?;
+    if watch.has_lapsed(now) {
+        return None;
+    }
+    Some(watch)
+}
+
+// Whether the lease of one has run out.
+fn any_has_lapsed(watches: &[Watch], now: Moment) -> bool
+    ensures { result ≡ list_any (is_over now) watches.now }
+{
+    watches.iter().any(|watch| watch.has_lapsed(now))
+}
+
+// The same of the watches under their numbers.
+fn one_has_lapsed(held: &Map, now: Moment) -> bool
+    ensures { result ≡ list_any (λ e. is_over now e.1) held.now.entries }
+{
+    let watches = held.values().as_slice();
+    any_has_lapsed(watches, now)
+}
+
+// How many there are whose lease has not run out.
+fn count_live(watches: &[Watch], now: Moment) -> usize
+    ensures { result ≡ count_by (λ w. not (is_over now w)) watches.now }
+{
+    watches
+        .iter()
+        .filter(|watch| !watch.has_lapsed(now))
+        .count()
+}
+
+// The same of the watches under their numbers.
+fn live_count(held: &Map, now: Moment) -> usize
+    ensures { result ≡ length (live now held.now.entries) }
+{
+    let watches = held.values().as_slice();
+    count_live(watches, now)
+}
+
+// Makes a change of each item of each watch.
+fn change_each<C: Change>(held: &mut Map, change: &C)
+    ensures { held.new.entries ≡ with_all_items (changed_by (C.made change.now)) held.old.entries }
+{
+    for place in 0..held.len() {
+        let watch = &mut held[place];
+        watch.change(change);
+    }
+}
+
+// Drops the watches whose lease has run out.
+fn drop_lapsed(held: &mut Map, now: Moment)
+    ensures { held.new.entries ≡ live now held.old.entries }
+{
+    held.retain(
+        |_number: &u64, watch: &mut Watch| -> bool
+            ensures { (result ≡ not (is_over now watch.old)) × (watch.new ≡ watch.old) }
+        { !watch.has_lapsed(now) },
+    );
+}
+
+// Puts a number last where the lease of its watch has not run out.
+fn push_live(
+    numbers: &mut Vec<u64>,
+    number: u64,
+    watch: &Watch,
+    now: Moment,
+) -> Result<(), AllocError>
+    ensures { OnOk result (numbers.new.items ≡ numbers.old.items ++ cond (not (is_over now watch.now)) (number ∷ []) []) }
+{
+    if !watch.has_lapsed(now) {
+        numbers.push(number)?;
+    }
+    Ok(())
+}
+
+// The numbers of the watches whose lease has not run out.
+fn live_numbers(alloc: Global, held: &Map, now: Moment) -> Result<Vec<u64>, AllocError>
+    ensures { IfOk result (λ numbers. numbers.items ≡ numbers_of (live now held.now.entries)) }
+{
+    let all = held.keys().as_slice();
+    let watches = held.values().as_slice();
+    let mut numbers = Vec::new(alloc);
+    for place in 0..watches.len() {
+        push_live(&mut numbers, all[place], &watches[place], now)?;
+    }
+    Ok(numbers)
+}
+
+impl Watches {
+    /// No watch; the first will have number 1.
+    pub fn new(alloc: Global) -> Watches
+        ensures { result ≡ no_watches }
+    {
+        Watches {
+            alloc,
+            map: IndexMap::new(alloc),
+            next: 1,
+        }
+    }
+
+    /// The number that the next make gives.
+    pub fn next_number(&self) -> u64
+        ensures { result ≡ self.now.next }
+    {
+        self.next
+    }
+
+    /// The watch of this number, if it is held and its lease hasn't run out at this moment.
+    pub fn get(&self, number: u64, now: Moment) -> Option<&Watch>
+        ensures { option_copied result ≡ lookup number (lapsed_at now self.now).watches }
+    {
+        live_watch(&self.map, number, now)
+    }
+
+    /// Whether the watch of this number is held, and its lease hasn't run out at this moment.
+    pub fn live(&self, number: u64, now: Moment) -> bool
+        ensures { result ≡ is_some (lookup number (lapsed_at now self.now).watches) }
+    {
+        self.get(number, now).is_some()
+    }
+
+    /// Whether the lease of a watch has run out at this moment; if none has, `sweep` changes nothing.
+    pub fn has_lapsed(&self, now: Moment) -> bool
+        ensures lapsed { result ≡ list_any (λ e. is_over now e.1) self.now.watches }
+    {
+        one_has_lapsed(&self.map, now)
+    }
+
+    /// Whether no more can be made at this moment: 1,000 are live, or the last number was given.
+    pub fn is_full(&self, now: Moment) -> bool
+        ensures { result ≡ has_no_place (lapsed_at now self.now) }
+    {
+        live_count(&self.map, now) >= 1000 || self.next > 9_223_372_036_854_775_807
+    }
+
+    /// The numbers of the watches that are held. They differ.
+    pub fn numbers(&self) -> &[u64]
+        ensures numbers { result.now ≡ numbers_of self.now.watches }
+        ensures differ { IsDistinct nat_eq (numbers_of self.now.watches) }
+    {
+        self.map.keys().as_slice()
+    }
+
+    /// The numbers of the watches whose lease hasn't run out at this moment. An error only for want of memory.
+    pub fn live_numbers(&self, now: Moment) -> Result<Vec<u64>, AllocError>
+        ensures { IfOk result (λ numbers. numbers.items ≡ numbers_of (lapsed_at now self.now).watches) }
+    {
+        live_numbers(self.alloc, &self.map, now)
+    }
+
+    /// Makes a watch at this moment and gives its number. Full where no more can be made; an error leaves all
+    /// as it was.
+    ///
+    /// Source: oBIX 1.1, chapter 12 (WatchService.make).
+    pub fn make(&mut self, now: Moment) -> Result<u64, WatchFault>
+        ensures { Makes now self.old self.new result }
+    {
+        if self.is_full(now) {
+            return Err(WatchFault::Full);
+        }
+        let number = self.next;
+        let watch = Watch::new(self.alloc, now);
+        match self.map.insert(number, watch) {
+            Ok(_) => {
+                self.next = number + 1;
+                Ok(number)
+            }
+            Err(_) => Err(WatchFault::Memory),
+        }
+    }
+
+    /// A request to a watch renews its lease; false where no watch of that number is held.
+    pub fn touch(&mut self, number: u64, now: Moment) -> bool
+        ensures held { result ≡ is_some (lookup number self.old.watches) }
+        ensures touched { self.new ≡ holding (at_number number (touched_at now) self.old.watches) self.old }
+    {
+        match self.map.get_mut(&number) {
+            Some(watch) => watch.touch(now),
+            None => return false,
+        }
+        true
+    }
+
+    /// Gives a watch another lease, in nanoseconds; false where no watch of that number is held.
+    pub fn set_lease(&mut self, number: u64, lease: u64) -> bool
+        requires { IsLease lease }
+        ensures held { result ≡ is_some (lookup number self.old.watches) }
+        ensures leased { self.new ≡ holding (at_number number (leased_for lease) self.old.watches) self.old }
+    {
+        match self.map.get_mut(&number) {
+            Some(watch) => watch.renew(lease),
+            None => return false,
+        }
+        true
+    }
+
+    /// Drops the watch of this number; false where none is held.
+    pub fn delete(&mut self, number: u64) -> bool
+        ensures held { result ≡ is_some (lookup number self.old.watches) }
+        ensures deleted { self.new ≡ holding (replace number None self.old.watches) self.old }
+    {
+        self.map.shift_remove(&number).is_some()
+    }
+
+    /// Drops the watches whose lease has run out at this moment.
+    pub fn sweep(&mut self, now: Moment)
+        ensures { self.new ≡ lapsed_at now self.old }
+    {
+        if one_has_lapsed(&self.map, now) {
+            drop_lapsed(&mut self.map, now);
+        }
+    }
+
+    /// Puts an item in the place of the one of its href, or last. NoWatch where no watch of that number is held;
+    /// ItemsFull where it has its most items and none of that href. An error leaves all as it was, and `undo`
+    /// takes back what was added with it before.
+    ///
+    /// Source: oBIX 1.1, chapter 12 (Watch.add).
+    pub fn add(&mut self, number: u64, item: Item, undo: &mut Additions) -> Result<(), WatchFault>
+        ensures { AddsAt number item self.old self.new undo.old undo.new result }
+    {
+        let alloc = self.alloc;
+        match self.map.get_mut(&number) {
+            Some(watch) => watch.add(alloc, item, undo),
+            None => return Err(WatchFault::NoWatch),
+        }
+    }
+
+    /// Leaves the items of a watch as they were before those were added that `undo` tells of; false where no
+    /// watch of that number is held.
+    pub fn take_back(&mut self, number: u64, undo: Additions) -> bool
+        ensures held { result ≡ is_some (lookup number self.old.watches) }
+        ensures taken { (original : List KeptItem) → IfSome (lookup number self.old.watches) (λ w. Undoes undo w.items original → self.new ≡ holding (at_number number (watching original) self.old.watches) self.old) }
+    {
+        match self.map.get_mut(&number) {
+            Some(watch) => watch.take_back(undo),
+            None => return false,
+        }
+        true
+    }
+
+    /// Drops the items of these hrefs from a watch; false where no watch of that number is held.
+    ///
+    /// Source: oBIX 1.1, chapter 12 (Watch.remove).
+    pub fn remove(&mut self, number: u64, texts: &[Text]) -> bool
+        ensures held { result ≡ is_some (lookup number self.old.watches) }
+        ensures removed { self.new ≡ holding (at_number number (without texts.now) self.old.watches) self.old }
+    {
+        match self.map.get_mut(&number) {
+            Some(watch) => watch.remove(texts),
+            None => return false,
+        }
+        true
+    }
+
+    /// A copy of the items of a watch; None where no watch of that number is held. An error only for want of
+    /// memory.
+    pub fn copy_items(&self, number: u64) -> Result<Option<Items>, AllocError>
+        ensures { IfOk result (λ items. items ≡ option_map (λ w. w.items) (lookup number self.now.watches)) }
+    {
+        match self.map.get(&number) {
+            Some(watch) => {
+                let items = watch.copy_items(self.alloc)?;
+                Ok(Some(items))
+            }
+            None => Ok(None),
+        }
+    }
+
+    /// Lets a watch have these items instead; false where no watch of that number is held.
+    pub fn put_items(&mut self, number: u64, items: Items) -> bool
+        ensures held { result ≡ is_some (lookup number self.old.watches) }
+        ensures put { self.new ≡ holding (at_number number (watching items) self.old.watches) self.old }
+    {
+        match self.map.get_mut(&number) {
+            Some(watch) => watch.put_items(items),
+            None => return false,
+        }
+        true
+    }
+
+    /// The first item of a watch from a place on that is to be reported; None also where no watch of that number
+    /// is held.
+    ///
+    /// Source: oBIX 1.1, chapter 12 (Watch.pollChanges).
+    pub fn due(&self, tree: &Tree, number: u64, place: usize) -> Option<Due<'_>>
+        ensures { IsDue tree.now place (lookup number self.now.watches) result }
+    {
+        match self.map.get(&number) {
+            Some(watch) => watch.next_due(tree, place),
+            None => None,
+        }
+    }
+
+    /// Takes all items of a watch as reported after the last step of the tree; false where no watch of that
+    /// number is held.
+    ///
+    /// Source: oBIX 1.1, chapter 12 (Watch.pollChanges, Watch.pollRefresh).
+    pub fn reported(&mut self, tree: &Tree, number: u64) -> bool
+        ensures held { result ≡ is_some (lookup number self.old.watches) }
+        ensures reported { self.new ≡ holding (at_number number (λ w. watching (map (reported_at tree.now.steps) w.items) w) self.old.watches) self.old }
+    {
+        let steps = tree.steps();
+        match self.map.get_mut(&number) {
+            Some(watch) => watch.change(&Report { steps }),
+            None => return false,
+        }
+        true
+    }
+
+    /// Counts one more event of the feed at a path, of this time, in each watch.
+    pub fn event(&mut self, path: &Text, time: Abstime)
+        ensures { self.new ≡ holding (with_all_items (one_more path.now time) self.old.watches) self.old }
+    {
+        change_each(&mut self.map, &Event { path, time });
+    }
+
+    /// Takes note, in each watch, that so many events of the feed at a path rolled off.
+    pub fn rolled(&mut self, path: &Text, gone: u64)
+        ensures { self.new ≡ holding (with_all_items (rolled_to path.now gone) self.old.watches) self.old }
+    {
+        change_each(&mut self.map, &Roll { path, gone });
+    }
+
+    /// Marks the objects anew, as the steps of the tree are to be counted from 1 again: to be called before
+    /// `Tree::renumber`, which leaves the same items to be reported.
+    pub fn renumber(&mut self, tree: &Tree)
+        ensures { self.new ≡ holding (with_all_items (marked_anew tree.now) self.old.watches) self.old }
+    {
+        change_each(&mut self.map, &Renumber { tree });
+    }
+}
