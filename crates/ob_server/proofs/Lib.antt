@@ -8,3 +8,4 @@ pub mod WorkLemmas
 pub mod TogetherLemmas
 pub mod BackLemmas
 pub mod PortLemmas
+pub mod EndLemmas

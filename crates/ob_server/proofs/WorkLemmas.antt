@@ -10,13 +10,15 @@ use Rattle.ob_io.specs.Links.{inlet, IsFresh}
 use Rattle.ob_io.specs.Told.{Gains, Gains-none, Gains-then}
 use Rattle.ob_io.specs.Visits.{Visit, IsVisit, raised}
 use Rattle.ob_server.specs.Exchange.{Call, had, Exchange, fixed, stepped, moment_of, calls_in, moments_of, calls_of}
-use Rattle.ob_server.specs.Answered.{Serves, EndsAs, HasEndCause, EndRose}
+use Rattle.ob_http.specs.Laws.{FramingIsOne, EndStays}
+use Rattle.ob_server.specs.Answered.{Answered, Serves, EndsAs, HasEndCause, EndRose}
 use Rattle.ob_server.specs.Working.{ServedLink, EndCounts, IsServed, AreServed, stops_with, MayGoBack, AllGoOn, Post, post, Did, Counts, IsSelection, moments_in, IsFinal, Worked, NextComes, EndComes, WorksWhole}
 use Rattle.ob_server.specs.declared.end.LinkEnd.{LinkEnd}
 use Rattle.ob_server.specs.declared.end.LinkEnd.TheVariants as ends
 use Rattle.ob_server.specs.declared.worker.WorkerEnd.{WorkerEnd}
 use Rattle.ob_server.specs.declared.worker.WorkerEnd.TheVariants as workers
 use Rattle.ob_server.specs.declared.worker.Next.TheVariants as nexts
+use Rattle.ob_server.proofs.CompleteLemmas.{answers_whole}
 use Rattle.ob_server.proofs.HeldLemmas.{rose_along}
 
 -- ---- counts
@@ -152,7 +154,7 @@ tells : (visits visits' : Option (List Visit)) (told mine : Visit) → (IsSome v
 tells visits None told mine same gains = tt
 tells visits (Some vs) told mine same gains = subst (λ (v : Visit). Gains visits (v ∷ []) (Some vs)) (same refl) gains
 
-pub served_one : (ns left taken held left' taken' held' given given' : Option (List ℕ)) (calls calls' : List Call) (reads reads' writes writes' clocks clocks' handed handed' returned returned' : ℕ)
+pub served_one : (one : FramingIsOne) (stays : EndStays) (ns left taken held left' taken' held' given given' : Option (List ℕ)) (calls calls' : List Call) (reads reads' writes writes' clocks clocks' handed handed' returned returned' : ℕ)
     (visits visits' : Option (List Visit)) (end : LinkEnd)
     → IsFresh taken held reads writes
     → Serves ns (inlet left taken) (inlet left' taken') (had held given calls) (had held' given' calls') end
@@ -160,23 +162,23 @@ pub served_one : (ns left taken held left' taken' held' given given' : Option (L
     → ((visit : Visit) × Gains visits (visit ∷ []) visits' × (IsSome visits' → IsVisit visit left' taken' held' reads' writes'))
     → handed' ≡ raised handed 1 → returned' ≡ raised returned 1
     → (s : ServedLink) × IsServed ns s × (s.end ≡ end) × Did (post visits handed returned given calls) (s ∷ []) (post visits' handed' returned' given' calls')
-served_one ns left taken held left' taken' held' given given' calls calls' reads reads' writes writes' clocks clocks' handed handed' returned returned' visits visits' end fresh serves cause (visit, told, is) out in_again =
+served_one one stays ns left taken held left' taken' held' given given' calls calls' reads reads' writes writes' clocks clocks' handed handed' returned returned' visits visits' end fresh serves cause (visit, told, is) out in_again =
     let v : Visit = record { reads = reads'; writes = writes'; taken = serves.taken; written = serves.written; left = left_of left' } in
-    let a = serves.answered in (
-      record { visit = v; end = end; calls = serves.calls; moments = serves.moments },
-      record {
-        answered = record {
-          done = a.done;
-          last = a.last;
-          tail = a.tail;
-          answered = a.answered;
-          written_is = a.written_is;
-          calls_are = a.calls_are;
-          moments_are = a.moments_are;
-          ends = ends_told ns end serves.taken left' a.done a.last a.tail a.ends;
-        };
-        counted = counts_of_end end reads reads' writes writes' clocks clocks' fresh.reads_none fresh.writes_none cause.rose;
-      },
+    let a = serves.answered in
+    let s : ServedLink = record { visit = v; end = end; calls = serves.calls; moments = serves.moments } in
+    let answered : Answered ns serves.taken serves.written serves.calls serves.moments (Some (left_of left')) end = record {
+      done = a.done;
+      last = a.last;
+      tail = a.tail;
+      answered = a.answered;
+      written_is = a.written_is;
+      calls_are = a.calls_are;
+      moments_are = a.moments_are;
+      ends = ends_told ns end serves.taken left' a.done a.last a.tail a.ends;
+    } in
+    let counted = counts_of_end end reads reads' writes writes' clocks clocks' fresh.reads_none fresh.writes_none cause.rose in (
+      s,
+      record { answered = answered; counted = counted; whole = answers_whole one stays ns s answered counted },
       refl,
       record {
         visited = tells visits visits' visit v

@@ -8,13 +8,14 @@ use Rattle.ob_io.specs.Visits.{Visit}
 use Rattle.ob_http.specs.declared.fault.FrameFault.{FrameFault}
 use Rattle.ob_http.specs.Request.{Request}
 use Rattle.ob_http.specs.Requests.{Framed}
-use Rattle.ob_http.specs.Stream.{closing, faulted}
+use Rattle.ob_http.specs.Stream.{resting, closing, faulted}
 use Rattle.ob_object.specs.Object.{Object}
 use Rattle.ob_site_rules.specs.declared.request.Request.{Request as Asked}
 use Rattle.ob_turn.specs.Standing.{mine}
 use Rattle.ob_server.specs.Passes.{Continues}
 use Rattle.ob_server.specs.Exchange.{Call}
 use Rattle.ob_server.specs.Answered.{Answered}
+use Rattle.ob_server.specs.Complete.{AnswersAll}
 use Rattle.ob_server.specs.declared.end.LinkEnd.{LinkEnd}
 use Rattle.ob_server.specs.declared.end.LinkEnd.TheVariants as ends
 use Rattle.ob_server.specs.declared.worker.WorkerEnd.{WorkerEnd}
@@ -44,10 +45,25 @@ EndCounts ends.ClockFault reads writes = ⊤
 EndCounts ends.Budget reads writes = ⊤
 EndCounts ends.Memory reads writes = ⊤
 
+-- the bytes that a link had: those that were taken from it, and those that are left
+abbrev pub bytes_of : Visit → List ℕ
+bytes_of v = v.taken ++ v.left
+
+-- Where they are whole requests, up to one that closes, and fewer than 2^40, and the link counts no fault, all of these
+-- requests were answered, and nothing else was; but where memory was wanting, or the clock told no moment.
+abbrev pub AnswersWhole : Option (List ℕ) → ServedLink → Type 0
+AnswersWhole ns s =
+    (requests : List Request)
+    → (Framed (bytes_of s.visit) requests (resting []) ⊎ Framed (bytes_of s.visit) requests closing)
+    → length (bytes_of s.visit) < 2 ^ 40 → s.visit.reads ≡ 0 → s.visit.writes ≡ 0
+    → (((s.end ≡ ends.Closed) ⊎ (s.end ≡ ends.Asked)) × AnswersAll ns requests s.visit.written s.calls s.moments)
+    ⊎ ((s.end ≡ ends.ClockFault) ⊎ (s.end ≡ ends.Memory))
+
 -- its requests were answered, as far as its end says, and a fault at its end is counted
 pub record IsServed (ns : Option (List ℕ)) (s : ServedLink) : Type 0 where
   pub answered : Answered ns s.visit.taken s.visit.written s.calls s.moments (Some s.visit.left) s.end
   pub counted : EndCounts s.end s.visit.reads s.visit.writes
+  pub whole : AnswersWhole ns s
 
 -- each of them was
 abbrev pub AreServed : Option (List ℕ) → List ServedLink → Type 0
@@ -183,6 +199,29 @@ pub record WorkerRan {S D C : Type 0} (act : S → Asked → ℕ → S × Object
   pub clocks_later : clocks old.clock ≤ clocks new.clock
   pub comes : EndComes new.end new.links quota (closed new.door) (doors old.door) (doors new.door) (clocks old.clock) (clocks new.clock)
   pub whole : WorksWhole new.end (doors old.door) (doors new.door) (clocks old.clock) (clocks new.clock)
+
+-- All that a worker did since its door and clock were new, where these tell it; its clock goes at this pace.
+pub record HasWorked {S D C : Type 0} (handed returned : D → ℕ) (visits : D → Option (List Visit)) (given : C → Option (List ℕ))
+    (pace : C → Option Pace) (ns : Option (List ℕ)) (goes : Option Pace) (w : Worker S D C Asked Object) : Type 0 where
+  pub worked : Worked ns (post (Some []) 0 0 (Some []) [])
+      (post (visits w.door) (handed w.door) (returned w.door) (given w.clock) (mine w.pass)) w.links w.end
+  pub pace_is : pace w.clock ≡ goes
+
+-- how it came to its end
+pub record HasEnded {S D C : Type 0} (doors : D → ℕ) (closed : D → Bool) (clocks : C → ℕ) (quota : ℕ)
+    (w : Worker S D C Asked Object) : Type 0 where
+  pub within : w.links ≤ quota
+  pub comes : EndComes w.end w.links quota (closed w.door) 0 (doors w.door) 0 (clocks w.clock)
+  pub whole : WorksWhole w.end 0 (doors w.door) 0 (clocks w.clock)
+
+-- it had its quota of links, or its door is closed
+abbrev pub IsDone : {S D C : Type 0} → (D → Bool) → ℕ → Worker S D C Asked Object → Type 0
+IsDone closed quota w =
+    ((w.end ≡ workers.Quota) × (w.links ≡ quota)) ⊎ ((w.end ≡ workers.Closed) × (closed w.door ≡ true))
+
+-- it served no link
+abbrev pub IsIdle : {S D C : Type 0} → Worker S D C Asked Object → Type 0
+IsIdle w = w.links ≡ 0
 
 -- ---- all workers
 

@@ -19,7 +19,7 @@ mod worker;
 
 pub use alone::serve_alone;
 pub use end::LinkEnd;
-pub use laws::one_sorting;
+pub use laws::{one_end, one_sorting};
 pub use link::serve_link;
 pub use passes::{join_workers, joined_is_whole, split_passes};
 pub use port::{PortServed, Staff, serve_port};

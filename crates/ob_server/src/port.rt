@@ -1,8 +1,10 @@
 //! The doors of one port, served by workers over one desk.
-ghost use Rattle.std.specs.Prelude.{◌≡◌, ◌⊎◌, ◌<◌, [], length, option_copied};
+ghost use Rattle.std.specs.Prelude.{◌≡◌, ◌<◌, [], length, option_copied};
 ghost use Rattle.std.specs.Vec.{vec_capacity};
+ghost use Rattle.ob_machine.specs.History.{after};
 ghost use Rattle.ob_server.specs.GivenBack.{port_told, clock_told};
-ghost use Rattle.ob_server.specs.Port.{HasOpened, ServesDoors, IsUnserved, HasPortCause};
+ghost use Rattle.ob_server.specs.Port.{HasOpened, ServesDoors, HasPortCause};
+ghost use Rattle.ob_server.specs.Together.{IsFirst};
 
 use crate::passes::join_workers;
 use crate::worker::{Served, Worker, WorkerEnd, serve};
@@ -40,12 +42,12 @@ fn open_workers<M: Machine, P: Port, C: Clock>(
         (clock_told (C.faults clock.new) (C.given clock.new) (C.pace clock.new) (C.twins clock.new)) }
 {
     for _ in 0..count {
-        let Ok(door) = port.door() else {
-            return Err(WorkerEnd::DoorFault);
-        };
         let Ok(twin) = clock.twin() else {
-            port.back(door);
             return Err(WorkerEnd::ClockFault);
+        };
+        let Ok(door) = port.door() else {
+            clock.back(twin);
+            return Err(WorkerEnd::DoorFault);
         };
         workers.push_reserved(Worker {
             pass: pass.split(desk, 1),
@@ -66,12 +68,66 @@ pub struct Staff {
 }
 
 /// What the service of a port came to.
-#[derive(Clone, Copy, Drop)]
-pub struct PortServed {
-    /// How many links were served.
-    pub links: u64,
-    /// The first end of a worker that is neither `Quota` nor `Closed`; else `Quota`.
+#[derive(Drop)]
+pub struct PortServed<M> {
+    /// The machine, which has done all that it was asked.
+    pub machine: M,
+    /// How many links were served; none where not every worker could begin.
+    pub links: Option<u64>,
+    /// The first end of a worker that is neither `Quota` nor `Closed`, else `Quota`; or why not every worker could begin.
     pub end: WorkerEnd,
+}
+
+/// Serves the links of doors of a port under a desk of its own pass.
+fn serve_doors<
+    R: Threads + Wait + Sync,
+    M: Machine<Request = Request, Reply = Obj> + Send,
+    D: Door + Send,
+    P: Port<D = D>,
+    C: Clock + Send,
+>(
+    rt: &R,
+    alloc: Global,
+    desk: &Desk<M>,
+    pass: &mut Pass<M>,
+    ns: Option<&Text>,
+    port: &mut P,
+    clock: &mut C,
+    staff: Staff,
+) -> (Option<u64>, WorkerEnd)
+where
+    D::L: Send,
+    requires of { pass.old.table ≡ desk.now.table }
+    requires first { IsFirst pass.old }
+    requires count { length pass.old.numbers ≡ 4294967296 }
+    ensures of { pass.new.table ≡ pass.old.table }
+    ensures count { length pass.new.numbers ≡ 4294967296 }
+    ensures serves { ServesDoors D.faults D.handed D.returned D.visits C.given C.pace C.faults
+        M.act D.is_closed (option_copied ns.entry) desk.now.opening staff.workers staff.quota pass.new.seen
+        (port_told (P.faults port.old) (P.opened port.old) (P.returned port.old)
+        (P.listens port.old) (P.doors port.old))
+        (port_told (P.faults port.new) (P.opened port.new) (P.returned port.new)
+        (P.listens port.new) (P.doors port.new))
+        (clock_told (C.faults clock.old) (C.given clock.old) (C.pace clock.old) (C.twins clock.old))
+        (clock_told (C.faults clock.new) (C.given clock.new) (C.pace clock.new) (C.twins clock.new))
+        result.0 result.1 }
+    ensures cause { HasPortCause result.1 (P.faults port.old) (P.faults port.new)
+        (C.faults clock.old) (C.faults clock.new) }
+{
+    let Ok(mut workers) = Vec::with_capacity(alloc, staff.workers as usize) else {
+        return (None, WorkerEnd::Memory);
+    };
+    if let Err(end) = open_workers(desk, pass, port, clock, &mut workers, staff.workers) {
+        join_workers(desk, pass, port, clock, workers);
+        return (None, end);
+    }
+    let Served {
+        workers,
+        links,
+        end,
+    } = serve(rt, alloc, desk, ns, workers, staff.quota);
+    join_workers(desk, pass, port, clock, workers);
+    (Some(links), end)
 }
 
 /// Serves the links of doors of a port, each door's by a worker with a clock of its own, all over one desk of the
@@ -79,7 +135,7 @@ pub struct PortServed {
 /// clock have all their doors and twins back.
 pub fn serve_port<
     R: Threads + Wait + Sync,
-    M: Machine<Request = Request, Reply = Obj> + Send + Drop,
+    M: Machine<Request = Request, Reply = Obj> + Send,
     D: Door + Send,
     P: Port<D = D>,
     C: Clock + Send,
@@ -91,11 +147,11 @@ pub fn serve_port<
     port: &mut P,
     clock: &mut C,
     staff: Staff,
-) -> PortServed
+) -> PortServed<M>
 where
     D::L: Send,
-    ensures serves { ServesDoors D.faults D.handed D.returned D.visits C.given C.pace C.faults
-        M.act D.is_closed (option_copied ns.entry) machine staff.workers staff.quota
+    ensures serves { (history : _) × ServesDoors D.faults D.handed D.returned D.visits C.given C.pace C.faults
+        M.act D.is_closed (option_copied ns.entry) machine staff.workers staff.quota history
         (port_told (P.faults port.old) (P.opened port.old) (P.returned port.old)
         (P.listens port.old) (P.doors port.old))
         (port_told (P.faults port.new) (P.opened port.new) (P.returned port.new)
@@ -103,40 +159,23 @@ where
         (clock_told (C.faults clock.old) (C.given clock.old) (C.pace clock.old) (C.twins clock.old))
         (clock_told (C.faults clock.new) (C.given clock.new) (C.pace clock.new) (C.twins clock.new))
         result.links result.end
-        ⊎ IsUnserved
-        (port_told (P.faults port.old) (P.opened port.old) (P.returned port.old)
-        (P.listens port.old) (P.doors port.old))
-        (port_told (P.faults port.new) (P.opened port.new) (P.returned port.new)
-        (P.listens port.new) (P.doors port.new))
-        (clock_told (C.faults clock.old) (C.given clock.old) (C.pace clock.old) (C.twins clock.old))
-        (clock_told (C.faults clock.new) (C.given clock.new) (C.pace clock.new) (C.twins clock.new))
-        result.links result.end }
+        × (result.machine ≡ after M.act machine history) }
     ensures cause { HasPortCause result.end (P.faults port.old) (P.faults port.new)
         (C.faults clock.old) (C.faults clock.new) }
 {
-    let Ok(mut workers) = Vec::with_capacity(alloc, staff.workers as usize) else {
-        return PortServed {
-            links: 0,
+    match Desk::new(alloc, machine) {
+        Ok((desk, mut pass)) => {
+            let (links, end) = serve_doors(rt, alloc, &desk, &mut pass, ns, port, clock, staff);
+            PortServed {
+                machine: desk.close(pass),
+                links,
+                end,
+            }
+        }
+        Err((machine, _)) => PortServed {
+            machine,
+            links: None,
             end: WorkerEnd::Memory,
-        };
-    };
-    let Ok((desk, mut pass)) = Desk::new(alloc, machine) else {
-        workers.destroy_empty();
-        return PortServed {
-            links: 0,
-            end: WorkerEnd::Memory,
-        };
-    };
-    if let Err(end) = open_workers(&desk, &mut pass, port, clock, &mut workers, staff.workers) {
-        join_workers(&desk, &mut pass, port, clock, workers);
-        return PortServed { links: 0, end };
+        },
     }
-    let Served {
-        workers,
-        links,
-        end,
-    } = serve(rt, alloc, &desk, ns, workers, staff.quota);
-    join_workers(&desk, &mut pass, port, clock, workers);
-    let _machine = desk.close(pass);
-    PortServed { links, end }
 }

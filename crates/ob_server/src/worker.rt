@@ -7,6 +7,7 @@ ghost use Rattle.ob_server.specs.Working.{DidNext, Worked, post, NextComes, EndC
 
 use crate::end::LinkEnd;
 use crate::link::serve_link;
+use ob_http::laws::{end_stays, framing_is_one};
 use ob_io::{Clock, Door};
 use ob_machine::Machine;
 use ob_object::Obj;
@@ -85,6 +86,8 @@ impl<M: Machine<Request = Request, Reply = Obj>, D: Door, C: Clock> Worker<M, D,
         let Some(accepted) = next else {
             return Next::Closed;
         };
+        framing_is_one();
+        end_stays();
         let mut link = accepted;
         let end = serve_link(
             rt,

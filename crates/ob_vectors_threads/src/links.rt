@@ -5,9 +5,7 @@ use crate::plant::{BOOT, open_plant};
 use ob_io::{Fresh, Gated, MemDoor, MemLink, MemPort, Port, Ticker, Waiting};
 use ob_load::Loaded;
 use ob_plain::Site;
-use ob_server::{
-    PortServed, Served, Staff, Worker, WorkerEnd, join_workers, serve, serve_port, split_passes,
-};
+use ob_server::{Served, Staff, Worker, WorkerEnd, join_workers, serve, serve_port, split_passes};
 use ob_site_desk::open_desk;
 use ob_turn::{Desk, Pass};
 use std::alloc::{AllocError, Global};
@@ -118,16 +116,8 @@ fn serves_two_at_once<R: Threads + Wait + Sync>(rt: &R, alloc: Global, waits_fir
         workers: 2,
         quota: 1,
     };
-    let PortServed { links, end } = serve_port(
-        rt,
-        alloc,
-        site,
-        ns.as_ref(),
-        &mut port,
-        &mut clock(),
-        staff,
-    );
-    links == 2 && end == WorkerEnd::Quota && both_got_eight(&port, waits_first)
+    let served = serve_port(rt, alloc, site, ns.as_ref(), &mut port, &mut clock(), staff);
+    served.links == Some(2) && served.end == WorkerEnd::Quota && both_got_eight(&port, waits_first)
 }
 
 #[test]

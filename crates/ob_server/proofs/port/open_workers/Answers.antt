@@ -1,10 +1,9 @@
 use Rattle.std.proofs.Common.{◌≡◌, List, ℕ, refl, inl, ap, sym, subst, ◌∙◌, arith, length, map}
-use Rattle.ob_io.specs.Visits.{raised}
 use Rattle.ob_server.specs.Port.{AreReady}
 use Rattle.ob_server.specs.Together.{AreSplit}
 use Rattle.ob_server.specs.Working.{Counts}
 use Rattle.ob_server.proofs.HeldLemmas.{rose_along}
-use Rattle.ob_server.proofs.PortLemmas.{ready_snoc, opened_more, length_grown}
+use Rattle.ob_server.proofs.PortLemmas.{ready_snoc, opened_more, length_grown, spare_back, counts_at}
 use Rattle.ob_server.proofs.TogetherLemmas.{split_none}
 use Rattle.ob_server.proofs.WorkLemmas.{counts_then, counts_one}
 use Rattle.ob_server.proofs.port.open_workers.Goals as goal
@@ -39,11 +38,11 @@ pub loop-preserved : goal.loop-preserved
 loop-preserved g c =
     let i = c.loop.invariant in
     let items = c.push_reserved.ensures.items in
-    let e = c.in-Ok.ensures in
-    let t = c.in-Ok-twin.ensures in
+    let e = c.in-Ok-door.ensures in
+    let t = c.in-Ok.ensures in
     record {
       ready = subst (λ (ws : List _). AreReady g.P.D.Door.faults g.P.D.Door.handed g.P.D.Door.returned g.P.D.Door.visits g.C.Clock.given g.C.Clock.pace g.C.Clock.faults (g.C.Clock.pace c.args.clock.now) ws) (sym items)
-          (ready_snoc _ _ _ _ _ _ _ _ _ _ i.ready (record { uncalled = c.split.ensures.calls.1; door = e.unused; clock = t.fresh; pace_is = t.same ∙ i.pace }));
+          (ready_snoc _ _ _ _ _ _ _ _ _ _ i.ready (record { uncalled = c.split.ensures.calls.1; door = e.unused; clock = t.fresh; pace_is = t.same ∙ i.pace; links = refl; end = refl }));
       split = subst (λ (ws : List _). AreSplit c.args.pass.now c.split.new.self (map (λ w. w.pass) ws)) (sym items)
           (opened_more _ _ _ c.loop.workers.items _ _ i.split c.split.ensures.kept c.split.ensures.given c.split.ensures.calls.0 c.split.ensures.counts.1);
       left = omega (arith, i.left, c.split.ensures.counts.0);
@@ -63,45 +62,41 @@ loop-preserved g c =
 pub returns-in_default : goal.returns-in_default
 returns-in_default g c =
     let i = c.loop.invariant in
-    let e = c.in_default.ensures in
+    let t = c.in_default.ensures in
     record {
       are_ready = i.ready;
       split = i.split;
       all = tt;
-      unused = 0;
-      opened = counts_then _ _ _ _ 0 i.opened (inl (omega (arith, e.opened)));
-      doors_back = inl (omega (arith, e.apart.0, i.returned));
-      same = tt;
-      listens = e.apart.1 ∙ i.listens;
-      clock_same = (i.given, i.pace, i.twins);
-      door_faults = omega (arith, i.door_faults, e.cause.later);
-      clock_faults = i.clock_faults;
+      opened = i.opened;
+      port_same = (i.returned, i.listens, i.doors);
+      spare = inl (t.apart.1 ∙ i.twins);
+      clock_same = (t.apart.0 ∙ i.given, t.pace ∙ i.pace);
+      door_faults = i.door_faults;
+      clock_faults = omega (arith, i.clock_faults, t.cause.later);
       fault = refl;
-      door_fault = λ is. rose_along _ _ _ i.door_faults e.cause.failed;
-      clock_fault = λ is. absurd (cc);
+      door_fault = λ is. absurd (cc);
+      clock_fault = λ is. rose_along _ _ _ i.clock_faults t.cause.failed;
     }
 
-pub returns-in_default-twin : goal.returns-in_default-twin
-returns-in_default-twin g c =
+pub returns-in_default-door : goal.returns-in_default-door
+returns-in_default-door g c =
     let i = c.loop.invariant in
-    let e = c.in-Ok.ensures in
-    let t = c.in_default-twin.ensures in
+    let t = c.in-Ok.ensures in
+    let e = c.in_default-door.ensures in
     let b = c.back.ensures in
     record {
       are_ready = i.ready;
       split = i.split;
       all = tt;
-      unused = 1;
-      opened = counts_then _ _ _ _ 1 i.opened (counts_one _ _ (b.apart.0 ∙ e.opened));
-      doors_back = counts_one _ _ (b.returned ∙ ap (λ (n : ℕ). raised n 1) (e.apart.0 ∙ i.returned));
-      same = tt;
-      listens = b.apart.1 ∙ (e.apart.1 ∙ i.listens);
-      clock_same = (t.apart.0 ∙ i.given, t.pace ∙ i.pace, t.apart.1 ∙ i.twins);
-      door_faults = omega (arith, i.door_faults, e.cause.later, b.later);
-      clock_faults = omega (arith, i.clock_faults, t.cause.later);
+      opened = counts_at _ _ _ _ _ refl e.opened i.opened;
+      port_same = (e.apart.0 ∙ i.returned, e.apart.1 ∙ i.listens, e.apart.2 ∙ i.doors);
+      spare = spare_back _ _ _ _ _ t.fresh (t.apart.1 ∙ i.twins) b.twin;
+      clock_same = (b.apart ∙ (t.apart.0 ∙ i.given), b.pace ∙ (t.pace ∙ i.pace));
+      door_faults = omega (arith, i.door_faults, e.cause.later);
+      clock_faults = omega (arith, i.clock_faults, t.cause.later, b.later);
       fault = refl;
-      door_fault = λ is. absurd (cc);
-      clock_fault = λ is. rose_along _ _ _ i.clock_faults t.cause.failed;
+      door_fault = λ is. rose_along _ _ _ i.door_faults e.cause.failed;
+      clock_fault = λ is. absurd (cc);
     }
 
 pub returns : goal.returns
@@ -111,13 +106,11 @@ returns g c =
     record {
       are_ready = i.ready;
       split = i.split;
-      all = all;
-      unused = 0;
-      opened = subst (λ (n : ℕ). Counts (g.P.Port.opened c.args.port.now) n (g.P.Port.opened c.loop.port)) (omega arith) i.opened;
-      doors_back = inl (omega (arith, i.returned));
-      same = (refl, i.returned, i.doors);
-      listens = i.listens;
-      clock_same = (i.given, i.pace, i.twins);
+      all = (all, i.twins);
+      opened = i.opened;
+      port_same = (i.returned, i.listens, i.doors);
+      spare = inl i.twins;
+      clock_same = (i.given, i.pace);
       door_faults = i.door_faults;
       clock_faults = i.clock_faults;
       fault = tt;

@@ -19,7 +19,7 @@ returns-clause-did g c =
     let fresh = rw c.in-Some.is at c.in-Ok.ensures.fresh in
     let handed = rw c.in-Some.is at c.in-Ok.ensures.handed in
     let told = c.back.ensures.visit in
-    served_one _ _ _ _ _ _ _ _ _ _ _ _ _ _ _ _ _ (g.D.Door.handed c.args.self.now.door) _ (g.D.Door.returned c.args.self.now.door) _ (g.D.Door.visits c.args.self.now.door) _ _
+    served_one c.framing_is_one.ensures c.end_stays.ensures _ _ _ _ _ _ _ _ _ _ _ _ _ _ _ _ _ (g.D.Door.handed c.args.self.now.door) _ (g.D.Door.returned c.args.self.now.door) _ (g.D.Door.visits c.args.self.now.door) _ _
     fresh c.serve_link-end.ensures.serves c.serve_link-end.ensures.cause
     (told.0, subst (λ (vs : Option (List Visit)). Gains vs (told.0 ∷ []) (g.D.Door.visits c.back.new.self)) c.accept.ensures.apart.1 told.1, told.2)
     (c.back.ensures.apart.0 ∙ handed)
