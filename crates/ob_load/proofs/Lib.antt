@@ -1,3 +1,4 @@
 pub mod Contents
 pub mod Numbered
 pub mod Opens
+pub mod LawLemmas

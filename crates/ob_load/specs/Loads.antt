@@ -2,7 +2,7 @@
 use Rattle.std.specs.Prelude.{◌≡◌, ℕ, List, Option, true, Ok}
 use Rattle.ob_object.specs.Object.{Object}
 use Rattle.ob_grammar.specs.Spelling.{Spells}
-use Rattle.ob_xml.specs.Decoding.{IsCause}
+use Rattle.ob_xml.specs.Judged.{Judged, fault}
 use Rattle.ob_site_rules.specs.Sites.{SiteState}
 use Rattle.ob_opening.specs.Opening.{opening}
 use Rattle.ob_site_file.specs.Passes.{Refuses}
@@ -17,7 +17,7 @@ IsOutside _ = ⊥
 
 -- the bytes are no document, or there is no memory
 abbrev pub IsUnspelled : List ℕ → LoadFault → Type 0
-IsUnspelled bytes (Document refused) = IsCause bytes true refused
+IsUnspelled bytes (Document refused) = Judged bytes true (fault refused.at refused.why)
 IsUnspelled bytes Memory = Unit {0}
 IsUnspelled bytes _ = ⊥
 
@@ -25,8 +25,18 @@ IsUnspelled bytes _ = ⊥
 abbrev pub IsSite : List ℕ → ℕ → Option (List ℕ) → SiteState → Type 0
 IsSite bytes boot ns site = (root : Object) × (Spells bytes ns root × (opening root boot ≡ Ok site))
 
+-- They open a site, whatever the moment is.
+abbrev pub OpensAlways : List ℕ → Type 0
+OpensAlways bytes = (boot : ℕ) → (ns : Option (List ℕ)) × (site : SiteState) × IsSite bytes boot ns site
+
 -- Why bytes open no site: they spell no document, and this is the first refused construct; or the root of the document that they
 -- spell is refused so by the definition of the opening.
 pub data RefusesBytes (bytes : List ℕ) (boot : ℕ) (fault : LoadFault) : Type 0 where
   unspelled : IsUnspelled bytes fault → RefusesBytes bytes boot fault
   refused : (ns : Option (List ℕ)) → (root : Object) → Spells bytes ns root → Refuses root boot fault → RefusesBytes bytes boot fault
+
+-- Bytes that open a site at a moment aren't refused then: only a read that failed or want of memory keeps them from it.
+abbrev pub OpenedIsNotRefused : Type 0
+OpenedIsNotRefused =
+    (bytes : List ℕ) (boot : ℕ) (ns : Option (List ℕ)) (site : SiteState) (fault : LoadFault)
+    → IsSite bytes boot ns site → RefusesBytes bytes boot fault → IsOutside fault

@@ -2,8 +2,10 @@
 #![tactic(auto)]
 
 mod board;
+mod laws;
 mod reading;
 mod site;
 
+pub use laws::opened_is_not_refused;
 pub use ob_site_file::LoadFault;
 pub use site::{Loaded, load};

@@ -1,4 +1,5 @@
-use Rattle.std.proofs.Common.{ℕ, List, rules, subst}
+use Rattle.std.proofs.Common.{◌≡◌, ℕ, List, subst}
+use Rattle.std.proofs.lemmas.Result.{err_from_is_err_and}
 use Rattle.ob_load.specs.Loads.{IsSite, RefusesBytes}
 use Rattle.ob_load.proofs.Contents.{told_of, told_site}
 use Rattle.ob_load.proofs.site.load.Goals as goal
@@ -8,7 +9,9 @@ returns-in_err-loaded-clause-refused g c =
     let f = c.in_err-loaded.field-0.0 in
     let e = told_of (g.F.Files.content c.args.files.now c.args.name.now) c.in_ok-bytes.bytes.items c.args.boot f c.in_ok-bytes.ensures.bytes
     (subst (λ (l : List ℕ). RefusesBytes l c.args.boot f) c.deref.ensures.value c.in_err-loaded.ensures.refused) in
-    search rules
+    let p = err_from_is_err_and c.from_residual-in_err-loaded.result c.from_residual-in_err-loaded.ensures.1 in
+    let q : p.0 ≡ f = cc p.2 in
+    rw (p.1, q) e
 
 pub returns-clause-site : goal.returns-clause-site
 returns-clause-site g c =
