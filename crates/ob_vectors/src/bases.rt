@@ -1,7 +1,6 @@
 //! Bases: the parts of each, and what is joined to it.
-use crate::table::{Asked, Table};
-use crate::words::{push_number, push_words};
 use ob_href::{Base, HrefFault};
+use ob_rows::{Asked, Table, push_number, push_words};
 use std::alloc::{AllocError, Global};
 
 /// A base, and an href that is joined to it where one stands behind a blank.

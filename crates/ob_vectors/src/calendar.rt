@@ -1,5 +1,5 @@
 //! Dates: their Julian day numbers at noon, and whether jiff has them.
-use crate::table::{Asked, Table};
+use ob_rows::{Asked, Table};
 use ob_values::{CivilDate, read_abstime};
 use std::alloc::{AllocError, Global};
 

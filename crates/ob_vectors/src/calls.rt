@@ -1,11 +1,10 @@
 //! Calls that may answer want of memory, each with ample memory.
-use crate::table::{Asked, Table};
-use crate::words::{push_number, push_words, text_of};
 use ob_contracts::Library;
 use ob_documents::read;
 use ob_encode::{encode, write};
 use ob_fields::{Part, PartFault, read_known, read_part, read_words};
 use ob_object::{Kind, Words};
+use ob_rows::{Asked, Table, push_number, push_words, text_of};
 use ob_scan::{RawFault, expand, plain};
 use ob_values::{Text, Value};
 use ob_xml::Doc;

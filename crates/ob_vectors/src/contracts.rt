@@ -1,9 +1,9 @@
 //! Contracts: what an object shows of its contracts, what a library refuses, and what an object is.
-use crate::spelled::{object, push_object, split_bar, split_word};
-use crate::table::{Asked, Table};
+use crate::spelled::{object, push_object};
 use crate::views::shows;
 use ob_contracts::{LibFault, Library, effective, view};
 use ob_object::{Kind, Obj, Words};
+use ob_rows::{Asked, Table, split_bar, split_word};
 use ob_values::Text;
 use std::alloc::{AllocError, Global};
 

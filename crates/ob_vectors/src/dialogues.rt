@@ -2,11 +2,9 @@
 use crate::moments::Moments;
 use crate::requests::numbered;
 use crate::sites::{Opening, load_site, opening_of};
-use crate::spelled::{push_bytes, split_word};
-use crate::table::{Asked, Table};
-use crate::words::text_of;
 use ob_io::MemLink;
 use ob_load::Loaded;
+use ob_rows::{Asked, Table, push_bytes, split_word, text_of};
 use ob_server::serve_alone;
 use ob_times::Moment;
 use std::alloc::{AllocError, Global};

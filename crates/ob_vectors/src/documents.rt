@@ -1,6 +1,6 @@
 //! Documents: what each text is refused for and where, or the canonical text of what it spells.
 use crate::spelled::push_object;
-use crate::table::{Asked, Table};
+use ob_rows::{Asked, Table};
 use ob_xml::{Decoder, Doc, Refused};
 use std::alloc::{AllocError, Global};
 

@@ -1,8 +1,8 @@
 //! Filters read from objects.
-use crate::table::{Asked, Table};
-use crate::words::{push_number, time_at, word_at};
+use crate::words::time_at;
 use ob_history::{Filter, read_filter};
 use ob_object::{Kind, Obj, Slot};
+use ob_rows::{Asked, Table, push_number, word_at};
 use ob_values::{Text, Value};
 use std::alloc::{AllocError, Global};
 

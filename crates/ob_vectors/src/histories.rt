@@ -1,8 +1,8 @@
 //! Histories: what a log keeps, and what a query asks of it.
-use crate::table::{Asked, Table};
-use crate::words::{number_at, push_number, time_at, word_at};
+use crate::words::time_at;
 use ob_history::{Filter, Log, Record};
 use ob_object::{Kind, Slot};
+use ob_rows::{Asked, Table, number_at, push_number, word_at};
 use ob_values::{Abstime, Value};
 use std::alloc::{AllocError, Global};
 

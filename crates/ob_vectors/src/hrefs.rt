@@ -1,8 +1,8 @@
 //! Hrefs: what each text is resolved to against `http://h/obix/`, by the URL Standard, and what it is located as where the
 //! server goes by many names.
 use crate::bases::fault_word;
-use crate::table::{Asked, Table};
 use ob_href::{Base, HrefFault, Path, locate, resolve};
+use ob_rows::{Asked, Table};
 use std::alloc::{AllocError, Global};
 
 /// Hrefs, resolved and located.

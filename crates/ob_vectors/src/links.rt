@@ -1,11 +1,9 @@
 //! Connections: what is written on them, and how they end.
 use crate::sites::{Opening, load_site, opening_of};
-use crate::spelled::push_bytes;
 use crate::streams::fault_word;
-use crate::table::{Asked, Table};
-use crate::words::number_at;
 use ob_io::{MemLink, Ticker};
 use ob_load::Loaded;
+use ob_rows::{Asked, Table, number_at, push_bytes};
 use ob_server::{LinkEnd, serve_alone};
 use ob_times::Moment;
 use std::alloc::{AllocError, Global};

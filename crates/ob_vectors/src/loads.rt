@@ -1,7 +1,7 @@
 //! Site files: what they open, or why they open nothing.
 use crate::sites::load_site;
-use crate::table::{Asked, Table};
 use ob_load::LoadFault;
+use ob_rows::{Asked, Table};
 use ob_values::Moment;
 use std::alloc::{AllocError, Global};
 

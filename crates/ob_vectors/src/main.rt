@@ -24,7 +24,6 @@ mod requests;
 mod sites;
 mod spelled;
 mod streams;
-mod table;
 mod values;
 mod views;
 mod words;
@@ -43,6 +42,7 @@ use hrefs::Hrefs;
 use links::Links;
 use loads::Loads;
 use messages::{Messages, Replies};
+use ob_rows::run;
 use objects::Objects;
 use outside::Outside;
 use pieces::Pieces;
@@ -51,7 +51,6 @@ use std::rt::Files;
 use std::sync::Wait;
 use std::{fs, io};
 use streams::{Heads, Limits, Streams};
-use table::run;
 use values::Reading;
 
 fn run_values<R: Print + Files + AllocGlobal>(rt: &R) -> io::Result<()> {

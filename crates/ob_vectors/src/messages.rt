@@ -1,10 +1,9 @@
 //! Messages that are written, and replies that are read.
 use crate::streams::fault_word;
-use crate::table::{Asked, Table};
-use crate::words::{push_number, push_words, text_of};
 use ob_http::{
     FrameFault, Reply, ReplyFramer, StatusLine, refusal_bytes, write_answer, write_request,
 };
+use ob_rows::{Asked, Table, push_number, push_words, text_of};
 use ob_values::{Text, Verb};
 use std::alloc::{AllocError, Global};
 

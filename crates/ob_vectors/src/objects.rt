@@ -1,8 +1,7 @@
 //! Objects: what the calls that make and change them answer, and trees as large as a document may make them.
-use crate::table::{Asked, Table};
-use crate::words::push_number;
 use ob_encode::encode;
 use ob_object::{Facets, Head, Kind, Obj, PushFault, Slot, Words, WriteFault, check_write};
+use ob_rows::{Asked, Table, push_number};
 use ob_values::{Text, Value};
 use std::alloc::{AllocError, Global};
 

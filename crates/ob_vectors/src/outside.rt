@@ -1,7 +1,6 @@
 //! The objects in memory that stand for the outside: pieces, and calls that fail.
-use crate::table::{Asked, Table};
-use crate::words::{push_number, push_words, text_of};
 use ob_io::{Files, MemFiles, MemSink, MemSource, NamedFile, Sink, Source, write_all};
+use ob_rows::{Asked, Table, push_number, push_words, text_of};
 use std::alloc::{AllocError, Global};
 
 /// `reads` are of a source of `abcde` in pieces of three whose call 1 fails, each into the same four bytes; `writes` go to a sink

@@ -1,7 +1,6 @@
 //! Documents in pieces, and large ones: wherever a text is cut, the same is told of it.
 use crate::documents::{read, read_by, tell};
-use crate::spelled::{split_bar, split_word};
-use crate::table::{Asked, Table};
+use ob_rows::{Asked, Table, split_bar, split_word};
 use ob_xml::{Decoder, Refused, Why};
 use std::alloc::{AllocError, Global};
 

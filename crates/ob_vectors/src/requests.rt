@@ -1,11 +1,10 @@
 //! Requests on whole sites, worked one after the other, with their replies.
 use crate::sites::open;
-use crate::spelled::{object, push_bytes, split_word};
-use crate::table::{Asked, Table};
-use crate::words::text_of;
+use crate::spelled::object;
 use ob_encode::encode;
 use ob_object::Obj;
 use ob_plain::{Machine, Site};
+use ob_rows::{Asked, Table, push_bytes, split_word, text_of};
 use ob_site_rules::Request;
 use ob_values::{Moment, Text, Verb};
 use std::alloc::{AllocError, Global};

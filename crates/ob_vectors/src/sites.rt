@@ -2,6 +2,7 @@
 use ob_io::{MemFiles, NamedFile};
 use ob_load::{LoadFault, Loaded, load};
 use ob_plain::Site;
+use ob_rows::named_part;
 use ob_values::Moment;
 use std::alloc::{AllocError, Global};
 
@@ -14,15 +15,9 @@ pub(crate) struct Opening<'a> {
 
 /// The opening of the site of a name, among the documents of a file.
 pub(crate) fn opening_of<'a>(documents: &'a str, name: &str) -> Option<Opening<'a>> {
-    for part in documents.split("=== ") {
-        let (head, document) = part.split_once('\n')?;
-        let (named, boot) = head.split_once(' ')?;
-        if named == name {
-            let boot = boot.parse::<u64>().ok()?;
-            return Some(Opening { document, boot });
-        }
-    }
-    None
+    let (boot, document) = named_part(documents, name)?;
+    let boot = boot.parse::<u64>().ok()?;
+    Some(Opening { document, boot })
 }
 
 // One file with these bytes.

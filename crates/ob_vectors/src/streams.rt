@@ -1,7 +1,6 @@
 //! Streams of requests: what is framed of them, whole and in pieces.
-use crate::table::{Asked, Table};
-use crate::words::{number_at, push_number, push_words, text_of};
 use ob_http::{Asked as Request, FrameFault, Framer, Media, Seen};
+use ob_rows::{Asked, Table, number_at, push_number, push_words, text_of};
 use std::alloc::{AllocError, Global};
 
 // A request, whoever holds its bytes.

@@ -1,5 +1,5 @@
 //! Values: what each text is read as, and what is printed of it.
-use crate::table::{Asked, Table};
+use ob_rows::{Asked, Table};
 use ob_values::{
     Abstime, CivilDate, Dec, Reltime, Text, TextFault, TimeOfDay, Value, ValueFault, print_value,
     read_abstime, read_bool, read_date, read_dec, read_int, read_reltime, read_time,
