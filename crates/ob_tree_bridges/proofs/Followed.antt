@@ -16,7 +16,6 @@ use Rattle.ob_shown_laws.specs.OwnShown.{dressed_standing}
 use Rattle.ob_shown_laws.proofs.Reaching.{changes_reach}
 use Rattle.ob_shown_laws.proofs.Looking.{looking}
 use Rattle.ob_shown_laws.proofs.OwnStanding.{own_is_enough}
-use Rattle.ob_tree.specs.Laid.{paths}
 use Rattle.ob_tree.specs.Shown.{row, part_in, part_at, handed_at, standing_at}
 use Rattle.ob_tree.proofs.Lasting.{last_touches_stamp}
 use Rattle.ob_tree_bridges.specs.Following.{AreNumbers, is_same_watched, StampsFollow}
@@ -45,7 +44,7 @@ part_alike (node h below rest) (node k inner more) (suc n) x d e =
     go true e same deep later = let f = deep e in (f.0, same ∙ f.1, f.2)
     go false e same deep later = let f = later e in (f.0, same ∙ f.1, f.2)
 
-part_less : (os : Objects) (n : ℕ) (x : Object) → part_in n os ≡ Some x → n < count os
+pub part_less : (os : Objects) (n : ℕ) (x : Object) → part_in n os ≡ Some x → n < count os
 part_less none n x e = absurd cc
 part_less (node h below rest) zero x e = omega arith
 part_less (node h below rest) (suc n) x e = go (nat_lt n (count below)) refl e (λ f. part_less below n x f) (λ f. part_less rest (n - count below) x f)

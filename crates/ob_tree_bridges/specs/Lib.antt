@@ -1,3 +1,4 @@
 pub mod Bridges
 pub mod OwnTree
 pub mod Following
+pub mod Contracted

@@ -4,6 +4,7 @@
 #![tactic(auto)]
 
 ghost use Rattle.ob_tree_bridges.specs.Bridges.{NodesAreNumbered, PathsAreDifferent, SlotIsSet, TreeShows};
+ghost use Rattle.ob_tree_bridges.specs.Contracted.{ContractsAreNumbered};
 ghost use Rattle.ob_tree_bridges.specs.Following.{StampsFollow};
 ghost use Rattle.ob_tree_bridges.specs.OwnTree.{OwnTreesTell, OwnTreesTellChanges};
 
@@ -43,4 +44,9 @@ pub fn own_trees_tell_changes()
 /// the own nodes of which a watch shows something else, where it left every other path alone.
 pub fn stamps_follow()
     ensures { StampsFollow }
+{}
+
+/// Whether a node is a contract of the site or a part of one is told by its number and those of the contracts.
+pub fn contracts_are_numbered()
+    ensures { ContractsAreNumbered }
 {}
