@@ -1,7 +1,7 @@
 -- A map from the texts of hrefs to items, as the list of the items.
-use Rattle.std.proofs.Common.{◌≡◌, ℕ, zero, suc, ◌+◌, ◌<◌, ◌≤◌, Bool, true, false, cond, not, ◌||◌, List, [], ◌∷◌, ◌++◌, map, length, take, get_or, refl, sym, ap, subst, ◌∙◌, add-one, arith}
-use Rattle.std.specs.Prelude.{Option, Some, None, find, is_some, slice_get, string_bytes, string_eq, String, if◌then◌else◌}
-use Rattle.std.specs.List.{AllByRecursion, IsDistinct, filter, list_any}
+use Rattle.std.proofs.Common.{◌≡◌, ℕ, zero, suc, ◌+◌, ◌<◌, Bool, true, false, cond, not, ◌||◌, List, [], ◌∷◌, ◌++◌, map, length, take, get_or, refl, sym, ap, subst, ◌∙◌, add-one, arith}
+use Rattle.std.specs.Prelude.{Option, Some, None, is_some, string_bytes, string_eq, String, if◌then◌else◌}
+use Rattle.std.specs.List.{AllByRecursion, IsDistinct, filter}
 use Rattle.std.specs.Str.{bytes_eq}
 use Rattle.std.specs.declared.alloc.Global.{Global}
 use Rattle.std.specs.Map.{lookup, set_value, keys_of}

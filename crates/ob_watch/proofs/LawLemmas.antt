@@ -1,5 +1,5 @@
 -- The marked watches are the watches of the whole site.
-use Rattle.std.proofs.Common.{◌≡◌, ℕ, zero, suc, ◌+◌, ◌-◌, ◌^◌, ◌<◌, ◌≤◌, ◌==◌, Bool, true, false, cond, not, ◌||◌, max, min, List, [], ◌∷◌, ◌++◌, map, length, drop, filter, refl, sym, ap, ap₂, subst, ◌∙◌, arith, inl, inr}
+use Rattle.std.proofs.Common.{◌≡◌, ℕ, zero, suc, ◌+◌, ◌-◌, ◌^◌, ◌<◌, ◌≤◌, ◌==◌, Bool, true, false, cond, not, ◌||◌, max, min, List, [], ◌∷◌, ◌++◌, map, length, drop, filter, refl, sym, ap, ap₂, subst, ◌∙◌, arith}
 use Rattle.std.specs.Prelude.{Option, Some, None, option_map, nat_lt, nat_le, nat_eq, slice_get, unwrap_or, replicate}
 use Rattle.std.specs.List.{AllByRecursion, IsDistinct, list_any}
 use Rattle.std.specs.Str.{bytes_eq}
@@ -13,7 +13,7 @@ use Rattle.ob_history.specs.declared.records.Filter.{Filter}
 use Rattle.ob_tree.specs.Trees.{Stamped}
 use Rattle.ob_watching.specs.Asked.{Lists, Shows}
 use Rattle.ob_watching.specs.Sites.{HasRolled}
-use Rattle.ob_watching.specs.Tables.{lookup, replace, numbers_of, put}
+use Rattle.ob_watching.specs.Tables.{lookup, replace, numbers_of}
 use Rattle.ob_watching.specs.Watches.{TrackedOf, ItemOf, WatchOf, Reading, count, settled, settled_at, reported, reported_now, changes_of, lists_some, Distinct, since}
 use Rattle.ob_watching.specs.Watches as rules
 use Rattle.ob_site_rules.specs.Entries.{is_within}
@@ -21,14 +21,14 @@ use Rattle.ob_site_rules.specs.State.{Plan, State}
 use Rattle.ob_watch.specs.declared.item.Tracked.{Tracked}
 use Rattle.ob_watch.specs.declared.item.Tracked.TheVariants.{Object, Feed}
 use Rattle.ob_watch.specs.declared.item.Item.{Item}
-use Rattle.ob_watch.specs.AsRules.{world_of, TablesAgree, ItemsAgree, ReportsAgree, CountsStay, LapsesCommute, AsRules, AllLapse}
-use Rattle.ob_watch.specs.Counted.{of_plan, has_news, Counts, CountsBy, IsCounted}
+use Rattle.ob_watch.specs.AsRules.{TablesAgree, ItemsAgree, ReportsAgree, CountsStay, AsRules, AllLapse}
+use Rattle.ob_watch.specs.Counted.{of_plan, has_news, CountsBy}
 use Rattle.ob_watch.specs.Flags.{flags, flag_of, flagged, flags_of, anew}
-use Rattle.ob_watch.specs.Items.{Text, Differ, among, feed_item, has_text, is_due, is_due_by, marked_anew, anew_by, object_item, one_more, one_more_by, put_item, reported_at, reported_by, rolled_to, rolled_by, stamp_of, tracking}
-use Rattle.ob_watch.specs.Marks.{AreStampsPast, IsMarkPast, IsMarkPastBy, IsStampedNext, IsStampedNextBy}
-use Rattle.ob_watch.specs.Tables.{Leased, Table, at_number, has_no_place, is_full_watch, is_over, lapsed_at, live, new_watch, with_all_items, with_new, watching}
+use Rattle.ob_watch.specs.Items.{Text, Differ, among, has_text, is_due_by, anew_by, one_more_by, put_item, reported_by, rolled_by, stamp_of}
+use Rattle.ob_watch.specs.Marks.{AreStampsPast, IsMarkPastBy, IsStampedNextBy}
+use Rattle.ob_watch.specs.Tables.{Leased, at_number, is_over, live, new_watch, with_all_items, watching}
 use Rattle.ob_watch.proofs.NewsLemmas.{news_more, news_rolled, news_none, no_news, some_pass}
-use Rattle.ob_watch.proofs.TableLemmas.{bool_same, eq_sym, none_replaced, elsewhere, looked_up}
+use Rattle.ob_watch.proofs.TableLemmas.{none_replaced, elsewhere}
 
 abbrev Flagged : Type 0
 Flagged = WatchOf Text Text Filter

@@ -1,8 +1,8 @@
 -- Watches under numbers.
-use Rattle.std.proofs.Common.{◌≡◌, ℕ, zero, suc, ◌+◌, ◌<◌, ◌≤◌, ◌==◌, Bool, true, false, cond, not, ◌||◌, List, [], ◌∷◌, ◌++◌, map, length, take, drop, get_or, refl, sym, ap, ap₂, subst, ◌∙◌, arith, add-one, true≢false}
+use Rattle.std.proofs.Common.{◌≡◌, ℕ, zero, suc, ◌+◌, ◌<◌, ◌==◌, Bool, true, false, cond, not, ◌||◌, List, [], ◌∷◌, ◌++◌, length, take, get_or, refl, sym, ap, ap₂, subst, ◌∙◌, arith}
 use Rattle.std.specs.Prelude.{Option, Some, None, Result, IfSome, MatchOption, is_some, nat_eq, option_map, slice_get}
 use Rattle.std.specs.List.{AllByRecursion, IsDistinct, filter, list_any, count_by}
-use Rattle.std.proofs.lemmas.Bool.Decides.{nat_tests, Decides-eqb}
+use Rattle.std.proofs.lemmas.Bool.Decides.{Decides-eqb}
 use Rattle.std.proofs.lemmas.List.Recursion.{is_count_by}
 use Rattle.std.specs.Map.{set_value, keys_of, values_of, remove_entry}
 use Rattle.std.specs.Map as map
@@ -16,7 +16,7 @@ use Rattle.ob_watch.specs.declared.watch.Due.{Due}
 use Rattle.ob_tree.specs.Trees.{Stamped}
 use Rattle.ob_watch.specs.Adding.{AddsAt, AddsNothing, AddsTo}
 use Rattle.ob_watch.specs.Reported.{IsDue}
-use Rattle.ob_watch.specs.Tables.{Leased, Table, at_number, holding, is_over, live, new_watch, next_due, with_all_items, with_new, watching}
+use Rattle.ob_watch.specs.Tables.{Leased, Table, at_number, holding, is_over, live, new_watch, next_due, with_all_items, with_new}
 use Rattle.ob_watch.specs.Undo.{Undo}
 
 pub bool_same : (a b : Bool) → (a ≡ true → b ≡ true) → (b ≡ true → a ≡ true) → a ≡ b

@@ -1,14 +1,14 @@
 -- Additions taken back.
-use Rattle.std.proofs.Common.{◌≡◌, ℕ, zero, suc, ◌+◌, ◌<◌, ◌≤◌, Bool, true, false, cond, not, ◌||◌, List, [], ◌∷◌, ◌++◌, map, length, take, refl, sym, ap, subst, ◌∙◌, arith}
-use Rattle.std.specs.Prelude.{Option, Some, None, find, is_some, option_to_list}
-use Rattle.std.specs.List.{AllByRecursion, list_any}
+use Rattle.std.proofs.Common.{◌≡◌, ℕ, zero, suc, ◌≤◌, Bool, true, false, cond, ◌||◌, List, [], ◌∷◌, ◌++◌, length, take, refl, sym, ap, subst, ◌∙◌, arith}
+use Rattle.std.specs.Prelude.{Option, Some, None, is_some, option_to_list}
+use Rattle.std.specs.List.{AllByRecursion}
 use Rattle.std.specs.Str.{bytes_eq}
 use Rattle.std.proofs.lemmas.Slice.Eq.{bytes_eq-Decides}
 use Rattle.ob_watch.specs.declared.item.Item.{Item}
 use Rattle.ob_watch.specs.Items.{Text, found_item, has_text, put_item, put_over}
 use Rattle.ob_watch.specs.Restoring.{restored}
 use Rattle.ob_watch.specs.Undo.{Undo, Undoes}
-use Rattle.ob_watch.proofs.ItemLemmas.{bytes_eq_sym, found_has, put_differs}
+use Rattle.ob_watch.proofs.ItemLemmas.{found_has, put_differs}
 
 -- ---- what is put back last was replaced first
 

@@ -1,6 +1,6 @@
 -- The marked watches are the watches of the whole site.
-use Rattle.std.specs.Prelude.{◌≡◌, ◌≢◌, ℕ, ◌+◌, ◌-◌, ◌^◌, ◌<◌, ◌≤◌, Bool, true, false, cond, not, max, nat_eq, List, [], ◌∷◌, ◌++◌, map, length, nat_le, Option, Some, None, option_map}
-use Rattle.std.specs.List.{AllByRecursion, IsDistinct, filter}
+use Rattle.std.specs.Prelude.{◌≡◌, ℕ, ◌^◌, ◌<◌, true, false, not, max, nat_eq, List, [], ◌∷◌, ◌++◌, map, length, nat_le, Option, Some, None, option_map}
+use Rattle.std.specs.List.{IsDistinct, filter}
 use Rattle.ob_times.specs.Times.{Instant}
 use Rattle.ob_object.specs.Object as object
 use Rattle.ob_history.specs.declared.records.Filter.{Filter}
@@ -15,9 +15,9 @@ use Rattle.ob_site_rules.specs.State.{Plan, State}
 use Rattle.ob_watch.specs.declared.item.Item.{Item}
 use Rattle.ob_watch.specs.Counted.{of_plan, IsCounted}
 use Rattle.ob_watch.specs.Flags.{flags, flag_of, flagged, flags_of, anew}
-use Rattle.ob_watch.specs.Items.{Text, Differ, among, feed_item, has_text, is_due, marked_anew, object_item, one_more, put_item, reported_at, rolled_to, stamp_of}
+use Rattle.ob_watch.specs.Items.{Text, Differ, among, feed_item, has_text, is_due, marked_anew, object_item, one_more, put_item, reported_at, rolled_to}
 use Rattle.ob_watch.specs.Marks.{AreStampsPast, IsMarkPast, IsStampedNext}
-use Rattle.ob_watch.specs.Tables.{Leased, Table, at_number, has_no_place, is_full_watch, is_over, lapsed_at, live, new_watch, with_all_items, with_new}
+use Rattle.ob_watch.specs.Tables.{Leased, Table, at_number, has_no_place, is_full_watch, is_over, lapsed_at, live, with_all_items, with_new}
 
 -- the state of the definitions: a site at a time, and the watches with flags
 abbrev pub world_of : (plan : Plan) → ℕ → State → Stamped → Table → World (of_plan plan)

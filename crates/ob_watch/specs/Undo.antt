@@ -15,3 +15,7 @@ pub record Undoes (u : Undo) (items original : List Item) : Type 0 where
   pub back : take u.before (restored u.replaced items) ≡ original
   pub grown : u.before ≤ length items
   pub there : AllByRecursion (λ x. has_text items x.text ≡ true) u.replaced
+
+-- what took the items back takes what is left back
+abbrev pub StillUndoes : Undo → Undo → List Item → List Item → Type 0
+StillUndoes undo undone items left = (original : List Item) → Undoes undo items original → Undoes undone left original

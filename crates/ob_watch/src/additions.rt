@@ -26,7 +26,7 @@ impl Model for Additions {
 }
 
 impl Additions {
-    ghost use Rattle.ob_watch.specs.Undo.{Undoes};
+    ghost use Rattle.ob_watch.specs.Undo.{StillUndoes, Undoes};
 
     /// Nothing was added to these items yet.
     pub fn new(alloc: Global, items: &[Item]) -> Additions
@@ -47,7 +47,7 @@ impl Additions {
     ) -> Result<(), AllocError>
         ensures put { OnOk result (items.new ≡ put_item item items.old) }
         ensures err { OnErr result (items.new ≡ items.old) }
-        ensures back { (original : List KeptItem) → Undoes self.old items.old original → Undoes self.new items.new original }
+        ensures back { StillUndoes self.old self.new items.old items.new }
     {
         self.replaced.reserve(1)?;
         match items.put(alloc, item)? {

@@ -21,4 +21,4 @@ pub use item::{Item, Tracked};
 pub use items::Items;
 pub use laws::as_the_site_says;
 pub use watch::{Due, FIRST_LEASE, LONGEST_LEASE, SHORTEST_LEASE, Watch};
-pub use watches::Watches;
+pub use watches::{Watches, crosses_threads};

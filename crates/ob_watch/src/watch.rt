@@ -4,7 +4,7 @@ ghost use Rattle.ob_watch.specs.declared.item.Item.{Item as KeptItem};
 ghost use Rattle.ob_watch.specs.Adding.{Adds};
 ghost use Rattle.ob_watch.specs.Items.{Differ, changed_by, has_text, is_due};
 ghost use Rattle.ob_watch.specs.Tables.{IsLease, is_full_watch, is_over, leased_for, new_watch, next_due, touched_at, watching, without};
-ghost use Rattle.ob_watch.specs.Undo.{Undoes};
+ghost use Rattle.ob_watch.specs.Undo.{StillUndoes, Undoes};
 
 use crate::additions::Additions;
 use crate::change::Change;
@@ -167,7 +167,7 @@ impl Watch {
         undo: &mut Additions,
     ) -> Result<(), WatchFault>
         ensures adds { Adds self.old self.new item result }
-        ensures back { (original : List KeptItem) → Undoes undo.old self.old.items original → Undoes undo.new self.new.items original }
+        ensures back { StillUndoes undo.old undo.new self.old.items self.new.items }
     {
         if self.is_full() && !self.has(item.text()) {
             return Err(WatchFault::ItemsFull);

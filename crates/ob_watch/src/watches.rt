@@ -1,15 +1,13 @@
 //! The watches of a site.
-ghost use Rattle.std.specs.Prelude.{◌≡◌, ◌++◌, [], ◌∷◌, List, cond, map, count_by, OnOk, is_some, not, None, Some, IfOk, IfSome, nat_eq, length, option_map};
+ghost use Rattle.std.specs.Prelude.{◌≡◌, ◌++◌, [], ◌∷◌, cond, count_by, OnOk, is_some, not, None, IfOk, nat_eq, length, option_map};
 ghost use Rattle.std.specs.List.{IsDistinct, list_any};
 ghost use Rattle.std.specs.Option.{option_copied};
 ghost use Rattle.indexmap.specs.IndexMap.{IsUnique};
 ghost use Rattle.ob_watching.specs.Tables.{lookup, numbers_of, replace};
-ghost use Rattle.ob_watch.specs.declared.item.Item.{Item as KeptItem};
-ghost use Rattle.ob_watch.specs.Adding.{AddsAt, Makes};
-ghost use Rattle.ob_watch.specs.Items.{changed_by, marked_anew, one_more, reported_at, rolled_to};
-ghost use Rattle.ob_watch.specs.Tables.{IsLease, at_number, has_no_place, holding, is_over, lapsed_at, leased_for, live, next_due, no_watches, touched_at, watching, with_all_items, without};
-ghost use Rattle.ob_watch.specs.Undo.{Undoes};
-ghost use Rattle.ob_watch.specs.Reported.{IsDue};
+ghost use Rattle.ob_watch.specs.Adding.{AddsAt, Makes, TakesBack};
+ghost use Rattle.ob_watch.specs.Items.{changed_by, marked_anew, one_more, rolled_to};
+ghost use Rattle.ob_watch.specs.Tables.{IsLease, at_number, has_no_place, holding, is_over, lapsed_at, leased_for, live, no_watches, touched_at, watching, with_all_items, without};
+ghost use Rattle.ob_watch.specs.Reported.{IsDue, all_reported};
 
 use crate::additions::Additions;
 use crate::change::{Change, Event, Renumber, Report, Roll};
@@ -285,7 +283,7 @@ impl Watches {
     /// watch of that number is held.
     pub fn take_back(&mut self, number: u64, undo: Additions) -> bool
         ensures held { result ≡ is_some (lookup number self.old.watches) }
-        ensures taken { (original : List KeptItem) → IfSome (lookup number self.old.watches) (λ w. Undoes undo w.items original → self.new ≡ holding (at_number number (watching original) self.old.watches) self.old) }
+        ensures taken { TakesBack number undo self.old self.new }
     {
         match self.map.get_mut(&number) {
             Some(watch) => watch.take_back(undo),
@@ -353,7 +351,7 @@ impl Watches {
     /// Source: oBIX 1.1, chapter 12 (Watch.pollChanges, Watch.pollRefresh).
     pub fn reported(&mut self, tree: &Tree, number: u64) -> bool
         ensures held { result ≡ is_some (lookup number self.old.watches) }
-        ensures reported { self.new ≡ holding (at_number number (λ w. watching (map (reported_at tree.now.steps) w.items) w) self.old.watches) self.old }
+        ensures reported { self.new ≡ holding (at_number number (all_reported tree.now.steps) self.old.watches) self.old }
     {
         let steps = tree.steps();
         match self.map.get_mut(&number) {
@@ -385,3 +383,10 @@ impl Watches {
         change_each(&mut self.map, &Renumber { tree });
     }
 }
+
+/// Watches may go to another thread with the site that has them.
+pub fn crosses_threads() {
+    is_send::<Watches>();
+}
+
+fn is_send<T: Send>() {}

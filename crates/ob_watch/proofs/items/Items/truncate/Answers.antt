@@ -1,6 +1,6 @@
 use Rattle.std.proofs.Common.{List, ap, ◌∙◌, subst, sym, take}
 use Rattle.ob_watch.specs.declared.item.Item.{Item}
-use Rattle.ob_watch.specs.Held.{Entries, items_of, StandUnderOwn}
+use Rattle.ob_watch.specs.Held.{items_of, StandUnderOwn}
 use Rattle.ob_watch.proofs.ItemLemmas.{own_take}
 use Rattle.ob_watch.proofs.Lists.{values_take}
 use Rattle.ob_watch.proofs.items.Items.truncate.Goals as goal

@@ -1,7 +1,7 @@
 use Rattle.std.proofs.Common.{[], ◌∷◌, ◌++◌, nat_eq, ap, sym, ◌∙◌}
 use Rattle.indexmap.proofs.CallerLemmas.{insert_entry-new}
-use Rattle.ob_watch.specs.Tables.{Table, new_watch, with_new}
-use Rattle.ob_watch.proofs.TableLemmas.{Numbered, made_in, next_is_new, numbered_pushed, table}
+use Rattle.ob_watch.specs.Tables.{Table}
+use Rattle.ob_watch.proofs.TableLemmas.{made_in, next_is_new, numbered_pushed}
 use Rattle.ob_watch.proofs.watches.Watches.make.Goals as goal
 
 pub invariant_of-self : goal.invariant_of-self
