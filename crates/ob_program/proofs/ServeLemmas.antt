@@ -3,17 +3,20 @@ use Rattle.std.proofs.Common.{◌≡◌, ◌≢◌, ℕ, ◌≤◌, Bool, ◌⊎
 use Rattle.std.specs.Prelude.{IfSome}
 use Rattle.ob_io.specs.Faults.{Rose}
 use Rattle.ob_io.specs.Told.{Gains}
-use Rattle.ob_load.specs.Loads.{IsSite, RefusesBytes, IsOutside}
+use Rattle.ob_load.specs.Loads.{IsSite, OpenedIsNotRefused, OpensAlways, RefusesBytes, IsOutside}
 use Rattle.ob_server.specs.GivenBack.{PortTold, ClockTold}
 use Rattle.ob_site_file.specs.declared.fault.LoadFault.{LoadFault}
 use Rattle.ob_site_file.specs.declared.fault.LoadFault.TheVariants as faults
+use Rattle.ob_io.specs.Ticks.{Pace}
 use Rattle.ob_io.specs.Visits.{Visit}
 use Rattle.ob_site_laws.specs.SiteLaws.{IsSoundSite}
 use Rattle.ob_site_rules.specs.Sites.{SiteState}
 use Rattle.ob_program.specs.declared.serve.ServeEnd.{ServeEnd}
 use Rattle.ob_program.specs.declared.serve.ServeEnd.TheVariants.{Done, Refused, ReadFault, WriteFault, PortFault, ClockFault, Memory}
 use Rattle.ob_program.specs.Stdio.{site_bytes, IsRefusedAs}
-use Rattle.ob_program.specs.Serving.{end_of_load, ServeRose, IsUnserved, ServesSound, ServeComes}
+use Rattle.ob_program.specs.declared.exit.Exit.{Exit}
+use Rattle.ob_program.specs.declared.exit.Exit.TheVariants as exits
+use Rattle.ob_program.specs.Serving.{exit_of_serve, end_of_load, AtPlace, ServeRose, IsUnserved, ServeComes, ServeRan}
 
 told_refused : (fault : LoadFault) (file : Option (List ℕ)) (boot : ℕ) → (IsOutside fault → ⊥) → IfSome file (λ whole. IsOutside fault ⊎ RefusesBytes (site_bytes whole) boot fault) → IsRefusedAs file boot fault
 told_refused fault None boot inside h = (tt, inside)
@@ -53,22 +56,19 @@ rose_from PortFault files files' writes writes' p p' t u t' later h = h
 rose_from ClockFault files files' writes writes' p p' t u t' later h = omega (arith, h, later)
 rose_from Memory files files' writes writes' p p' t u t' later h = tt
 
-module _ {D C : Type 0} (door_faults handed returned : D → ℕ) (visits : D → Option (List Visit)) (closed : D → Bool) (given : C → Option (List ℕ)) (misses : C → ℕ)
+module _ {D C : Type 0} (door_faults handed returned : D → ℕ) (visits : D → Option (List Visit)) (closed : D → Bool) (given : C → Option (List ℕ)) (pace : C → Option Pace) (misses : C → ℕ)
     (file : Option (List ℕ)) (host : List ℕ) (place wanted quota files files' : ℕ) where
   abbrev Comes_ : (held held' : Option (List ℕ)) → (writes writes' : ℕ) → (p p' : PortTold) → (t t' : ClockTold) → ServeEnd → Type 0
-  Comes_ held held' writes writes' p p' t t' end = ServeComes door_faults handed returned visits closed given misses file host place wanted quota files files' held held' writes writes' p p' t t' end
+  Comes_ held held' writes writes' p p' t t' end = ServeComes door_faults handed returned visits closed given pace misses file host place wanted quota files files' held held' writes writes' p p' t t' end
 
   -- a site was served, or there was no memory to begin
   pub comes_served : (held held' : Option (List ℕ)) (writes writes' : ℕ) (p p' : PortTold) (t u t' : ClockTold) (boot : ℕ) (opening : SiteState) (ns : Option (List ℕ)) (end : ServeEnd)
       → Gains t.given (boot ∷ []) u.given → u.twins ≡ t.twins → t.faults ≤ u.faults → IfSome file (λ whole. IsSite (site_bytes whole) boot ns opening) → IsSoundSite opening
-      → ServesSound door_faults handed returned visits closed given misses opening ns host place wanted quota held held' writes writes' p p' u t' end
+      → AtPlace door_faults handed returned visits closed given pace misses opening ns host place wanted quota held held' writes writes' p p' u t' end
       → Comes_ held held' writes writes' p p' t t' end
   comes_served held held' writes writes' p p' t u t' boot opening ns end gave twins later opened sound served = record {
     comes = inr (boot, u, gave, twins, inr (record { ns = ns; opening = opening; opened = opened; sound = sound; served = served }));
-    rose = elim served [
-      | inl none ↦ subst (λ (e : ServeEnd). ServeRose e files files' writes writes' p p' t t') (sym none.1) tt
-      | inr some ↦ rose_from end files files' writes writes' p p' t u t' later some.at_desk.rose
-    ];
+    rose = rose_from end files files' writes writes' p p' t u t' later served.rose;
   }
 
   -- the file opens no site
@@ -79,3 +79,50 @@ module _ {D C : Type 0} (door_faults handed returned : D → ℕ) (visits : D �
     comes = inr (boot, u, gave, twins, inl (record { held_is = refl; port_is = refl; clock_is = refl }, subst (λ (e : ServeEnd). IsUnserved file boot e) (sym is) (unserved_refused fault file boot refused)));
     rose = subst (λ (e : ServeEnd). ServeRose e files files' writes writes p p t u) (sym is) (refused_rose fault files files' writes writes p p t u read);
   }
+
+  -- a file that opens a site isn't refused
+  unrefused : (law : OpenedIsNotRefused) (whole : List ℕ) (held held' : Option (List ℕ)) (writes writes' : ℕ) (p p' : PortTold) (t t' : ClockTold) (fault : LoadFault) → file ≡ Some whole → OpensAlways (site_bytes whole)
+      → Comes_ held held' writes writes' p p' t t' (Refused fault) → ⊥
+  unrefused law whole held held' writes writes' p p' t t' fault told opens c =
+      elim c.comes [
+        | inl (is, given_same, held_same, port_same) ↦ (let no : Refused fault ≡ ClockFault = is in absurd (cc))
+        | inr (boot, booted, gave, twins, what) ↦ elim what [
+          | inl (untouched, refused) ↦
+              (let why = subst (λ (f : Option (List ℕ)). IsRefusedAs f boot fault) told refused in
+              let opened = opens boot in
+              why.1 (law (site_bytes whole) boot opened.0 opened.1 fault opened.2 why.0))
+          | inr served ↦ served.served.unrefused fault refl
+        ]
+      ]
+
+  complete_by : (law : OpenedIsNotRefused) (whole : List ℕ) (held held' : Option (List ℕ)) (writes writes' : ℕ) (p p' : PortTold) (t t' : ClockTold) (end : ServeEnd) → file ≡ Some whole → OpensAlways (site_bytes whole)
+      → Comes_ held held' writes writes' p p' t t' end
+      → ¬ (Rose files files') → ¬ (Rose writes writes') → ¬ (Rose p.faults p'.faults) → ¬ (Rose t.faults t'.faults)
+      → (exit_of_serve end ≡ exits.Ok) ⊎ (exit_of_serve end ≡ exits.Memory)
+  complete_by law whole held held' writes writes' p p' t t' Done told opens c no_read no_write no_port no_clock = inl refl
+  complete_by law whole held held' writes writes' p p' t t' (Refused fault) told opens c no_read no_write no_port no_clock =
+      absurd (unrefused law whole held held' writes writes' p p' t t' fault told opens c)
+  complete_by law whole held held' writes writes' p p' t t' ReadFault told opens c no_read no_write no_port no_clock = absurd (no_read c.rose)
+  complete_by law whole held held' writes writes' p p' t t' WriteFault told opens c no_read no_write no_port no_clock = absurd (no_write c.rose)
+  complete_by law whole held held' writes writes' p p' t t' PortFault told opens c no_read no_write no_port no_clock = absurd (no_port c.rose)
+  complete_by law whole held held' writes writes' p p' t t' ClockFault told opens c no_read no_write no_port no_clock = absurd (no_clock c.rose)
+  complete_by law whole held held' writes writes' p p' t t' Memory told opens c no_read no_write no_port no_clock = inr refl
+
+  -- the service came to this end, which is the exit
+  pub serve_ran : (law : OpenedIsNotRefused) (held held' : Option (List ℕ)) (writes writes' : ℕ) (p p' : PortTold) (t t' : ClockTold) (end : ServeEnd) (exit : Exit) → exit ≡ exit_of_serve end
+      → Comes_ held held' writes writes' p p' t t' end
+      → ServeRan door_faults handed returned visits closed given pace misses file host place wanted quota files files' held held' writes writes' p p' t t' exit
+  serve_ran law held held' writes writes' p p' t t' end exit is c = record {
+    end = end;
+    exit_is = is;
+    comes = c;
+    complete = told file refl;
+  }
+    where
+      told : (f : Option (List ℕ)) → file ≡ f → IfSome f (λ whole. OpensAlways (site_bytes whole)
+          → ¬ (Rose files files') → ¬ (Rose writes writes') → ¬ (Rose p.faults p'.faults) → ¬ (Rose t.faults t'.faults)
+          → (exit ≡ exits.Ok) ⊎ (exit ≡ exits.Memory))
+      told None same = tt
+      told (Some whole) same = λ opens no_read no_write no_port no_clock.
+          subst (λ (x : Exit). (x ≡ exits.Ok) ⊎ (x ≡ exits.Memory)) (sym is)
+          (complete_by law whole held held' writes writes' p p' t t' end same opens c no_read no_write no_port no_clock)

@@ -1,8 +1,9 @@
 -- What the service of a file's site comes to, and what that says of the exit.
 use Rattle.std.proofs.Common.{◌≡◌, ◌≢◌, ℕ, ◌≤◌, ◌<◌, ◌^◌, ◌⊎◌, inl, inr, refl, sym, ap, subst, ◌∙◌, arith, List, length, Option, Some, None, ◌+◌, ◌-◌, []}
-use Rattle.std.specs.Prelude.{IfSome, IsSome}
+use Rattle.std.specs.Prelude.{IfSome, IsSome, min}
 use Rattle.ob_io.specs.Faults.{Rose}
 use Rattle.ob_io.specs.Links.{inlet}
+use Rattle.ob_io.specs.Ticks.{last_moment}
 use Rattle.ob_server.specs.Alone.{ServesAlone}
 use Rattle.ob_server.specs.Answered.{EndRose, HasEndCause}
 use Rattle.ob_server.specs.Complete.{ServesWhole, IsWellFramed}
@@ -15,7 +16,7 @@ use Rattle.ob_program.specs.declared.exit.Exit.{Exit}
 use Rattle.ob_program.specs.declared.exit.Exit.TheVariants as exits
 use Rattle.ob_program.specs.declared.stdio.StdioEnd.{StdioEnd}
 use Rattle.ob_program.specs.declared.stdio.StdioEnd.TheVariants.{Served, Refused, ReadFault, ClockFault, Memory}
-use Rattle.ob_load.specs.Loads.{IsSite, RefusesBytes, IsOutside}
+use Rattle.ob_load.specs.Loads.{IsSite, OpenedIsNotRefused, OpensAlways, RefusesBytes, IsOutside}
 use Rattle.ob_site_file.specs.declared.fault.LoadFault.{LoadFault}
 use Rattle.ob_site_file.specs.declared.fault.LoadFault.TheVariants as faults
 use Rattle.ob_program.specs.Stdio.{exit_of, end_of_fault, site_bytes, ServesSite, HasCause, IsIdle, IsRefusedAs, Comes, StdioComes, StdioRan, IsUnserved}
@@ -291,13 +292,53 @@ complete_told end exit files files' reads reads' writes writes' clocks clocks' N
 complete_told end exit files files' reads reads' writes writes' clocks clocks' (Some all) is c whole = λ short framed f r w k.
     subst (λ (x : Exit). (x ≡ exits.Ok) ⊎ ((x ≡ exits.Refused) ⊎ (x ≡ exits.Memory))) (sym is) (ends_well end files files' reads reads' writes writes' clocks clocks' all c whole short framed f r w k)
 
+-- a file that opens a site isn't refused
+comes_unrefused : (law : OpenedIsNotRefused) (whole : List ℕ) (boot : ℕ) (fault : LoadFault) (left taken left' taken' held held' given given' : Option (List ℕ)) → OpensAlways (site_bytes whole)
+    → Comes (Some whole) boot (Refused fault) left taken left' taken' held held' given given' → ⊥
+comes_unrefused law whole boot fault left taken left' taken' held held' given given' opens comes =
+    let opened = opens boot in
+    comes.1.1 (law (site_bytes whole) boot opened.0 opened.1 fault opened.2 comes.1.0)
+
+stdio_unrefused : (law : OpenedIsNotRefused) (whole : List ℕ) (at : Option ℕ) (tick : ℕ) (fault : LoadFault) (left taken left' taken' held held' given given' : Option (List ℕ)) → OpensAlways (site_bytes whole)
+    → StdioComes (Some whole) at tick (Refused fault) left taken left' taken' held held' given given' → ⊥
+stdio_unrefused law whole None tick fault left taken left' taken' held held' given given' opens comes =
+    elim comes [
+      | inl is ↦ (let no : Refused fault ≡ ClockFault = is.0 in absurd (cc))
+      | inr (boot, booted, gave, c) ↦ comes_unrefused law whole boot fault left taken left' taken' held held' booted given' opens c
+    ]
+stdio_unrefused law whole (Some start) tick fault left taken left' taken' held held' given given' opens comes =
+    comes_unrefused law whole (min start last_moment) fault left taken left' taken' held held' (Some []) comes.1.0 opens comes.1.1
+
+exit_refused : (end : StdioEnd) → exit_of end ≡ exits.Refused → (fault : LoadFault) × (end ≡ Refused fault)
+exit_refused (Served ends.Closed) e = absurd (cc)
+exit_refused (Served ends.Asked) e = absurd (cc)
+exit_refused (Served ends.Truncated) e = absurd (cc)
+exit_refused (Served (ends.BadFrame fault at)) e = absurd (cc)
+exit_refused (Served ends.ReadFault) e = absurd (cc)
+exit_refused (Served ends.WriteFault) e = absurd (cc)
+exit_refused (Served ends.ClockFault) e = absurd (cc)
+exit_refused (Served ends.Budget) e = absurd (cc)
+exit_refused (Served ends.Memory) e = absurd (cc)
+exit_refused (Refused fault) e = (fault, refl)
+exit_refused ReadFault e = absurd (cc)
+exit_refused ClockFault e = absurd (cc)
+exit_refused Memory e = absurd (cc)
+
+opens_unrefused : (law : OpenedIsNotRefused) (file : Option (List ℕ)) (at : Option ℕ) (tick : ℕ) (end : StdioEnd) (exit : Exit) (left taken left' taken' held held' given given' : Option (List ℕ)) → exit ≡ exit_of end
+    → StdioComes file at tick end left taken left' taken' held held' given given' → IfSome file (λ whole. OpensAlways (site_bytes whole) → exit ≢ exits.Refused)
+opens_unrefused law None at tick end exit left taken left' taken' held held' given given' is comes = tt
+opens_unrefused law (Some whole) at tick end exit left taken left' taken' held held' given given' is comes = λ opens refused.
+    let r = exit_refused end (sym is ∙ refused) in
+    stdio_unrefused law whole at tick r.0 left taken left' taken' held held' given given' opens
+    (subst (λ (e : StdioEnd). StdioComes (Some whole) at tick e left taken left' taken' held held' given given') r.1 comes)
+
 -- the service came to this end, which is the exit
 pub stdio_ran : (file : Option (List ℕ)) (at : Option ℕ) (tick files files' : ℕ) (s s' : Streams) (t t' : ClockTold) (end : StdioEnd) (exit : Exit) → exit ≡ exit_of end
-    → StdioComes file at tick end s.left None s'.left None s.held s'.held t.given t'.given
+    → OpenedIsNotRefused → StdioComes file at tick end s.left None s'.left None s.held s'.held t.given t'.given
     → HasCause end files files' s.reads s'.reads s.writes s'.writes t.faults t'.faults
     → ((link : LinkEnd) → end ≡ Served link → ServesWhole s.left s.reads s'.reads s.writes s'.writes t.faults t'.faults link)
     → StdioRan file at tick files files' s s' t t' exit
-stdio_ran file at tick files files' s s' t t' end exit is comes cause whole = record {
+stdio_ran file at tick files files' s s' t t' end exit is law comes cause whole = record {
   end = end;
   exit_is = is;
   comes = comes;
@@ -305,6 +346,7 @@ stdio_ran file at tick files files' s s' t t' end exit is comes cause whole = re
   write = write_rose end exit files files' s.reads s'.reads s.writes s'.writes t.faults t'.faults is cause;
   clock = clock_rose end exit files files' s.reads s'.reads s.writes s'.writes t.faults t'.faults is cause;
   complete = complete_told end exit files files' s.reads s'.reads s.writes s'.writes t.faults t'.faults s.left is cause whole;
+  opens = opens_unrefused law file at tick end exit s.left None s'.left None s.held s'.held t.given t'.given is comes;
 }
 
 -- ---- moments

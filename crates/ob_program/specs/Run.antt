@@ -3,6 +3,7 @@ use Rattle.std.specs.Prelude.{◌≡◌, ℕ, Bool, true, List, Option, Some, No
 use Rattle.ob_command.specs.Command as commands
 use Rattle.ob_command.specs.Command.{Command}
 use Rattle.ob_dialogue.specs.Plans.{Program, Hrefs, Alarms}
+use Rattle.ob_io.specs.Ticks.{Pace}
 use Rattle.ob_io.specs.Visits.{Visit}
 use Rattle.ob_program.specs.declared.exit.Exit.{Exit}
 use Rattle.ob_program.specs.declared.exit.Exit.TheVariants as exits
@@ -16,14 +17,15 @@ use Rattle.ob_program.specs.Client.{ClientRan}
 abbrev pub IsUnread : (words : List (List ℕ)) → Exit → (untouched : Type 0) → Type 0
 IsUnread words exit untouched = (exit ≡ exits.Memory) × (commands.is_client words ≡ true) × untouched
 
-module _ {D C : Type 0} (faults handed returned : D → ℕ) (visits : D → Option (List Visit)) (closed : D → Bool) (given : C → Option (List ℕ)) (misses : C → ℕ) where
+module _ {D C : Type 0} (faults handed returned : D → ℕ) (visits : D → Option (List Visit)) (closed : D → Bool) (given : C → Option (List ℕ))
+    (pace : C → Option Pace) (misses : C → ℕ) where
   -- the command was done
   abbrev pub Ran : (content : List ℕ → Option (List ℕ)) → (files files' : ℕ) → (s s' : Streams) → (p p' : PortTold) → (d d' : Dialled) → (t t' : ClockTold)
       → Command → Exit → Type 0
   Ran content files files' s s' p p' d d' t t' (commands.stdio site at tick) exit =
       StdioRan (content site) at tick files files' s s' t t' exit
   Ran content files files' s s' p p' d d' t t' (commands.serve site host port workers quota) exit =
-      ServeRan faults handed returned visits closed given misses (content site) host port workers quota files files'
+      ServeRan faults handed returned visits closed given pace misses (content site) host port workers quota files files'
       s.held s'.held s.writes s'.writes p p' t t' exit
   Ran content files files' s s' p p' d d' t t' (commands.check file) exit =
       CheckRan (content file) files files' s.held s'.held s.writes s'.writes exit

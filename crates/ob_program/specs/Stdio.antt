@@ -1,5 +1,5 @@
 -- What the service of a file's site comes to.
-use Rattle.std.specs.Prelude.{◌≡◌, ◌⊎◌, ◌≤◌, ◌<◌, ◌^◌, ⊤, ℕ, List, [], ◌∷◌, Option, Some, None, IfSome, IsSome, min, take, length}
+use Rattle.std.specs.Prelude.{◌≡◌, ◌≢◌, ◌⊎◌, ◌≤◌, ◌<◌, ◌^◌, ⊤, ℕ, List, [], ◌∷◌, Option, Some, None, IfSome, IsSome, min, take, length}
 use Rattle.ob_io.specs.Faults.{Rose}
 use Rattle.ob_io.specs.Links.{inlet}
 use Rattle.ob_io.specs.Ticks.{last_moment, pace_of, AreFirstOf}
@@ -10,7 +10,7 @@ use Rattle.ob_server.specs.declared.end.LinkEnd.TheVariants as ends
 use Rattle.ob_site_rules.specs.Sites.{SiteState}
 use Rattle.ob_site_laws.specs.SiteLaws.{acts, IsSoundSite}
 use Rattle.ob_site_desk.specs.Seen.{KeepsWatches}
-use Rattle.ob_load.specs.Loads.{IsSite, RefusesBytes, IsOutside}
+use Rattle.ob_load.specs.Loads.{IsSite, OpensAlways, RefusesBytes, IsOutside}
 use Rattle.ob_site_file.specs.declared.fault.LoadFault.{LoadFault}
 use Rattle.ob_site_file.specs.declared.fault.LoadFault.TheVariants as faults
 use Rattle.ob_server.specs.Complete.{IsWellFramed}
@@ -110,7 +110,8 @@ pub record HasCause (end : StdioEnd) (files files' reads reads' writes writes' c
 
 -- The service of a file's site over a source and a sink came to some end, which is the exit; where a link's taken bytes aren't
 -- told, nothing is said of them by themselves. A fault has its cause in a count. Where the file opens a site and the source's
--- bytes are whole requests, fewer than 2^40, and nothing fails, they are answered to their end.
+-- bytes are whole requests, fewer than 2^40, and nothing fails, they are answered to their end. A file that opens a site isn't
+-- refused.
 pub record StdioRan (file : Option (List ℕ)) (at : Option ℕ) (tick files files' : ℕ) (s s' : Streams) (t t' : ClockTold) (exit : Exit) : Type 0 where
   pub end : StdioEnd
   pub exit_is : exit ≡ exit_of end
@@ -121,3 +122,4 @@ pub record StdioRan (file : Option (List ℕ)) (at : Option ℕ) (tick files fil
   pub complete : IfSome s.left (λ all. length all < 2 ^ 40 → IsWellFramed all
       → ¬ (Rose files files') → ¬ (Rose s.reads s'.reads) → ¬ (Rose s.writes s'.writes) → ¬ (Rose t.faults t'.faults)
       → (exit ≡ exits.Ok) ⊎ ((exit ≡ exits.Refused) ⊎ (exit ≡ exits.Memory)))
+  pub opens : IfSome file (λ whole. OpensAlways (site_bytes whole) → exit ≢ exits.Refused)

@@ -65,7 +65,7 @@ where
         (clock_told (C.faults clock.new) (C.given clock.new) (C.pace clock.new) (C.twins clock.new)) }
     // The command was done, and this is how it ended; but to read a client's words there may be no memory.
     ensures ran { IfSome (command (map string_bytes words.now)) (λ asked.
-        Ran P.D.faults P.D.handed P.D.returned P.D.visits P.D.is_closed C.given C.faults
+        Ran P.D.faults P.D.handed P.D.returned P.D.visits P.D.is_closed C.given C.pace C.faults
         (F.content files.old) (F.faults files.old) (F.faults files.new)
         (streams (S.left link.old.source) (K.held link.old.sink) (S.faults link.old.source) (K.faults link.old.sink))
         (streams (S.left link.new.source) (K.held link.new.sink) (S.faults link.new.source) (K.faults link.new.sink))

@@ -12,7 +12,7 @@ use crate::lines::site_line;
 use ob_command::Stdio;
 use ob_http::FrameFault;
 use ob_io::{Clock, Files, Link, Pair, Sink, Source, Ticker};
-use ob_load::{LoadFault, Loaded, load};
+use ob_load::{LoadFault, Loaded, load, opened_is_not_refused};
 use ob_server::{LinkEnd, serve_alone};
 use ob_times::Moment;
 use std::alloc::{AllocError, Global};
@@ -209,6 +209,7 @@ pub(crate) fn run_stdio<R: Wait, F: Files, S: Source, K: Sink, E: Sink, C: Clock
     ensures refused { result ≡ Exit.Refused → link.new ≡ link.old }
     ensures unasked { IsSome service.entry.at → clock.new ≡ clock.old }
 {
+    opened_is_not_refused();
     let end = stdio(rt, alloc, service, files, link, clock);
     tell(errors, end.line(alloc));
     end.exit()
