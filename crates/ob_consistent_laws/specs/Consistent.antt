@@ -5,7 +5,10 @@ use Rattle.ob_contracts.specs.Inherit.{Contracts}
 use Rattle.ob_alarms.specs.Changes.{State as Board}
 use Rattle.ob_site_rules.specs.Build.{Path}
 use Rattle.ob_site_rules.specs.State.{Plan, Log, State, with_board, roll}
+use Rattle.ob_site_rules.specs.Shown.{dressed}
 use Rattle.ob_site_rules.specs.Writes.{with_slot}
+use Rattle.ob_shown_laws.specs.Alike.{row}
+use Rattle.ob_shown_laws.specs.Changed.{PathsDiffer}
 use Rattle.ob_state.specs.States.{AreCounted}
 use Rattle.ob_opened.specs.Consistent.{IsConsistent}
 
@@ -24,3 +27,14 @@ pub record StaysConsistent (plan : Plan) (s : State) : Type 0 where
 
 abbrev pub StepsStayConsistent : Type 0
 StepsStayConsistent = (plan : Plan) (s : State) → IsConsistent plan s → StaysConsistent plan s
+
+-- No part that a step changes gives two nodes one path, those that roles derive among them.
+pub record PathsStay (plan : Plan) (s : State) : Type 0 where
+  pub slot : (p : Path) (slot : Slot) → PathsDiffer (row (dressed plan (record s { tree = with_slot p slot s.tree })))
+  pub logs : (ls : List (Path × Log)) → paths_of ls ≡ paths_of s.logs → PathsDiffer (row (dressed plan (record s { logs = ls })))
+  pub library : (lib : Contracts) → PathsDiffer (row (dressed plan (record s { library = lib })))
+  pub board : (b : Board) → PathsDiffer (row (dressed plan (with_board s b)))
+  pub rolls : PathsDiffer (row (dressed plan (roll s)))
+
+abbrev pub StepsKeepPaths : Type 0
+StepsKeepPaths = (plan : Plan) (s : State) → PathsDiffer (row (dressed plan s)) → PathsStay plan s

@@ -4,7 +4,7 @@
 //! Each function states a law by its contract and does nothing.
 #![tactic(auto)]
 
-ghost use Rattle.ob_consistent_laws.specs.Consistent.{StepsStayConsistent};
+ghost use Rattle.ob_consistent_laws.specs.Consistent.{StepsKeepPaths, StepsStayConsistent};
 ghost use Rattle.ob_consistent_laws.specs.Opened.{OpensApart};
 
 /// A state that is consistent with its plan (`IsConsistent` of ob_opened) is so with another slot at any path,
@@ -17,4 +17,9 @@ pub fn steps_stay_consistent()
 /// In each state that a document opens no two nodes have one path, those that roles derive among them.
 pub fn opens_apart()
     ensures { OpensApart }
+{}
+
+/// Where no two nodes have one path, those that roles derive among them, none have after any part of a step.
+pub fn steps_keep_paths()
+    ensures { StepsKeepPaths }
 {}
