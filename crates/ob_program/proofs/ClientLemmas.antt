@@ -3,6 +3,7 @@ use Rattle.std.proofs.Common.{◌≡◌, ℕ, true, refl, sym, ◌∙◌, List, 
 use Rattle.ob_dialogue.specs.Plans.{Program}
 use Rattle.ob_dialogue.specs.Turns.{begins}
 use Rattle.ob_dialogue.specs.Links.{TalksFrom, outside}
+use Rattle.ob_dialogue.specs.Completes.{Completes}
 use Rattle.ob_dialogue.specs.declared.ending.Ending.{Ending}
 use Rattle.ob_dialogue.specs.declared.ending.Ending.TheVariants as endings
 use Rattle.ob_io.specs.Faults.{Rose}
@@ -29,11 +30,13 @@ write_failed endings.Memory e = cc
 pub client_ran : (p : Program) (held held' : Option (List ℕ)) (writes writes' : ℕ) (d d' : Dialled) (ending : Ending) (exit : Exit) → exit ≡ exit_of_dialogue ending
     → TalksFrom p p.retries (begins p) (outside d.dials d.visits held) (outside d'.dials d'.visits held') ending
     → (ending ≡ endings.Link → Rose d.faults d'.faults × (d'.rose ≡ true)) → (ending ≡ endings.Write → Rose writes writes')
+    → Completes p (begins p) d.visits d'.visits d.faults d'.faults writes writes' ending
     → ClientRan p held held' writes writes' d d' exit
-client_ran p held held' writes writes' d d' ending exit is talks link write = record {
+client_ran p held held' writes writes' d d' ending exit is talks link write complete = record {
   ending = ending;
   exit_is = is;
   talks = talks;
   link = λ e. link (link_failed ending (sym is ∙ e));
   write = λ e. write (write_failed ending (sym is ∙ e));
+  complete = complete;
 }

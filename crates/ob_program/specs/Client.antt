@@ -5,6 +5,7 @@ use Rattle.ob_command.specs.declared.client.Console.{Console}
 use Rattle.ob_dialogue.specs.Plans.{Program, Hrefs, Alarms}
 use Rattle.ob_dialogue.specs.Turns.{begins}
 use Rattle.ob_dialogue.specs.Links.{TalksFrom, outside}
+use Rattle.ob_dialogue.specs.Completes.{Completes}
 use Rattle.ob_dialogue.specs.declared.ending.Ending.{Ending}
 use Rattle.ob_dialogue.specs.declared.ending.Ending.TheVariants as endings
 use Rattle.ob_io.specs.Faults.{Rose}
@@ -26,10 +27,11 @@ exit_of_dialogue endings.Write = exits.WriteFault
 exit_of_dialogue endings.Memory = exits.Memory
 
 -- The dialogue ended so, which is the exit. A link's fault comes only where the dialer's count rose, by its last call, and a
--- write fault where the sink's rose.
+-- write fault where the sink's rose. A dialogue that was served ended with Ok or for want of memory, where no count rose.
 pub record ClientRan (p : Program) (held held' : Option (List ℕ)) (writes writes' : ℕ) (d d' : Dialled) (exit : Exit) : Type 0 where
   pub ending : Ending
   pub exit_is : exit ≡ exit_of_dialogue ending
   pub talks : TalksFrom p p.retries (begins p) (outside d.dials d.visits held) (outside d'.dials d'.visits held') ending
   pub link : exit ≡ exits.LinkFault → Rose d.faults d'.faults × (d'.rose ≡ true)
   pub write : exit ≡ exits.WriteFault → Rose writes writes'
+  pub complete : Completes p (begins p) d.visits d'.visits d.faults d'.faults writes writes' ending

@@ -3,4 +3,4 @@ use Rattle.ob_program.proofs.client.run_client.Goals as goal
 
 pub returns : goal.returns
 returns g c =
-    client_ran _ _ _ _ _ _ _ c.converse-ending.result c.exit_of.result c.exit_of.ensures c.converse-ending.ensures.talks c.converse-ending.ensures.link c.converse-ending.ensures.sink
+    client_ran _ _ _ _ _ _ _ c.converse-ending.result c.exit_of.result c.exit_of.ensures c.converse-ending.ensures.talks c.converse-ending.ensures.link c.converse-ending.ensures.sink c.converse-ending.ensures.complete
