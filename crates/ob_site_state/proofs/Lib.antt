@@ -5,3 +5,6 @@ pub mod Events
 pub mod Noting
 pub mod Settling
 pub mod Rests
+pub mod Recording
+pub mod Aligned
+pub mod Rules

@@ -20,13 +20,13 @@ use Rattle.ob_times.specs.Times.{moment_instant}
 use Rattle.ob_tree.specs.declared.node.NodeId.{NodeId}
 use Rattle.ob_site_state.specs.declared.change.Change.{Change}
 use Rattle.ob_site_state.specs.declared.change.Change.TheVariants as change
-use Rattle.ob_site_state.specs.Changes.{undone, rewound, with_log, CanUndo, CanRewind, AddsEvent}
-use Rattle.ob_site_state.specs.Kept.{Kept, LogsAreBy, IsKept}
+use Rattle.ob_site_state.specs.Changes.{cut, undone, rewound, with_log, CanUndo, CanRewind, AddsEvent}
+use Rattle.ob_site_state.specs.Kept.{Kept, keys, LogsAreBy, IsKept}
 use Rattle.ob_site_state.proofs.Rewinding.{set_to, set_back, rewound-append, CanRewind-append}
 use Rattle.ob_site_state.proofs.Times.{LogsAreBy-later}
-use Rattle.ob_site_state.proofs.Places.{length-with_log, cut_back, recorded_by}
+use Rattle.ob_site_state.proofs.Places.{keys-with_log, length-with_log, cut_back, recorded_by}
 
-got_there : {A : Type 0} (xs : List A) (n : ℕ) → n < length xs → (x : A) × (slice_get xs n ≡ Some x)
+pub got_there : {A : Type 0} (xs : List A) (n : ℕ) → n < length xs → (x : A) × (slice_get xs n ≡ Some x)
 got_there [] n h = absurd (omega arith)
 got_there (x ∷ xs) zero h = (x, refl)
 got_there (x ∷ xs) (suc n) h = got_there xs n (omega arith)
@@ -74,12 +74,14 @@ can_set_back o n old new g well e is h f =
 
 -- A change that is noted.
 pub noted : (plan : Plan) (time : ℕ) (s t : State) (b c : Board) (since : ℕ) (found : List Change) (ch : Change) → IsKept plan time s b since found
-    → c.root ≡ b.root → c.rules ≡ b.rules → IsWellFormed t.tree → first_twice [] (paths t.tree) ≡ None → LogsAreBy time t.logs → CanUndo ch t → undone ch t ≡ s
+    → c.root ≡ b.root → c.rules ≡ b.rules → IsWellFormed t.tree → first_twice [] (paths t.tree) ≡ None → LogsAreBy time t.logs → keys t.logs ≡ keys s.logs → CanUndo ch t → undone ch t ≡ s
     → IsKept plan time t c since (found ++ ch ∷ [])
-noted plan time s t b c since found ch k root rules well differ by can back =
+noted plan time s t b c since found ch k root rules well differ by same can back =
     let e : rewound (found ++ ch ∷ []) t ≡ rewound found s = rewound-append found ch t ∙ ap (rewound found) back in record {
       root = root ∙ k.root;
       rules = rules ∙ k.rules;
+      histories = same ∙ k.histories;
+      apart = k.apart;
       well_formed = well;
       differ = differ;
       in_time = by;
@@ -136,6 +138,7 @@ slot_noted plan time s t b c since found items node old new k root rules within 
     (subst (λ (x : State). IsWellFormed x.tree) (sym is) (well_set s.tree n new k.well_formed within fits))
     (subst (λ (x : State). first_twice [] (paths x.tree) ≡ None) (sym is) (ap (λ (ps : List (Option TreePath)). first_twice [] ps) (paths_stay s.tree n new within) ∙ k.differ))
     (subst (λ (x : State). LogsAreBy time x.logs) (sym is) k.in_time)
+    (ap (λ (x : State). keys x.logs) is)
     (subst (λ (x : State). CanUndo (change.Slot node old) x) (sym is) can)
     (slot_back s t node old new within was is))
 
@@ -155,6 +158,7 @@ record_noted plan time s t b c since found items r place len k root rules at wit
     (subst (λ (x : State). IsWellFormed x.tree) (sym is) k.well_formed)
     (subst (λ (x : State). first_twice [] (paths x.tree) ≡ None) (sym is) k.differ)
     (subst (λ (x : State). LogsAreBy time x.logs) (sym is) (recorded_by time r at place s.logs k.in_time))
+    (ap (λ (x : State). keys x.logs) is ∙ keys-with_log (with_record r) place s.logs)
     (subst (λ (x : State). CanUndo (change.Records place len) x) (sym is) (subst (λ (n : ℕ). place < n) (sym (length-with_log (with_record r) place s.logs)) within))
     (record_back s t r place len was is))
 
@@ -167,6 +171,7 @@ event_noted plan time s t b c a since found items k root rules is adds all =
     (subst (λ (x : State). IsWellFormed x.tree) (sym is) k.well_formed)
     (subst (λ (x : State). first_twice [] (paths x.tree) ≡ None) (sym is) k.differ)
     (subst (λ (x : State). LogsAreBy time x.logs) (sym is) k.in_time)
+    (ap (λ (x : State). keys x.logs) is)
     adds.0 adds.1)
 
 -- what was before is what it was
@@ -178,6 +183,8 @@ pub begun : (plan : Plan) (time later : ℕ) (s : State) (b : Board) (since : �
 begun plan time later s b since found k h = record {
   root = k.root;
   rules = k.rules;
+  histories = k.histories;
+  apart = k.apart;
   well_formed = k.well_formed;
   differ = k.differ;
   in_time = LogsAreBy-later time later h s.logs k.in_time;
@@ -199,6 +206,16 @@ undone_differ (change.Records place len) s can differ = differ
 undone_differ change.Event s can differ = differ
 undone_differ (change.Contracts library) s can differ = differ
 
+keys-undone : (c : Change) (s : State) → keys (undone c s).logs ≡ keys s.logs
+keys-undone (change.Slot node slot) s = refl
+keys-undone (change.Records place len) s = keys-with_log (cut len) place s.logs
+keys-undone change.Event s = refl
+keys-undone (change.Contracts library) s = refl
+
+keys-rewound : (cs : List Change) (s : State) → keys (rewound cs s).logs ≡ keys s.logs
+keys-rewound [] s = refl
+keys-rewound (c ∷ cs) s = keys-undone c (rewound cs s) ∙ keys-rewound cs s
+
 pub rewound_well : (cs : List Change) (s : State) → CanRewind cs s → IsWellFormed s.tree → IsWellFormed (rewound cs s).tree
 rewound_well [] s can well = well
 rewound_well (c ∷ cs) s can well = undone_well c (rewound cs s) can.0 (rewound_well cs s can.1 well)
@@ -214,6 +231,8 @@ taken_back plan time s t b c since found k root rules is =
     let by : LogsAreBy since t.logs = subst (λ (x : State). LogsAreBy since x.logs) (sym is) k.in_time_before in record {
       root = root ∙ k.root;
       rules = rules ∙ k.rules;
+      histories = ap (λ (x : State). keys x.logs) is ∙ keys-rewound found s ∙ k.histories;
+      apart = k.apart;
       well_formed = subst (λ (x : State). IsWellFormed x.tree) (sym is) (rewound_well found s k.can_rewind k.well_formed);
       differ = subst (λ (x : State). first_twice [] (paths x.tree) ≡ None) (sym is) (rewound_differ found s k.can_rewind k.differ);
       in_time = by;

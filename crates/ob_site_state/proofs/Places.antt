@@ -12,7 +12,7 @@ use Rattle.ob_site_rules.specs.Build.{Path}
 use Rattle.ob_site_rules.specs.State.{Log}
 use Rattle.ob_site_rules.specs.Writes.{with_record}
 use Rattle.ob_site_state.specs.Changes.{cut, with_log}
-use Rattle.ob_site_state.specs.Kept.{log_of, entry_of, LogsAreBy}
+use Rattle.ob_site_state.specs.Kept.{log_of, entry_of, keys, LogsAreBy}
 use Rattle.ob_site_state.proofs.Times.{now_follows, AreBy-more, AreBy-take}
 
 -- a log that is changed as a history is one that is changed as a log
@@ -26,6 +26,11 @@ pub length-with_log : (f : Log → Log) (place : ℕ) (ls : List (Path × Log)) 
 length-with_log f place [] = refl
 length-with_log f zero (l ∷ ls) = refl
 length-with_log f (suc place) (l ∷ ls) = ap (λ n. suc n) (length-with_log f place ls)
+
+pub keys-with_log : (f : Log → Log) (place : ℕ) (ls : List (Path × Log)) → keys (with_log f place ls) ≡ keys ls
+keys-with_log f place [] = refl
+keys-with_log f zero (l ∷ ls) = refl
+keys-with_log f (suc place) (l ∷ ls) = ap (λ (ps : List Path). l.0 ∷ ps) (keys-with_log f place ls)
 
 -- a record that is put last and cut off
 pub cut_back : (r : Record) (len : ℕ) (place : ℕ) (ls : List (Path × Log)) → Some len ≡ option_map (λ l. length l.1.kept) (slice_get ls place)

@@ -18,7 +18,7 @@ use Rattle.ob_site_state.specs.declared.change.Change.TheVariants as change
 use Rattle.ob_site_state.specs.Changes.{cut, with_log, undone, rewound, settled_by, settled_all, CanUndo, CanRewind, IsPlaced}
 use Rattle.ob_site_state.proofs.Places.{length-with_log}
 use Rattle.std.proofs.lemmas.List.{take_more}
-use Rattle.ob_site_state.specs.Kept.{Kept, log_of, LogsAreBy, AreBy, IsKept}
+use Rattle.ob_site_state.specs.Kept.{Kept, keys, log_of, LogsAreBy, AreBy, IsKept}
 use Rattle.ob_site_state.proofs.Noting.{same_kept}
 
 abbrev first_log : List (Path × Log) → Log → Log
@@ -141,6 +141,10 @@ rolled_by : (time : ℕ) (ls : List (Path × Log)) → LogsAreBy time ls → Log
 rolled_by time [] by = tt
 rolled_by time (l ∷ ls) by = (rolled_log_by time l.1.capacity l.1.gone l.1.kept by.0, rolled_by time ls by.1)
 
+keys-rolled : (ls : List (Path × Log)) → keys (rolled_logs ls) ≡ keys ls
+keys-rolled [] = refl
+keys-rolled (l ∷ ls) = ap (λ (ps : List Path). l.0 ∷ ps) (keys-rolled ls)
+
 -- What the parts of a state owe one another at the end of a step.
 pub committed : (plan : Plan) (time : ℕ) (s t : State) (b c : Board) (since : ℕ) (found : List Change) → IsKept plan time s b since found
     → c.root ≡ b.root → c.rules ≡ b.rules → t ≡ roll s → IsKept plan time t c time []
@@ -148,6 +152,8 @@ committed plan time s t b c since found k root rules is =
     let by : LogsAreBy time t.logs = subst (λ (x : State). LogsAreBy time x.logs) (sym is) (rolled_by time s.logs k.in_time) in record {
       root = root ∙ k.root;
       rules = rules ∙ k.rules;
+      histories = ap (λ (x : State). keys x.logs) is ∙ keys-rolled s.logs ∙ k.histories;
+      apart = k.apart;
       well_formed = subst (λ (x : State). IsWellFormed x.tree) (sym is) k.well_formed;
       differ = subst (λ (x : State). first_twice [] (paths x.tree) ≡ None) (sym is) k.differ;
       in_time = by;

@@ -11,6 +11,7 @@ use Rattle.ob_tree.specs.Paths.{first_twice}
 use Rattle.ob_tree.specs.Laid.{paths}
 use Rattle.ob_site_rules.specs.Build.{Path}
 use Rattle.ob_site_rules.specs.State.{Plan, Log, State, numbered_from, roll}
+use Rattle.ob_opened.specs.Laws.{Apart}
 use Rattle.ob_site_state.specs.declared.change.Change.{Change}
 use Rattle.ob_site_state.specs.Changes.{rewound, CanRewind}
 
@@ -53,12 +54,19 @@ abbrev pub LogsAreBy : ℕ → List (Path × Log) → Type 0
 LogsAreBy time [] = Unit {0}
 LogsAreBy time (l ∷ ls) = AreBy time l.1.kept × LogsAreBy time ls
 
--- What the parts owe one another: the alarms are those of the plan's root and rules; the own objects are well formed, and no two
+-- the paths of histories
+abbrev pub keys : List (Path × Log) → List Path
+keys ls = map (λ l. l.0) ls
+
+-- What the parts owe one another: the alarms are those of the plan's root and rules; the logs are those of the
+-- plan's histories, in their order, no two of which have one path; the own objects are well formed, and no two
 -- nodes have one path; no record is after the time; each change can be taken back; and before the step no record was after
 -- the time before it, and each log was within its capacity.
 pub record IsKept (plan : Plan) (time : ℕ) (s : State) (board : Board) (since : ℕ) (found : List Change) : Type 0 where
   pub root : board.root ≡ plan.root
   pub rules : board.rules ≡ numbered_from 0 plan.rules
+  pub histories : keys s.logs ≡ map (λ h. h.0) plan.histories
+  pub apart : Apart (map (λ h. h.0) plan.histories)
   pub well_formed : IsWellFormed s.tree
   pub differ : first_twice [] (paths s.tree) ≡ None
   pub in_time : LogsAreBy time s.logs

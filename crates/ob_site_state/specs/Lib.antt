@@ -1,5 +1,6 @@
 pub mod Changes
 pub mod Kept
+pub mod Recorded
 pub mod Codes
 pub mod Contents
 pub mod States

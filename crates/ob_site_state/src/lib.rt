@@ -7,6 +7,7 @@
 mod change;
 mod contents;
 mod logs;
+mod roles;
 mod state;
 
 pub use change::Change;

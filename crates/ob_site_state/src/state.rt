@@ -1,5 +1,5 @@
 //! The state of a site in place.
-ghost use Rattle.std.specs.Prelude.{◌≡◌, ◌<◌, ◌≤◌, ◌+◌, ◌^◌, [], None, max, map, option_map, length, slice_get, Some, IsTrue, OnOk, OnErr};
+ghost use Rattle.std.specs.Prelude.{◌≡◌, ℕ, true, false, ◌<◌, ◌≤◌, ◌+◌, ◌^◌, [], None, max, map, option_map, length, slice_get, Some, IsTrue, OnOk, OnErr};
 ghost use Rattle.ob_times.specs.Times.{moment_instant};
 ghost use Rattle.ob_object.specs.declared.head.Head.{Head};
 ghost use Rattle.ob_object.specs.Fits.{fits_slot};
@@ -10,17 +10,22 @@ ghost use Rattle.ob_alarms.specs.Changes.{on_value, on_ack};
 ghost use Rattle.ob_history.specs.Records.{IsRecord};
 ghost use Rattle.ob_site_rules.specs.Build.{Path};
 ghost use Rattle.ob_site_rules.specs.State.{Log as SiteLog, numbered_from, board, with_board, roll};
-ghost use Rattle.ob_site_rules.specs.Writes.{events_ever, with_record};
+ghost use Rattle.ob_site_rules.specs.Writes.{events_ever, records_from, with_record, recorded, board_after};
 ghost use Rattle.ob_object.specs.WellFormed.{IsWellFormed};
 ghost use Rattle.ob_tree.specs.Laid.{paths};
 ghost use Rattle.ob_tree.specs.Paths.{first_twice};
 ghost use Rattle.ob_answers.specs.Plans.{plan as plan_of};
+ghost use Rattle.ob_opened.specs.Laws.{Apart};
+ghost use Rattle.ob_site_rules.specs.Shown.{rule_of};
+ghost use Rattle.ob_state.specs.Fitting.{TakesIfRule};
+ghost use Rattle.ob_site_state.specs.Recorded.{recorded_at, TakesRecord};
 ghost use Rattle.ob_site_state.specs.Changes.{with_log};
-ghost use Rattle.ob_site_state.specs.Kept.{LogsAreBy};
+ghost use Rattle.ob_site_state.specs.Kept.{keys, LogsAreBy};
 ghost use Rattle.ob_site_state.specs.Contents.{state_in};
 
 use crate::change::Change;
 use crate::contents::Contents;
+use crate::roles::{has_source, number_in, rule_of};
 use ob_alarms::Num;
 use ob_answers::Plan;
 use ob_history::Record;
@@ -94,6 +99,8 @@ impl State {
     pub fn new(alloc: Global, plan: Plan, time: Moment, contents: Contents) -> State
         requires root { contents.board.root ≡ plan.root }
         requires rules { contents.board.rules ≡ numbered_from 0 (plan_of plan).rules }
+        requires histories { keys (state_in contents).logs ≡ map (λ h. h.0) (plan_of plan).histories }
+        requires apart { Apart (map (λ h. h.0) (plan_of plan).histories) }
         requires well_formed { IsWellFormed contents.tree.root }
         requires differ { first_twice [] (paths contents.tree.root) ≡ None }
         requires in_time { LogsAreBy time (state_in contents).logs }
@@ -177,6 +184,67 @@ impl State {
             self.found.push_reserved(Change::Event);
         }
         Ok(())
+    }
+
+    /// Whether the history of a place records a node.
+    fn records(&self, place: usize, source: &Text) -> bool
+        requires { place < length self.now.now.logs }
+        ensures { (l : Path × SiteLog) → slice_get self.now.now.logs place ≡ Some l → result ≡ records_from self.now.plan source.now l.0 }
+    {
+        has_source(&self.plan.histories, place, source)
+    }
+
+    /// Puts a record of a value last in the log of a place, if the history records the node. Want of memory leaves all
+    /// as it was.
+    fn record_if(
+        &mut self,
+        place: usize,
+        source: &Text,
+        kind: Kind,
+        slot: &Slot,
+    ) -> Result<(), AllocError>
+        requires there { place < length self.old.now.logs }
+        requires takes { TakesRecord self.old.plan (record { time = moment_instant self.old.time; kind = kind; slot = slot.now }) source.now self.old.now.logs place }
+        ensures ok { OnOk result (self.new ≡ record self.old { now = record self.old.now { logs = recorded_at self.old.plan (record { time = moment_instant self.old.time; kind = kind; slot = slot.now }) source.now place self.old.now.logs } }) }
+        ensures err { OnErr result (self.new ≡ self.old) }
+    {
+        if !self.records(place, source) {
+            return Ok(());
+        }
+        let copy = slot.copy()?;
+        self.record(place, kind, copy)
+    }
+
+    /// The number of histories.
+    fn histories(&self) -> usize
+        ensures { result ≡ length self.now.now.logs }
+    {
+        self.contents.logs.len()
+    }
+
+    /// Puts a record of a value behind each history of a node. Want of memory leaves all but the state now as it was.
+    pub fn record_all(&mut self, source: &Text, kind: Kind, slot: &Slot) -> Result<(), AllocError>
+        requires { (place : ℕ) → TakesRecord self.old.plan (record { time = moment_instant self.old.time; kind = kind; slot = slot.now }) source.now self.old.now.logs place }
+        ensures ok { OnOk result (self.new ≡ record self.old { now = record self.old.now { logs = recorded self.old.plan self.old.time source.now kind slot.now self.old.now.logs } }) }
+        ensures err { OnErr result (self.new ≡ record self.old { now = self.new.now }) }
+    {
+        let count = self.histories();
+        for place in 0..count {
+            self.record_if(place, source, kind, slot)?;
+        }
+        Ok(())
+    }
+
+    /// Lets the rule of a node act on a value of it. Want of memory leaves all as it was.
+    pub fn act(&mut self, source: &Text, slot: &Slot) -> Result<(), AllocError>
+        requires { TakesIfRule (numbered_from 0 self.old.plan.rules) (rule_of self.old.plan source.now) slot.now }
+        ensures ok { OnOk result (self.new ≡ record self.old { now = with_board self.old.now (board_after self.old.plan self.old.now self.old.time source.now slot.now) }) }
+        ensures err { OnErr result (self.new ≡ self.old) }
+    {
+        match rule_of(&self.plan.rules, source) {
+            Some(rule) => self.take_value(rule, number_in(slot)),
+            None => Ok(()),
+        }
     }
 
     /// Takes back all that the step has changed. It takes no memory.

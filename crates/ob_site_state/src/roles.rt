@@ -1,0 +1,47 @@
+//! What the plan says of a node: the rule that it has, and which histories record it.
+ghost use Rattle.std.specs.Prelude.{◌≡◌, ◌<◌, length, map, slice_get, Some};
+ghost use Rattle.ob_answers.specs.Plans.{point_rule};
+ghost use Rattle.ob_site_rules.specs.Build.{Path};
+ghost use Rattle.ob_site_rules.specs.State.{is_path};
+ghost use Rattle.ob_site_rules.specs.Shown.{rule_of};
+ghost use Rattle.ob_site_rules.specs.Writes.{number_in};
+ghost use Rattle.ob_site_state.specs.Recorded.{rule_in, HasSource};
+
+use ob_alarms::Num;
+use ob_answers::PointRule;
+use ob_object::Slot;
+use ob_values::{Text, Value};
+
+/// The place of the rule that has this source.
+pub(crate) fn rule_of(rules: &[PointRule], source: &Text) -> Option<u64>
+    ensures { result ≡ rule_in (map point_rule rules.now) source.now }
+{
+    for (place, rule) in rules.iter().enumerate() {
+        if rule.source.as_str() == source.as_str() {
+            return Some(place as u64);
+        }
+    }
+    None
+}
+
+/// The number that a rule looks at.
+pub(crate) fn number_in(slot: &Slot) -> Option<Num>
+    ensures { result ≡ number_in slot.now }
+{
+    match slot {
+        Slot::Is(Value::Int(number)) => Some(Num::Int(*number)),
+        Slot::Is(Value::Real(number)) => Some(Num::Real(*number)),
+        _ => None,
+    }
+}
+
+/// Whether the history of a place has this source.
+pub(crate) fn has_source(histories: &[(Text, Option<Text>)], place: usize, source: &Text) -> bool
+    requires { place < length histories.now }
+    ensures { HasSource histories.now place source.now result }
+{
+    match &histories[place].1 {
+        Some(own) => own.as_str() == source.as_str(),
+        None => false,
+    }
+}
