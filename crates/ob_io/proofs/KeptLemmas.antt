@@ -84,25 +84,26 @@ module _ {L : Type 0} (left taken held : L → Option (List ℕ)) (reads writes 
 pub untold_link : (left taken held : Option (List ℕ)) (reads writes : ℕ) → (visit : Visit) × Unit {0} × (false ≡ true → IsVisit visit left taken held reads writes)
 untold_link left taken held reads writes = (blank_visit, tt, λ some. absurd (let no : false ≡ true = some in cc))
 
-doorway_is : (faults handed returned : ℕ) (visits : Option (List Visit)) (d : Doorway) → doorway_of faults handed returned visits ≡ Some d → IsDoorway d faults handed returned visits
-doorway_is f h r (Some vs) d is =
-    let told : Doorway = record { faults = f; handed = h; returned = r; visits = vs } in
+doorway_is : (faults handed returned : ℕ) (closed : Bool) (visits : Option (List Visit)) (d : Doorway) → doorway_of faults handed returned closed visits ≡ Some d
+    → IsDoorway d faults handed returned closed visits
+doorway_is f h r c (Some vs) d is =
+    let told : Doorway = record { faults = f; handed = h; returned = r; closed = c; visits = vs } in
     let same : told ≡ d = cc in
-    subst (λ (u : Doorway). IsDoorway u f h r (Some vs)) same
-    (record { faults_are = refl; handed_are = refl; returned_are = refl; visits_are = refl })
-doorway_is f h r None d is = absurd (cc)
+    subst (λ (u : Doorway). IsDoorway u f h r c (Some vs)) same
+    (record { faults_are = refl; handed_are = refl; returned_are = refl; closed_is = refl; visits_are = refl })
+doorway_is f h r c None d is = absurd (cc)
 
 blank_doorway : Doorway
-blank_doorway = record { faults = 0; handed = 0; returned = 0; visits = [] }
+blank_doorway = record { faults = 0; handed = 0; returned = 0; closed = false; visits = [] }
 
-module _ {D : Type 0} (faults handed returned : D → ℕ) (visits : D → Option (List Visit)) where
+module _ {D : Type 0} (faults handed returned : D → ℕ) (closed : D → Bool) (visits : D → Option (List Visit)) where
   pub came_back : (has has' : Bool) (doors doors' : List D) (door : D) → Keeps has has' doors doors' door
-      → (doorway : Doorway) × Gains (doorways_of faults handed returned visits has doors) (doorway ∷ []) (doorways_of faults handed returned visits has' doors')
-      × (IsSome (doorways_of faults handed returned visits has' doors') → IsDoorway doorway (faults door) (handed door) (returned door) (visits door))
+      → (doorway : Doorway) × Gains (doorways_of faults handed returned closed visits has doors) (doorway ∷ []) (doorways_of faults handed returned closed visits has' doors')
+      × (IsSome (doorways_of faults handed returned closed visits has' doors') → IsDoorway doorway (faults door) (handed door) (returned door) (closed door) (visits door))
   came_back has has' doors doors' door keeps =
-      let last = told_last (λ (d : D). doorway_of (faults d) (handed d) (returned d) (visits d)) blank_doorway has has' doors doors' door keeps in
-      (last.0, last.1, λ some. doorway_is (faults door) (handed door) (returned door) (visits door) last.0 (last.2 some))
+      let last = told_last (λ (d : D). doorway_of (faults d) (handed d) (returned d) (closed d) (visits d)) blank_doorway has has' doors doors' door keeps in
+      (last.0, last.1, λ some. doorway_is (faults door) (handed door) (returned door) (closed door) (visits door) last.0 (last.2 some))
 
 -- nothing is told of a door that came back
-pub untold_door : (faults handed returned : ℕ) (visits : Option (List Visit)) → (doorway : Doorway) × Unit {0} × (false ≡ true → IsDoorway doorway faults handed returned visits)
-untold_door faults handed returned visits = (blank_doorway, tt, λ some. absurd (let no : false ≡ true = some in cc))
+pub untold_door : (faults handed returned : ℕ) (closed : Bool) (visits : Option (List Visit)) → (doorway : Doorway) × Unit {0} × (false ≡ true → IsDoorway doorway faults handed returned closed visits)
+untold_door faults handed returned closed visits = (blank_doorway, tt, λ some. absurd (let no : false ≡ true = some in cc))

@@ -24,20 +24,20 @@ visit_of (Some left) (Some taken) (Some held) reads writes =
 visit_of left taken held reads writes = None
 
 -- the doorway of a door, where the door tells its links
-abbrev pub doorway_of : ℕ → ℕ → ℕ → Option (List Visit) → Option Doorway
-doorway_of faults handed returned (Some visits) =
-    Some (record { faults = faults; handed = handed; returned = returned; visits = visits })
-doorway_of faults handed returned None = None
+abbrev pub doorway_of : ℕ → ℕ → ℕ → Bool → Option (List Visit) → Option Doorway
+doorway_of faults handed returned closed (Some visits) =
+    Some (record { faults = faults; handed = handed; returned = returned; closed = closed; visits = visits })
+doorway_of faults handed returned closed None = None
 
 module _ {L : Type 0} (left taken held : L → Option (List ℕ)) (reads writes : L → ℕ) where
   abbrev pub visits_of : Bool → List L → Option (List Visit)
   visits_of has_room links =
       told_of (λ (link : L). visit_of (left link) (taken link) (held link) (reads link) (writes link)) has_room links
 
-module _ {D : Type 0} (faults handed returned : D → ℕ) (visits : D → Option (List Visit)) where
+module _ {D : Type 0} (faults handed returned : D → ℕ) (closed : D → Bool) (visits : D → Option (List Visit)) where
   abbrev pub doorways_of : Bool → List D → Option (List Doorway)
   doorways_of has_room doors =
-      told_of (λ (door : D). doorway_of (faults door) (handed door) (returned door) (visits door)) has_room doors
+      told_of (λ (door : D). doorway_of (faults door) (handed door) (returned door) (closed door) (visits door)) has_room doors
 
 abbrev pub dial_of : Place → Dial
 dial_of place = record { host = place.host.items; port = place.port; failed = place.failed }

@@ -83,7 +83,7 @@ impl<L: Link + Drop + Send> Port for MemPort<L> {
     ghost listens = { λ s. dials_of s.listens.is_told s.listens.things.items };
 
     ghost doors = { λ s. doorways_of (λ d. d.calls.faults) (λ d. d.handed) (λ d. d.returned)
-        (λ d. visits_of L.left L.taken L.held L.read_faults L.write_faults d.back.is_told d.back.things.items)
+        (λ d. length d.waiting.items == 0) (λ d. visits_of L.left L.taken L.held L.read_faults L.write_faults d.back.is_told d.back.things.items)
         s.back.is_told s.back.things.items };
 
     fn listen(&mut self, host: &str, port: u16) -> Result<(), Failed>
@@ -92,10 +92,10 @@ impl<L: Link + Drop + Send> Port for MemPort<L> {
             (dials_of self.new.listens.is_told self.new.listens.things.items) }
         ensures apart { (self.new.opened ≡ self.old.opened) × (self.new.returned ≡ self.old.returned)
             × (doorways_of (λ d. d.calls.faults) (λ d. d.handed) (λ d. d.returned)
-            (λ d. visits_of L.left L.taken L.held L.read_faults L.write_faults d.back.is_told d.back.things.items)
+            (λ d. length d.waiting.items == 0) (λ d. visits_of L.left L.taken L.held L.read_faults L.write_faults d.back.is_told d.back.things.items)
             self.new.back.is_told self.new.back.things.items
             ≡ doorways_of (λ d. d.calls.faults) (λ d. d.handed) (λ d. d.returned)
-            (λ d. visits_of L.left L.taken L.held L.read_faults L.write_faults d.back.is_told d.back.things.items)
+            (λ d. length d.waiting.items == 0) (λ d. visits_of L.left L.taken L.held L.read_faults L.write_faults d.back.is_told d.back.things.items)
             self.old.back.is_told self.old.back.things.items) }
         ensures cause { HasCause self.old.calls.faults self.new.calls.faults result }
         ensures same { self.new.unopened.items ≡ self.old.unopened.items }
@@ -119,10 +119,10 @@ impl<L: Link + Drop + Send> Port for MemPort<L> {
             × (dials_of self.new.listens.is_told self.new.listens.things.items
             ≡ dials_of self.old.listens.is_told self.old.listens.things.items)
             × (doorways_of (λ d. d.calls.faults) (λ d. d.handed) (λ d. d.returned)
-            (λ d. visits_of L.left L.taken L.held L.read_faults L.write_faults d.back.is_told d.back.things.items)
+            (λ d. length d.waiting.items == 0) (λ d. visits_of L.left L.taken L.held L.read_faults L.write_faults d.back.is_told d.back.things.items)
             self.new.back.is_told self.new.back.things.items
             ≡ doorways_of (λ d. d.calls.faults) (λ d. d.handed) (λ d. d.returned)
-            (λ d. visits_of L.left L.taken L.held L.read_faults L.write_faults d.back.is_told d.back.things.items)
+            (λ d. length d.waiting.items == 0) (λ d. visits_of L.left L.taken L.held L.read_faults L.write_faults d.back.is_told d.back.things.items)
             self.old.back.is_told self.old.back.things.items) }
         ensures cause { HasCause self.old.calls.faults self.new.calls.faults result }
         ensures next { MatchResult result

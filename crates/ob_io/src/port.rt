@@ -49,7 +49,7 @@ pub trait Port {
     /// Takes a door back. The count rises where the door's isn't 0.
     fn back(&mut self, door: Self::D)
         ensures door { GainsDoor (doors self.old) (doors self.new) (Self.D.faults door)
-            (Self.D.handed door) (Self.D.returned door) (Self.D.visits door) }
+            (Self.D.handed door) (Self.D.returned door) (Self.D.is_closed door) (Self.D.visits door) }
         ensures returned { returned self.new ≡ raised (returned self.old) 1 }
         ensures whole { Self.D.faults door ≡ 0 → faults self.new ≡ faults self.old }
         ensures later { faults self.old ≤ faults self.new }

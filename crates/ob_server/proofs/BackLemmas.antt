@@ -1,5 +1,5 @@
 -- One more worker, whose pass, door and clock were joined and given back.
-use Rattle.std.proofs.Common.{arith, ◌≡◌, ◌⊎◌, ◌<◌, ◌≤◌, ◌+◌, ℕ, List, [], ◌∷◌, ◌++◌, Option, refl, sym, ap, subst, ◌∙◌, inl, ⊎_elim, map, length, sum_by, get_or, append_assoc}
+use Rattle.std.proofs.Common.{arith, ◌≡◌, ◌⊎◌, ◌<◌, ◌≤◌, ◌+◌, ℕ, Bool, List, [], ◌∷◌, ◌++◌, Option, refl, sym, ap, subst, ◌∙◌, inl, ⊎_elim, map, length, sum_by, get_or, append_assoc}
 use Rattle.std.proofs.lemmas.Bool.{cases_lt}
 use Rattle.std.proofs.lemmas.List.Sums.{sum_by-cons}
 use Rattle.ob_io.specs.Doors.{GainsDoor}
@@ -45,8 +45,8 @@ taken_is F all rest more done w is out each =
 pub taken_out : {W : Type 0} (all rest more done : List W) (w : W) → all ≡ more ++ done → more ≡ rest ++ w ∷ [] → all ≡ rest ++ (w ∷ done)
 taken_out all rest more done w is out = is ∙ (ap (λ (l : List _). l ++ done) out ∙ append_assoc rest (w ∷ []) done)
 
-module _ {S D C Q P : Type 0} (act : S → Q → ℕ → S × P) (faults handed returned : D → ℕ) (visits : D → Option (List Visit)) (given : C → Option (List ℕ)) (misses : C → ℕ) (opening : S) where
-  pub back_none : (pass : Standing Q P) (port : PortTold) (clock : ClockTold) → GivenBack act faults handed returned visits given misses opening [] pass pass port port clock clock
+module _ {S D C Q P : Type 0} (act : S → Q → ℕ → S × P) (faults handed returned : D → ℕ) (visits : D → Option (List Visit)) (closed : D → Bool) (given : C → Option (List ℕ)) (misses : C → ℕ) (opening : S) where
+  pub back_none : (pass : Standing Q P) (port : PortTold) (clock : ClockTold) → GivenBack act faults handed returned visits closed given misses opening [] pass pass port port clock clock
   back_none pass port clock = record {
     joined = joined_none act opening pass;
     doors = refl;
@@ -59,16 +59,16 @@ module _ {S D C Q P : Type 0} (act : S → Q → ℕ → S × P) (faults handed 
   }
 
   pub back_more : (w : Worker S D C Q P) (done : List (Worker S D C Q P)) (pass pass' pass'' : Standing Q P) (port port' port'' : PortTold) (clock clock' clock'' : ClockTold)
-      → GivenBack act faults handed returned visits given misses opening done pass pass' port port' clock clock'
+      → GivenBack act faults handed returned visits closed given misses opening done pass pass' port port' clock clock'
       → (pass''.table ≡ pass'.table) × (pass''.since ≡ pass'.since) × (pass''.numbers ≡ pass'.numbers ++ w.pass.numbers) → (pass''.seen ≡ pass'.seen) ⊎ (pass''.seen ≡ w.pass.seen)
       → HasSeen pass'.numbers pass'.seen pass''.seen → HasSeen w.pass.numbers w.pass.seen pass''.seen → mine pass'' ≡ mine pass'
-      → GainsDoor port'.doors port''.doors (faults w.door) (handed w.door) (returned w.door) (visits w.door) → port''.returned ≡ raised port'.returned 1
+      → GainsDoor port'.doors port''.doors (faults w.door) (handed w.door) (returned w.door) (closed w.door) (visits w.door) → port''.returned ≡ raised port'.returned 1
       → (faults w.door ≡ 0 → port''.faults ≡ port'.faults) → port'.faults ≤ port''.faults → (¬ (faults w.door ≡ 0) → Rose port'.faults port''.faults)
       → (port''.opened ≡ port'.opened) × (port''.listens ≡ port'.listens)
       → GainsTwin clock'.twins clock''.twins (given w.clock) (misses w.clock)
       → (misses w.clock ≡ 0 → clock''.faults ≡ clock'.faults) → clock'.faults ≤ clock''.faults → (¬ (misses w.clock ≡ 0) → Rose clock'.faults clock''.faults)
       → clock''.given ≡ clock'.given → clock''.pace ≡ clock'.pace
-      → GivenBack act faults handed returned visits given misses opening (w ∷ done) pass pass'' port port'' clock clock''
+      → GivenBack act faults handed returned visits closed given misses opening (w ∷ done) pass pass'' port port'' clock clock''
   back_more w done pass pass' pass'' port port' port'' clock clock' clock'' b same longer own_seen other_seen calls door back door_whole door_later door_broken port_same twin clock_whole clock_later clock_broken given_same pace_same = record {
     joined = joined_more act opening pass pass' pass'' w.pass (map (λ (v : Worker S D C Q P). v.pass) done) b.joined same longer own_seen other_seen calls;
     doors = (port'.doors, b.doors, door);

@@ -282,7 +282,7 @@ module _ {S D C : Type 0} (faults handed returned : D → ℕ) (visits : D → O
     pub doors_served : (first left last : Standing Asked Object) (before after : List (Worker S D C Asked Object)) (result : Result (Unit {0}) WorkerEnd) (p q r : PortTold) (t u v : ClockTold) (links : ℕ) (end : WorkerEnd)
         → IsFirst first → HasOpened faults handed returned visits given pace misses count before result first left p q t u → (length before ≡ count) × (u.twins ≡ t.twins)
         → length after ≡ length before → AllRan closed act ns opening t.pace quota before after → links ≡ sum_by (λ (w : Worker S D C Asked Object). w.links) after → end ≡ first_end after
-        → GivenBack act faults handed returned visits given misses opening after left last q r u v → Serves_ last.seen p r t v (Some links) end
+        → GivenBack act faults handed returned visits closed given misses opening after left last q r u v → Serves_ last.seen p r t v (Some links) end
     doors_served first left last before after result p q r t u v links end is o all same ran links_are end_is back =
         let whole = served_whole closed act ns opening t.pace quota first left last before after is o.split same ran back.joined in
         let each = all_served closed act ns opening t.pace quota before after same o.are_ready ran in
@@ -291,7 +291,7 @@ module _ {S D C : Type 0} (faults handed returned : D → ℕ) (visits : D → O
           worked = each.0;
           legal = whole.legal;
           made = whole.made;
-          doors = subst (λ (ds : Option (List Doorway)). GainsDoors faults handed returned visits ds (map (λ (w : Worker S D C Asked Object). w.door) after) r.doors) o.port_same.2 back.doors;
+          doors = subst (λ (ds : Option (List Doorway)). GainsDoors faults handed returned visits closed ds (map (λ (w : Worker S D C Asked Object). w.door) after) r.doors) o.port_same.2 back.doors;
           opened = subst (λ (n : ℕ). Counts p.opened n r.opened) (sym same) (counts_at _ _ _ _ _ refl back.port_same.0 o.opened);
           doors_back = counts_at _ _ _ _ _ o.port_same.0 refl back.doors_back;
           listens = back.port_same.1 ∙ o.port_same.1;
@@ -307,7 +307,7 @@ module _ {S D C : Type 0} (faults handed returned : D → ℕ) (visits : D → O
     -- not all could begin
     pub doors_unserved : (first left last : Standing Asked Object) (ready : List (Worker S D C Asked Object)) (result : Result (Unit {0}) WorkerEnd) (p q r : PortTold) (t u v : ClockTold) (end : WorkerEnd)
         → IsFirst first → HasOpened faults handed returned visits given pace misses count ready result first left p q t u → is_fault end ≡ true
-        → GivenBack act faults handed returned visits given misses opening ready left last q r u v → Serves_ last.seen p r t v None end
+        → GivenBack act faults handed returned visits closed given misses opening ready left last q r u v → Serves_ last.seen p r t v None end
     doors_unserved first left last ready result p q r t u v end is o fault back =
         let whole = idle_whole closed act ns opening t.pace first left last ready is o.split o.are_ready back.joined in
         let each = all_idle closed act ns opening t.pace ready o.are_ready in
@@ -316,7 +316,7 @@ module _ {S D C : Type 0} (faults handed returned : D → ℕ) (visits : D → O
           worked = each.0;
           legal = whole.legal;
           made = whole.made;
-          doors = subst (λ (ds : Option (List Doorway)). GainsDoors faults handed returned visits ds (map (λ (w : Worker S D C Asked Object). w.door) ready) r.doors) o.port_same.2 back.doors;
+          doors = subst (λ (ds : Option (List Doorway)). GainsDoors faults handed returned visits closed ds (map (λ (w : Worker S D C Asked Object). w.door) ready) r.doors) o.port_same.2 back.doors;
           opened = counts_at _ _ _ _ _ refl back.port_same.0 o.opened;
           doors_back = counts_at _ _ _ _ _ o.port_same.0 refl back.doors_back;
           listens = back.port_same.1 ∙ o.port_same.1;
@@ -332,7 +332,7 @@ module _ {S D C : Type 0} (faults handed returned : D → ℕ) (visits : D → O
     -- the first end that is a fault is counted at the port or at the clock
     pub served_cause : (first left last : Standing Asked Object) (before after : List (Worker S D C Asked Object)) (result : Result (Unit {0}) WorkerEnd) (p q r : PortTold) (t u v : ClockTold) (end : WorkerEnd)
         → HasOpened faults handed returned visits given pace misses count before result first left p q t u → length after ≡ length before → AllRan closed act ns opening t.pace quota before after → end ≡ first_end after
-        → GivenBack act faults handed returned visits given misses opening after left last q r u v → HasPortCause end p.faults r.faults t.faults v.faults
+        → GivenBack act faults handed returned visits closed given misses opening after left last q r u v → HasPortCause end p.faults r.faults t.faults v.faults
     served_cause first left last before after result p q r t u v end o same ran end_is back =
         let each = all_served closed act ns opening t.pace quota before after same o.are_ready ran in
         record {
@@ -344,7 +344,7 @@ module _ {S D C : Type 0} (faults handed returned : D → ℕ) (visits : D → O
 
     pub unserved_cause : (first left last : Standing Asked Object) (ready : List (Worker S D C Asked Object)) (result : Result (Unit {0}) WorkerEnd) (p q r : PortTold) (t u v : ClockTold) (end : WorkerEnd)
         → HasOpened faults handed returned visits given pace misses count ready result first left p q t u → result ≡ Err end → is_fault end ≡ true
-        → GivenBack act faults handed returned visits given misses opening ready left last q r u v → HasPortCause end p.faults r.faults t.faults v.faults
+        → GivenBack act faults handed returned visits closed given misses opening ready left last q r u v → HasPortCause end p.faults r.faults t.faults v.faults
     unserved_cause first left last ready result p q r t u v end o is fault back = record {
       doors_later = omega (arith, o.door_faults, back.door_faults.later);
       clocks_later = omega (arith, o.clock_faults, back.clock_faults.later);

@@ -1,5 +1,5 @@
 -- The passes, doors and clocks of workers, which were joined and given back one worker after the other, the last first.
-use Rattle.std.specs.Prelude.{◌≡◌, ℕ, ◌<◌, ◌≤◌, List, [], ◌∷◌, map, length, sum_by, Option}
+use Rattle.std.specs.Prelude.{◌≡◌, ℕ, ◌<◌, ◌≤◌, Bool, List, [], ◌∷◌, map, length, sum_by, Option}
 use Rattle.ob_io.specs.Doors.{Listening, Doorway, GainsDoor}
 use Rattle.ob_io.specs.Faults.{Rose}
 use Rattle.ob_io.specs.Ticks.{Pace}
@@ -39,12 +39,12 @@ pub record CountsFaults (before faults after : ℕ) : Type 0 where
   pub broken : 0 < faults → Rose before after
 
 -- each of these doors came back, behind those of the list that stand after it
-abbrev pub GainsDoors : {D : Type 0} → (D → ℕ) → (D → ℕ) → (D → ℕ) → (D → Option (List Visit)) → Option (List Doorway) → List D → Option (List Doorway)
-    → Type 0
-GainsDoors faults handed returned visits before [] after = after ≡ before
-GainsDoors faults handed returned visits before (d ∷ ds) after =
-    (between : Option (List Doorway)) × GainsDoors faults handed returned visits before ds between
-    × GainsDoor between after (faults d) (handed d) (returned d) (visits d)
+abbrev pub GainsDoors : {D : Type 0} → (D → ℕ) → (D → ℕ) → (D → ℕ) → (D → Option (List Visit)) → (D → Bool) → Option (List Doorway) → List D
+    → Option (List Doorway) → Type 0
+GainsDoors faults handed returned visits closed before [] after = after ≡ before
+GainsDoors faults handed returned visits closed before (d ∷ ds) after =
+    (between : Option (List Doorway)) × GainsDoors faults handed returned visits closed before ds between
+    × GainsDoor between after (faults d) (handed d) (returned d) (closed d) (visits d)
 
 -- each of these clocks came back, behind those of the list that stand after it
 abbrev pub GainsTwins : {C : Type 0} → (C → Option (List ℕ)) → (C → ℕ) → Option (List Twin) → List C → Option (List Twin) → Type 0
@@ -53,12 +53,13 @@ GainsTwins given faults before (c ∷ cs) after =
     (between : Option (List Twin)) × GainsTwins given faults before cs between × GainsTwin between after (given c) (faults c)
 
 -- From the one to the other the workers' passes were joined to the one of the caller, and their doors and clocks given
--- back to port and clock. Of doors, faults, handed, returned and visits say what is told; of clocks given and misses.
+-- back to port and clock. Of doors, faults, handed, returned, visits and closed say what is told; of clocks given and
+-- misses.
 pub record GivenBack {S D C Q P : Type 0} (act : S → Q → ℕ → S × P) (faults handed returned : D → ℕ) (visits : D → Option (List Visit))
-    (given : C → Option (List ℕ)) (misses : C → ℕ) (opening : S) (workers : List (Worker S D C Q P)) (pass pass' : Standing Q P)
+    (closed : D → Bool) (given : C → Option (List ℕ)) (misses : C → ℕ) (opening : S) (workers : List (Worker S D C Q P)) (pass pass' : Standing Q P)
     (port port' : PortTold) (clock clock' : ClockTold) : Type 0 where
   pub joined : AreJoined act opening pass (map (λ w. w.pass) workers) pass'
-  pub doors : GainsDoors faults handed returned visits port.doors (map (λ w. w.door) workers) port'.doors
+  pub doors : GainsDoors faults handed returned visits closed port.doors (map (λ w. w.door) workers) port'.doors
   pub doors_back : Counts port.returned (length workers) port'.returned
   pub door_faults : CountsFaults port.faults (sum_by (λ w. faults w.door) workers) port'.faults
   pub port_same : (port'.opened ≡ port.opened) × (port'.listens ≡ port.listens)

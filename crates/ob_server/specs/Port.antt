@@ -69,7 +69,7 @@ module _ {D C : Type 0} (faults handed returned : D → ℕ) (visits : D → Opt
     pub worked : AllByRecursion (HasWorked handed returned visits given pace ns clock.pace) staff
     pub legal : IsLegal act machine history
     pub made : IsMadeOf (map (λ w. w.pass) staff) history
-    pub doors : GainsDoors faults handed returned visits port.doors (map (λ w. w.door) staff) port'.doors
+    pub doors : GainsDoors faults handed returned visits closed port.doors (map (λ w. w.door) staff) port'.doors
     pub opened : Counts port.opened (length staff) port'.opened
     pub doors_back : Counts port.returned (length staff) port'.returned
     pub listens : port'.listens ≡ port.listens

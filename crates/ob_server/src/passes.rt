@@ -42,7 +42,7 @@ pub fn join_workers<M: Machine, P: Port, C: Clock>(
     requires of { pass.old.table ≡ desk.now.table }
     requires each { (k : ℕ) (d : _) → k < length workers.items
         → (slice_index_or workers.items k d).pass.table ≡ desk.now.table }
-    ensures { GivenBack M.act P.D.faults P.D.handed P.D.returned P.D.visits C.given C.faults
+    ensures { GivenBack M.act P.D.faults P.D.handed P.D.returned P.D.visits P.D.is_closed C.given C.faults
         desk.now.opening workers.items pass.old pass.new
         (port_told (P.faults port.old) (P.opened port.old) (P.returned port.old)
         (P.listens port.old) (P.doors port.old))
