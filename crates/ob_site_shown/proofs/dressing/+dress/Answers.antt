@@ -1,0 +1,52 @@
+use Rattle.std.proofs.Common.{◌≡◌, ◌<◌, ℕ, List, Some, ap, ◌∙◌, subst}
+use Rattle.std.specs.Prelude.{slice_get}
+use Rattle.std.specs.Option.{option_copied}
+use Rattle.std.proofs.lemmas.Result.{IfOk-weaker}
+use Rattle.ob_object.specs.Object.{Object, node, none, children, parts}
+use Rattle.ob_contracts.proofs.At.{fewer_parts}
+use Rattle.ob_contracts.proofs.Names.{at_place}
+use Rattle.ob_answers.specs.Plans.{plan as plan_of}
+use Rattle.ob_site_rules.specs.Build.{whole}
+use Rattle.ob_site_rules.specs.Shown.{with_status}
+use Rattle.ob_state.specs.States.{NamesAreFree}
+use Rattle.ob_site_state.specs.Contents.{state_in}
+use Rattle.ob_shown.specs.Dressed.{dressed_object}
+use Rattle.ob_shown.proofs.Wholes.{all_new}
+use Rattle.ob_shown.proofs.Dresses.{dressed_children, dressed_differ, dressed_from, status_fits, child_free}
+use Rattle.ob_site_shown.proofs.dressing.+dress.Goals as goal
+
+pub dress-requires : goal.dress-requires
+dress-requires t c =
+    let object = c.args.object.now in
+    let at = c.loop-child.child-index in
+    let x = c.child-item.result in
+    let here : Some x ≡ slice_get (children object) at =
+    subst (λ (l : List Object). Some x ≡ slice_get l at) c.children-child-items.ensures.value (at_place c.children-child-items.result.now at x c.loop-child-test.true c.child-item.is) in
+    let free : NamesAreFree (plan_of c.args.plan.now) (state_in c.args.contents.now) (node x.head x.inner none) =
+    child_free (plan_of c.args.plan.now) (state_in c.args.contents.now) object c.children-child-items.result.now at x c.requires.free c.children-child-items.ensures.value c.loop-child-test.true c.child-item.is in
+    let rules = c.requires.rules in
+    (subst (λ (n : ℕ). parts x < n) c.decreases (fewer_parts object at x here), assumption (rules, free))
+
+pub whole-requires-clause-fits : goal.whole-requires-clause-fits
+whole-requires-clause-fits t c =
+    let plan = plan_of c.args.plan.now in
+    let s = state_in c.args.contents.now in
+    status_fits plan s c.args.object.now.head c.in_ok-head.head (c.in_ok-head.ensures ∙ ap (with_status plan s) c.head.ensures.value) c.head.ensures.fits
+
+pub whole-requires-clause-differ : goal.whole-requires-clause-differ
+whole-requires-clause-differ t c =
+    let plan = plan_of c.args.plan.now in
+    let s = state_in c.args.contents.now in
+    all_new c.in_ok-all.all.items
+    (dressed_differ plan s c.args.object.now c.in_ok-all.all.items c.requires.free
+    (dressed_children plan s c.args.object.now c.loop-child.own.items c.in_ok-derived.derived.items c.in_ok-all.all.items c.children-child-items.result.now c.loop-child.child-index (option_copied c.node_path.result) c.head-2.result.now c.in_ok-all.ensures c.loop-child.invariant
+    c.loop-child-test.false c.children-child-items.ensures.value c.in_ok-derived.ensures c.node_path.ensures c.head-2.ensures.value))
+
+pub returns : goal.returns
+returns t c =
+    let plan = plan_of c.args.plan.now in
+    let s = state_in c.args.contents.now in
+    IfOk-weaker c.whole.result (λ o. o ≡ whole c.in_ok-head.head c.in_ok-all.all.items) (λ o. o ≡ dressed_object plan s c.args.object.now)
+    (λ o is. dressed_from plan s c.args.object.now o c.in_ok-head.head c.in_ok-all.all.items is (c.in_ok-head.ensures ∙ ap (with_status plan s) c.head.ensures.value)
+    (dressed_children plan s c.args.object.now c.loop-child.own.items c.in_ok-derived.derived.items c.in_ok-all.all.items c.children-child-items.result.now c.loop-child.child-index (option_copied c.node_path.result) c.head-2.result.now c.in_ok-all.ensures c.loop-child.invariant
+    c.loop-child-test.false c.children-child-items.ensures.value c.in_ok-derived.ensures c.node_path.ensures c.head-2.ensures.value)) c.whole.ensures

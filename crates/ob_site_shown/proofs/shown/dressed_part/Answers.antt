@@ -1,0 +1,10 @@
+use Rattle.ob_answers.specs.Plans.{plan as plan_of}
+use Rattle.ob_site_state.specs.Contents.{state_in}
+use Rattle.ob_shown_laws.specs.Alike.{row}
+use Rattle.ob_site_shown.proofs.Frees.{free_part}
+use Rattle.ob_site_shown.proofs.shown.dressed_part.Goals as goal
+
+pub dress-requires-clause-free : goal.dress-requires-clause-free
+dress-requires-clause-free c =
+    free_part (plan_of c.args.plan.now) (state_in c.args.contents.now) c.args.node.number (row c.args.contents.now.tree.root) c.in_ok-own.own
+    c.requires.readable.names_free c.in_ok-own.ensures

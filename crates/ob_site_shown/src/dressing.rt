@@ -1,0 +1,61 @@
+//! Own objects with the children that roles derive, and the status of each rule's source.
+ghost use Rattle.std.specs.Prelude.{◌≡◌, ◌++◌, IfOk};
+ghost use Rattle.ob_object.specs.Object.{node, none};
+ghost use Rattle.ob_answers.specs.Plans.{plan as plan_of};
+ghost use Rattle.ob_site_rules.specs.State.{numbered_from};
+ghost use Rattle.ob_site_rules.specs.Shown.{with_status};
+ghost use Rattle.ob_shown_laws.specs.Own.{dressed_own};
+ghost use Rattle.ob_state.specs.States.{NamesAreFree};
+ghost use Rattle.ob_site_state.specs.Contents.{state_in};
+
+use crate::roles::derived;
+use ob_answers::Plan;
+use ob_answers::build::whole;
+use ob_object::{Head, Obj};
+use ob_shown::{node_path, rule_of};
+use ob_site_state::Contents;
+use std::alloc::{AllocError, Global};
+
+/// A copy of a head, with the status of the alarms of its rule if it has one.
+fn dressed_head(plan: &Plan, contents: &Contents, head: &Head) -> Result<Head, AllocError>
+    requires { contents.now.board.rules ≡ numbered_from 0 (plan_of plan.now).rules }
+    ensures { IfOk result (λ h. h ≡ with_status (plan_of plan.now) (state_in contents.now) head.now) }
+{
+    let mut dressed = head.copy()?;
+    if let Some(path) = node_path(head) {
+        if let Some(rule) = rule_of(plan, path) {
+            dressed.facets.status = Some(contents.board.status_of(rule));
+        }
+    }
+    Ok(dressed)
+}
+
+/// Objects behind others.
+fn joined(mut first: Vec<Obj>, mut others: Vec<Obj>) -> Result<Vec<Obj>, AllocError>
+    ensures { IfOk result (λ all. all.items ≡ first.items ++ others.items) }
+{
+    first.append(&mut others)?;
+    Ok(first)
+}
+
+/// An own object with the status of each source in it, and behind the own children of each node those that its
+/// roles derive. An error only for want of memory.
+pub fn dress(
+    alloc: Global,
+    plan: &Plan,
+    contents: &Contents,
+    object: &Obj,
+) -> Result<Obj, AllocError>
+    requires rules { contents.now.board.rules ≡ numbered_from 0 (plan_of plan.now).rules }
+    requires free { NamesAreFree (plan_of plan.now) (state_in contents.now) (node object.now.head object.now.inner none) }
+    ensures { IfOk result (λ o. o ≡ dressed_own (plan_of plan.now) (state_in contents.now) object.now) }
+{
+    let head = dressed_head(plan, contents, object.head())?;
+    let mut own = Vec::new(alloc);
+    for child in object.children() {
+        own.push(dress(alloc, plan, contents, child)?)?;
+    }
+    let derived = derived(alloc, plan, contents, node_path(object.head()))?;
+    let all = joined(own, derived)?;
+    whole(alloc, head, all)
+}

@@ -1,0 +1,13 @@
+//! What a site shows, read from its state in place: own objects where they stand, with the children that
+//! roles derive and the statuses of sources put to them.
+#![tactic(auto)]
+
+mod dressing;
+mod logs;
+mod roles;
+mod shown;
+
+pub use dressing::dress;
+pub use logs::log_at;
+pub use roles::derived;
+pub use shown::{dressed_part, shown_own};

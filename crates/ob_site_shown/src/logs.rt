@@ -1,0 +1,131 @@
+//! The logs of histories by their paths, and what they show.
+ghost use Rattle.std.specs.Prelude.{◌≡◌, ◌++◌, map, option_map, IfOk};
+ghost use Rattle.std.specs.Option.{option_copied};
+ghost use Rattle.circular_buffer.specs.Buffer.{last_item};
+ghost use Rattle.ob_contracts.specs.Inherit.{or_else};
+ghost use Rattle.ob_entries.specs.Histories.{span_children, query_child, feed_child};
+ghost use Rattle.ob_site_rules.specs.State.{at};
+ghost use Rattle.ob_site_rules.specs.Shown.{first_record, history_children};
+ghost use Rattle.ob_site_state.specs.Kept.{entry_of, log_of};
+
+use ob_answers::build::{feed_at, op_at, put, timed};
+use ob_answers::{Contract, below, count_child};
+use ob_history::{Log, Record};
+use ob_object::Obj;
+use ob_times::Abstime;
+use ob_values::Text;
+use std::alloc::{AllocError, Global};
+
+/// The log of the history at a path.
+pub fn log_at<'a>(logs: &'a [(Text, Log)], path: &Text) -> Option<&'a Log>
+    ensures { option_map log_of (option_copied result) ≡ at path.now (map entry_of logs.now) }
+{
+    for entry in logs {
+        if entry.0.as_str() == path.as_str() {
+            return Some(&entry.1);
+        }
+    }
+    None
+}
+
+/// The time of a record, if it is one.
+fn time_of(kept: Option<&Record>) -> Option<Abstime>
+    ensures { result ≡ option_map (λ r. r.time) (option_copied kept.entry) }
+{
+    match kept {
+        Some(kept) => Some(kept.time),
+        None => None,
+    }
+}
+
+/// The first of two times, if there is one.
+fn either(first: Option<Abstime>, second: Option<Abstime>) -> Option<Abstime>
+    ensures { result ≡ or_else first second }
+{
+    match first {
+        Some(time) => Some(time),
+        None => second,
+    }
+}
+
+/// The time of the first of some records, which stand in two slices.
+#[tactic(auto, using(crate::proofs::Spans::first_of))]
+fn first_time(front: &[Record], back: &[Record]) -> Option<Abstime>
+    ensures { result ≡ option_map (λ r. r.time) (first_record (front.now ++ back.now)) }
+{
+    either(time_of(front.first()), time_of(back.first()))
+}
+
+/// The time of the last of some records, which stand in two slices.
+#[tactic(auto, using(crate::proofs::Spans::last_of))]
+fn last_time(front: &[Record], back: &[Record]) -> Option<Abstime>
+    ensures { result ≡ option_map (λ r. r.time) (last_item (front.now ++ back.now)) }
+{
+    either(time_of(back.last()), time_of(front.last()))
+}
+
+/// All records that a history keeps, in two slices.
+#[tactic(auto, using(crate::proofs::Spans::from_start))]
+fn all_records<'a>(log: &'a Log) -> (&'a [Record], &'a [Record])
+    ensures { result.0.now ++ result.1.now ≡ log.entry.now.kept }
+{
+    log.since(0)
+}
+
+/// How many records a history keeps, and the first and the last of their times.
+fn span_children(alloc: Global, log: &Log) -> Result<Vec<Obj>, AllocError>
+    ensures { IfOk result (λ os. os.items ≡ span_children log.now.kept) }
+{
+    let (front, back) = all_records(log);
+    let first = first_time(front, back);
+    let last = last_time(front, back);
+    let mut children = Vec::new(alloc);
+    put(&mut children, count_child(alloc, log.len())?)?;
+    put(&mut children, timed(alloc, "start", first)?)?;
+    put(&mut children, timed(alloc, "end", last)?)?;
+    Ok(children)
+}
+
+/// The query of a history.
+fn query_child(alloc: Global, path: &Text) -> Result<Obj, AllocError>
+    ensures { IfOk result (λ o. o ≡ query_child path.now) }
+{
+    let path = below(alloc, path, "query")?;
+    op_at(
+        alloc,
+        "query",
+        path,
+        Contract::HistoryFilter,
+        Contract::HistoryQueryOut,
+    )
+}
+
+/// The feed of a history.
+fn feed_child(alloc: Global, path: &Text) -> Result<Obj, AllocError>
+    ensures { IfOk result (λ o. o ≡ feed_child path.now) }
+{
+    let path = below(alloc, path, "feed")?;
+    feed_at(
+        alloc,
+        "feed",
+        path,
+        Contract::HistoryRecord,
+        Contract::HistoryFilter,
+    )
+}
+
+/// What a history has of its kept records.
+///
+/// Source: oBIX 1.1, chapter 14 (History).
+pub(crate) fn history_children(
+    alloc: Global,
+    path: &Text,
+    log: &Log,
+) -> Result<Vec<Obj>, AllocError>
+    ensures { IfOk result (λ os. os.items ≡ history_children path.now log.now.kept) }
+{
+    let mut children = span_children(alloc, log)?;
+    put(&mut children, query_child(alloc, path)?)?;
+    put(&mut children, feed_child(alloc, path)?)?;
+    Ok(children)
+}

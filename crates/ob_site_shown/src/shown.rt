@@ -1,0 +1,56 @@
+//! What is shown of an own object where it stands.
+ghost use Rattle.std.specs.Prelude.{◌≡◌, ◌<◌, Some, option_map, IfOk};
+ghost use Rattle.ob_object.specs.Object.{parts};
+ghost use Rattle.ob_tree.specs.Shown.{part_at};
+ghost use Rattle.ob_tree.specs.Laid.{paths};
+ghost use Rattle.ob_tree.specs.Paths.{place_of};
+ghost use Rattle.ob_answers.specs.Plans.{plan as plan_of};
+ghost use Rattle.ob_site_rules.specs.Build.{Path};
+ghost use Rattle.ob_site_rules.specs.Shown.{shown};
+ghost use Rattle.ob_shown_laws.specs.Own.{dressed_own};
+ghost use Rattle.ob_tree_bridges.specs.OwnTree.{own_shown_at};
+ghost use Rattle.ob_site_state.specs.Contents.{state_in};
+ghost use Rattle.ob_site_shown.specs.Readable.{IsReadable};
+
+use crate::dressing::dress;
+use ob_answers::Plan;
+use ob_object::Obj;
+use ob_site_state::Contents;
+use ob_tree::NodeId;
+use std::alloc::{AllocError, Global};
+
+/// The own object of a number with all that is in it, with the status of each source and the children that roles
+/// derive. An error only for want of memory.
+pub fn dressed_part(
+    alloc: Global,
+    plan: &Plan,
+    contents: &Contents,
+    node: NodeId,
+) -> Result<Obj, AllocError>
+    requires readable { IsReadable (plan_of plan.now) contents.now }
+    requires within { node.number < parts contents.now.tree.root }
+    ensures { IfOk result (λ o. Some o ≡ option_map (dressed_own (plan_of plan.now) (state_in contents.now)) (part_at node.number contents.now.tree.root)) }
+{
+    let own = contents.tree.copy(alloc, node)?;
+    dress(alloc, plan, contents, &own)
+}
+
+/// What is shown of the own object of a number where it stands: it and all in it, with statuses, derived children
+/// and all that they inherit. An error only for want of memory.
+///
+/// Source: oBIX 1.1, chapters 6 (Naming) and 7 (Contracts). That roles derive children is this profile's own.
+pub fn shown_own(
+    alloc: Global,
+    plan: &Plan,
+    contents: &Contents,
+    node: NodeId,
+) -> Result<Obj, AllocError>
+    requires readable { IsReadable (plan_of plan.now) contents.now }
+    requires within { node.number < parts contents.now.tree.root }
+    ensures stands { IfOk result (λ o. Some o ≡ own_shown_at (plan_of plan.now) (state_in contents.now) node.number) }
+    ensures shows { IfOk result (λ o. (p : Path) → place_of p (paths contents.now.tree.root) ≡ Some node.number → shown (plan_of plan.now) (state_in contents.now) p ≡ Some o) }
+{
+    let dressed = dressed_part(alloc, plan, contents, node)?;
+    let standing = contents.tree.standing(&contents.library, node);
+    standing.whole(alloc, &dressed)
+}
