@@ -10,4 +10,4 @@ mod shown;
 pub use dressing::dress;
 pub use logs::log_at;
 pub use roles::derived;
-pub use shown::{dressed_part, shown_own};
+pub use shown::{dressed_part, shown_at, shown_own};

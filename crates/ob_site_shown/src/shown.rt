@@ -1,5 +1,5 @@
 //! What is shown of an own object where it stands.
-ghost use Rattle.std.specs.Prelude.{◌≡◌, ◌<◌, Some, option_map, IfOk};
+ghost use Rattle.std.specs.Prelude.{◌≡◌, ◌<◌, Some, option_map, option_and_then, IfOk};
 ghost use Rattle.ob_object.specs.Object.{parts};
 ghost use Rattle.ob_tree.specs.Shown.{part_at};
 ghost use Rattle.ob_tree.specs.Laid.{paths};
@@ -7,7 +7,9 @@ ghost use Rattle.ob_tree.specs.Paths.{place_of};
 ghost use Rattle.ob_answers.specs.Plans.{plan as plan_of};
 ghost use Rattle.ob_site_rules.specs.Build.{Path};
 ghost use Rattle.ob_site_rules.specs.Shown.{shown};
+ghost use Rattle.ob_shown_laws.specs.Alike.{row};
 ghost use Rattle.ob_shown_laws.specs.Own.{dressed_own};
+ghost use Rattle.ob_shown_laws.specs.OwnShown.{IsNotDerived};
 ghost use Rattle.ob_tree_bridges.specs.OwnTree.{own_shown_at};
 ghost use Rattle.ob_site_state.specs.Contents.{state_in};
 ghost use Rattle.ob_site_shown.specs.Readable.{IsReadable};
@@ -17,6 +19,7 @@ use ob_answers::Plan;
 use ob_object::Obj;
 use ob_site_state::Contents;
 use ob_tree::NodeId;
+use ob_values::Text;
 use std::alloc::{AllocError, Global};
 
 /// The own object of a number with all that is in it, with the status of each source and the children that roles
@@ -53,4 +56,26 @@ pub fn shown_own(
     let dressed = dressed_part(alloc, plan, contents, node)?;
     let standing = contents.tree.standing(&contents.library, node);
     standing.whole(alloc, &dressed)
+}
+
+/// What is shown at a path that no role derives: of the own node there, and `None` where no own node is. An error
+/// only for want of memory.
+#[tactic(auto, using(crate::proofs::Stands::found, crate::proofs::Stands::nowhere))]
+pub fn shown_at(
+    alloc: Global,
+    plan: &Plan,
+    contents: &Contents,
+    path: &Text,
+) -> Result<Option<Obj>, AllocError>
+    requires { IsReadable (plan_of plan.now) contents.now }
+    ensures own { IfOk result (λ o. o ≡ option_and_then (own_shown_at (plan_of plan.now) (state_in contents.now)) (place_of path.now (paths contents.now.tree.root))) }
+    ensures shows { IfOk result (λ o. IsNotDerived (plan_of plan.now) (state_in contents.now) path.now (row contents.now.tree.root) → shown (plan_of plan.now) (state_in contents.now) path.now ≡ o) }
+{
+    match contents.tree.get(path) {
+        Some(node) => {
+            let shown = shown_own(alloc, plan, contents, node)?;
+            Ok(Some(shown))
+        }
+        None => Ok(None),
+    }
 }
