@@ -2,9 +2,11 @@ pub mod Rewinding
 pub mod Times
 pub mod Places
 pub mod Events
+pub mod Sound
 pub mod Noting
 pub mod Settling
 pub mod Rests
+pub mod Storing
 pub mod Recording
 pub mod Aligned
 pub mod Rules

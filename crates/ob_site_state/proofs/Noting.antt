@@ -1,11 +1,12 @@
 -- What the parts of a state owe one another, after a change that is noted and after all are taken back.
-use Rattle.std.proofs.Common.{◌≡◌, ℕ, zero, suc, ◌<◌, ◌≤◌, Bool, true, false, ◌&&◌, List, [], ◌∷◌, ◌++◌, length, map, set, Option, Some, None, option_map, refl, sym, ap, ◌∙◌, subst, arith, IsTrue}
+use Rattle.std.proofs.Common.{◌≡◌, ℕ, zero, suc, ◌+◌, ◌^◌, ◌<◌, ◌≤◌, Bool, true, false, ◌&&◌, List, [], ◌∷◌, ◌++◌, length, map, set, Option, Some, None, option_map, refl, sym, ap, ◌∙◌, subst, arith, IsTrue}
 use Rattle.std.specs.Prelude.{slice_get}
 use Rattle.ob_object.specs.declared.head.Head.{Head}
 use Rattle.ob_object.specs.declared.head.Slot.{Slot}
 use Rattle.ob_object.specs.Fits.{fits_slot, fits_name, fits_lists, fits_facets}
 use Rattle.ob_object.specs.Object.{Object, parts}
 use Rattle.ob_object.specs.WellFormed.{IsWellFormed}
+use Rattle.ob_contracts.specs.Inherit.{Contracts}
 use Rattle.ob_alarms.specs.Changes.{State as Board}
 use Rattle.ob_tree.specs.Paths.{Path as TreePath, first_twice, node_path}
 use Rattle.ob_tree.specs.Laid.{heads_of, head_at, changed, paths}
@@ -14,15 +15,16 @@ use Rattle.ob_tree.proofs.Naming.{well-changed, head_fits_at, slot_fits}
 use Rattle.ob_tree.proofs.Placed.{paths-set}
 use Rattle.ob_site_rules.specs.Build.{Path}
 use Rattle.ob_site_rules.specs.State.{Plan, Log, State, with_board, roll}
-use Rattle.ob_site_rules.specs.Writes.{with_record}
+use Rattle.ob_site_rules.specs.Writes.{events_ever, with_record}
 use Rattle.ob_history.specs.declared.records.Record.{Record}
 use Rattle.ob_times.specs.Times.{moment_instant}
 use Rattle.ob_tree.specs.declared.node.NodeId.{NodeId}
 use Rattle.ob_site_state.specs.declared.change.Change.{Change}
 use Rattle.ob_site_state.specs.declared.change.Change.TheVariants as change
 use Rattle.ob_site_state.specs.Changes.{cut, undone, rewound, with_log, CanUndo, CanRewind, AddsEvent}
-use Rattle.ob_site_state.specs.Kept.{Kept, keys, LogsAreBy, IsKept}
+use Rattle.ob_site_state.specs.Kept.{Kept, keys, LogsAreBy, IsNode, IsSoundFor, IsKept}
 use Rattle.ob_site_state.proofs.Rewinding.{set_to, set_back, rewound-append, CanRewind-append}
+use Rattle.ob_site_state.proofs.Sound.{slot_sound, record_sound, library_sound, board_sound}
 use Rattle.ob_site_state.proofs.Times.{LogsAreBy-later}
 use Rattle.ob_site_state.proofs.Places.{keys-with_log, length-with_log, cut_back, recorded_by}
 
@@ -74,9 +76,9 @@ can_set_back o n old new g well e is h f =
 
 -- A change that is noted.
 pub noted : (plan : Plan) (time : ℕ) (s t : State) (b c : Board) (since : ℕ) (found : List Change) (ch : Change) → IsKept plan time s b since found
-    → c.root ≡ b.root → c.rules ≡ b.rules → IsWellFormed t.tree → first_twice [] (paths t.tree) ≡ None → LogsAreBy time t.logs → keys t.logs ≡ keys s.logs → CanUndo ch t → undone ch t ≡ s
+    → c.root ≡ b.root → c.rules ≡ b.rules → IsWellFormed t.tree → first_twice [] (paths t.tree) ≡ None → LogsAreBy time t.logs → keys t.logs ≡ keys s.logs → IsSoundFor plan t → CanUndo ch t → undone ch t ≡ s
     → IsKept plan time t c since (found ++ ch ∷ [])
-noted plan time s t b c since found ch k root rules well differ by same can back =
+noted plan time s t b c since found ch k root rules well differ by same sound can back =
     let e : rewound (found ++ ch ∷ []) t ≡ rewound found s = rewound-append found ch t ∙ ap (rewound found) back in record {
       root = root ∙ k.root;
       rules = rules ∙ k.rules;
@@ -85,10 +87,12 @@ noted plan time s t b c since found ch k root rules well differ by same can back
       well_formed = well;
       differ = differ;
       in_time = by;
+      sound = sound;
       later = k.later;
       can_rewind = CanRewind-append found ch t can (subst (λ (x : State). CanRewind found x) (sym back) k.can_rewind);
       in_time_before = subst (λ (x : State). LogsAreBy since x.logs) (sym e) k.in_time_before;
       rolled_before = subst (λ (x : State). roll x ≡ x) (sym e) k.rolled_before;
+      sound_before = subst (λ (x : State). IsSoundFor plan x) (sym e) k.sound_before;
     }
 
 pub before_noted : (s t : State) (found : List Change) (ch : Change) → undone ch t ≡ s → rewound (found ++ ch ∷ []) t ≡ rewound found s
@@ -120,10 +124,10 @@ slot_back s t node old new within was is =
     ∙ ap (λ (o : Object). let x : State = record s { tree = o } in x) (set_back s.tree node.number there.0 old new there.1 same)
 
 pub slot_noted : (plan : Plan) (time : ℕ) (s t : State) (b c : Board) (since : ℕ) (found items : List Change) (node : NodeId) (old new : Slot) → IsKept plan time s b since found
-    → c.root ≡ b.root → c.rules ≡ b.rules → node.number < parts s.tree → ((h : Head) → head_at node.number s.tree ≡ Some h → IsTrue (fits_slot h.kind new))
+    → c.root ≡ b.root → c.rules ≡ b.rules → IsNode node.number s.tree → node.number < parts s.tree → ((h : Head) → head_at node.number s.tree ≡ Some h → IsTrue (fits_slot h.kind new))
     → Some old ≡ option_map (λ (h : Head). h.slot) (head_at node.number s.tree) → t ≡ record s { tree = changed (set_to new) node.number s.tree } → items ≡ found ++ change.Slot node old ∷ []
     → IsKept plan time t c since items
-slot_noted plan time s t b c since found items node old new k root rules within fits was is all =
+slot_noted plan time s t b c since found items node old new k root rules there_is within fits was is all =
     let n : ℕ = node.number in
     let there = head_there s.tree n within in
     let slot : Some old ≡ Some there.0.slot = was ∙ ap (option_map (λ (h : Head). h.slot)) there.1 in
@@ -139,6 +143,7 @@ slot_noted plan time s t b c since found items node old new k root rules within 
     (subst (λ (x : State). first_twice [] (paths x.tree) ≡ None) (sym is) (ap (λ (ps : List (Option TreePath)). first_twice [] ps) (paths_stay s.tree n new within) ∙ k.differ))
     (subst (λ (x : State). LogsAreBy time x.logs) (sym is) k.in_time)
     (ap (λ (x : State). keys x.logs) is)
+    (subst (λ (x : State). IsSoundFor plan x) (sym is) (slot_sound plan s n new k.differ there_is k.sound))
     (subst (λ (x : State). CanUndo (change.Slot node old) x) (sym is) can)
     (slot_back s t node old new within was is))
 
@@ -149,16 +154,17 @@ record_back s t r place len was is =
     ap (undone (change.Records place len)) is ∙ ap (λ (ls : List (Path × Log)). let x : State = record s { logs = ls } in x) (cut_back r len place s.logs was)
 
 pub record_noted : (plan : Plan) (time : ℕ) (s t : State) (b c : Board) (since : ℕ) (found items : List Change) (r : Record) (place len : ℕ) → IsKept plan time s b since found
-    → c.root ≡ b.root → c.rules ≡ b.rules → r.time ≡ moment_instant time → place < length s.logs
+    → c.root ≡ b.root → c.rules ≡ b.rules → r.time ≡ moment_instant time → ((l : Path × Log) → slice_get s.logs place ≡ Some l → events_ever l.1 + 1 < 2 ^ 63) → place < length s.logs
     → Some len ≡ option_map (λ (l : Path × Log). length l.1.kept) (slice_get s.logs place) → t ≡ record s { logs = with_log (with_record r) place s.logs } → items ≡ found ++ change.Records place len ∷ []
     → IsKept plan time t c since items
-record_noted plan time s t b c since found items r place len k root rules at within was is all =
+record_noted plan time s t b c since found items r place len k root rules at more within was is all =
     subst (λ (l : List Change). IsKept plan time t c since l) (sym all)
     (noted plan time s t b c since found (change.Records place len) k root rules
     (subst (λ (x : State). IsWellFormed x.tree) (sym is) k.well_formed)
     (subst (λ (x : State). first_twice [] (paths x.tree) ≡ None) (sym is) k.differ)
     (subst (λ (x : State). LogsAreBy time x.logs) (sym is) (recorded_by time r at place s.logs k.in_time))
     (ap (λ (x : State). keys x.logs) is ∙ keys-with_log (with_record r) place s.logs)
+    (subst (λ (x : State). IsSoundFor plan x) (sym is) (record_sound plan s r place more k.sound))
     (subst (λ (x : State). CanUndo (change.Records place len) x) (sym is) (subst (λ (n : ℕ). place < n) (sym (length-with_log (with_record r) place s.logs)) within))
     (record_back s t r place len was is))
 
@@ -172,6 +178,7 @@ event_noted plan time s t b c a since found items k root rules is adds all =
     (subst (λ (x : State). first_twice [] (paths x.tree) ≡ None) (sym is) k.differ)
     (subst (λ (x : State). LogsAreBy time x.logs) (sym is) k.in_time)
     (ap (λ (x : State). keys x.logs) is)
+    (subst (λ (x : State). IsSoundFor plan x) (sym is) (board_sound plan s a k.sound))
     adds.0 adds.1)
 
 -- what was before is what it was
@@ -188,10 +195,12 @@ begun plan time later s b since found k h = record {
   well_formed = k.well_formed;
   differ = k.differ;
   in_time = LogsAreBy-later time later h s.logs k.in_time;
+  sound = k.sound;
   later = omega (arith, k.later);
   can_rewind = k.can_rewind;
   in_time_before = k.in_time_before;
   rolled_before = k.rolled_before;
+  sound_before = k.sound_before;
 }
 
 undone_well : (c : Change) (s : State) → CanUndo c s → IsWellFormed s.tree → IsWellFormed (undone c s).tree
@@ -236,8 +245,46 @@ taken_back plan time s t b c since found k root rules is =
       well_formed = subst (λ (x : State). IsWellFormed x.tree) (sym is) (rewound_well found s k.can_rewind k.well_formed);
       differ = subst (λ (x : State). first_twice [] (paths x.tree) ≡ None) (sym is) (rewound_differ found s k.can_rewind k.differ);
       in_time = by;
+      sound = subst (λ (x : State). IsSoundFor plan x) (sym is) k.sound_before;
       later = omega arith;
       can_rewind = tt;
       in_time_before = by;
       rolled_before = subst (λ (x : State). roll x ≡ x) (sym is) k.rolled_before;
+      sound_before = subst (λ (x : State). IsSoundFor plan x) (sym is) k.sound_before;
     }
+
+-- The same state, with other room for alarms.
+pub kept_same : (plan : Plan) (time : ℕ) (s t : State) (b c : Board) (since : ℕ) (found : List Change) → IsKept plan time s b since found → c.root ≡ b.root → c.rules ≡ b.rules → t ≡ s → IsKept plan time t c since found
+kept_same plan time s t b c since found k root rules is =
+    subst (λ (x : State). IsKept plan time x c since found) (sym is) (record {
+      root = root ∙ k.root;
+      rules = rules ∙ k.rules;
+      histories = k.histories;
+      apart = k.apart;
+      well_formed = k.well_formed;
+      differ = k.differ;
+      in_time = k.in_time;
+      sound = k.sound;
+      later = k.later;
+      can_rewind = k.can_rewind;
+      in_time_before = k.in_time_before;
+      rolled_before = k.rolled_before;
+      sound_before = k.sound_before;
+    })
+
+-- a library that is taken, and taken back
+pub library_back : (s t : State) (old new : Contracts) → old ≡ s.library → t ≡ record s { library = new } → undone (change.Contracts old) t ≡ s
+library_back s t old new was is = ap (undone (change.Contracts old)) is ∙ ap (λ (l : Contracts). let x : State = record s { library = l } in x) was
+
+pub library_noted : (plan : Plan) (time : ℕ) (s t : State) (b : Board) (since : ℕ) (found items : List Change) (old new : Contracts) → IsKept plan time s b since found
+    → old ≡ s.library → t ≡ record s { library = new } → items ≡ found ++ change.Contracts old ∷ [] → IsKept plan time t b since items
+library_noted plan time s t b since found items old new k was is all =
+    subst (λ (l : List Change). IsKept plan time t b since l) (sym all)
+    (noted plan time s t b b since found (change.Contracts old) k refl refl
+    (subst (λ (x : State). IsWellFormed x.tree) (sym is) k.well_formed)
+    (subst (λ (x : State). first_twice [] (paths x.tree) ≡ None) (sym is) k.differ)
+    (subst (λ (x : State). LogsAreBy time x.logs) (sym is) k.in_time)
+    (ap (λ (x : State). keys x.logs) is)
+    (subst (λ (x : State). IsSoundFor plan x) (sym is) (library_sound plan s new k.sound))
+    tt
+    (library_back s t old new was is))

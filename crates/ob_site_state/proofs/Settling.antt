@@ -18,7 +18,8 @@ use Rattle.ob_site_state.specs.declared.change.Change.TheVariants as change
 use Rattle.ob_site_state.specs.Changes.{cut, with_log, undone, rewound, settled_by, settled_all, CanUndo, CanRewind, IsPlaced}
 use Rattle.ob_site_state.proofs.Places.{length-with_log}
 use Rattle.std.proofs.lemmas.List.{take_more}
-use Rattle.ob_site_state.specs.Kept.{Kept, keys, log_of, LogsAreBy, AreBy, IsKept}
+use Rattle.ob_site_state.specs.Kept.{Kept, keys, log_of, LogsAreBy, AreBy, IsSoundFor, IsKept}
+use Rattle.ob_site_state.proofs.Sound.{rolls_sound}
 use Rattle.ob_site_state.proofs.Noting.{same_kept}
 
 abbrev first_log : List (Path × Log) → Log → Log
@@ -149,7 +150,8 @@ keys-rolled (l ∷ ls) = ap (λ (ps : List Path). l.0 ∷ ps) (keys-rolled ls)
 pub committed : (plan : Plan) (time : ℕ) (s t : State) (b c : Board) (since : ℕ) (found : List Change) → IsKept plan time s b since found
     → c.root ≡ b.root → c.rules ≡ b.rules → t ≡ roll s → IsKept plan time t c time []
 committed plan time s t b c since found k root rules is =
-    let by : LogsAreBy time t.logs = subst (λ (x : State). LogsAreBy time x.logs) (sym is) (rolled_by time s.logs k.in_time) in record {
+    let by : LogsAreBy time t.logs = subst (λ (x : State). LogsAreBy time x.logs) (sym is) (rolled_by time s.logs k.in_time) in
+    let sound : IsSoundFor plan t = subst (λ (x : State). IsSoundFor plan x) (sym is) (rolls_sound plan s k.sound) in record {
       root = root ∙ k.root;
       rules = rules ∙ k.rules;
       histories = ap (λ (x : State). keys x.logs) is ∙ keys-rolled s.logs ∙ k.histories;
@@ -157,10 +159,12 @@ committed plan time s t b c since found k root rules is =
       well_formed = subst (λ (x : State). IsWellFormed x.tree) (sym is) k.well_formed;
       differ = subst (λ (x : State). first_twice [] (paths x.tree) ≡ None) (sym is) k.differ;
       in_time = by;
+      sound = sound;
       later = omega arith;
       can_rewind = tt;
       in_time_before = by;
       rolled_before = ap roll is ∙ rolls_once s ∙ sym is;
+      sound_before = sound;
     }
 
 length-settled : (cs : List Change) (ls : List (Path × Log)) → length (settled_all cs ls) ≡ length ls

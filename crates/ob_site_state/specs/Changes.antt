@@ -1,5 +1,5 @@
 -- What a step changed, and the state with it taken back.
-use Rattle.std.specs.Prelude.{◌≡◌, ℕ, ◌<◌, Bool, true, false, List, [], ◌∷◌, length, take, Some, IsTrue}
+use Rattle.std.specs.Prelude.{◌≡◌, ℕ, ◌+◌, ◌<◌, Bool, true, false, cond, List, [], ◌∷◌, length, take, Some, IsTrue}
 use Rattle.ob_object.specs.declared.head.Head.{Head}
 use Rattle.ob_object.specs.Fits.{fits_slot}
 use Rattle.ob_object.specs.Object.{parts}
@@ -7,7 +7,7 @@ use Rattle.ob_tree.specs.Laid.{head_at, changed}
 use Rattle.ob_alarms.specs.Lists.{changed_at}
 use Rattle.ob_alarms.specs.declared.alarm.Alarm.{Alarm}
 use Rattle.ob_alarms.specs.declared.alarm.Event.{Event}
-use Rattle.ob_alarms.specs.Changes.{before}
+use Rattle.ob_alarms.specs.Changes.{State as Board, before}
 use Rattle.ob_alarms.specs.declared.board.Turned.{Turned}
 use Rattle.ob_alarms.specs.declared.board.Turned.TheVariants as turned
 use Rattle.ob_alarms.specs.declared.board.AckResult.{AckResult}
@@ -63,6 +63,10 @@ rewound (c ∷ cs) s = undone c (rewound cs s)
 abbrev pub AddsEvent : Bool → State → State → Type 0
 AddsEvent false s t = t ≡ s
 AddsEvent true s t = (0 < length t.events) × (undone change.Event t ≡ s)
+
+-- alarms have one event more than a state, or as many
+abbrev pub HasEvents : Bool → State → Board → Type 0
+HasEvents is s b = length b.events ≡ length s.events + cond is 1 0
 
 -- there is what a change changed: an object that takes the slot, a history, an event
 abbrev pub CanUndo : Change → State → Type 0

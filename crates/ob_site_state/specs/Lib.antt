@@ -3,4 +3,5 @@ pub mod Kept
 pub mod Recorded
 pub mod Codes
 pub mod Contents
+pub mod Tallies
 pub mod States

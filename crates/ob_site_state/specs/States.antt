@@ -4,6 +4,7 @@ use Rattle.ob_site_state.specs.declared.state.State.TheInside.{Inside}
 use Rattle.ob_site_state.specs.Changes.{rewound}
 use Rattle.ob_site_state.specs.Contents.{state_in}
 use Rattle.ob_site_state.specs.Kept.{Kept, IsKept}
+use Rattle.ob_site_state.specs.Tallies.{IsTallied}
 
 abbrev pub kept : Inside → Kept
 kept a = record {
@@ -16,5 +17,7 @@ kept a = record {
   steps = a.contents.tree.steps;
 }
 
-abbrev pub IsState : Inside → Type 0
-IsState a = IsKept (plan_of a.plan) a.time (state_in a.contents) a.contents.board a.since a.found.items
+-- Its parts owe one another what `IsKept` says, and its tally is that of its logs.
+pub record IsState (a : Inside) : Type 0 where
+  pub kept : IsKept (plan_of a.plan) a.time (state_in a.contents) a.contents.board a.since a.found.items
+  pub tallied : IsTallied a.tally (state_in a.contents).logs (rewound a.found.items (state_in a.contents)).logs

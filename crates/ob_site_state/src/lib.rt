@@ -9,6 +9,7 @@ mod contents;
 mod logs;
 mod roles;
 mod state;
+mod tally;
 
 pub use change::Change;
 pub use contents::Contents;

@@ -1,5 +1,5 @@
 //! The state of a site in place.
-ghost use Rattle.std.specs.Prelude.{◌≡◌, ℕ, true, false, ◌<◌, ◌≤◌, ◌+◌, ◌^◌, [], None, max, map, option_map, length, slice_get, Some, IsTrue, OnOk, OnErr};
+ghost use Rattle.std.specs.Prelude.{◌≡◌, ℕ, List, Option, is_none, nat_lt, true, false, ◌<◌, ◌≤◌, ◌+◌, ◌^◌, [], None, max, map, option_map, length, slice_get, Some, IsTrue, IfOk, OnOk, OnErr};
 ghost use Rattle.ob_times.specs.Times.{moment_instant};
 ghost use Rattle.ob_object.specs.declared.head.Head.{Head};
 ghost use Rattle.ob_object.specs.Fits.{fits_slot};
@@ -10,7 +10,7 @@ ghost use Rattle.ob_alarms.specs.Changes.{on_value, on_ack};
 ghost use Rattle.ob_history.specs.Records.{IsRecord};
 ghost use Rattle.ob_site_rules.specs.Build.{Path};
 ghost use Rattle.ob_site_rules.specs.State.{Log as SiteLog, numbered_from, board, with_board, roll};
-ghost use Rattle.ob_site_rules.specs.Writes.{events_ever, records_from, with_record, recorded, board_after};
+ghost use Rattle.ob_site_rules.specs.Writes.{stored, events_ever, records_from, with_record, recorded, board_after};
 ghost use Rattle.ob_object.specs.WellFormed.{IsWellFormed};
 ghost use Rattle.ob_tree.specs.Laid.{paths};
 ghost use Rattle.ob_tree.specs.Paths.{first_twice};
@@ -19,19 +19,22 @@ ghost use Rattle.ob_opened.specs.Laws.{Apart};
 ghost use Rattle.ob_site_rules.specs.Shown.{rule_of};
 ghost use Rattle.ob_state.specs.Fitting.{TakesIfRule};
 ghost use Rattle.ob_site_state.specs.Recorded.{recorded_at, TakesRecord};
-ghost use Rattle.ob_site_state.specs.Changes.{with_log};
-ghost use Rattle.ob_site_state.specs.Kept.{keys, LogsAreBy};
+ghost use Rattle.ob_site_state.specs.Changes.{with_log, HasEvents};
+ghost use Rattle.ob_site_state.specs.Kept.{keys, log_of, LogsAreBy, IsNode, IsSoundFor};
 ghost use Rattle.ob_site_state.specs.Contents.{state_in};
+ghost use Rattle.ob_site_state.specs.Tallies.{capacities_of};
 
 use crate::change::Change;
 use crate::contents::Contents;
 use crate::roles::{has_source, number_in, rule_of};
-use ob_alarms::Num;
+use crate::tally::Tally;
+use ob_alarms::{Alarms, Num};
 use ob_answers::Plan;
-use ob_history::Record;
+use ob_contracts::Library;
+use ob_history::{Log, Record};
 use ob_object::{Kind, Slot};
 use ob_times::Moment;
-use ob_tree::NodeId;
+use ob_tree::{NodeId, Tree};
 use ob_values::Text;
 use std::alloc::{AllocError, Global};
 use std::marker::Model;
@@ -49,6 +52,7 @@ pub struct State {
     // The time before the step, and what it has changed since, in order.
     since: Moment,
     found: Vec<Change>,
+    tally: Tally,
 }
 
 impl Drop for State {
@@ -61,10 +65,12 @@ impl Drop for State {
             contents,
             since: _,
             found,
+            tally,
         } = self;
         drop(plan);
         drop(contents);
         drop(found);
+        drop(tally);
     }
 }
 
@@ -95,8 +101,15 @@ fn later(first: Moment, second: Moment) -> Moment
 }
 
 impl State {
-    /// A state in which no step has changed anything yet.
-    pub fn new(alloc: Global, plan: Plan, time: Moment, contents: Contents) -> State
+    /// A state in which no step has changed anything yet; with how many records the history of each place keeps, if
+    /// not all.
+    pub fn new(
+        alloc: Global,
+        plan: Plan,
+        time: Moment,
+        contents: Contents,
+        capacities: Vec<Option<u64>>,
+    ) -> State
         requires root { contents.board.root ≡ plan.root }
         requires rules { contents.board.rules ≡ numbered_from 0 (plan_of plan).rules }
         requires histories { keys (state_in contents).logs ≡ map (λ h. h.0) (plan_of plan).histories }
@@ -105,8 +118,11 @@ impl State {
         requires differ { first_twice [] (paths contents.tree.root) ≡ None }
         requires in_time { LogsAreBy time (state_in contents).logs }
         requires rolled { roll (state_in contents) ≡ state_in contents }
+        requires sound { IsSoundFor (plan_of plan) (state_in contents) }
+        requires capacities { capacities_of (state_in contents).logs ≡ capacities.items }
         ensures { result ≡ record { plan = plan_of plan; time = time; now = state_in contents; since = time; before = state_in contents; stamps = contents.tree.stamps; steps = contents.tree.steps } }
     {
+        let tally = Tally::new(capacities, &contents.logs);
         State {
             alloc,
             plan,
@@ -114,7 +130,82 @@ impl State {
             contents,
             since: time,
             found: Vec::new(alloc),
+            tally,
         }
+    }
+
+    /// What is fixed.
+    pub fn plan(&self) -> &Plan
+        ensures { plan_of result.now ≡ self.now.plan }
+    {
+        &self.plan
+    }
+
+    /// What changes, as it is now: the library, the own objects, the logs and the alarms. Its alarms are those of the
+    /// plan's rules and root, and no two of its nodes have one path.
+    pub fn contents(&self) -> &Contents
+        ensures value { state_in result.now ≡ self.now.now }
+        ensures root { result.now.board.root ≡ self.now.plan.root }
+        ensures rules { result.now.board.rules ≡ numbered_from 0 self.now.plan.rules }
+        ensures stamps { result.now.tree.stamps ≡ self.now.stamps }
+        ensures steps { result.now.tree.steps ≡ self.now.steps }
+        ensures differ { first_twice [] (paths result.now.tree.root) ≡ None }
+    {
+        &self.contents
+    }
+
+    /// The allocator of the state.
+    pub fn allocator(&self) -> Global {
+        self.alloc
+    }
+
+    /// The library of contracts.
+    pub fn library(&self) -> &Library
+        ensures { result.now ≡ self.now.now.library }
+    {
+        &self.contents.library
+    }
+
+    /// The own objects, no two of which have one path, with their stamps.
+    pub fn tree(&self) -> &Tree
+        ensures value { result.now ≡ record { root = self.now.now.tree; stamps = self.now.stamps; steps = self.now.steps } }
+        ensures differ { first_twice [] (paths self.now.now.tree) ≡ None }
+    {
+        &self.contents.tree
+    }
+
+    /// The alarms, with the plan's rules and its root.
+    pub fn alarms(&self) -> &Alarms
+        ensures { result.now ≡ record (board self.now.plan self.now.now) { spare = result.now.spare } }
+    {
+        &self.contents.board
+    }
+
+    /// The log of a place.
+    pub fn log(&self, place: usize) -> &Log
+        requires { place < length self.now.now.logs }
+        ensures { (l : Path × SiteLog) → slice_get self.now.now.logs place ≡ Some l → log_of result.now ≡ l.1 }
+    {
+        &self.contents.logs[place].1
+    }
+
+    /// How many events the history of a place has had.
+    pub fn events_ever(&self, place: usize) -> u64
+        requires { place < length self.now.now.logs }
+        ensures value { (l : Path × SiteLog) → slice_get self.now.now.logs place ≡ Some l → result ≡ events_ever l.1 }
+        ensures few { result < 2 ^ 63 }
+    {
+        let log = self.log(place);
+        log.gone() + log.len()
+    }
+
+    /// The state now owes its plan nothing, and no two nodes of its root have one path, those that roles derive among
+    /// them.
+    pub fn is_sound(&self)
+        ensures sound { IsSoundFor self.now.plan self.now.now }
+        ensures differ { first_twice [] (paths self.now.now.tree) ≡ None }
+    {
+        let _ = &self.time;
     }
 
     /// The time: the moment of the last step, or of this one.
@@ -131,8 +222,9 @@ impl State {
         self.time = later(self.time, moment);
     }
 
-    /// Sets the slot of an own object, whose value is of its kind. Want of memory leaves all as it was.
+    /// Sets the slot of an own node, whose value is of its kind. Want of memory leaves all as it was.
     pub fn set_slot(&mut self, node: NodeId, slot: Slot) -> Result<(), AllocError>
+        requires node { IsNode node.number self.old.now.tree }
         requires within { node.number < parts self.old.now.tree }
         requires fits { (h : Head) → head_at node.number self.old.now.tree ≡ Some h → IsTrue (fits_slot h.kind slot) }
         ensures ok { OnOk result (self.new ≡ record self.old { now = record self.old.now { tree = changed (λ h. record h { slot = slot }) node.number self.old.now.tree } }) }
@@ -141,6 +233,17 @@ impl State {
         self.found.reserve(1)?;
         let old = self.contents.set(node, slot);
         self.found.push_reserved(Change::Slot { node, slot: old });
+        Ok(())
+    }
+
+    /// Takes another library. Want of memory leaves all as it was.
+    pub fn set_library(&mut self, library: Library) -> Result<(), AllocError>
+        ensures ok { OnOk result (self.new ≡ record self.old { now = record self.old.now { library = library } }) }
+        ensures err { OnErr result (self.new ≡ self.old) }
+    {
+        self.found.reserve(1)?;
+        let library = std::mem::replace(&mut self.contents.library, library);
+        self.found.push_reserved(Change::Contracts { library });
         Ok(())
     }
 
@@ -155,6 +258,7 @@ impl State {
         self.found.reserve(1)?;
         let time = self.time.abstime();
         let len = self.contents.record(place, Record { time, kind, slot })?;
+        self.tally.add(place);
         self.found.push_reserved(Change::Records { place, len });
         Ok(())
     }
@@ -173,6 +277,23 @@ impl State {
         Ok(())
     }
 
+    /// Whether a value of the source of a rule would be an alarm event. All stays as it is.
+    pub fn would_turn(&mut self, rule: u64, value: Option<Num>) -> Result<bool, AllocError>
+        requires { Takes (numbered_from 0 self.old.plan.rules) rule value }
+        ensures same { self.new ≡ self.old }
+        ensures event { IfOk result (λ is. HasEvents is self.old.now (on_value (board self.old.plan self.old.now) rule value self.old.time).0) }
+    {
+        self.contents.would_turn(rule, value, self.time)
+    }
+
+    /// Whether an acknowledgement of an alarm would be an alarm event. All stays as it is.
+    pub fn would_ack(&mut self, number: u64) -> Result<bool, AllocError>
+        ensures same { self.new ≡ self.old }
+        ensures event { IfOk result (λ is. (user : Option (List ℕ)) → HasEvents is self.old.now (on_ack (board self.old.plan self.old.now) number user self.old.time).0) }
+    {
+        self.contents.would_ack(number, self.time)
+    }
+
     /// Acknowledges an alarm for a user, if one is named, at the time. Want of memory leaves all as it was.
     pub fn acknowledge(&mut self, number: u64, user: Option<Text>) -> Result<(), AllocError>
         ensures ok { OnOk result (self.new ≡ record self.old { now = with_board self.old.now (on_ack (board self.old.plan self.old.now) number user self.old.time).0 }) }
@@ -186,8 +307,25 @@ impl State {
         Ok(())
     }
 
+    /// Whether so many more records and alarm events would be more than 1,000,000 stored ones.
+    pub fn is_full(&self, more: u64) -> bool
+        ensures { result ≡ nat_lt 1_000_000 (stored self.now.now.logs (board self.now.plan self.now.now) + more) }
+    {
+        let events = self.contents.board.events(0).len() as u64;
+        let stored = self.tally.total.saturating_add(events);
+        stored.saturating_add(more) > 1_000_000
+    }
+
+    /// Whether the history of a place keeps all its records.
+    pub fn keeps_all(&self, place: usize) -> bool
+        requires { place < length self.now.now.logs }
+        ensures { (l : Path × SiteLog) → slice_get self.now.now.logs place ≡ Some l → result ≡ is_none l.1.capacity }
+    {
+        self.tally.capacities[place].is_none()
+    }
+
     /// Whether the history of a place records a node.
-    fn records(&self, place: usize, source: &Text) -> bool
+    pub fn records(&self, place: usize, source: &Text) -> bool
         requires { place < length self.now.now.logs }
         ensures { (l : Path × SiteLog) → slice_get self.now.now.logs place ≡ Some l → result ≡ records_from self.now.plan source.now l.0 }
     {
@@ -216,7 +354,7 @@ impl State {
     }
 
     /// The number of histories.
-    fn histories(&self) -> usize
+    pub fn histories(&self) -> usize
         ensures { result ≡ length self.now.now.logs }
     {
         self.contents.logs.len()
@@ -247,12 +385,25 @@ impl State {
         }
     }
 
+    /// Whether a value of a node would be an alarm event. All stays as it is.
+    pub fn would_act(&mut self, source: &Text, slot: &Slot) -> Result<bool, AllocError>
+        requires { TakesIfRule (numbered_from 0 self.old.plan.rules) (rule_of self.old.plan source.now) slot.now }
+        ensures same { self.new ≡ self.old }
+        ensures event { IfOk result (λ is. HasEvents is self.old.now (board_after self.old.plan self.old.now self.old.time source.now slot.now)) }
+    {
+        match rule_of(&self.plan.rules, source) {
+            Some(rule) => self.would_turn(rule, number_in(slot)),
+            None => Ok(false),
+        }
+    }
+
     /// Takes back all that the step has changed. It takes no memory.
     pub fn undo(&mut self)
         ensures { self.new ≡ record self.old { now = self.old.before; time = self.old.since } }
     {
         self.contents.take_all_back(&mut self.found);
         self.time = self.since;
+        self.tally.total = self.tally.total_before;
     }
 
     /// Ends the step: each history drops its oldest records, down to its capacity, and what the step has changed
@@ -263,5 +414,6 @@ impl State {
         self.contents.settle(&self.found);
         self.found.clear();
         self.since = self.time;
+        self.tally.total_before = self.tally.total;
     }
 }

@@ -1,7 +1,7 @@
 use Rattle.std.proofs.Common.{Bool, List, ◌++◌, ◌∷◌, [], refl, ap, ◌∙◌, subst}
 use Rattle.ob_alarms.specs.Changes.{State as Board, on_ack}
 use Rattle.ob_answers.specs.Plans.{plan as plan_of}
-use Rattle.ob_site_rules.specs.State.{board, with_board}
+use Rattle.ob_site_rules.specs.State.{State, board, with_board}
 use Rattle.ob_site_state.specs.declared.change.Change.{Change}
 use Rattle.ob_site_state.specs.declared.change.Change.TheVariants as change
 use Rattle.ob_site_state.specs.Changes.{rewound, AddsEvent}
@@ -9,6 +9,7 @@ use Rattle.ob_site_state.specs.Contents.{state_in}
 use Rattle.ob_site_state.specs.States.{kept}
 use Rattle.ob_site_state.proofs.Events.{board_is, ack_spare}
 use Rattle.ob_site_state.proofs.Noting.{event_noted, before_as, seen_as}
+use Rattle.ob_site_state.proofs.Storing.{tallied_as}
 use Rattle.ob_site_state.proofs.state.State.acknowledge.Goals as goal
 
 pub invariant_of-self-then-is_event : goal.invariant_of-self-then-is_event
@@ -17,9 +18,19 @@ invariant_of-self-then-is_event c =
     let s = state_in a.contents in
     let t = state_in c.acknowledge.new.self in
     let rest = c.acknowledge.ensures.rest in
-    event_noted (plan_of a.plan) a.time s t a.contents.board c.acknowledge.new.self.board (on_ack a.contents.board c.args.number c.args.user a.time).0 a.since a.found.items c.push_reserved.new.self.items c.self.invariant rest.root rest.rules c.in_ok-is_event.ensures.ok
-    (subst (λ (b : Bool). AddsEvent b s t) c.if-is_event.true c.in_ok-is_event.ensures.event)
-    (c.push_reserved.ensures.items ∙ ap (λ (l : List Change). l ++ change.Event ∷ []) c.reserve.ensures.items)
+    let items = c.push_reserved.new.self.items in
+    let adds = subst (λ (b : Bool). AddsEvent b s t) c.if-is_event.true c.in_ok-is_event.ensures.event in record {
+      kept =
+          event_noted (plan_of a.plan) a.time s t a.contents.board c.acknowledge.new.self.board (on_ack a.contents.board c.args.number c.args.user a.time).0 a.since a.found.items c.push_reserved.new.self.items c.self.invariant.kept rest.root rest.rules c.in_ok-is_event.ensures.ok
+          (subst (λ (b : Bool). AddsEvent b s t) c.if-is_event.true c.in_ok-is_event.ensures.event)
+          (c.push_reserved.ensures.items ∙ ap (λ (l : List Change). l ++ change.Event ∷ []) c.reserve.ensures.items);
+      tallied =
+          tallied_as a.tally s.logs (rewound a.found.items s).logs t.logs (rewound items t).logs
+          (ap (λ (x : State). x.logs) c.in_ok-is_event.ensures.ok)
+          (ap (λ (x : State). x.logs)
+          (before_as s t a.found.items items change.Event adds.1 (c.push_reserved.ensures.items ∙ ap (λ (l : List Change). l ++ change.Event ∷ []) c.reserve.ensures.items)))
+          c.self.invariant.tallied;
+    }
 
 pub returns-then-is_event-clause-ok : goal.returns-then-is_event-clause-ok
 returns-then-is_event-clause-ok c =
@@ -31,7 +42,7 @@ returns-then-is_event-clause-ok c =
     let adds = subst (λ (b : Bool). AddsEvent b s t) c.if-is_event.true c.in_ok-is_event.ensures.event in
     seen_as (kept a) c.args.self.now (λ k. with_board k.now (on_ack (board k.plan k.now) c.args.number c.args.user k.time).0) t (rewound items t) c.acknowledge.new.self.tree.stamps c.acknowledge.new.self.tree.steps c.self.view_is
     (c.in_ok-is_event.ensures.ok
-    ∙ ap (λ (x : Board). with_board s (on_ack x c.args.number c.args.user a.time).0) (board_is (plan_of a.plan) s a.contents.board c.self.invariant.root c.self.invariant.rules refl refl)
+    ∙ ap (λ (x : Board). with_board s (on_ack x c.args.number c.args.user a.time).0) (board_is (plan_of a.plan) s a.contents.board c.self.invariant.kept.root c.self.invariant.kept.rules refl refl)
     ∙ ack_spare s (board (plan_of a.plan) s) a.contents.board.spare c.args.number c.args.user a.time)
     (before_as s t a.found.items items change.Event adds.1 (c.push_reserved.ensures.items ∙ ap (λ (l : List Change). l ++ change.Event ∷ []) c.reserve.ensures.items))
     rest.stamps rest.steps

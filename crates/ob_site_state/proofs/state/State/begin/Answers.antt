@@ -6,5 +6,7 @@ use Rattle.ob_site_state.proofs.state.State.begin.Goals as goal
 
 pub invariant_of-self : goal.invariant_of-self
 invariant_of-self c =
-    let a = c.self.inside in
-    begun (plan_of a.plan) a.time c.later-self-inside.result (state_in a.contents) a.contents.board a.since a.found.items c.self.invariant (omega (arith, c.later-self-inside.ensures))
+    let a = c.self.inside in record {
+      kept = begun (plan_of a.plan) a.time c.later-self-inside.result (state_in a.contents) a.contents.board a.since a.found.items c.self.invariant.kept (omega (arith, c.later-self-inside.ensures));
+      tallied = c.self.invariant.tallied;
+    }

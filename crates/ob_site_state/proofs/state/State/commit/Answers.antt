@@ -7,7 +7,9 @@ use Rattle.ob_site_state.specs.Changes.{settled_all, rewound}
 use Rattle.ob_site_state.specs.Contents.{state_in}
 use Rattle.ob_site_state.specs.Kept.{IsKept}
 use Rattle.ob_site_state.specs.States.{kept}
+use Rattle.ob_site_state.specs.Tallies.{IsTallied}
 use Rattle.ob_site_state.proofs.Settling.{settles, committed, ended_as}
+use Rattle.ob_site_state.proofs.Storing.{tallied_on}
 use Rattle.ob_site_state.proofs.state.State.commit.Goals as goal
 
 pub invariant_of-self : goal.invariant_of-self
@@ -19,9 +21,14 @@ invariant_of-self c =
     let is : t ≡ roll s =
     c.settle.ensures.new
     ∙ ap (λ (l : List Change). let x : State = record s { logs = settled_all l s.logs } in x) c.deref.ensures.value
-    ∙ ap (λ (ls : List (Path × Log)). let x : State = record s { logs = ls } in x) (settles a.found.items s c.self.invariant.rolled_before) in
-    subst (λ (l : List Change). IsKept (plan_of a.plan) a.time t c.settle.new.self.board a.time l) (sym c.clear.ensures.items)
-    (committed (plan_of a.plan) a.time s t a.contents.board c.settle.new.self.board a.since a.found.items c.self.invariant rest.root rest.rules is)
+    ∙ ap (λ (ls : List (Path × Log)). let x : State = record s { logs = ls } in x) (settles a.found.items s c.self.invariant.kept.rolled_before) in record {
+      kept =
+          subst (λ (l : List Change). IsKept (plan_of a.plan) a.time t c.settle.new.self.board a.time l) (sym c.clear.ensures.items)
+          (committed (plan_of a.plan) a.time s t a.contents.board c.settle.new.self.board a.since a.found.items c.self.invariant.kept rest.root rest.rules is);
+      tallied =
+          subst (λ (l : List Change). IsTallied (record a.tally { total_before = a.tally.total }) t.logs (rewound l t).logs) (sym c.clear.ensures.items)
+          (tallied_on a.tally s.logs (rewound a.found.items s).logs t.logs (ap (λ (x : State). x.logs) is) c.self.invariant.tallied);
+    }
 
 pub returns : goal.returns
 returns c =
@@ -32,6 +39,6 @@ returns c =
     let is : t ≡ roll s =
     c.settle.ensures.new
     ∙ ap (λ (l : List Change). let x : State = record s { logs = settled_all l s.logs } in x) c.deref.ensures.value
-    ∙ ap (λ (ls : List (Path × Log)). let x : State = record s { logs = ls } in x) (settles a.found.items s c.self.invariant.rolled_before) in
+    ∙ ap (λ (ls : List (Path × Log)). let x : State = record s { logs = ls } in x) (settles a.found.items s c.self.invariant.kept.rolled_before) in
     ended_as (kept a) c.args.self.now t (rewound c.clear.new.self.items t) c.settle.new.self.tree.stamps c.settle.new.self.tree.steps c.self.view_is is
     (ap (λ (l : List Change). rewound l t) c.clear.ensures.items) rest.stamps rest.steps

@@ -8,11 +8,12 @@ use Rattle.ob_site_rules.specs.State.{State}
 use Rattle.ob_site_state.specs.declared.change.Change.{Change}
 use Rattle.ob_site_state.specs.declared.change.Change.TheVariants as change
 use Rattle.ob_site_state.specs.Contents.{state_in}
-use Rattle.ob_site_state.specs.Kept.{Kept}
+use Rattle.ob_site_state.specs.Kept.{Kept, IsNode}
 use Rattle.ob_site_state.specs.States.{kept}
 use Rattle.ob_site_state.specs.Changes.{rewound}
 use Rattle.ob_site_state.proofs.Rewinding.{set_to}
 use Rattle.ob_site_state.proofs.Noting.{slot_noted, slot_back, before_as, seen_as}
+use Rattle.ob_site_state.proofs.Storing.{tallied_as}
 use Rattle.ob_site_state.proofs.state.State.set_slot.Goals as goal
 
 pub invariant_of-self-2 : goal.invariant_of-self-2
@@ -21,11 +22,24 @@ invariant_of-self-2 c =
     let s = state_in a.contents in
     let ch : Change = change.Slot c.args.node c.set-old.result in
     let rest = c.set-old.ensures.rest in
-    slot_noted (plan_of a.plan) a.time s (state_in c.set-old.new.self) a.contents.board c.set-old.new.self.board a.since a.found.items c.push_reserved.new.self.items c.args.node c.set-old.result c.args.slot c.self.invariant rest.root rest.rules
-    (subst (λ (k : Kept). c.args.node.number < parts k.now.tree) (sym c.self.view_is) c.requires.within)
-    (subst (λ (k : Kept). (h : Head) → head_at c.args.node.number k.now.tree ≡ Some h → IsTrue (fits_slot h.kind c.args.slot)) (sym c.self.view_is) c.requires.fits)
-    c.set-old.ensures.old c.set-old.ensures.new
-    (c.push_reserved.ensures.items ∙ ap (λ (l : List Change). l ++ ch ∷ []) c.reserve.ensures.items)
+    let items = c.push_reserved.new.self.items in
+    let t = state_in c.set-old.new.self in
+    let within : c.args.node.number < parts s.tree = subst (λ (k : Kept). c.args.node.number < parts k.now.tree) (sym c.self.view_is) c.requires.within in record {
+      kept =
+          slot_noted (plan_of a.plan) a.time s (state_in c.set-old.new.self) a.contents.board c.set-old.new.self.board a.since a.found.items c.push_reserved.new.self.items c.args.node c.set-old.result c.args.slot c.self.invariant.kept rest.root rest.rules
+          (subst (λ (k : Kept). IsNode c.args.node.number k.now.tree) (sym c.self.view_is) c.requires.node)
+          (subst (λ (k : Kept). c.args.node.number < parts k.now.tree) (sym c.self.view_is) c.requires.within)
+          (subst (λ (k : Kept). (h : Head) → head_at c.args.node.number k.now.tree ≡ Some h → IsTrue (fits_slot h.kind c.args.slot)) (sym c.self.view_is) c.requires.fits)
+          c.set-old.ensures.old c.set-old.ensures.new
+          (c.push_reserved.ensures.items ∙ ap (λ (l : List Change). l ++ ch ∷ []) c.reserve.ensures.items);
+      tallied =
+          tallied_as a.tally s.logs (rewound a.found.items s).logs t.logs (rewound items t).logs
+          (ap (λ (x : State). x.logs) c.set-old.ensures.new)
+          (ap (λ (x : State). x.logs)
+          (before_as s t a.found.items items ch (slot_back s t c.args.node c.set-old.result c.args.slot within c.set-old.ensures.old c.set-old.ensures.new)
+          (c.push_reserved.ensures.items ∙ ap (λ (l : List Change). l ++ ch ∷ []) c.reserve.ensures.items)))
+          c.self.invariant.tallied;
+    }
 
 pub returns-clause-ok : goal.returns-clause-ok
 returns-clause-ok c =
