@@ -1,3 +1,6 @@
+pub mod ByRole
 pub mod Frees
+pub mod Leaves
+pub mod Nowhere
 pub mod Spans
 pub mod Stands

@@ -9,7 +9,6 @@ use Rattle.ob_standing.specs.Contexts.{Context, comes_to}
 use Rattle.ob_shown_laws.specs.Alike.{row}
 use Rattle.ob_shown_laws.specs.Changed.{PathsDiffer}
 use Rattle.ob_shown_laws.specs.Own.{dressed_own}
-use Rattle.ob_shown_laws.specs.OwnShown.{IsNotDerived}
 use Rattle.ob_tree.specs.Laid.{paths}
 use Rattle.ob_tree.specs.Paths.{place_of}
 use Rattle.ob_tree.specs.Shown.{part_at, standing_at}
@@ -37,17 +36,3 @@ pub shows : (plan : Plan) (s : State) (n : ℕ) (c : Context) (d o : Object) →
     → PathsDiffer (row (dressed plan s)) → (p : Path) → place_of p (paths s.tree) ≡ Some n → shown plan s p ≡ Some o
 shows plan s n c d o at made is differ p here =
     (own_trees_tell plan s).shows_own p n differ here ∙ sym (stands plan s n c d o at made is)
-
--- at a path that no role derives, by the number of the own node there
-pub found : (plan : Plan) (s : State) (p : Path) (n : ℕ) (o : Object) → Some n ≡ place_of p (paths s.tree) → Some o ≡ own_shown_at plan s n
-    → Some o ≡ option_and_then (own_shown_at plan s) (place_of p (paths s.tree))
-found plan s p n o here is = is ∙ ap (option_and_then (own_shown_at plan s)) here
-
--- and where there is none
-pub nowhere : (plan : Plan) (s : State) (p : Path) → None ≡ place_of p (paths s.tree) → None ≡ option_and_then (own_shown_at plan s) (place_of p (paths s.tree))
-nowhere plan s p here = ap (option_and_then (own_shown_at plan s)) here
-
--- what the site shows there is that
-pub told : (plan : Plan) (s : State) (p : Path) (o : Option Object) → o ≡ option_and_then (own_shown_at plan s) (place_of p (paths s.tree))
-    → IsNotDerived plan s p (row s.tree) → shown plan s p ≡ o
-told plan s p o is off = (own_trees_tell plan s).shows p off ∙ sym is

@@ -4,10 +4,12 @@
 
 mod dressing;
 mod logs;
+mod owners;
 mod roles;
 mod shown;
 
 pub use dressing::dress;
 pub use logs::log_at;
+pub use owners::{begins_with, shown_derived};
 pub use roles::derived;
 pub use shown::{dressed_part, shown_at, shown_own};

@@ -1,5 +1,5 @@
 //! What is shown of an own object where it stands.
-ghost use Rattle.std.specs.Prelude.{◌≡◌, ◌<◌, Some, option_map, option_and_then, IfOk};
+ghost use Rattle.std.specs.Prelude.{◌≡◌, ◌<◌, Some, option_map, IfOk};
 ghost use Rattle.ob_object.specs.Object.{parts};
 ghost use Rattle.ob_tree.specs.Shown.{part_at};
 ghost use Rattle.ob_tree.specs.Laid.{paths};
@@ -7,14 +7,13 @@ ghost use Rattle.ob_tree.specs.Paths.{place_of};
 ghost use Rattle.ob_answers.specs.Plans.{plan as plan_of};
 ghost use Rattle.ob_site_rules.specs.Build.{Path};
 ghost use Rattle.ob_site_rules.specs.Shown.{shown};
-ghost use Rattle.ob_shown_laws.specs.Alike.{row};
 ghost use Rattle.ob_shown_laws.specs.Own.{dressed_own};
-ghost use Rattle.ob_shown_laws.specs.OwnShown.{IsNotDerived};
 ghost use Rattle.ob_tree_bridges.specs.OwnTree.{own_shown_at};
 ghost use Rattle.ob_site_state.specs.Contents.{state_in};
 ghost use Rattle.ob_site_shown.specs.Readable.{IsReadable};
 
 use crate::dressing::dress;
+use crate::owners::shown_derived;
 use ob_answers::Plan;
 use ob_object::Obj;
 use ob_site_state::Contents;
@@ -58,9 +57,10 @@ pub fn shown_own(
     standing.whole(alloc, &dressed)
 }
 
-/// What is shown at a path that no role derives: of the own node there, and `None` where no own node is. An error
-/// only for want of memory.
-#[tactic(auto, using(crate::proofs::Stands::found, crate::proofs::Stands::nowhere))]
+/// What is shown at a path: of the own node there, or of the node that a role derives there, and `None` where neither
+/// is. An error only for want of memory.
+///
+/// Source: oBIX 1.1, chapters 6 (Naming) and 7 (Contracts). That roles derive children is this profile's own.
 pub fn shown_at(
     alloc: Global,
     plan: &Plan,
@@ -68,14 +68,13 @@ pub fn shown_at(
     path: &Text,
 ) -> Result<Option<Obj>, AllocError>
     requires { IsReadable (plan_of plan.now) contents.now }
-    ensures own { IfOk result (λ o. o ≡ option_and_then (own_shown_at (plan_of plan.now) (state_in contents.now)) (place_of path.now (paths contents.now.tree.root))) }
-    ensures shows { IfOk result (λ o. IsNotDerived (plan_of plan.now) (state_in contents.now) path.now (row contents.now.tree.root) → shown (plan_of plan.now) (state_in contents.now) path.now ≡ o) }
+    ensures { IfOk result (λ o. o ≡ shown (plan_of plan.now) (state_in contents.now) path.now) }
 {
     match contents.tree.get(path) {
         Some(node) => {
             let shown = shown_own(alloc, plan, contents, node)?;
             Ok(Some(shown))
         }
-        None => Ok(None),
+        None => shown_derived(alloc, plan, contents, path),
     }
 }

@@ -1,12 +1,18 @@
-use Rattle.std.proofs.Common.{None}
+use Rattle.std.proofs.Common.{◌≡◌}
+use Rattle.std.proofs.lemmas.Result.{IfOk-weaker}
 use Rattle.ob_answers.specs.Plans.{plan as plan_of}
+use Rattle.ob_site_rules.specs.Shown.{shown}
+use Rattle.ob_shown_laws.specs.Alike.{row}
+use Rattle.ob_shown_laws.specs.OwnShown.{IsNotDerived}
 use Rattle.ob_site_state.specs.Contents.{state_in}
-use Rattle.ob_site_shown.proofs.Stands.{nowhere, told}
+use Rattle.ob_site_shown.specs.Deriving.{ShownOr}
+use Rattle.ob_site_shown.proofs.ByRole.{nothing}
 use Rattle.ob_site_shown.proofs.shown.shown_at.Goals as goal
 
-pub returns-in-None-clause-shows : goal.returns-in-None-clause-shows
-returns-in-None-clause-shows c =
+pub returns-in-None : goal.returns-in-None
+returns-in-None c =
     let plan = plan_of c.args.plan.now in
     let s = state_in c.args.contents.now in
     let p = c.args.path.now in
-    told plan s p None (nowhere plan s p c.in-None.ensures.place)
+    IfOk-weaker c.shown_derived.result (ShownOr plan s p (IsNotDerived plan s p (row s.tree))) (λ o. o ≡ shown plan s p)
+    (λ o is. nothing plan s p o c.in-None.ensures.place is) c.shown_derived.ensures

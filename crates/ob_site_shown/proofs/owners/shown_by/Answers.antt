@@ -1,0 +1,15 @@
+use Rattle.std.proofs.Common.{sym, ◌∙◌}
+use Rattle.ob_answers.specs.Plans.{plan as plan_of}
+use Rattle.ob_site_state.specs.Contents.{state_in}
+use Rattle.ob_site_shown.proofs.Nowhere.{starts_off}
+use Rattle.ob_site_shown.proofs.ByRole.{derives}
+use Rattle.ob_site_shown.proofs.owners.shown_by.Goals as goal
+
+pub returns-then-not-begins_with : goal.returns-then-not-begins_with
+returns-then-not-begins_with c =
+    λ here. starts_off (plan_of c.args.plan.now) (state_in c.args.contents.now) c.args.path.now c.args.owner.now (sym c.if-not-begins_with.ensures)
+
+pub returns-in-Some-among : goal.returns-in-Some-among
+returns-in-Some-among c =
+    derives (plan_of c.args.plan.now) (state_in c.args.contents.now) c.args.path.now c.args.owner.now c.in-Some.node.number c.deref.result.now c.in-Some-among.child.now c.in_ok-shown-in-Some-among.shown
+    c.requires.paths_differ c.in-Some.ensures.place (c.deref.ensures.value ∙ c.in_ok-children.ensures) c.in-Some-among.ensures c.in_ok-shown-in-Some-among.ensures

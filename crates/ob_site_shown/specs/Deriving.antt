@@ -1,0 +1,28 @@
+-- Which nodes the roles of an own node derive.
+use Rattle.std.specs.Prelude.{◌≡◌, ℕ, true, false, List, [], ◌∷◌, Option, Some, None, is_some, slice_get}
+use Rattle.ob_object.specs.Object.{Object, in_row}
+use Rattle.ob_site_rules.specs.Build.{Path}
+use Rattle.ob_site_rules.specs.State.{Plan, State}
+use Rattle.ob_site_rules.specs.Shown.{node_path, derived_at, shown}
+use Rattle.ob_shown_laws.specs.Changed.{is_in}
+use Rattle.ob_tree.specs.Laid.{paths}
+use Rattle.ob_tree.specs.Paths.{place_of}
+
+-- where an own node is at the second path, its roles derive no node of the first
+abbrev pub IsOff : Plan → State → Path → Path → Type 0
+IsOff plan s p q = is_some (place_of q (paths s.tree)) ≡ true → is_in p (in_row (derived_at plan s q)) ≡ false
+
+-- and so at each of these paths
+abbrev pub AreOff : Plan → State → Path → List Path → Type 0
+AreOff plan s p [] = Unit {0}
+AreOff plan s p (q ∷ qs) = IsOff plan s p q × AreOff plan s p qs
+
+-- what is shown at a path, where it is found, and else what holds
+abbrev pub ShownOr : Plan → State → Path → Type 0 → Option Object → Type 0
+ShownOr plan s p off None = off
+ShownOr plan s p off (Some o) = shown plan s p ≡ Some o
+
+-- the object of this path among objects side by side, if it is the path of a node among them
+abbrev pub IsAmong : Path → List Object → Option Object → Type 0
+IsAmong p os None = is_in p (in_row os) ≡ false
+IsAmong p os (Some o) = (place : ℕ) × (slice_get os place ≡ Some o) × (node_path o.head ≡ Some p)
