@@ -1,0 +1,6 @@
+pub mod Parts
+pub mod Runs
+pub mod Broken
+pub mod Legal
+pub mod Rows
+pub mod Reading
