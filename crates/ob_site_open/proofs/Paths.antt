@@ -1,0 +1,70 @@
+-- Paths that are apart, as a tree asks for them.
+use Rattle.std.proofs.Common.{◌≡◌, ℕ, Bool, true, false, cond, ◌||◌, bytes_eq, List, [], ◌∷◌, ◌++◌, Option, Some, None, refl, sym, ap, ap₂, ◌∙◌, append_assoc, subst, true≢false}
+use Rattle.std.specs.Prelude.{is_some}
+use Rattle.std.proofs.lemmas.List.{map-append}
+use Rattle.std.proofs.lemmas.Slice.Eq.{bytes_eq-Decides}
+use Rattle.ob_object.specs.Object.{Objects, none, node, Object}
+use Rattle.ob_site_rules.specs.Build.{Path}
+use Rattle.ob_site_rules.specs.State.{is_among}
+use Rattle.ob_site_rules.specs.Shown.{node_path}
+use Rattle.ob_opening.specs.Loading.{listed_path, row_of}
+use Rattle.ob_tree.specs.Laid.{heads, paths}
+use Rattle.ob_tree.specs.Paths.{first_twice}
+use Rattle.ob_tree_bridges.proofs.Places.{row_paths as tree_paths, paths_by_row, has, has-append}
+use Rattle.ob_opened.specs.Laws.{Apart, row_paths}
+
+-- the paths that are there
+abbrev listed : List (Option Path) → List Path
+listed [] = []
+listed (q ∷ qs) = listed_path q ++ listed qs
+
+listed-append : (xs ys : List (Option Path)) → listed (xs ++ ys) ≡ listed xs ++ listed ys
+listed-append [] ys = refl
+listed-append (x ∷ xs) ys = ap (λ l. listed_path x ++ l) (listed-append xs ys) ∙ sym (append_assoc (listed_path x) (listed xs) (listed ys))
+
+listed_row : (r : Objects) → listed (tree_paths r) ≡ row_paths r
+listed_row none = refl
+listed_row (node h inner rest) =
+    ap (λ l. listed_path (node_path h) ++ l)
+    (ap listed (map-append node_path (heads inner) (heads rest))
+    ∙ listed-append (tree_paths inner) (tree_paths rest)
+    ∙ ap₂ (λ a b. a ++ b) (listed_row inner) (listed_row rest))
+
+or_true : (b : Bool) → (b || true) ≡ true
+or_true true = refl
+or_true false = refl
+
+or_false : (b : Bool) → (b || false) ≡ b
+or_false true = refl
+or_false false = refl
+
+same_self : (p : Path) → bytes_eq p p ≡ true
+same_self p = (bytes_eq-Decides p p).1 refl
+
+-- a path that none of the others is
+other : (p q : Path) (qs : List Path) → is_among q qs ≡ false → is_among p qs ≡ true → bytes_eq q p ≡ false
+other p q qs out there = go (bytes_eq q p) refl
+  where
+    go : (b : Bool) → bytes_eq q p ≡ b → bytes_eq q p ≡ false
+    go false e = e
+    go true e = absurd (true≢false (sym there ∙ ap (λ (x : Path). is_among x qs) (sym ((bytes_eq-Decides q p).0 e)) ∙ out))
+
+-- none of these paths is among those before
+abbrev NotBefore : List (Option Path) → List Path → Type 0
+NotBefore before ps = (p : Path) → is_among p ps ≡ true → has p before ≡ false
+
+none_twice : (before qs : List (Option Path)) → Apart (listed qs) → NotBefore before (listed qs) → first_twice before qs ≡ None
+none_twice before [] a out = refl
+none_twice before (None ∷ qs) a out =
+    none_twice (before ++ None ∷ []) qs a (λ p h. has-append p before (None ∷ []) ∙ or_false (has p before) ∙ out p h)
+none_twice before (Some q ∷ qs) a out =
+    ap (λ b. cond b (Some q) (first_twice (before ++ Some q ∷ []) qs)) (out q (ap (λ b. b || is_among q (listed qs)) (same_self q)))
+    ∙ none_twice (before ++ Some q ∷ []) qs a.1 (λ p h.
+    has-append p before (Some q ∷ [])
+    ∙ ap₂ (λ x y. x || y) (out p (ap (λ b. bytes_eq q p || b) h ∙ or_true (bytes_eq q p))) (ap (λ b. let o : Option ℕ = cond b (Some 0) None in is_some o) (other p q (listed qs) a.0 h)))
+
+-- of a tree whose paths are apart none stands twice
+pub tree_differs : (o : Object) → Apart (row_paths (row_of o)) → first_twice [] (paths o) ≡ None
+tree_differs o a =
+    ap (first_twice []) (paths_by_row o)
+    ∙ none_twice [] (tree_paths (row_of o)) (subst Apart (sym (listed_row (row_of o))) a) (λ p h. refl)

@@ -1,0 +1,102 @@
+//! The state that a document opens.
+ghost use Rattle.std.specs.Prelude.{◌≡◌, [], None, Ok, map, replicate, IfOk, IfErr};
+ghost use Rattle.ob_object.specs.Object.{parts};
+ghost use Rattle.ob_object.specs.WellFormed.{IsWellFormed};
+ghost use Rattle.ob_tree.specs.Laid.{paths};
+ghost use Rattle.ob_tree.specs.Paths.{first_twice};
+ghost use Rattle.ob_opening.specs.Opening.{opening};
+ghost use Rattle.ob_state.specs.States.{AreCounted, entry_of as opened_entry};
+ghost use Rattle.ob_site_file.specs.Opened.{site_of};
+ghost use Rattle.ob_site_file.specs.Passes.{Refuses};
+ghost use Rattle.ob_site_state.specs.Kept.{entry_of};
+ghost use Rattle.ob_opens_laws.specs.Records.{EachLog};
+ghost use Rattle.ob_site_open.specs.Logs.{CanStand, HaveNanos};
+ghost use Rattle.ob_site_open.specs.Opens.{Opens, just_opened};
+
+use crate::board::board_of;
+use crate::logs::logs_of;
+use crate::time::opening_time;
+use ob_history::Log;
+use ob_object::Obj;
+use ob_site_file::{LoadFault, Opened, opening};
+use ob_site_state::{Contents, State};
+use ob_times::Moment;
+use ob_tree::{Tree, TreeFault};
+use ob_values::Text;
+use std::alloc::{AllocError, Global};
+
+// The tree of a root of which no two nodes have one path.
+fn tree_of(alloc: Global, root: Obj) -> Result<Tree, AllocError>
+    requires { first_twice [] (paths root) ≡ None }
+    ensures tree { IfOk result (λ tree. tree ≡ record { root = root; stamps = replicate (parts root) 0; steps = 0 }) }
+    ensures well_formed { IsWellFormed root }
+{
+    let _head = root.head();
+    match Tree::build(alloc, root) {
+        Ok(tree) => Ok(tree),
+        Err(TreeFault::Memory) => Err(AllocError),
+        Err(TreeFault::PathTwice { path: _ }) => unreachable!(),
+    }
+}
+
+// The time at which it stands opened.
+fn time_of(opened: &Opened) -> Moment
+    ensures { result ≡ (site_of opened.now).world.time }
+{
+    opening_time(opened.plan.boot, &opened.logs)
+}
+
+// The logs of what stands opened, rolled down to their capacities.
+fn logs_in(alloc: Global, opened: &Opened) -> Result<Vec<(Text, Log)>, AllocError>
+    requires counted { AreCounted (map opened_entry opened.now.logs.items) }
+    requires stand { EachLog CanStand (site_of opened.now).world.site.logs }
+    ensures logs { IfOk result (λ logs. map entry_of logs.items ≡ (site_of opened.now).world.site.logs) }
+    ensures nanos { IfOk result (λ logs. EachLog HaveNanos (map entry_of logs.items)) }
+{
+    logs_of(alloc, &opened.logs, opened.plan.boot)
+}
+
+/// The state of what a document's root opened at a moment: no step has changed anything yet. An error only for want of memory.
+pub fn state_of(
+    alloc: Global,
+    root: &Obj,
+    boot: Moment,
+    opened: Opened,
+) -> Result<State, AllocError>
+    requires opens { opening root.now boot ≡ Ok (site_of opened) }
+    requires counted { AreCounted (map opened_entry opened.logs.items) }
+    ensures { IfOk result (λ state. state ≡ just_opened (site_of opened)) }
+{
+    let _head = root.head();
+    let _boot = boot;
+    let time = time_of(&opened);
+    let logs = logs_in(alloc, &opened)?;
+    let board = board_of(alloc, &opened.plan)?;
+    let Opened {
+        plan,
+        library,
+        tree,
+        logs: whole,
+    } = opened;
+    drop(whole);
+    let tree = tree_of(alloc, tree)?;
+    let contents = Contents {
+        library,
+        tree,
+        logs,
+        board,
+    };
+    Ok(State::new(alloc, plan, time, contents))
+}
+
+/// The state that a document's root opens at a moment, or the first refusal in the order of `LoadFault`.
+///
+/// Source: oBIX 1.1, chapters 5 to 7 and 13 to 15; the form of the site file, its refusals and their order are this profile's own.
+pub fn open_state(alloc: Global, root: &Obj, boot: Moment) -> Result<State, LoadFault>
+    ensures opened { IfOk result (Opens root.now boot) }
+    ensures refused { IfErr result (Refuses root.now boot) }
+{
+    let opened = opening(alloc, root, boot)?;
+    let state = state_of(alloc, root, boot, opened)?;
+    Ok(state)
+}
