@@ -10,6 +10,8 @@ use Rattle.ob_scan.specs.Constructs as scanned
 use Rattle.ob_scan.specs.Expansion.{Expands}
 use Rattle.ob_object.specs.Object.{Object}
 use Rattle.ob_grammar.specs.Spelling.{Spells}
+use Rattle.ob_xml.specs.declared.refused.Why.{Why as Cause}
+use Rattle.ob_xml.specs.Judged.{document, fault, Judged}
 use Rattle.ob_markup.specs.Characters.{IsBlank, is_white, print_equals}
 use Rattle.ob_markup.specs.References.{IsBadReference, StandsFor}
 use Rattle.ob_markup.specs.Markup.{Attribute}
@@ -102,3 +104,11 @@ ValuesStand = (value text : List ℕ) → Expands value text ↔ StandsFor value
 -- the grammar of documents over the scanner's constructs, and the one in productions
 abbrev pub DocumentsAgree : Type 0
 DocumentsAgree = (bytes : List ℕ) (ns : Option (List ℕ)) (o : Object) → Spells bytes ns o ↔ IsDocumentOf bytes ns o
+
+-- bytes are judged to be a document exactly where they are one of that object
+abbrev pub DocumentsJudged : Type 0
+DocumentsJudged = (bytes : List ℕ) (ns : Option (List ℕ)) (o : Object) → Judged bytes true (document (record { ns = ns; root = o })) ↔ IsDocumentOf bytes ns o
+
+-- and what is refused is none
+abbrev pub RefusedIsNone : Type 0
+RefusedIsNone = (bytes : List ℕ) (place : ℕ) (why : Cause) → Judged bytes true (fault place why) → (ns : Option (List ℕ)) (o : Object) → ¬ (IsDocumentOf bytes ns o)

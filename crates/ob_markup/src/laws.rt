@@ -1,5 +1,5 @@
 //! What the scanner's definition says in terms of the productions.
-ghost use Rattle.ob_markup.specs.Scanning.{FindsPieces, AsksForMore, RefusesOthers, RefusesAtTheEnd, ValuesStand, DocumentsAgree};
+ghost use Rattle.ob_markup.specs.Scanning.{FindsPieces, AsksForMore, RefusesOthers, RefusesAtTheEnd, ValuesStand, DocumentsAgree, DocumentsJudged, RefusedIsNone};
 ghost use Rattle.ob_markup.specs.Rows.{PrintsSample, ReadsBareObject, NoDashes, NoXmlTarget, StandsForText, NoReferences, NeverADoctype, MayBeAnAttribute};
 
 /// At each place, the scanner finds a construct and leaves the rest exactly where a piece stands of which the construct is
@@ -43,6 +43,17 @@ pub fn values_stand()
 pub fn documents_agree()
     ensures { DocumentsAgree }
 {}
+
+/// The bytes that a decoder judges to be a document are those that are one of that object by the productions; and bytes that it
+/// refuses are a document of none.
+pub fn documents_judged()
+    ensures judged { DocumentsJudged }
+    ensures refused { RefusedIsNone }
+{
+    ob_documents::only();
+    ob_documents::spelled();
+    ob_xml::one_verdict();
+}
 
 /// Worked rows of the productions.
 pub fn worked_rows()

@@ -7,6 +7,6 @@
 mod laws;
 
 pub use laws::{
-    asks_for_more, documents_agree, finds_pieces, refuses_at_the_end, refuses_others, values_stand,
-    worked_rows,
+    asks_for_more, documents_agree, documents_judged, finds_pieces, refuses_at_the_end,
+    refuses_others, values_stand, worked_rows,
 };
