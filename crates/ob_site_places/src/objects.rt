@@ -1,0 +1,78 @@
+//! The answer to a Get.
+ghost use Rattle.std.specs.Prelude.{◌≡◌, IfOk};
+ghost use Rattle.ob_answers.specs.Plans.{plan as plan_of};
+ghost use Rattle.ob_site_rules.specs.Places.{object_at, reply_at};
+ghost use Rattle.ob_site_state.specs.Contents.{state_in};
+ghost use Rattle.ob_site_shown.specs.Readable.{IsReadable};
+ghost use Rattle.ob_site_places.specs.Complete.{IsComplete};
+ghost use Rattle.ob_shown.specs.Named.{place as place_of};
+
+use ob_answers::build::nameless;
+use ob_answers::{Fault, Plan, about, ack_op, batch_op, make_op, refusal, service};
+use ob_entries::alarm_object;
+use ob_object::Obj;
+use ob_shown::Place;
+use ob_site_shown::shown_at;
+use ob_site_state::Contents;
+use ob_values::{Moment, Text};
+use std::alloc::{AllocError, Global};
+
+/// What is shown at a path, or else a given object; without its name. An error only for want of memory.
+pub fn reply_at(
+    alloc: Global,
+    plan: &Plan,
+    contents: &Contents,
+    path: &Text,
+    default: Obj,
+) -> Result<Obj, AllocError>
+    requires { IsReadable (plan_of plan.now) contents.now }
+    ensures { IfOk result (λ o. o ≡ reply_at (plan_of plan.now) (state_in contents.now) path.now default) }
+{
+    match shown_at(alloc, plan, contents, path)? {
+        Some(node) => Ok(nameless(node)),
+        None => Ok(nameless(default)),
+    }
+}
+
+/// The object that is read at a path, which names this place. The batch of a lobby is read as the root's child, and
+/// that of another root as the op alone. An error only for want of memory.
+///
+/// Source: oBIX 1.1, chapter 10 (Networking: Read).
+pub fn object_at(
+    alloc: Global,
+    plan: &Plan,
+    contents: &Contents,
+    now: Moment,
+    path: &Text,
+    place: Place,
+) -> Result<Obj, AllocError>
+    requires { IsComplete (plan_of plan.now) contents.now }
+    ensures { IfOk result (λ o. o ≡ object_at (plan_of plan.now) (state_in contents.now) now path.now (place_of place)) }
+{
+    match place {
+        Place::About => about(alloc, plan, now),
+        Place::Batch => {
+            let op = batch_op(alloc, plan)?;
+            reply_at(alloc, plan, contents, path, op)
+        }
+        Place::Service => service(alloc, plan),
+        Place::Make => {
+            let op = make_op(alloc, plan)?;
+            Ok(nameless(op))
+        }
+        Place::AlarmAt(number) => alarm_object(alloc, &contents.board, number),
+        Place::AckOf(number) => {
+            let op = ack_op(alloc, plan, number)?;
+            Ok(nameless(op))
+        }
+        Place::Node(node) => Ok(nameless(node)),
+        Place::WritePointOf(_)
+        | Place::QueryOf(_)
+        | Place::FeedOf(_)
+        | Place::AlarmQuery
+        | Place::AlarmFeed => {
+            let missing = refusal(alloc, Fault::NoSuchObject)?;
+            reply_at(alloc, plan, contents, path, missing)
+        }
+    }
+}

@@ -1,0 +1,275 @@
+//! What a path names: the computed paths first, then the nodes.
+ghost use Rattle.std.specs.Prelude.{◌≡◌, ◌++◌, option_map, option_copied, slice_get, IfOk};
+ghost use Rattle.ob_alarms.specs.States.{needs_ack};
+ghost use Rattle.ob_alarms.specs.Changes.{alarm_of};
+ghost use Rattle.ob_answers.specs.Plans.{plan as plan_of};
+ghost use Rattle.ob_site_rules.specs.State.{at, numbered_from};
+ghost use Rattle.ob_site_rules.specs.Places.{fixed_places, point_places, history_places, subject_places, event_places, alarm_places, computed_places, place_at};
+ghost use Rattle.ob_site_state.specs.Contents.{state_in};
+ghost use Rattle.ob_site_shown.specs.Readable.{IsReadable};
+ghost use Rattle.ob_shown.specs.Parts.{point_parts, history_parts, alarm_parts, parts_of_alarm};
+ghost use Rattle.ob_shown.specs.Named.{place as place_of};
+
+use crate::paths::{alarm_number, is_followed};
+use ob_alarms::{Alarm, Alarms};
+use ob_answers::{Plan, PointRule, ack_path, alarm_path, below};
+use ob_shown::Place;
+use ob_site_shown::{begins_with, shown_at};
+use ob_site_state::Contents;
+use ob_values::Text;
+use std::alloc::{AllocError, Global};
+
+/// The place of those whose paths the root's alone computes.
+fn fixed_place(plan: &Plan, path: &Text) -> Option<Place>
+    ensures { option_map place_of result ≡ at path.now (fixed_places (plan_of plan.now)) }
+{
+    if is_followed(&plan.root, "about", path) {
+        return Some(Place::About);
+    }
+    if is_followed(&plan.root, "batch", path) {
+        return Some(Place::Batch);
+    }
+    if is_followed(&plan.root, "watchService", path) {
+        return Some(Place::Service);
+    }
+    if is_followed(&plan.root, "watchService/make", path) {
+        return Some(Place::Make);
+    }
+    None
+}
+
+/// The op of a point, if the path is its.
+#[tactic(auto, using(crate::proofs::Fronts::no_point))]
+fn one_point(alloc: Global, point: &Text, path: &Text) -> Result<Option<Place>, AllocError>
+    ensures { IfOk result (λ place. option_map place_of place ≡ at path.now (point_parts point.now)) }
+{
+    if !begins_with(path, point) {
+        return Ok(None);
+    }
+    let op = below(alloc, point, "writePoint")?;
+    if op.is(path.as_str()) {
+        let point = point.copy()?;
+        return Ok(Some(Place::WritePointOf(point)));
+    }
+    Ok(None)
+}
+
+/// The op of a writable point.
+fn point_place(alloc: Global, plan: &Plan, path: &Text) -> Result<Option<Place>, AllocError>
+    ensures { IfOk result (λ place. option_map place_of place ≡ at path.now (point_places (plan_of plan.now))) }
+{
+    for point in &plan.points {
+        let found = one_point(alloc, point, path)?;
+        if found.is_some() {
+            return Ok(found);
+        }
+    }
+    Ok(None)
+}
+
+/// The op or the feed of a history, if the path is one of theirs.
+#[tactic(auto, using(crate::proofs::Fronts::no_history))]
+fn one_history(alloc: Global, history: &Text, path: &Text) -> Result<Option<Place>, AllocError>
+    ensures { IfOk result (λ place. option_map place_of place ≡ at path.now (history_parts history.now)) }
+{
+    if !begins_with(path, history) {
+        return Ok(None);
+    }
+    let query = below(alloc, history, "query")?;
+    if query.is(path.as_str()) {
+        let history = history.copy()?;
+        return Ok(Some(Place::QueryOf(history)));
+    }
+    let feed = below(alloc, history, "feed")?;
+    if feed.is(path.as_str()) {
+        let history = history.copy()?;
+        return Ok(Some(Place::FeedOf(history)));
+    }
+    Ok(None)
+}
+
+/// The op or the feed of a history.
+fn history_place(alloc: Global, plan: &Plan, path: &Text) -> Result<Option<Place>, AllocError>
+    ensures { IfOk result (λ place. option_map place_of place ≡ at path.now (history_places (plan_of plan.now))) }
+{
+    for history in &plan.histories {
+        let found = one_history(alloc, &history.0, path)?;
+        if found.is_some() {
+            return Ok(found);
+        }
+    }
+    Ok(None)
+}
+
+/// The op or the feed of the alarm subject.
+#[tactic(auto, using(crate::proofs::Fronts::no_subject))]
+fn subject_place(alloc: Global, plan: &Plan, path: &Text) -> Result<Option<Place>, AllocError>
+    ensures { IfOk result (λ place. option_map place_of place ≡ at path.now (subject_places plan.now.subject)) }
+{
+    let Some(subject) = &plan.subject else {
+        return Ok(None);
+    };
+    if !begins_with(path, subject) {
+        return Ok(None);
+    }
+    let query = below(alloc, subject, "query")?;
+    if query.is(path.as_str()) {
+        return Ok(Some(Place::AlarmQuery));
+    }
+    let feed = below(alloc, subject, "feed")?;
+    if feed.is(path.as_str()) {
+        return Ok(Some(Place::AlarmFeed));
+    }
+    Ok(None)
+}
+
+/// The op or the feed of a history or of the alarm subject, if a path is one of theirs. An error only for want of
+/// memory.
+pub fn event_place(alloc: Global, plan: &Plan, path: &Text) -> Result<Option<Place>, AllocError>
+    ensures { IfOk result (λ place. option_map place_of place ≡ at path.now (event_places (plan_of plan.now))) }
+{
+    let found = history_place(alloc, plan, path)?;
+    if found.is_some() {
+        return Ok(found);
+    }
+    subject_place(alloc, plan, path)
+}
+/// The rule at a place.
+fn rule_at(rules: &[PointRule], place: u64) -> Option<&PointRule>
+    ensures { option_copied result ≡ slice_get rules.now place }
+{
+    rules.get(place as usize)
+}
+
+/// Whether an alarm needs an acknowledgement, by its rule.
+fn needs_ack(plan: &Plan, alarm: &Alarm) -> bool
+    ensures { result ≡ needs_ack (slice_get (numbered_from 0 (plan_of plan.now).rules) alarm.now.rule) }
+{
+    match rule_at(&plan.rules, alarm.rule) {
+        Some(rule) => rule.needs_ack,
+        None => false,
+    }
+}
+
+/// An alarm or its op `ack`, if the path is one of theirs.
+fn one_alarm(
+    alloc: Global,
+    plan: &Plan,
+    number: u64,
+    alarm: &Alarm,
+    path: &Text,
+) -> Result<Option<Place>, AllocError>
+    ensures { IfOk result (λ place. option_map place_of place ≡ at path.now (alarm_parts (plan_of plan.now) (numbered_from 0 (plan_of plan.now).rules) number alarm.now)) }
+{
+    let own = alarm_path(alloc, plan, number)?;
+    if own.is(path.as_str()) {
+        return Ok(Some(Place::AlarmAt(number)));
+    }
+    if needs_ack(plan, alarm) {
+        let ack = ack_path(alloc, plan, number)?;
+        if ack.is(path.as_str()) {
+            return Ok(Some(Place::AckOf(number)));
+        }
+    }
+    Ok(None)
+}
+
+/// The alarm of a number or its op `ack`, if there is one and the path is one of theirs.
+fn numbered_alarm(
+    alloc: Global,
+    plan: &Plan,
+    alarms: &Alarms,
+    number: u64,
+    path: &Text,
+) -> Result<Option<Place>, AllocError>
+    ensures { IfOk result (λ place. option_map place_of place ≡ at path.now (parts_of_alarm (plan_of plan.now) (numbered_from 0 (plan_of plan.now).rules) number (alarm_of number alarms.now.alarms))) }
+{
+    match alarms.alarm(number) {
+        Some(alarm) => one_alarm(alloc, plan, number, alarm, path),
+        None => Ok(None),
+    }
+}
+
+/// An alarm, or its op `ack`, looked up by the number in the path.
+fn alarm_place(
+    alloc: Global,
+    plan: &Plan,
+    alarms: &Alarms,
+    path: &Text,
+) -> Result<Option<Place>, AllocError>
+    ensures { IfOk result (λ place. option_map place_of place ≡ at path.now (alarm_places (plan_of plan.now) (numbered_from 0 (plan_of plan.now).rules) 1 alarms.now.alarms)) }
+{
+    let _count = alarms.len();
+    match alarm_number(plan, path) {
+        Some(number) => numbered_alarm(alloc, plan, alarms, number, path),
+        None => Ok(None),
+    }
+}
+
+/// The place of an event's op or feed, or of an alarm.
+fn event_or_alarm(
+    alloc: Global,
+    plan: &Plan,
+    contents: &Contents,
+    path: &Text,
+) -> Result<Option<Place>, AllocError>
+    ensures { IfOk result (λ place. option_map place_of place ≡ at path.now (event_places (plan_of plan.now) ++ alarm_places (plan_of plan.now) (numbered_from 0 (plan_of plan.now).rules) 1 (state_in contents.now).alarms)) }
+{
+    let found = event_place(alloc, plan, path)?;
+    if found.is_some() {
+        return Ok(found);
+    }
+    alarm_place(alloc, plan, &contents.board, path)
+}
+
+/// The place of what a role derives, or of an alarm.
+fn role_place(
+    alloc: Global,
+    plan: &Plan,
+    contents: &Contents,
+    path: &Text,
+) -> Result<Option<Place>, AllocError>
+    ensures { IfOk result (λ place. option_map place_of place ≡ at path.now (point_places (plan_of plan.now) ++ (event_places (plan_of plan.now) ++ alarm_places (plan_of plan.now) (numbered_from 0 (plan_of plan.now).rules) 1 (state_in contents.now).alarms))) }
+{
+    let found = point_place(alloc, plan, path)?;
+    if found.is_some() {
+        return Ok(found);
+    }
+    event_or_alarm(alloc, plan, contents, path)
+}
+
+/// The place among those whose paths are computed, but those of watches.
+fn computed_place(
+    alloc: Global,
+    plan: &Plan,
+    contents: &Contents,
+    path: &Text,
+) -> Result<Option<Place>, AllocError>
+    ensures { IfOk result (λ place. option_map place_of place ≡ at path.now (computed_places (plan_of plan.now) (state_in contents.now))) }
+{
+    let found = fixed_place(plan, path);
+    if found.is_some() {
+        return Ok(found);
+    }
+    role_place(alloc, plan, contents, path)
+}
+
+/// What a path names, if it names something: a computed place, or else a node with what it shows.
+pub fn place_at(
+    alloc: Global,
+    plan: &Plan,
+    contents: &Contents,
+    path: &Text,
+) -> Result<Option<Place>, AllocError>
+    requires { IsReadable (plan_of plan.now) contents.now }
+    ensures { IfOk result (λ place. option_map place_of place ≡ place_at (plan_of plan.now) (state_in contents.now) path.now) }
+{
+    let found = computed_place(alloc, plan, contents, path)?;
+    if found.is_some() {
+        return Ok(found);
+    }
+    match shown_at(alloc, plan, contents, path)? {
+        Some(node) => Ok(Some(Place::Node(node))),
+        None => Ok(None),
+    }
+}
