@@ -161,12 +161,15 @@ pub record TagSays (t : Tag) (h : Head) : Type 0 where
 abbrev mutual
   pub ElementSays : ℕ → Element → Head → Objects → Type 0
   ElementSays level (empty tag) h inner = (level < 32) × TagSays tag h × (inner ≡ none)
-  ElementSays level (full tag content end) h inner = (level < 32) × TagSays tag h × NamesDiffer (listed inner) × ContentSays (suc level) content inner
+  ElementSays level (full tag content end) h inner =
+      (level < 32) × TagSays tag h × NamesDiffer (listed inner) × ContentSays (suc level) content inner
 
   pub ContentSays : ℕ → Content → Objects → Type 0
   ContentSays level (last space) row = row ≡ none
   ContentSays level (filled space f content) row = ContentSays level content row
-  ContentSays level (child space e content) row = (h : Head) × (inner : Objects) × (rest : Objects) × (row ≡ node h inner rest) × ElementSays level e h inner × ContentSays level content rest
+  ContentSays level (child space e content) row =
+      (h : Head) × (inner : Objects) × (rest : Objects) × (row ≡ node h inner rest)
+      × ElementSays level e h inner × ContentSays level content rest
 
 abbrev pub tag_of : Element → Tag
 tag_of (empty tag) = tag

@@ -5,7 +5,7 @@ use Rattle.ob_object.specs.declared.kind.Kind.TheVariants as kind
 use Rattle.ob_object.specs.Object.{none, Object, empty_head}
 use Rattle.ob_markup.specs.Characters.{Equals}
 use Rattle.ob_markup.specs.References.{BeginsReference, StandsFor}
-use Rattle.ob_markup.specs.Markup.{IsComment, IsInstruction, Setting}
+use Rattle.ob_markup.specs.Markup.{IsComment, IsInstruction, Setting, Attribute}
 use Rattle.ob_markup.specs.Pieces.{NeverHasForm, MayHaveForm}
 use Rattle.ob_markup.specs.Documents.{Tag, comment, empty, full, last, filled, child, misc_end, misc_filler, Document, print_document, IsDocumentOf}
 
@@ -15,15 +15,26 @@ tight = record { before = []; after = [] }
 abbrev setting : List ℕ → Setting
 setting value = record { space = codes " "; equals = tight; quote = 34; value = value }
 
+-- val ='1'
+abbrev val_attribute : Attribute
+val_attribute = record { name = codes "val"; equals = record { before = codes " "; after = [] }; quote = 39; value = codes "1" }
+
 abbrev int_tag : Tag
-int_tag = record { name = codes "int"; attributes = record { space = codes " "; attribute = record { name = codes "val"; equals = record { before = codes " "; after = [] }; quote = 39; value = codes "1" } } ∷ []; space = codes " " }
+int_tag = record {
+  name = codes "int";
+  attributes = record { space = codes " "; attribute = val_attribute } ∷ [];
+  space = codes " ";
+}
+
+abbrev obj_tag : Tag
+obj_tag = record { name = codes "obj"; attributes = []; space = [] }
 
 abbrev sample : Document
 sample = record {
   marked = false;
   declaration = Some (record { version = setting (codes "1.0"); encoding = Some (setting (codes "UTF-8")); standalone = None; space = [] });
   prolog = misc_filler [] (comment (codes " c ")) (misc_end (codes " "));
-  root = full (record { name = codes "obj"; attributes = []; space = [] }) (child (codes " ") (empty int_tag) (filled [] (comment []) (last []))) (record { name = codes "obj"; space = codes " " });
+  root = full obj_tag (child (codes " ") (empty int_tag) (filled [] (comment []) (last []))) (record { name = codes "obj"; space = codes " " });
   behind = misc_end [];
 }
 

@@ -85,18 +85,21 @@ IsUnfinished place ended bytes = HasNoForm place ended bytes × MayHaveForm plac
 -- ---- the laws
 
 abbrev pub FindsPieces : Type 0
-FindsPieces = (place : Place) (ended : Bool) (bytes : List ℕ) (c : Construct) (rest : List ℕ) → (scan place ended bytes ≡ found c rest) ↔ IsRead place ended bytes c rest
+FindsPieces = (place : Place) (ended : Bool) (bytes : List ℕ) (c : Construct) (rest : List ℕ)
+    → (scan place ended bytes ≡ found c rest) ↔ IsRead place ended bytes c rest
 
 abbrev pub AsksForMore : Type 0
 AsksForMore = (place : Place) (bytes : List ℕ) → (scan place false bytes ≡ more) ↔ IsUnfinished place false bytes
 
 abbrev pub RefusesOthers : Type 0
-RefusesOthers = (place : Place) (bytes : List ℕ) (k : ℕ) (why : Why) → (scan place false bytes ≡ refused k why) ↔ IsRefused place bytes k why
+RefusesOthers = (place : Place) (bytes : List ℕ) (k : ℕ) (why : Why)
+    → (scan place false bytes ≡ refused k why) ↔ IsRefused place bytes k why
 
 -- where the bytes have ended, what isn't finished is refused at their end
 abbrev pub RefusesAtTheEnd : Type 0
 RefusesAtTheEnd = (place : Place) (bytes : List ℕ) (k : ℕ) (why : Why)
-    → (scan place true bytes ≡ refused k why) ↔ (IsRefused place bytes k why ⊎ IsUnfinished place true bytes × (why ≡ Ended) × (k ≡ length bytes))
+    → (scan place true bytes ≡ refused k why)
+    ↔ (IsRefused place bytes k why ⊎ IsUnfinished place true bytes × (why ≡ Ended) × (k ≡ length bytes))
 
 abbrev pub ValuesStand : Type 0
 ValuesStand = (value text : List ℕ) → Expands value text ↔ StandsFor value text
@@ -107,8 +110,10 @@ DocumentsAgree = (bytes : List ℕ) (ns : Option (List ℕ)) (o : Object) → Sp
 
 -- bytes are judged to be a document exactly where they are one of that object
 abbrev pub DocumentsJudged : Type 0
-DocumentsJudged = (bytes : List ℕ) (ns : Option (List ℕ)) (o : Object) → Judged bytes true (document (record { ns = ns; root = o })) ↔ IsDocumentOf bytes ns o
+DocumentsJudged = (bytes : List ℕ) (ns : Option (List ℕ)) (o : Object)
+    → Judged bytes true (document (record { ns = ns; root = o })) ↔ IsDocumentOf bytes ns o
 
 -- and what is refused is none
 abbrev pub RefusedIsNone : Type 0
-RefusedIsNone = (bytes : List ℕ) (place : ℕ) (why : Cause) → Judged bytes true (fault place why) → (ns : Option (List ℕ)) (o : Object) → ¬ (IsDocumentOf bytes ns o)
+RefusedIsNone = (bytes : List ℕ) (place : ℕ) (why : Cause) → Judged bytes true (fault place why)
+    → (ns : Option (List ℕ)) (o : Object) → ¬ (IsDocumentOf bytes ns o)
