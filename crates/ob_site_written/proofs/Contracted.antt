@@ -1,0 +1,88 @@
+-- Whether a node is in a contract, by the object in which the contracts stand.
+use Rattle.std.proofs.Common.{ℕ, ◌≡◌, ◌<◌, Bool, true, false, ◌||◌, [], Option, Some, None, option_map, refl, sym, ap, ap₂, ◌∙◌}
+use Rattle.std.specs.Prelude.{is_some, codes, unwrap_or}
+use Rattle.std.specs.List.{cons_option, list_any}
+use Rattle.ob_object.specs.Object.{Objects, none, node, Object, parts, listed, children}
+use Rattle.ob_contracts.specs.Inherit.{Contracts, or_else, only_if}
+use Rattle.ob_site_rules.specs.Build.{Path, child}
+use Rattle.ob_site_rules.specs.State.{is_path}
+use Rattle.ob_site_rules.specs.Shown.{node_path, node_in, node_of}
+use Rattle.ob_site_rules.specs.Writes.{site_contracts, is_in_contract}
+use Rattle.ob_shown_laws.specs.Changed.{is_in, is_round}
+use Rattle.ob_tree.specs.Children.{child_at}
+use Rattle.ob_tree.specs.Laid.{paths}
+use Rattle.ob_tree.specs.Paths.{place_of, first_twice}
+use Rattle.ob_tree.specs.Shown.{row, part_at}
+use Rattle.ob_tree.proofs.Growing.{grows}
+use Rattle.ob_tree_bridges.specs.Contracted.{is_within, is_inside}
+use Rattle.ob_tree_bridges.proofs.Bridging.{nodes_numbered}
+use Rattle.ob_writes.specs.Parts.{contracts_in}
+use Rattle.ob_site_written.proofs.Named.{child_is, child_not}
+
+-- the site's contracts are the nodes among the children of the root's own child `contracts`
+pub contracts_some : (o x : Object) → child (codes "contracts") o ≡ Some x → site_contracts o ≡ contracts_in (children x)
+contracts_some o x is = ap (λ (c : Option Object). contracts_in (unwrap_or (option_map children c) [])) is
+
+pub contracts_none : (o : Object) → child (codes "contracts") o ≡ None → site_contracts o ≡ []
+contracts_none o is = ap (λ (c : Option Object). contracts_in (unwrap_or (option_map children c) [])) is
+
+-- a node is found in a row exactly where it is in it
+some_either : (a b : Option Object) → is_some (or_else a b) ≡ (is_some a || is_some b)
+some_either None b = refl
+some_either (Some x) b = refl
+
+some_if : (b : Bool) (x : Object) → is_some (only_if b (Some x)) ≡ b
+some_if true x = refl
+some_if false x = refl
+
+found_in : (p : Path) (os : Objects) → is_some (node_in p os) ≡ is_in p os
+found_in p none = refl
+found_in p (node h inner rest) =
+    some_either (only_if (is_path p (node_path h)) (Some (record { head = h; inner = inner }))) (or_else (node_in p inner) (node_in p rest))
+    ∙ ap₂ (λ a b. a || b) (some_if (is_path p (node_path h)) (record { head = h; inner = inner }))
+    (some_either (node_in p inner) (node_in p rest) ∙ ap₂ (λ a b. a || b) (found_in p inner) (found_in p rest))
+
+neither : (a b : Bool) → (a || b) ≡ false → (a ≡ false) × (b ≡ false)
+neither true b h = absurd cc
+neither false b h = (refl, h)
+
+or_false : (a : Bool) → (a || false) ≡ a
+or_false true = refl
+or_false false = refl
+
+both_false : (a b : Bool) → a ≡ false → b ≡ false → (a || b) ≡ false
+both_false true b e f = absurd cc
+both_false false b e f = f
+
+-- where a node isn't in a row, it is in none of its objects
+none_in : (p : Path) (r : Objects) → is_in p r ≡ false → list_any (λ c. is_some (node_of p c.1)) (contracts_in (listed r)) ≡ false
+none_in p none e = refl
+none_in p (node h inner rest) e =
+    let own = neither (is_path p (node_path h)) (is_in p inner || is_in p rest) e in
+    let below = neither (is_in p inner) (is_in p rest) own.1 in
+    let x : Object = record { head = h; inner = inner } in
+    let here : is_some (node_of p x) ≡ false = found_in p (row x) ∙ ap (λ b. is_path p (node_path h) || b) (or_false (is_in p inner)) ∙ both_false (is_path p (node_path h)) (is_in p inner) own.0 below.0 in
+    go (node_path h) here (none_in p rest below.1)
+  where
+    go : (q : Option Path) → is_some (node_of p (record { head = h; inner = inner })) ≡ false → list_any (λ c. is_some (node_of p c.1)) (contracts_in (listed rest)) ≡ false
+        → list_any (λ c. is_some (node_of p c.1)) (cons_option (option_map (λ (q : Path). (q, record { head = h; inner = inner })) q) (contracts_in (listed rest))) ≡ false
+    go None here later = later
+    go (Some q) here later = both_false (is_some (node_of p (record { head = h; inner = inner }))) (list_any (λ c. is_some (node_of p c.1)) (contracts_in (listed rest))) here later
+
+-- so a node that isn't in the object of the contracts is in no contract
+outside_of : (o x : Object) (k n : ℕ) (p : Path) → Some k ≡ child_at 0 (codes "contracts") o → part_at k o ≡ Some x → is_inside n k o ≡ false
+    → first_twice [] (paths o) ≡ None → place_of p (paths o) ≡ Some n → is_in_contract p o ≡ false
+outside_of o x k n p at there out differ place =
+    let round : is_round p x ≡ false = nodes_numbered o x p n k differ place there ∙ sym (ap (is_within n k) there) ∙ out in
+    let within = neither (is_path p (node_path x.head)) (is_in p x.inner) round in
+    ap (λ (cs : Contracts). list_any (λ c. is_some (node_of p c.1)) cs) (contracts_some o x (child_is o x (codes "contracts") k at there))
+    ∙ none_in p x.inner within.1
+
+pub not_inside : (o : Object) (k n : ℕ) (p : Path) → Some k ≡ child_at 0 (codes "contracts") o → k < parts o → is_inside n k o ≡ false
+    → first_twice [] (paths o) ≡ None → place_of p (paths o) ≡ Some n → is_in_contract p o ≡ false
+not_inside o k n p at within out differ place = let g = grows o k within in outside_of o g.0 k n p at g.1.is out differ place
+
+-- where there are no contracts, no node is in one
+pub no_contracts : (o : Object) (p : Path) → None ≡ child_at 0 (codes "contracts") o → is_in_contract p o ≡ false
+no_contracts o p at =
+    ap (λ (cs : Contracts). list_any (λ c. is_some (node_of p c.1)) cs) (contracts_none o (child_not o (codes "contracts") at))

@@ -1,0 +1,5 @@
+pub mod Named
+pub mod Contracted
+pub mod Counting
+pub mod Taking
+pub mod Steps

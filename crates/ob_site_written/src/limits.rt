@@ -1,0 +1,97 @@
+//! Whether what a write or an acknowledgement stores would be too much.
+ghost use Rattle.std.specs.Prelude.{◌≡◌, ◌<◌, ◌≤◌, cond, length, slice_get, Some, Option, List, ℕ, IfOk};
+ghost use Rattle.ob_site_rules.specs.Build.{Path};
+ghost use Rattle.ob_site_rules.specs.State.{Log as SiteLog, numbered_from, board};
+ghost use Rattle.ob_site_rules.specs.Shown.{rule_of};
+ghost use Rattle.ob_site_rules.specs.Writes.{is_over, overfills};
+ghost use Rattle.ob_site_rules.specs.Posts.{acked};
+ghost use Rattle.ob_state.specs.Fitting.{TakesIfRule};
+ghost use Rattle.ob_site_written.specs.Limits.{grows, growing, is_counted_out, any_counted_out};
+
+use crate::slots::same_slot;
+use ob_object::{Head, Slot};
+use ob_site_state::State;
+use ob_values::Text;
+use std::alloc::AllocError;
+
+/// One where something is so, and else none.
+fn one_if(is_so: bool) -> u64
+    ensures { result ≡ cond is_so 1 0 }
+{
+    if is_so { 1 } else { 0 }
+}
+
+/// Whether the history of a place records a node and keeps all its records.
+fn grows(state: &State, source: &Text, place: usize) -> bool
+    requires { place < length state.now.now.logs }
+    ensures { (l : Path × SiteLog) → slice_get state.now.now.logs place ≡ Some l → result ≡ grows state.now.plan source.now l }
+{
+    state.records(place, source) && state.keeps_all(place)
+}
+
+/// How many histories of a node keep all their records: so many more records a value of it stores.
+fn growing(state: &State, source: &Text) -> u64
+    ensures value { result ≡ growing state.now.plan source.now state.now.now.logs }
+    ensures few { result ≤ length state.now.now.logs }
+{
+    let mut count: u64 = 0;
+    let histories = state.histories();
+    for place in 0..histories {
+        count += one_if(grows(state, source, place));
+    }
+    count
+}
+
+/// Whether the history of a place records a node and has had as many events as can be counted.
+fn is_counted_out(state: &State, source: &Text, place: usize) -> bool
+    requires { place < length state.now.now.logs }
+    ensures { (l : Path × SiteLog) → slice_get state.now.now.logs place ≡ Some l → result ≡ is_counted_out state.now.plan source.now l }
+{
+    state.records(place, source) && state.events_ever(place) >= 9_223_372_036_854_775_807
+}
+
+/// Whether a history of a node has had as many events as can be counted.
+fn any_counted_out(state: &State, source: &Text) -> bool
+    ensures { result ≡ any_counted_out state.now.plan source.now state.now.now.logs }
+{
+    let histories = state.histories();
+    for place in 0..histories {
+        if is_counted_out(state, source, place) {
+            return true;
+        }
+    }
+    false
+}
+
+/// Whether a value of a node, whose head is given, changes it, and its records and its alarm event would be too many:
+/// more than 1,000,000 in all, or more than a history can count. All stays as it is.
+///
+/// The limits are this profile's own.
+pub fn overfills(
+    state: &mut State,
+    path: &Text,
+    head: &Head,
+    slot: &Slot,
+) -> Result<bool, AllocError>
+    requires { TakesIfRule (numbered_from 0 state.old.plan.rules) (rule_of state.old.plan path.now) slot.now }
+    ensures same { state.new ≡ state.old }
+    ensures over { IfOk result (λ over. over ≡ overfills state.old.plan state.old.now state.old.time path.now head.now slot.now) }
+{
+    if same_slot(slot, &head.slot) {
+        return Ok(false);
+    }
+    state.is_sound();
+    let is_event = state.would_act(path, slot)?;
+    let more = growing(state, path).saturating_add(one_if(is_event));
+    Ok(state.is_full(more) || any_counted_out(state, path))
+}
+
+/// Whether an acknowledgement of an alarm would be an alarm event too many. All stays as it is.
+pub fn ack_overfills(state: &mut State, number: u64) -> Result<bool, AllocError>
+    ensures same { state.new ≡ state.old }
+    ensures over { IfOk result (λ over. (user : Option (List ℕ)) → over ≡ is_over state.old.now.logs (acked (board state.old.plan state.old.now) number user state.old.time)) }
+{
+    state.is_sound();
+    let is_event = state.would_ack(number)?;
+    Ok(state.is_full(one_if(is_event)))
+}

@@ -1,0 +1,64 @@
+//! A write to the state.
+ghost use Rattle.std.specs.Prelude.{◌≡◌, false, Some, OnOk, OnErr};
+ghost use Rattle.ob_object.specs.Object.{Object};
+ghost use Rattle.ob_tree.specs.Laid.{paths};
+ghost use Rattle.ob_tree.specs.Paths.{place_of};
+ghost use Rattle.ob_site_rules.specs.Writes.{write, written, overfills};
+ghost use Rattle.ob_site_written.specs.Fitting.{CanBeWritten};
+ghost use Rattle.ob_site_written.specs.Limits.{any_counted_out};
+
+use crate::contracts::renew_library;
+use crate::slots::same_slot;
+use ob_object::{Head, Kind, Slot};
+use ob_site_state::State;
+use ob_tree::NodeId;
+use ob_values::Text;
+use std::alloc::AllocError;
+
+/// Writes a value to a node: the slot is set; a write to a part of a contract makes the library anew; each history of
+/// the node has one more record; and the node's rule acts. Want of memory leaves all but the state now as it was, so
+/// that `undo` gives that back.
+///
+/// Source: oBIX 1.1, chapter 10 (Networking: Write).
+pub fn write(
+    state: &mut State,
+    node: NodeId,
+    path: &Text,
+    kind: Kind,
+    slot: &Slot,
+) -> Result<(), AllocError>
+    requires node { place_of path.now (paths state.old.now.tree) ≡ Some node.number }
+    requires can { CanBeWritten state.old.plan state.old.now path.now kind slot.now }
+    requires counts { any_counted_out state.old.plan path.now state.old.now.logs ≡ false }
+    ensures ok { OnOk result (state.new ≡ record state.old { now = write state.old.plan state.old.time path.now kind slot.now state.old.now }) }
+    ensures err { OnErr result (state.new ≡ record state.old { now = state.new.now }) }
+{
+    state.is_sound();
+    let copy = slot.copy()?;
+    state.set_slot(node, copy)?;
+    renew_library(state, node, path)?;
+    state.record_all(path, kind, slot)?;
+    state.act(path, slot)
+}
+
+/// Writes a value to the object of a head that is shown at a node, unless it is equal to the one that is shown.
+pub fn written(
+    state: &mut State,
+    node: NodeId,
+    path: &Text,
+    head: &Head,
+    slot: &Slot,
+) -> Result<(), AllocError>
+    requires node { place_of path.now (paths state.old.now.tree) ≡ Some node.number }
+    requires can { CanBeWritten state.old.plan state.old.now path.now head.now.kind slot.now }
+    requires room { overfills state.old.plan state.old.now state.old.time path.now head.now slot.now ≡ false }
+    ensures ok { OnOk result ((object : Object) → object.head ≡ head.now
+        → state.new ≡ record state.old { now = written state.old.plan state.old.time path.now object slot.now state.old.now }) }
+    ensures err { OnErr result (state.new ≡ record state.old { now = state.new.now }) }
+{
+    if same_slot(slot, &head.slot) {
+        return Ok(());
+    }
+    state.is_sound();
+    write(state, node, path, head.kind, slot)
+}
