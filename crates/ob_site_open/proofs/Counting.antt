@@ -1,6 +1,6 @@
 -- A log that is filled and settles.
-use Rattle.std.proofs.Common.{◌≡◌, ℕ, zero, suc, ◌+◌, ◌-◌, ◌<◌, ℤ, ◌≤ℤ◌, List, [], ◌∷◌, ◌++◌, map, length, take, drop, get_or, replicate, Option, Some, None, refl, sym, ap, ◌∙◌, subst, inl, inr, arith, append_assoc, length-append, length-drop, take-append-drop}
-use Rattle.std.proofs.lemmas.List.{length-replicate, take_all}
+use Rattle.std.proofs.Common.{◌≡◌, ◌≤◌, ℕ, zero, suc, ◌+◌, ◌-◌, ◌<◌, ℤ, ◌≤ℤ◌, List, [], ◌∷◌, ◌++◌, map, length, take, drop, get_or, replicate, Option, Some, None, refl, sym, ap, ◌∙◌, subst, inl, inr, arith, append_assoc, length-append, length-drop, take-append-drop}
+use Rattle.std.proofs.lemmas.List.{length-replicate, map-append, take_all, take_more}
 use Rattle.std.proofs.Math.Seq.{drop-append_seam}
 use Rattle.std.proofs.lemmas.Int.{ints}
 use Rattle.std.specs.Prelude.{slice_get}
@@ -13,6 +13,7 @@ use Rattle.ob_site_rules.specs.Build.{Path}
 use Rattle.ob_site_rules.specs.State.{Log, history_of, rolled, rolled_logs}
 use Rattle.ob_state.specs.declared.log.Log.{Log as OpenedLog}
 use Rattle.ob_state.specs.States.{entry_of as opened_entry, log_of as opened_log}
+use Rattle.ob_site_state.specs.Tallies.{capacities_of}
 use Rattle.ob_opens_laws.specs.Records.{EachLog}
 use Rattle.ob_site_file.proofs.Rests.{rest_more}
 use Rattle.ob_site_state.specs.Kept.{log_of}
@@ -101,3 +102,23 @@ pub rolled_at : (P : Log → Type 0) (ls : List (Path × OpenedLog)) (i : ℕ) (
 rolled_at P [] i l h is e = absurd (omega arith)
 rolled_at P (x ∷ ls) zero l h is e = subst (λ (y : Path × OpenedLog). P (rolled (opened_log y.1))) (sym is) e.0
 rolled_at P (x ∷ ls) (suc i) l h is e = rolled_at P ls i l (omega arith) is e.1
+
+-- the capacities of logs, one after the other
+abbrev pub capacity_in : Path × OpenedLog → Option ℕ
+capacity_in l = l.1.capacity
+
+pub one_capacity : (done : List (Option ℕ)) (ls : List (Path × OpenedLog)) (i : ℕ) (l : Path × OpenedLog) → i < length ls → l ≡ get_or ls i l
+    → done ≡ map capacity_in (take i ls) → done ++ capacity_in l ∷ [] ≡ map capacity_in (take (i + 1) ls)
+one_capacity done ls i l h is so_far =
+    ap (λ d. d ++ capacity_in l ∷ []) so_far
+    ∙ ap (λ (x : Path × OpenedLog). map capacity_in (take i ls) ++ capacity_in x ∷ []) is
+    ∙ sym (map-append capacity_in (take i ls) (get_or ls i l ∷ []))
+    ∙ ap (map capacity_in) (sym (take_more ls i l h))
+
+-- a log that has rolled has its capacity still
+rolled_capacities : (ls : List (Path × OpenedLog)) → map capacity_in ls ≡ capacities_of (rolled_logs (map opened_entry ls))
+rolled_capacities [] = refl
+rolled_capacities (l ∷ ls) = ap (λ cs. l.1.capacity ∷ cs) (rolled_capacities ls)
+
+pub all_capacities : (done : List (Option ℕ)) (ls : List (Path × OpenedLog)) (i : ℕ) → length ls ≤ i → done ≡ map capacity_in (take i ls) → done ≡ capacities_of (rolled_logs (map opened_entry ls))
+all_capacities done ls i end so_far = so_far ∙ ap (map capacity_in) (take_all i ls end) ∙ rolled_capacities ls

@@ -34,9 +34,9 @@ use Rattle.ob_site_file.specs.Opened.{site_of, state_with}
 use Rattle.ob_site_file.specs.declared.document.Opened.{Opened}
 use Rattle.ob_site_state.specs.declared.contents.Contents.{Contents}
 use Rattle.ob_site_state.specs.Contents.{state_in}
-use Rattle.ob_site_state.specs.Kept.{Kept, LogsAreBy, keys, entry_of as entry_in}
+use Rattle.ob_site_state.specs.Kept.{LogsAreBy, IsSoundFor, keys, entry_of as entry_in}
 use Rattle.ob_site_open.specs.Logs.{CanStand, HaveNanos}
-use Rattle.ob_site_open.specs.Opens.{just_opened}
+use Rattle.ob_site_state.specs.Tallies.{capacities_of}
 use Rattle.ob_site_open.proofs.Paths.{tree_differs}
 use Rattle.ob_site_open.proofs.Standing.{logs_stand, logs_by}
 
@@ -107,10 +107,8 @@ module _ (root : Object) (boot : ℕ) (o : Opened) (formed : IsWellFormed root) 
     pub rolled : roll (state_in c) ≡ state_in c
     rolled = ap roll state_is ∙ rolls_once (state_with o.library o.tree (map entry_of o.logs.items)) ∙ sym state_is
 
-    -- the state in place, in which nothing was touched
-    pub state_opened : (time : ℕ) → time ≡ st.world.time
-        → (let k : Kept = record { plan = plan_of o.plan; time = time; now = state_in c; since = time; before = state_in c; stamps = c.tree.stamps; steps = c.tree.steps } in k) ≡ just_opened st
-    state_opened time e =
-        ap (λ t. let k : Kept = record { plan = plan_of o.plan; time = t; now = state_in c; since = t; before = state_in c; stamps = c.tree.stamps; steps = c.tree.steps } in k) e
-        ∙ ap (λ (s : State). let k : Kept = record { plan = plan_of o.plan; time = st.world.time; now = s; since = st.world.time; before = s; stamps = c.tree.stamps; steps = c.tree.steps } in k) state_is
-        ∙ ap (λ (t : Stamped). let k : Kept = record { plan = plan_of o.plan; time = st.world.time; now = st.world.site; since = st.world.time; before = st.world.site; stamps = t.stamps; steps = t.steps } in k) f.tree
+    pub sound : IsSoundFor (plan_of o.plan) (state_in c)
+    sound = subst (IsSoundFor (plan_of o.plan)) (sym state_is) (record { consistent = consistent; paths_differ = shown_differ })
+
+    pub capacities : capacities_of (state_in c).logs ≡ capacities_of st.world.site.logs
+    capacities = ap (λ (s : State). capacities_of s.logs) state_is

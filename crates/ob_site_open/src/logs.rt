@@ -6,6 +6,7 @@ ghost use Rattle.ob_history.specs.Records.{InOrder, IsNotBefore, IsRecord, MayFo
 ghost use Rattle.ob_site_rules.specs.State.{rolled, rolled_logs};
 ghost use Rattle.ob_site_rules.specs.Writes.{events_ever, with_record};
 ghost use Rattle.ob_site_state.specs.Kept.{entry_of, log_of};
+ghost use Rattle.ob_site_state.specs.Tallies.{capacities_of};
 ghost use Rattle.ob_state.specs.States.{AreCounted, entry_of as opened_entry, log_of as opened_log};
 ghost use Rattle.ob_opens_laws.specs.Records.{EachLog};
 ghost use Rattle.ob_site_open.specs.Logs.{CanStand, HasNanos, HaveNanos, stand_in};
@@ -126,6 +127,20 @@ fn log_of(alloc: Global, opened: &OpenedLog, boot: Moment) -> Result<Log, AllocE
     push_copies(&mut log, kept)?;
     log.settle();
     Ok(log)
+}
+
+/// How many records each history keeps, if not all.
+pub(crate) fn capacities_of(
+    alloc: Global,
+    opened: &[(Text, OpenedLog)],
+) -> Result<Vec<Option<u64>>, AllocError>
+    ensures { IfOk result (λ made. made.items ≡ capacities_of (rolled_logs (map opened_entry opened.now))) }
+{
+    let mut made = Vec::new(alloc);
+    for entry in opened {
+        made.push(entry.1.capacity)?;
+    }
+    Ok(made)
 }
 
 /// The logs of histories, each under its path, rolled down to their capacities.

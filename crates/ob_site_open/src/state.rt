@@ -9,12 +9,13 @@ ghost use Rattle.ob_state.specs.States.{AreCounted, entry_of as opened_entry};
 ghost use Rattle.ob_site_file.specs.Opened.{site_of};
 ghost use Rattle.ob_site_file.specs.Passes.{Refuses};
 ghost use Rattle.ob_site_state.specs.Kept.{entry_of};
+ghost use Rattle.ob_site_state.specs.Tallies.{capacities_of};
 ghost use Rattle.ob_opens_laws.specs.Records.{EachLog};
 ghost use Rattle.ob_site_open.specs.Logs.{CanStand, HaveNanos};
 ghost use Rattle.ob_site_open.specs.Opens.{Opens, just_opened};
 
 use crate::board::board_of;
-use crate::logs::logs_of;
+use crate::logs::{capacities_of, logs_of};
 use crate::time::opening_time;
 use ob_history::Log;
 use ob_object::Obj;
@@ -56,6 +57,13 @@ fn logs_in(alloc: Global, opened: &Opened) -> Result<Vec<(Text, Log)>, AllocErro
     logs_of(alloc, &opened.logs, opened.plan.boot)
 }
 
+// How many records each history of what stands opened keeps, if not all.
+fn capacities_in(alloc: Global, opened: &Opened) -> Result<Vec<Option<u64>>, AllocError>
+    ensures { IfOk result (λ made. made.items ≡ capacities_of (site_of opened.now).world.site.logs) }
+{
+    capacities_of(alloc, &opened.logs)
+}
+
 /// The state of what a document's root opened at a moment: no step has changed anything yet. An error only for want of memory.
 pub fn state_of(
     alloc: Global,
@@ -72,6 +80,7 @@ pub fn state_of(
     let time = time_of(&opened);
     let logs = logs_in(alloc, &opened)?;
     let board = board_of(alloc, &opened.plan)?;
+    let capacities = capacities_in(alloc, &opened)?;
     let Opened {
         plan,
         library,
@@ -86,7 +95,7 @@ pub fn state_of(
         logs,
         board,
     };
-    Ok(State::new(alloc, plan, time, contents))
+    Ok(State::new(alloc, plan, time, contents, capacities))
 }
 
 /// The state that a document's root opens at a moment, or the first refusal in the order of `LoadFault`.

@@ -1,6 +1,6 @@
-use Rattle.std.proofs.Common.{refl}
+use Rattle.std.proofs.Common.{refl, sym, ◌∙◌}
 use Rattle.ob_site_state.specs.declared.contents.Contents.{Contents}
-use Rattle.ob_site_open.proofs.Opened.{stand, rules_fit, tree_differ, apart, histories, in_time, rolled}
+use Rattle.ob_site_open.proofs.Opened.{stand, rules_fit, tree_differ, apart, histories, in_time, rolled, sound, capacities}
 use Rattle.ob_site_open.proofs.state.state_of.Goals as goal
 
 pub logs_in-requires-clause-stand : goal.logs_in-requires-clause-stand
@@ -33,3 +33,16 @@ new-requires-clause-rolled c =
     let made : Contents = record { library = c.args.opened.library; tree = c.in_ok-tree.tree; logs = c.in_ok-logs.logs; board = c.in_ok-board.board } in
     rolled c.args.root.now c.args.boot c.args.opened c.head-head.ensures.well_formed c.requires.counted c.requires.opens made
     (record { library = refl; tree = c.in_ok-tree.ensures.tree; logs = c.in_ok-logs.ensures.logs; nanos = c.in_ok-logs.ensures.nanos; board = c.in_ok-board.ensures })
+
+pub new-requires-clause-sound : goal.new-requires-clause-sound
+new-requires-clause-sound c =
+    let made : Contents = record { library = c.args.opened.library; tree = c.in_ok-tree.tree; logs = c.in_ok-logs.logs; board = c.in_ok-board.board } in
+    sound c.args.root.now c.args.boot c.args.opened c.head-head.ensures.well_formed c.requires.counted c.requires.opens made
+    (record { library = refl; tree = c.in_ok-tree.ensures.tree; logs = c.in_ok-logs.ensures.logs; nanos = c.in_ok-logs.ensures.nanos; board = c.in_ok-board.ensures })
+
+pub new-requires-clause-capacities : goal.new-requires-clause-capacities
+new-requires-clause-capacities c =
+    let made : Contents = record { library = c.args.opened.library; tree = c.in_ok-tree.tree; logs = c.in_ok-logs.logs; board = c.in_ok-board.board } in
+    capacities c.args.root.now c.args.boot c.args.opened c.head-head.ensures.well_formed c.requires.counted c.requires.opens made
+    (record { library = refl; tree = c.in_ok-tree.ensures.tree; logs = c.in_ok-logs.ensures.logs; nanos = c.in_ok-logs.ensures.nanos; board = c.in_ok-board.ensures })
+    ∙ sym c.in_ok-capacities.ensures
