@@ -1,0 +1,108 @@
+//! Events of feeds as objects, those alone that are asked for.
+ghost use Rattle.std.specs.Prelude.{◌≡◌, ◌-◌, [], ◌∷◌, ◌++◌, drop, map, IsTrue, IfOk};
+ghost use Rattle.std.specs.List.{filter};
+ghost use Rattle.ob_entries.specs.Queries.{values_fit};
+ghost use Rattle.ob_site_rules.specs.Entries.{record_object, event_object, event_objects};
+ghost use Rattle.ob_site_rules.specs.Watched.{passes as passes_event};
+
+use ob_alarms::Alarms;
+use ob_entries::{passes, record_object};
+use ob_history::{Filter, Log, Record};
+use ob_object::{Kind, Obj, Slot};
+use ob_values::Value;
+use std::alloc::{AllocError, Global};
+
+/// Puts the records that pass a filter last, as objects.
+fn put_passing(
+    alloc: Global,
+    events: &mut Vec<Obj>,
+    bounds: &Filter,
+    records: &[Record],
+) -> Result<(), AllocError>
+    requires { IsTrue (values_fit records.now) }
+    ensures { IfOk result (λ _. events.new.items ≡ events.old.items ++ filter (passes_event bounds.now) (map record_object records.now)) }
+{
+    for record in records {
+        if passes(bounds, record.time) {
+            events.push(record_object(alloc, record)?)?;
+        }
+    }
+    Ok(())
+}
+
+/// The records of a log that pass a filter, from an event number on, those that rolled off counted.
+pub(crate) fn log_events(
+    alloc: Global,
+    log: &Log,
+    bounds: &Filter,
+    given: u64,
+) -> Result<Vec<Obj>, AllocError>
+    ensures { IfOk result (λ events. events.items ≡ filter (passes_event bounds.now) (drop (given - log.now.gone) (map record_object log.now.kept))) }
+{
+    let (front, back) = log.since(given);
+    let mut events = Vec::new(alloc);
+    put_passing(alloc, &mut events, bounds, front)?;
+    put_passing(alloc, &mut events, bounds, back)?;
+    Ok(events)
+}
+
+/// Whether an event passes a filter, by its timestamp.
+fn passes_event(filter: &Filter, event: &Obj) -> bool
+    ensures { result ≡ passes_event filter.now event.now }
+{
+    match event.child("timestamp") {
+        Some(stamp) => match stamp.slot() {
+            Slot::Is(Value::Abstime(time)) => passes(filter, *time),
+            _ => false,
+        },
+        None => false,
+    }
+}
+
+/// The alarm of an event as it was just after it, or an empty obj where there is no such event.
+fn event_object(alloc: Global, alarms: &Alarms, event: u64) -> Result<Obj, AllocError>
+    ensures { IfOk result (λ o. o ≡ event_object alarms.now event) }
+{
+    match alarms.event_obj(event)? {
+        Some(object) => Ok(object),
+        None => Ok(Obj::new(alloc, Kind::Obj)),
+    }
+}
+
+/// Puts the alarm of an event last, if the event passes a filter.
+fn put_event(
+    alloc: Global,
+    events: &mut Vec<Obj>,
+    alarms: &Alarms,
+    bounds: &Filter,
+    event: u64,
+) -> Result<(), AllocError>
+    ensures { IfOk result (λ _. events.new.items ≡ events.old.items ++ filter (passes_event bounds.now) (event_object alarms.now event ∷ [])) }
+{
+    let object = event_object(alloc, alarms, event)?;
+    if !passes_event(bounds, &object) {
+        return Ok(());
+    }
+    events.push(object)?;
+    Ok(())
+}
+
+/// The alarm events that pass a filter, from an event number on.
+pub(crate) fn alarm_events(
+    alloc: Global,
+    alarms: &Alarms,
+    bounds: &Filter,
+    given: u64,
+) -> Result<Vec<Obj>, AllocError>
+    ensures { IfOk result (λ events. events.items ≡ filter (passes_event bounds.now) (drop given (event_objects alarms.now))) }
+{
+    let mut events = Vec::new(alloc);
+    let count = alarms.events(0).len() as u64;
+    if count < given {
+        return Ok(events);
+    }
+    for event in given..count {
+        put_event(alloc, &mut events, alarms, bounds, event)?;
+    }
+    Ok(events)
+}

@@ -1,0 +1,178 @@
+//! Feeds as watches report them.
+ghost use Rattle.std.specs.Prelude.{◌≡◌, ◌<◌, ◌^◌, ◌-◌, ◌+◌, ℕ, drop, length, map, true, is_none, Some, option_map, option_to_list, IfOk};
+ghost use Rattle.std.specs.List.{filter, list_all};
+ghost use Rattle.ob_watching.specs.Watches.{content_now, changes_of, count, Feed};
+ghost use Rattle.ob_site_rules.specs.Build.{Text as Href};
+ghost use Rattle.ob_site_rules.specs.Locating.{locate};
+ghost use Rattle.ob_site_rules.specs.Replies.{content_object};
+ghost use Rattle.ob_site_rules.specs.Sites.{site};
+ghost use Rattle.ob_site_rules.specs.Watched.{passes, gone_at};
+ghost use Rattle.ob_answers.specs.Plans.{plan as plan_of};
+ghost use Rattle.ob_site_state.specs.Contents.{state_in};
+ghost use Rattle.ob_site_places.specs.Complete.{IsComplete};
+ghost use Rattle.ob_site_reads.specs.Events.{events_of, feed_of_some};
+ghost use Rattle.ob_shown.specs.Named.{place as place_of};
+
+use crate::events::{alarm_events, log_events};
+use ob_answers::Plan;
+use ob_entries::{feed_entry, feed_there};
+use ob_history::{Filter, Log};
+use ob_object::Obj;
+use ob_shown::Place;
+use ob_site_places::event_place;
+use ob_site_shown::log_at;
+use ob_site_state::Contents;
+use ob_values::Text;
+use std::alloc::{AllocError, Global};
+
+/// What is asked of a feed: events that pass a filter, behind the first so many ever, those that rolled off counted.
+#[derive(Clone, Copy)]
+pub struct Since {
+    pub filter: Filter,
+    pub given: u64,
+}
+
+/// The events of a feed that are asked for.
+fn events_since(
+    alloc: Global,
+    contents: &Contents,
+    place: &Option<Place>,
+    since: &Since,
+) -> Result<Vec<Obj>, AllocError>
+    ensures { IfOk result (λ events. events.items ≡ filter (passes since.now.filter) (drop (since.now.given - gone_at (state_in contents.now) (option_map place_of place.now)) (events_of (state_in contents.now) contents.now.board (option_map place_of place.now)))) }
+{
+    match place {
+        Some(Place::FeedOf(history)) => match log_at(&contents.logs, history) {
+            Some(log) => log_events(alloc, log, &since.filter, since.given),
+            None => Ok(Vec::new(alloc)),
+        },
+        Some(Place::AlarmFeed) => alarm_events(alloc, &contents.board, &since.filter, since.given),
+        _ => Ok(Vec::new(alloc)),
+    }
+}
+
+/// How many events of a feed rolled off; alarm events don't.
+fn gone_at(contents: &Contents, place: &Option<Place>) -> u64
+    ensures value { result ≡ gone_at (state_in contents.now) (option_map place_of place.now) }
+    ensures bounded { result < 2 ^ 63 }
+{
+    match place {
+        Some(Place::FeedOf(history)) => match log_at(&contents.logs, history) {
+            Some(log) => {
+                let _counted = log.len();
+                log.gone()
+            }
+            None => 0,
+        },
+        _ => 0,
+    }
+}
+
+/// How many records a log has had.
+fn records_ever(log: &Log) -> u64
+    ensures { result ≡ log.now.gone + length log.now.kept }
+{
+    log.gone() + log.len()
+}
+
+/// How many events the feed of a place has had; another place has none.
+fn place_events_ever(contents: &Contents, place: &Place) -> u64
+    ensures { result ≡ gone_at (state_in contents.now) (Some (place_of place.now)) + length (events_of (state_in contents.now) contents.now.board (Some (place_of place.now))) }
+{
+    match place {
+        Place::FeedOf(history) => match log_at(&contents.logs, history) {
+            Some(log) => records_ever(log),
+            None => 0,
+        },
+        Place::AlarmFeed => contents.board.events(0).len() as u64,
+        _ => 0,
+    }
+}
+
+/// How many events a feed has had.
+fn events_ever(contents: &Contents, place: &Option<Place>) -> u64
+    ensures { result ≡ gone_at (state_in contents.now) (option_map place_of place.now) + length (events_of (state_in contents.now) contents.now.board (option_map place_of place.now)) }
+{
+    match place {
+        Some(place) => place_events_ever(contents, place),
+        None => 0,
+    }
+}
+
+/// How many events the feed at a path has had, those that rolled off counted. An error only for want of memory.
+pub fn count_at(
+    alloc: Global,
+    plan: &Plan,
+    contents: &Contents,
+    path: &Text,
+) -> Result<u64, AllocError>
+    requires { IsComplete (plan_of plan.now) contents.now }
+    ensures { IfOk result (λ n. n ≡ count (site locate (plan_of plan.now)) (state_in contents.now) path.now) }
+{
+    let place = event_place(alloc, plan, path)?;
+    Ok(events_ever(contents, &place))
+}
+
+/// A feed with all kept events that pass a filter. An error only for want of memory.
+///
+/// Source: oBIX 1.1, chapter 12 (Watch.pollRefresh).
+#[tactic(auto, using(crate::proofs::Nameless::some_nameless))]
+pub fn whole_feed(
+    alloc: Global,
+    plan: &Plan,
+    contents: &Contents,
+    path: &Text,
+    filter: &Filter,
+) -> Result<Obj, AllocError>
+    requires { IsComplete (plan_of plan.now) contents.now }
+    ensures { IfOk result (λ o. (given : ℕ) → o ≡ content_object (content_now (site locate (plan_of plan.now)) (state_in contents.now) path.now (Feed filter.now given))) }
+{
+    let place = event_place(alloc, plan, path)?;
+    let all = Since {
+        filter: *filter,
+        given: 0,
+    };
+    let events = events_since(alloc, contents, &place, &all)?;
+    let feed = feed_there(alloc, plan, path)?;
+    feed_entry(alloc, &feed, 0, events)
+}
+
+/// A feed with events, if there are some or some rolled off unreported.
+fn feed_if_some(
+    alloc: Global,
+    plan: &Plan,
+    path: &Text,
+    dropped: u64,
+    events: Vec<Obj>,
+) -> Result<Option<Obj>, AllocError>
+    requires nameless { list_all (λ o. is_none o.head.name) events.items ≡ true }
+    requires counted { dropped < 2 ^ 63 }
+    ensures { IfOk result (λ o. o ≡ feed_of_some (plan_of plan.now) path.now dropped events.items) }
+{
+    if dropped == 0 && events.is_empty() {
+        return Ok(None);
+    }
+    let feed = feed_there(alloc, plan, path)?;
+    let object = feed_entry(alloc, &feed, dropped, events)?;
+    Ok(Some(object))
+}
+
+/// A feed with its passing events since so many were given, if there are some or some rolled off unreported. An
+/// error only for want of memory.
+///
+/// Source: oBIX 1.1, chapter 12 (Watch.pollChanges).
+pub fn feed_since(
+    alloc: Global,
+    plan: &Plan,
+    contents: &Contents,
+    path: &Text,
+    since: &Since,
+) -> Result<Option<Obj>, AllocError>
+    requires { IsComplete (plan_of plan.now) contents.now }
+    ensures { IfOk result (λ o. (text : Href) → option_to_list o ≡ map (λ r. content_object r.content) (changes_of (site locate (plan_of plan.now)) (state_in contents.now) text path.now (Feed since.now.filter since.now.given))) }
+{
+    let place = event_place(alloc, plan, path)?;
+    let dropped = gone_at(contents, &place).saturating_sub(since.given);
+    let events = events_since(alloc, contents, &place, since)?;
+    feed_if_some(alloc, plan, path, dropped, events)
+}

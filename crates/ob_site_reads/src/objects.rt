@@ -1,0 +1,68 @@
+//! Objects as watches report them.
+ghost use Rattle.std.specs.Prelude.{◌≡◌, ◌<◌, Some, None, IfOk};
+ghost use Rattle.ob_object.specs.Object.{parts};
+ghost use Rattle.ob_tree.specs.Laid.{paths};
+ghost use Rattle.ob_tree.specs.Paths.{place_of};
+ghost use Rattle.ob_answers.specs.Plans.{plan as plan_of};
+ghost use Rattle.ob_site_rules.specs.Build.{Path, nameless, under_href};
+ghost use Rattle.ob_site_rules.specs.Sites.{plain_or_empty, watched_object};
+ghost use Rattle.ob_site_state.specs.Contents.{state_in};
+ghost use Rattle.ob_site_shown.specs.Readable.{IsReadable};
+
+use ob_answers::Plan;
+use ob_object::{Kind, Obj};
+use ob_site_shown::{shown_at, shown_own};
+use ob_site_state::Contents;
+use ob_tree::NodeId;
+use ob_values::Text;
+use std::alloc::{AllocError, Global};
+
+/// An object without its name and its href; an empty obj where it is a feed or an err.
+fn unnamed(alloc: Global, mut object: Obj) -> Obj
+    ensures { result ≡ plain_or_empty (under_href None (nameless object)) }
+{
+    match object.kind() {
+        Kind::Feed | Kind::Err => Obj::new(alloc, Kind::Obj),
+        _ => match object.put_name(None) {
+            Ok(()) => {
+                object.put_href(None);
+                object
+            }
+            Err(_name) => unreachable!(),
+        },
+    }
+}
+
+/// The object at a path as a watch reports it: without its name and its href, and the empty obj where nothing that is
+/// watched is there. An error only for want of memory.
+///
+/// Source: oBIX 1.1, chapter 12 (Watches).
+pub fn watched_object(
+    alloc: Global,
+    plan: &Plan,
+    contents: &Contents,
+    path: &Text,
+) -> Result<Obj, AllocError>
+    requires { IsReadable (plan_of plan.now) contents.now }
+    ensures { IfOk result (λ o. o ≡ watched_object (plan_of plan.now) (state_in contents.now) path.now) }
+{
+    match shown_at(alloc, plan, contents, path)? {
+        Some(object) => Ok(unnamed(alloc, object)),
+        None => Ok(Obj::new(alloc, Kind::Obj)),
+    }
+}
+
+/// The same of an own node by its number, without looking for its path. An error only for want of memory.
+pub fn watched_node(
+    alloc: Global,
+    plan: &Plan,
+    contents: &Contents,
+    node: NodeId,
+) -> Result<Obj, AllocError>
+    requires readable { IsReadable (plan_of plan.now) contents.now }
+    requires within { node.number < parts contents.now.tree.root }
+    ensures { IfOk result (λ o. (p : Path) → place_of p (paths contents.now.tree.root) ≡ Some node.number → o ≡ watched_object (plan_of plan.now) (state_in contents.now) p) }
+{
+    let object = shown_own(alloc, plan, contents, node)?;
+    Ok(unnamed(alloc, object))
+}
