@@ -8,6 +8,7 @@ use Rattle.ob_href.specs.Href.{as_base, resolved_path}
 use Rattle.ob_href.specs.declared.fault.HrefFault.{HrefFault}
 use Rattle.ob_command.specs.Arguments.{Argument, arguments, operands, values, has_only}
 use Rattle.ob_command.specs.Number.{number_between}
+use Rattle.ob_command.specs.Storm.{Storm, storm_of}
 use Rattle.ob_command.specs.Texts.{is_text, text_if, texts_if, optional_text}
 
 pub data Command : Type 0 where
@@ -21,6 +22,8 @@ pub data Command : Type 0 where
   watch : (url : Parts) → (hrefs : List (List ℕ)) → (polls retries : ℕ) → Command
   -- the URL of a lobby; the alarm subject; how often its feed is polled; the alarm to acknowledge, if one is given, and who does
   console : (url : Parts) → (subject : List ℕ) → (polls : ℕ) → (ack : Option (List ℕ)) → (user : List ℕ) → Command
+  -- the seed, the clients and the requests
+  storm : Storm → Command
 
 -- ---- the values of an option, which is given at most once
 
@@ -137,7 +140,8 @@ named word given =
     else (if bytes_eq word (codes "check") then check_of given
     else (if bytes_eq word (codes "watch") then watch_of given
     else (if bytes_eq word (codes "console") then console_of given
-    else None))))
+    else (if bytes_eq word (codes "storm") then option_map storm (storm_of given)
+    else None)))))
 
 -- one of the commands above with its arguments; all other words are no command
 abbrev pub command : List (List ℕ) → Option Command

@@ -2,11 +2,16 @@
 use Rattle.std.specs.Prelude.{Option, option_copied}
 use Rattle.ob_command.specs.declared.client.WatchWords.{WatchWords}
 use Rattle.ob_command.specs.declared.client.ConsoleWords.{ConsoleWords}
+use Rattle.ob_command.specs.declared.storm.Storm.{Storm}
 use Rattle.ob_command.specs.declared.command.Command.{Command}
 use Rattle.ob_command.specs.declared.command.Command.TheVariants as variants
 use Rattle.ob_command.specs.Arguments.{operands}
 use Rattle.ob_command.specs.Words.{arguments_of}
+use Rattle.ob_command.specs.Storm as values
 use Rattle.ob_command.specs.Command as commands
+
+abbrev pub storm_values : Storm → values.Storm
+storm_values s = record { seed = s.seed; clients = s.clients; requests = s.requests }
 
 abbrev pub command_of : Command → commands.Command
 command_of (variants.Stdio service) = commands.stdio service.site.now service.at service.tick
@@ -14,6 +19,7 @@ command_of (variants.Serve service) = commands.serve service.site.now service.ho
 command_of (variants.Check file) = commands.check file.now
 command_of (variants.Watch client) = commands.watch client.url client.hrefs.items client.polls client.retries
 command_of (variants.Console client) = commands.console client.url client.subject client.polls client.ack client.user
+command_of (variants.Storm asked) = commands.storm (storm_values asked)
 
 -- what the words of a client's command come to, once its URL is read
 abbrev pub watch_from : WatchWords → Option commands.Command

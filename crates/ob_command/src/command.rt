@@ -1,11 +1,15 @@
 //! The commands.
 ghost use Rattle.std.specs.Prelude.{◌≡◌, true, map, option_map, string_bytes, MatchResult};
-ghost use Rattle.ob_command.specs.Command.{command, is_client};
+ghost use Rattle.ob_command.specs.Command.{command, is_client, storm};
+ghost use Rattle.ob_command.specs.Storm.{storm_of};
+ghost use Rattle.ob_command.specs.Words.{arguments_of};
 ghost use Rattle.ob_command.specs.Named.{command_of};
 
 use crate::argument::Arguments;
 use crate::client::{Console, Watch, console_of, watch_of};
+use crate::number::number_between;
 use crate::server::{Serve, Stdio, check_of, serve_of, stdio_of};
+use crate::storm::Storm;
 use crate::text::are_texts;
 use std::alloc::{AllocError, Global};
 
@@ -22,6 +26,34 @@ pub enum Command<'a> {
     Watch(Watch),
     /// The alarms of a subject are watched and written.
     Console(Console),
+    /// A site of its own is asked what a seed draws.
+    Storm(Storm),
+}
+
+/// The largest number of 18 digits.
+const LARGEST_NUMBER: u64 = 999_999_999_999_999_999;
+
+/// The storm that the arguments `SEED CLIENTS REQUESTS` ask for.
+fn storm_of(given: Arguments<'_>) -> Option<Command<'_>>
+    ensures { option_map command_of result ≡ option_map storm (storm_of (arguments_of given.entry)) }
+{
+    if !given.has_only(&[]) {
+        return None;
+    }
+    let (seed, behind) = given.next_operand()?;
+    let (clients, behind) = behind.next_operand()?;
+    let (requests, behind) = behind.next_operand()?;
+    if behind.next_operand().is_some() {
+        return None;
+    }
+    let seed = number_between(seed.as_bytes(), 0, LARGEST_NUMBER)?;
+    let clients = number_between(clients.as_bytes(), 1, 100)?;
+    let requests = number_between(requests.as_bytes(), 1, 1_000_000)?;
+    Some(Command::Storm(Storm {
+        seed,
+        clients: clients as u32,
+        requests: requests as u32,
+    }))
 }
 
 /// The command that the words are, where they are one:
@@ -31,6 +63,7 @@ pub enum Command<'a> {
 /// - `check FILE`
 /// - `watch URL HREF.. [--polls N] [--retry R]`
 /// - `console URL SUBJECT [--polls N] [--ack HREF] [--user NAME]`
+/// - `storm SEED CLIENTS REQUESTS`
 ///
 /// An option stands anywhere behind the command, at most once, as `--x V` or `--x=V`; `--` ends the options. Numbers
 /// have 1 to 18 digits, and each word is text that XML can carry. URL is an http URL without a fragment, and SUBJECT names
@@ -56,6 +89,7 @@ pub fn read_command<'a>(
         "check" => Ok(check_of(given)),
         "watch" => watch_of(alloc, given),
         "console" => console_of(alloc, given),
+        "storm" => Ok(storm_of(given)),
         _ => Ok(None),
     }
 }

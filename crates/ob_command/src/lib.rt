@@ -9,8 +9,10 @@ mod client;
 mod command;
 mod number;
 mod server;
+mod storm;
 mod text;
 
 pub use client::{Console, Watch};
 pub use command::{Command, read_command};
 pub use server::{Serve, Stdio};
+pub use storm::Storm;

@@ -23,6 +23,7 @@ pub(crate) fn number_between(text: &[u8], least: u64, most: u64) -> Option<u64>
     requires { most < 10 ^ 18 }
     ensures value { result ≡ number_between least most text.now }
     ensures fits { IfSome result (λ number. number ≤ most) }
+    ensures at_least { IfSome result (λ number. least ≤ number) }
 {
     match number_up_to(text, most) {
         Some(number) if least <= number && number <= most => Some(number),

@@ -6,3 +6,4 @@ pub mod ServingLemmas
 pub mod ServeLemmas
 pub mod ApartLemmas
 pub mod ClientLemmas
+pub mod StormLemmas

@@ -6,4 +6,5 @@ pub mod Stdio
 pub mod Check
 pub mod Serving
 pub mod Client
+pub mod Storm
 pub mod Run

@@ -12,6 +12,7 @@ use Rattle.ob_program.specs.Stdio.{StdioRan}
 use Rattle.ob_program.specs.Check.{CheckRan}
 use Rattle.ob_program.specs.Serving.{ServeRan}
 use Rattle.ob_program.specs.Client.{ClientRan}
+use Rattle.ob_program.specs.Storm.{StormRan}
 
 -- Memory was wanting to read the URL or a text of a client's words, and this is as it was.
 abbrev pub IsUnread : (words : List (List ℕ)) → Exit → (untouched : Type 0) → Type 0
@@ -33,6 +34,8 @@ module _ {D C : Type 0} (faults handed returned : D → ℕ) (visits : D → Opt
       ClientRan (record { url = url; watched = Hrefs hrefs; polls = polls; retries = retries }) s.held s'.held s.writes s'.writes d d' exit
   Ran content files files' s s' p p' d d' t t' (commands.console url subject polls ack user) exit =
       ClientRan (record { url = url; watched = Alarms subject ack user; polls = polls; retries = 0 }) s.held s'.held s.writes s'.writes d d' exit
+  Ran content files files' s s' p p' d d' t t' (commands.storm asked) exit =
+      StormRan asked s.held s'.held s.writes s'.writes exit
 
 -- the parts of the outside that a command has nothing to do with are as they were
 abbrev pub LeavesAlone : Option Command → (files source sink port dialer clock : Type 0) → Type 0
@@ -43,3 +46,4 @@ LeavesAlone (Some (commands.serve site host place workers quota)) files source s
 LeavesAlone (Some (commands.check file)) files source sink port dialer clock = source × port × dialer × clock
 LeavesAlone (Some (commands.watch url hrefs polls retries)) files source sink port dialer clock = files × source × port × clock
 LeavesAlone (Some (commands.console url subject polls ack user)) files source sink port dialer clock = files × source × port × clock
+LeavesAlone (Some (commands.storm asked)) files source sink port dialer clock = files × source × port × dialer × clock

@@ -2,6 +2,7 @@
 //!
 //! `stdio SITE` opens the site of a file and answers the requests of the source on the sink, and `serve SITE HOST PORT` those
 //! of links on threads. `check FILE` reads a document and writes its canonical text. `watch` and `console` are clients.
+//! `storm SEED CLIENTS REQUESTS` asks a site of its own.
 #![tactic(auto)]
 
 mod check;
@@ -12,6 +13,7 @@ mod lines;
 mod program;
 mod serve;
 mod stdio;
+mod storm;
 
 pub use exit::Exit;
 pub use program::run;

@@ -10,6 +10,7 @@ use crate::client::{console_plan, run_client, watch_plan};
 use crate::exit::{Exit, tell};
 use crate::serve::run_serve;
 use crate::stdio::run_stdio;
+use crate::storm::run_storm;
 use ob_command::{Command, read_command};
 use ob_io::{Clock, Dialer, Door, Files, Pair, Port, Sink, Source, write_all};
 use std::alloc::Global;
@@ -21,8 +22,9 @@ use std::thread::Threads;
 /// `stdio SITE [--at MS] [--tick MS]` opens the site of a file, and answers the requests of the link's source on its sink.
 /// `serve SITE HOST PORT [--workers N] [--quota M]` answers those of links that come to a port. `check FILE` writes the
 /// canonical text of a file's document, and a line feed. `watch URL HREF.. [--polls N] [--retry R]` and `console URL SUBJECT
-/// [--polls N] [--ack HREF] [--user NAME]` write what a server tells of objects and of alarms. What went wrong is told on
-/// `errors`, whose own faults change nothing.
+/// [--polls N] [--ack HREF] [--user NAME]` write what a server tells of objects and of alarms. `storm SEED CLIENTS REQUESTS`
+/// asks a site of its own what a seed draws, and writes what it counts in the replies. What went wrong is told on `errors`,
+/// whose own faults change nothing.
 ///
 /// The answers of `stdio` and `serve` are those of the site that the definition of the opening gives for the document that the
 /// file's bytes spell and the boot's moment, with the document's xmlns.
@@ -107,5 +109,6 @@ where
         Command::Console(console) => {
             run_client(alloc, console_plan(console), dialer, &mut link.sink, errors)
         }
+        Command::Storm(asked) => run_storm(rt, alloc, asked, &mut link.sink, errors),
     }
 }

@@ -114,7 +114,7 @@ fn frame_line(alloc: Global, fault: FrameFault, place: u64) -> Result<Vec<u8>, A
 }
 
 /// A moment, the last that there is where the number is larger.
-fn moment(ms: u64) -> Moment
+pub(crate) fn moment(ms: u64) -> Moment
     ensures { result ≡ min ms last_moment }
 {
     let Some(moment) = Moment::new(ms.min(LAST_MOMENT)) else {
