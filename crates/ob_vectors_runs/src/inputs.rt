@@ -1,5 +1,5 @@
 //! What comes from the outside, as rows spell it.
-use ob_rows::push_meant;
+use ob_rows::{push_meant, split_word};
 use std::alloc::{AllocError, Global};
 
 /// What comes from the outside.
@@ -11,7 +11,8 @@ pub(crate) enum Inputs<'a> {
     /// of a link says that it gives nothing to read before the link with `wakes ` was written to.
     Doors(&'a str),
     /// The replies on links that are dialled: ` | ` stands between links, ` ; ` between replies. A reply is its body, of status
-    /// 200; or all of its bytes, where it begins with `HTTP/`.
+    /// 200; or all of its bytes, where it begins with `HTTP/`. `fails N ` before the replies says that this call of the link
+    /// fails, reads and writes counted as one, the first being 0.
     Dials(&'a str),
 }
 
@@ -48,6 +49,17 @@ pub(crate) fn replies(alloc: Global, link: &str) -> Vec<u8> {
         let _ = push_reply(alloc, &mut bytes, reply);
     }
     bytes
+}
+
+/// The call of a link that is dialled that fails, if one does, and the replies on it.
+pub(crate) fn failing_call(link: &str) -> (Option<u64>, &str) {
+    match link.strip_prefix("fails ") {
+        Some(rest) => {
+            let (number, replies) = split_word(rest);
+            (number.parse().ok(), replies)
+        }
+        None => (None, link),
+    }
 }
 
 /// What a link that comes to a door waits for, and its bytes.

@@ -2,8 +2,9 @@
 ghost use Rattle.std.specs.Prelude.{◌<◌};
 
 use crate::failing::{Failing, Part, plan, twin_plans};
-use crate::inputs::{Inputs, Turn, meant, replies, turn_of};
+use crate::inputs::{Inputs, Turn, failing_call, meant, replies, turn_of};
 use crate::ran::Ran;
+use crate::scarce::Scarce;
 use ob_io::{
     Fresh, Gated, MemClock, MemDialer, MemDoor, MemFiles, MemLink, MemPort, MemSink, MemSource,
     NamedFile, Pair, Waiting,
@@ -14,11 +15,12 @@ use std::sync::atomic::AtomicU64;
 use std::sync::{Arc, Wait};
 use std::thread::Threads;
 
-/// What is run: the most bytes that are given or taken at a call, the words, the bytes of the file `site`, and what else
-/// comes from the outside.
+/// What is run: the most bytes that are given or taken at a call, whether there is no memory for files, the words, the bytes of
+/// the file `site`, and what else comes from the outside.
 #[derive(Clone, Copy)]
 pub(crate) struct Case<'a> {
     pub(crate) piece: usize,
+    pub(crate) is_scarce: bool,
     pub(crate) words: &'a [String],
     pub(crate) document: &'a [u8],
     pub(crate) inputs: Inputs<'a>,
@@ -67,7 +69,7 @@ impl Words {
 
 /// The outside, all of it in memory.
 struct Outside {
-    files: MemFiles,
+    files: Scarce<MemFiles>,
     link: Pair<MemSource, MemSink>,
     errors: MemSink,
     port: MemPort<Gated<MemLink>>,
@@ -121,12 +123,15 @@ impl Maker<'_> {
         self.case.piece.max(1)
     }
 
-    fn files(self) -> MemFiles {
+    fn files(self) -> Scarce<MemFiles> {
         let mut files = Vec::new(self.alloc);
         if let Ok(file) = named(self.alloc, self.case.document) {
             let _ = files.push(file);
         }
-        MemFiles::new(files, self.plan(Part::Files))
+        Scarce {
+            files: MemFiles::new(files, self.plan(Part::Files)),
+            is_scarce: self.case.is_scarce,
+        }
     }
 
     fn source(self) -> MemSource {
@@ -199,8 +204,12 @@ impl Maker<'_> {
 
     // A link that is dialled.
     fn answering(self, place: u64, text: &str) -> Fresh<MemLink> {
+        let (call, text) = failing_call(text);
         let bytes = replies(self.alloc, text);
-        let failing = self.plan(Part::Link(place));
+        let mut failing = self.plan(Part::Link(place));
+        if let Some(call) = call {
+            let _ = failing.push(call);
+        }
         Fresh::new(MemLink::new(self.alloc, bytes, self.piece(), failing))
     }
 

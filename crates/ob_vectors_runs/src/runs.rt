@@ -127,6 +127,14 @@ fn tell_case<R: Threads + Wait + Sync + AllocGlobal>(
     Ok(())
 }
 
+// A word without the mark that it may end with, and whether it does.
+fn without_mark<'a>(word: &'a str, mark: &str) -> (&'a str, bool) {
+    match word.strip_suffix(mark) {
+        Some(front) => (front, true),
+        None => (word, false),
+    }
+}
+
 // Runs what a row asks on a document, and tells how it goes.
 fn tell_run<R: Threads + Wait + Sync + AllocGlobal>(
     rt: &R,
@@ -136,13 +144,12 @@ fn tell_run<R: Threads + Wait + Sync + AllocGlobal>(
 ) -> Result<(), AllocError> {
     let (row, input) = row.split_once(" / ").unwrap_or((row, ""));
     let (piece, _) = split_word(row);
-    let (number, has_faults) = match piece.split_once('*') {
-        Some((number, _)) => (number, true),
-        None => (piece, false),
-    };
+    let (piece, has_faults) = without_mark(piece, "*");
+    let (piece, is_scarce) = without_mark(piece, "!");
     let words = words_in(rt.alloc(), row)?;
     let case = Case {
-        piece: number.parse::<usize>().unwrap_or(1),
+        piece: piece.parse::<usize>().unwrap_or(1),
+        is_scarce,
         words: &words,
         document,
         inputs: inputs_of(command_of(&words), input),
@@ -204,7 +211,8 @@ fn ask_all<R: Threads + Wait + Sync + Print + AllocGlobal>(
 /// `⟨NAME⟩` in a row stands for the text of that name. `document TEXT` puts a text into the file `site`. `PIECE WORDS / INPUT`
 /// runs the words, where at most PIECE bytes are given or taken at a call, with what comes from the outside behind the bar;
 /// told is how it went. With `PIECE*` each call of the outside fails in turn, each in a run of its own; told is behind ` / `
-/// how many of each part did, but for standard error, or which comes out otherwise than it is to.
+/// how many of each part did, but for standard error, or which comes out otherwise than it is to. With `PIECE!` there is no
+/// memory for a file that is read.
 ///
 /// An `io::Error` where the file isn't there, or for want of memory.
 pub(crate) fn run_rows<R: Threads + Wait + Sync + Print + Files + AllocGlobal>(
