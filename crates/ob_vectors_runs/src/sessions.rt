@@ -9,8 +9,8 @@ use ob_values::{Text, Verb};
 use std::alloc::{AllocError, Global};
 
 /// Rows of a session each: `PIECE REPLIES`, where at most PIECE bytes are given or taken at a call of the link, with the replies
-/// on it as those of a link that is dialled. `/obix/n` is got four times: told are the object or the fault of each call, with ` / `
-/// behind it, and then what was written.
+/// on it as those of a link that is dialled. `/obix/n` is got four times: told are the object or the fault of each call, with
+/// ` / ` behind it, and then what was written.
 #[derive(Drop)]
 pub(crate) struct Sessions;
 
