@@ -16,6 +16,8 @@ pub data Command : Type 0 where
   stdio : (site : List ℕ) → (at : Option ℕ) → (tick : ℕ) → Command
   -- the site file; where it listens; how many workers there are, and how many links each of them serves
   serve : (site host : List ℕ) → (port workers quota : ℕ) → Command
+  -- the site file; the record's file
+  auditing : (site file : List ℕ) → Command
   -- the document's file
   check : (file : List ℕ) → Command
   -- the URL of a lobby; what is watched there; how often it is polled, and how many broken polls are mended
@@ -62,6 +64,14 @@ stdio_of given =
     if has_only (codes "--at" ∷ codes "--tick" ∷ []) given
     then stdio_with (operands given) (number_given 0 last_moment (values (codes "--at") given)) (number_or 0 largest_number 0 (values (codes "--tick") given))
     else None
+
+abbrev pub auditing_with : List (List ℕ) → Option Command
+auditing_with (site ∷ (file ∷ [])) = Some (auditing site file)
+auditing_with _ = None
+
+-- `SITE FILE`
+abbrev pub auditing_of : List Argument → Option Command
+auditing_of given = if has_only [] given then auditing_with (operands given) else None
 
 abbrev pub serve_with : (operands : List (List ℕ)) → (port workers quota : Option ℕ) → Option Command
 serve_with (site ∷ (host ∷ (_ ∷ []))) (Some port) (Some workers) (Some quota) = Some (serve site host port workers quota)
@@ -136,12 +146,13 @@ console_of given =
 abbrev pub named : List ℕ → List Argument → Option Command
 named word given =
     if bytes_eq word (codes "stdio") then stdio_of given
+    else (if bytes_eq word (codes "audit") then auditing_of given
     else (if bytes_eq word (codes "serve") then serve_of given
     else (if bytes_eq word (codes "check") then check_of given
     else (if bytes_eq word (codes "watch") then watch_of given
     else (if bytes_eq word (codes "console") then console_of given
     else (if bytes_eq word (codes "storm") then option_map storm (storm_of given)
-    else None)))))
+    else None))))))
 
 -- one of the commands above with its arguments; all other words are no command
 abbrev pub command : List (List ℕ) → Option Command

@@ -8,6 +8,7 @@ ghost use Rattle.ob_command.specs.Named.{command_of};
 use crate::argument::Arguments;
 use crate::client::{Console, Watch, console_of, watch_of};
 use crate::number::number_between;
+use crate::record::{Audit, audit_of};
 use crate::server::{Serve, Stdio, check_of, serve_of, stdio_of};
 use crate::storm::Storm;
 use crate::text::are_texts;
@@ -18,6 +19,8 @@ use std::alloc::{AllocError, Global};
 pub enum Command<'a> {
     /// The requests of the source are answered from a site file.
     Stdio(Stdio<'a>),
+    /// Whether a record is legal from a site file.
+    Audit(Audit<'a>),
     /// The requests of links that come to a port are answered from a site file.
     Serve(Serve<'a>),
     /// The document of a file is checked and written in its canonical form.
@@ -59,6 +62,7 @@ fn storm_of(given: Arguments<'_>) -> Option<Command<'_>>
 /// The command that the words are, where they are one:
 ///
 /// - `stdio SITE [--at MS] [--tick MS]`
+/// - `audit SITE FILE`
 /// - `serve SITE HOST PORT [--workers N] [--quota M]`
 /// - `check FILE`
 /// - `watch URL HREF.. [--polls N] [--retry R]`
@@ -85,6 +89,7 @@ pub fn read_command<'a>(
     let given = Arguments::of(behind);
     match word.as_str() {
         "stdio" => Ok(stdio_of(given)),
+        "audit" => Ok(audit_of(given)),
         "serve" => Ok(serve_of(given)),
         "check" => Ok(check_of(given)),
         "watch" => watch_of(alloc, given),

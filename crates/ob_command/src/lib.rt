@@ -8,11 +8,13 @@ mod argument;
 mod client;
 mod command;
 mod number;
+mod record;
 mod server;
 mod storm;
 mod text;
 
 pub use client::{Console, Watch};
 pub use command::{Command, read_command};
+pub use record::Audit;
 pub use server::{Serve, Stdio};
 pub use storm::Storm;

@@ -1,7 +1,7 @@
 -- What a command has nothing to do with.
 use Rattle.std.proofs.Common.{◌≡◌, ℕ, List, Option, Some, None, refl, subst}
 use Rattle.std.specs.Prelude.{IsSome}
-use Rattle.ob_command.specs.Command.{Command, stdio, serve, check, watch, console, storm}
+use Rattle.ob_command.specs.Command.{Command, stdio, auditing, serve, check, watch, console, storm}
 use Rattle.ob_program.specs.Run.{LeavesAlone}
 
 module _ (files source sink port dialer clock : Type 0) where
@@ -19,6 +19,7 @@ module _ (files source sink port dialer clock : Type 0) where
   all_apart (Some (stdio site None tick)) f s k p d c = (p, d)
   all_apart (Some (stdio site (Some at) tick)) f s k p d c = (p, d, c)
   all_apart (Some (serve site host place workers quota)) f s k p d c = (s, d)
+  all_apart (Some (auditing site file)) f s k p d c = (s, p, d, c)
   all_apart (Some (check file)) f s k p d c = (s, p, d, c)
   all_apart (Some (watch url hrefs polls retries)) f s k p d c = (f, s, p, c)
   all_apart (Some (console url subject polls ack user)) f s k p d c = (f, s, p, c)

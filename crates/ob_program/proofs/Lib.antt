@@ -7,3 +7,4 @@ pub mod ServeLemmas
 pub mod ApartLemmas
 pub mod ClientLemmas
 pub mod StormLemmas
+pub mod AuditLemmas

@@ -17,3 +17,4 @@ status_of exits.PortFault = 9
 status_of exits.ClockFault = 10
 status_of exits.Budget = 11
 status_of exits.Memory = 12
+status_of exits.Illegal = 13

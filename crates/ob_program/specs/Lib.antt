@@ -7,4 +7,5 @@ pub mod Check
 pub mod Serving
 pub mod Client
 pub mod Storm
+pub mod Audit
 pub mod Run

@@ -13,6 +13,7 @@ use Rattle.ob_program.specs.Check.{CheckRan}
 use Rattle.ob_program.specs.Serving.{ServeRan}
 use Rattle.ob_program.specs.Client.{ClientRan}
 use Rattle.ob_program.specs.Storm.{StormRan}
+use Rattle.ob_program.specs.Audit.{AuditRan}
 
 -- Memory was wanting to read the URL or a text of a client's words, and this is as it was.
 abbrev pub IsUnread : (words : List (List ℕ)) → Exit → (untouched : Type 0) → Type 0
@@ -28,6 +29,8 @@ module _ {D C : Type 0} (faults handed returned : D → ℕ) (visits : D → Opt
   Ran content files files' s s' p p' d d' t t' (commands.serve site host port workers quota) exit =
       ServeRan faults handed returned visits closed given pace misses (content site) host port workers quota files files'
       s.held s'.held s.writes s'.writes p p' t t' exit
+  Ran content files files' s s' p p' d d' t t' (commands.auditing site file) exit =
+      AuditRan (content site) (content file) files files' s.held s'.held s.writes s'.writes exit
   Ran content files files' s s' p p' d d' t t' (commands.check file) exit =
       CheckRan (content file) files files' s.held s'.held s.writes s'.writes exit
   Ran content files files' s s' p p' d d' t t' (commands.watch url hrefs polls retries) exit =
@@ -43,6 +46,7 @@ LeavesAlone None files source sink port dialer clock = files × source × sink �
 LeavesAlone (Some (commands.stdio site None tick)) files source sink port dialer clock = port × dialer
 LeavesAlone (Some (commands.stdio site (Some at) tick)) files source sink port dialer clock = port × dialer × clock
 LeavesAlone (Some (commands.serve site host place workers quota)) files source sink port dialer clock = source × dialer
+LeavesAlone (Some (commands.auditing site file)) files source sink port dialer clock = source × port × dialer × clock
 LeavesAlone (Some (commands.check file)) files source sink port dialer clock = source × port × dialer × clock
 LeavesAlone (Some (commands.watch url hrefs polls retries)) files source sink port dialer clock = files × source × port × clock
 LeavesAlone (Some (commands.console url subject polls ack user)) files source sink port dialer clock = files × source × port × clock

@@ -29,6 +29,8 @@ pub enum Exit {
     /// 2^40 bytes were taken from the source.
     Budget,
     Memory,
+    /// A record isn't legal.
+    Illegal,
 }
 
 impl Exit {
@@ -52,6 +54,7 @@ impl Exit {
             Exit::ClockFault => 10,
             Exit::Budget => 11,
             Exit::Memory => 12,
+            Exit::Illegal => 13,
         }
     }
 }

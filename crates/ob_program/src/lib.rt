@@ -5,6 +5,7 @@
 //! `storm SEED CLIENTS REQUESTS` asks a site of its own.
 #![tactic(auto)]
 
+mod audit;
 mod check;
 mod client;
 mod document;

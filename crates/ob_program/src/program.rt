@@ -5,6 +5,7 @@ ghost use Rattle.ob_program.specs.Causes.{CauseOf};
 ghost use Rattle.ob_program.specs.Outside.{streams, dialled, port_told, clock_told};
 ghost use Rattle.ob_program.specs.Run.{IsUnread, Ran, LeavesAlone};
 
+use crate::audit::run_audit;
 use crate::check::run_check;
 use crate::client::{console_plan, run_client, watch_plan};
 use crate::exit::{Exit, tell};
@@ -20,6 +21,7 @@ use std::thread::Threads;
 /// Does what the words say.
 ///
 /// `stdio SITE [--at MS] [--tick MS]` opens the site of a file, and answers the requests of the link's source on its sink.
+/// `audit SITE FILE` tells whether the record of a run is legal from a site file.
 /// `serve SITE HOST PORT [--workers N] [--quota M]` answers those of links that come to a port. `check FILE` writes the
 /// canonical text of a file's document, and a line feed. `watch URL HREF.. [--polls N] [--retry R]` and `console URL SUBJECT
 /// [--polls N] [--ack HREF] [--user NAME]` write what a server tells of objects and of alarms. `storm SEED CLIENTS REQUESTS`
@@ -92,6 +94,7 @@ where
     };
     match command {
         Command::Stdio(service) => run_stdio(rt, alloc, service, files, link, errors, clock),
+        Command::Audit(audit) => run_audit(alloc, audit, files, &mut link.sink, errors),
         Command::Serve(service) => run_serve(
             rt,
             alloc,
