@@ -7,6 +7,8 @@ use std::alloc::{AllocError, Global};
 pub(crate) enum Inputs<'a> {
     /// The bytes of the source.
     Source(&'a str),
+    /// The bytes of the file `record`.
+    Record(&'a str),
     /// The links that come to doors: ` || ` stands between doors, ` | ` between the links of a door. `waits ` before the bytes
     /// of a link says that it gives nothing to read before the link with `wakes ` was written to.
     Doors(&'a str),

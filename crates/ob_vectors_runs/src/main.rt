@@ -24,5 +24,6 @@ fn main(rt: HostRuntime) -> io::Result<()> {
     run_rows(&rt, "serve.rows", texts.as_str())?;
     run_rows(&rt, "clients.rows", texts.as_str())?;
     run(&rt, "sessions.rows", &mut Sessions)?;
-    run(&rt, "mirrors.rows", &mut Mirrors::new(rt.alloc()))
+    run(&rt, "mirrors.rows", &mut Mirrors::new(rt.alloc()))?;
+    run_rows(&rt, "records.rows", texts.as_str())
 }

@@ -97,9 +97,9 @@ impl Drop for Outside {
     }
 }
 
-// The file `site` with these bytes.
-fn named(alloc: Global, bytes: &[u8]) -> Result<NamedFile, AllocError> {
-    let name = String::from_str(alloc, "site")?;
+// The file of a name with these bytes.
+fn named(alloc: Global, name: &str, bytes: &[u8]) -> Result<NamedFile, AllocError> {
+    let name = String::from_str(alloc, name)?;
     let bytes = bytes.to_vec(alloc)?;
     Ok(NamedFile { name, bytes })
 }
@@ -125,8 +125,11 @@ impl Maker<'_> {
 
     fn files(self) -> Scarce<MemFiles> {
         let mut files = Vec::new(self.alloc);
-        if let Ok(file) = named(self.alloc, self.case.document) {
+        if let Ok(file) = named(self.alloc, "site", self.case.document) {
             let _ = files.push(file);
+        }
+        if let Inputs::Record(text) = self.case.inputs {
+            self.push_record(&mut files, text);
         }
         Scarce {
             files: MemFiles::new(files, self.plan(Part::Files)),
@@ -134,10 +137,18 @@ impl Maker<'_> {
         }
     }
 
+    // The file `record`.
+    fn push_record(self, files: &mut Vec<NamedFile>, text: &str) {
+        let bytes = meant(self.alloc, text);
+        if let Ok(file) = named(self.alloc, "record", &bytes) {
+            let _ = files.push(file);
+        }
+    }
+
     fn source(self) -> MemSource {
         let bytes = match self.case.inputs {
             Inputs::Source(text) => meant(self.alloc, text),
-            Inputs::Doors(_) | Inputs::Dials(_) => Vec::new(self.alloc),
+            Inputs::Record(_) | Inputs::Doors(_) | Inputs::Dials(_) => Vec::new(self.alloc),
         };
         MemSource::new(bytes, self.piece(), self.plan(Part::Source))
     }
@@ -197,7 +208,7 @@ impl Maker<'_> {
     fn port(self, words: &Words) -> MemPort<Gated<MemLink>> {
         let doors = match self.case.inputs {
             Inputs::Doors(text) => self.doors(words, text),
-            Inputs::Source(_) | Inputs::Dials(_) => Vec::new(self.alloc),
+            Inputs::Source(_) | Inputs::Record(_) | Inputs::Dials(_) => Vec::new(self.alloc),
         };
         MemPort::new(self.alloc, doors, self.plan(Part::Port))
     }
@@ -224,7 +235,7 @@ impl Maker<'_> {
     fn dialer(self) -> MemDialer<MemLink> {
         let links = match self.case.inputs {
             Inputs::Dials(text) => self.dialled(text),
-            Inputs::Source(_) | Inputs::Doors(_) => Vec::new(self.alloc),
+            Inputs::Source(_) | Inputs::Record(_) | Inputs::Doors(_) => Vec::new(self.alloc),
         };
         MemDialer::new(self.alloc, links, self.plan(Part::Dialer))
     }

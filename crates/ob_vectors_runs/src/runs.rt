@@ -58,6 +58,7 @@ fn inputs_of<'a>(command: &str, input: &'a str) -> Inputs<'a> {
     match command {
         "serve" => Inputs::Doors(input),
         "watch" | "console" => Inputs::Dials(input),
+        "audit" => Inputs::Record(input),
         _ => Inputs::Source(input),
     }
 }
