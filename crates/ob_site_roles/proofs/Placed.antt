@@ -1,0 +1,63 @@
+-- Places from the last one to the first.
+use Rattle.std.proofs.Common.{◌≡◌, ℕ, zero, suc, ◌+◌, ◌-◌, ◌<◌, ◌≤◌, Bool, true, false, ◌||◌, cond, List, [], ◌∷◌, map, length, drop, get_or, Option, Some, None, option_map, refl, sym, ap, ◌∙◌, arith, add-one}
+use Rattle.std.specs.Prelude.{is_some}
+use Rattle.std.specs.List.{list_any}
+use Rattle.std.proofs.Math.Seq.{drop-cons}
+use Rattle.std.proofs.lemmas.List.{drop_all}
+use Rattle.ob_alarms.specs.Lists.{first_place}
+use Rattle.ob_site_roles.specs.Roles.{place_from}
+
+none_more : (o : Option ℕ) → option_map (λ n. n + 0) o ≡ o
+none_more None = refl
+none_more (Some n) = ap Some (omega arith)
+
+pub from_start : {A : Type 0} (f : A → Bool) (xs : List A) → place_from f 0 xs ≡ first_place f xs
+from_start f xs = none_more (first_place f xs)
+
+one_more : (b : Bool) (i : ℕ) (o : Option ℕ) → option_map (λ n. n + i) (cond b (Some 0) (option_map (λ n. n + 1) o)) ≡ cond b (Some i) (option_map (λ n. n + (i + 1)) o)
+one_more true i o = ap Some (omega arith)
+one_more false i None = refl
+one_more false i (Some n) = ap Some (omega arith)
+
+-- from a place on, the first is what stands there, or else the first behind it
+pub from_here : {A : Type 0} (f : A → Bool) (xs : List A) (i : ℕ) (x : A) → i < length xs → x ≡ get_or xs i x → place_from f i xs ≡ cond (f x) (Some i) (place_from f (i + 1) xs)
+from_here f xs i x lt is =
+    ap (λ (l : List _). option_map (λ n. n + i) (first_place f l)) (drop-cons xs i x lt ∙ ap (λ y. y ∷ drop (suc i) xs) (sym is))
+    ∙ ap (λ (k : ℕ). option_map (λ n. n + i) (cond (f x) (Some 0) (option_map (λ n. n + 1) (first_place f (drop k xs))))) (sym (add-one i))
+    ∙ one_more (f x) i (first_place f (drop (i + 1) xs))
+
+pub from_end : {A : Type 0} (f : A → Bool) (xs : List A) (i : ℕ) → length xs ≤ i → place_from f i xs ≡ None
+from_end f xs i h = ap (λ (l : List _). option_map (λ n. n + i) (first_place f l)) (drop_all i xs h)
+
+-- one more place, before those that were put
+pub placed_next : {A : Type 0} (f : A → Bool) (xs : List A) (len done place : ℕ) (x : A) (key : Bool) (old new : Option ℕ) → len ≡ length xs → place ≡ len - 1 - done → done < len → x ≡ get_or xs place x → key ≡ f x
+    → new ≡ cond key (Some place) old → old ≡ place_from f (len - done) xs → new ≡ place_from f (len - (done + 1)) xs
+placed_next f xs len done place x key old new all at lt is same put so_far =
+    let here : place < length xs = omega arith in
+    let next : len - done ≡ place + 1 = omega arith in
+    let this : place ≡ len - (done + 1) = omega arith in
+    put
+    ∙ ap (λ (b : Bool). cond b (Some place) old) same
+    ∙ ap (λ (o : Option ℕ). cond (f x) (Some place) o) (so_far ∙ ap (λ (n : ℕ). place_from f n xs) next)
+    ∙ sym (from_here f xs place x here is)
+    ∙ ap (λ (n : ℕ). place_from f n xs) this
+
+-- what stands at a place, seen by contracts
+pub got_map : {A B : Type 0} (g : A → B) (xs : List A) (i : ℕ) (x : A) → i < length xs → x ≡ get_or xs i x → g x ≡ get_or (map g xs) i (g x)
+got_map g [] i x lt is = absurd (omega arith)
+got_map g (y ∷ xs) zero x lt is = ap g is
+got_map g (y ∷ xs) (suc i) x lt is = got_map g xs i x (omega arith) is
+
+pub length-mapped : {A B : Type 0} (g : A → B) (xs : List A) → length xs ≡ length (map g xs)
+length-mapped g [] = refl
+length-mapped g (x ∷ xs) = ap (λ n. suc n) (length-mapped g xs)
+
+-- something passes a test where there is a first that does
+pub some_first : {A : Type 0} (f : A → Bool) (xs : List A) → is_some (first_place f xs) ≡ list_any f xs
+some_first f [] = refl
+some_first f (x ∷ xs) = go (f x) (first_place f xs) (some_first f xs)
+  where
+    go : (b : Bool) (o : Option ℕ) → is_some o ≡ list_any f xs → is_some (cond b (Some 0) (option_map (λ n. n + 1) o)) ≡ (b || list_any f xs)
+    go true o e = refl
+    go false None e = e
+    go false (Some n) e = e

@@ -1,0 +1,10 @@
+//! What a site's plan says of each path, found by a look-up: the rule of a node, the history that stands there, and
+//! whether it is a writable point.
+//!
+//! `specs/Roles.antt` says which plan a `Roles` is of.
+#![tactic(auto)]
+
+mod places;
+mod roles;
+
+pub use roles::Roles;

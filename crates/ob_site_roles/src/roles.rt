@@ -1,0 +1,72 @@
+//! The roles of a plan.
+ghost use Rattle.std.specs.Prelude.{◌≡◌, IfOk};
+ghost use Rattle.ob_alarms.specs.Lists.{first_place};
+ghost use Rattle.ob_answers.specs.Plans.{plan as plan_of};
+ghost use Rattle.ob_site_rules.specs.State.{Plan as SitePlan, is_among};
+ghost use Rattle.ob_site_rules.specs.Shown.{rule_of};
+ghost use Rattle.ob_site_roles.specs.Roles.{stands_at, AreRoles};
+
+use crate::places::{histories_by_path, leads, paths_by_path, rules_by_source};
+use ob_answers::Plan;
+use ob_values::Text;
+use std::alloc::{AllocError, Global};
+use std::collections::BTreeMap;
+
+/// What a plan says of each path, for look-ups: the place of the rule of each source, of each point, and of the history
+/// at each path.
+pub struct Roles {
+    rules: BTreeMap<String, usize>,
+    points: BTreeMap<String, usize>,
+    histories: BTreeMap<String, usize>,
+}
+
+impl Drop for Roles {
+    // By one call for each part, so that to drop it is one call to whoever may have to.
+    fn drop(self) {
+        let Roles {
+            rules,
+            points,
+            histories,
+        } = self;
+        drop(rules);
+        drop(points);
+        drop(histories);
+    }
+}
+
+impl Roles {
+    /// The roles of a plan. An error only for want of memory.
+    pub fn of(alloc: Global, plan: &Plan) -> Result<Roles, AllocError>
+        ensures { IfOk result (λ roles. AreRoles roles (plan_of plan.now)) }
+    {
+        let rules = rules_by_source(alloc, plan.rules.as_slice())?;
+        let points = paths_by_path(alloc, plan.points.as_slice())?;
+        let histories = histories_by_path(alloc, plan.histories.as_slice())?;
+        Ok(Roles {
+            rules,
+            points,
+            histories,
+        })
+    }
+
+    /// The place of the rule of a node, if it has one.
+    pub fn rule_of(&self, path: &Text) -> Option<usize>
+        ensures { (plan : SitePlan) → AreRoles self.now plan → result ≡ rule_of plan path.now }
+    {
+        self.rules.get(path.as_str()).copied()
+    }
+
+    /// Whether there is a writable point at a path.
+    pub fn is_point(&self, path: &Text) -> bool
+        ensures { (plan : SitePlan) → AreRoles self.now plan → result ≡ is_among path.now plan.points }
+    {
+        leads(&self.points, path)
+    }
+
+    /// The place of the history at a path, if there is one.
+    pub fn history_at(&self, path: &Text) -> Option<usize>
+        ensures { (plan : SitePlan) → AreRoles self.now plan → result ≡ first_place (stands_at path.now) plan.histories }
+    {
+        self.histories.get(path.as_str()).copied()
+    }
+}
