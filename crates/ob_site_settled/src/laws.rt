@@ -1,0 +1,28 @@
+//! Laws of the end of a step.
+//!
+//! Each function states a law by its contract and does nothing.
+ghost use Rattle.ob_site_settled.specs.Ending.{StepsEnd};
+ghost use Rattle.ob_site_settled.specs.Noted.{NotesTell};
+ghost use Rattle.ob_site_settled.specs.Worlds.{WorldsEnd};
+
+/// A step that touches the own nodes which show themselves otherwise leaves each item of a watch as the rules of
+/// watches have it.
+///
+/// Source: oBIX 1.1, chapter 12 (Watch.pollChanges).
+pub fn steps_end()
+    ensures { StepsEnd }
+{}
+
+/// A step left every path alone but those that its notes are of: the nodes whose slots were set, the histories
+/// with a new record, and with an alarm event the subject of alarms and the sources of rules.
+pub fn notes_tell()
+    ensures { NotesTell }
+{}
+
+/// So such a step leaves all watches at once as the definitions' end of a step does, and no mark is of a step to
+/// come; and what is counted of feeds changes no flag.
+///
+/// Source: oBIX 1.1, chapter 12 (Watches).
+pub fn worlds_end()
+    ensures { WorldsEnd }
+{}

@@ -1,0 +1,11 @@
+//! The end of a step on a site: which own nodes it has changed, and what tells the watches of it.
+//!
+//! `specs/Noted.antt` says what the notes of a step tell of the nodes that it may have changed, `specs/Ending.antt`
+//! what the end of a step owes an item of a watch, and `specs/Worlds.antt` what it owes all watches.
+#![tactic(auto)]
+
+mod ending;
+mod laws;
+
+pub use ending::end_step;
+pub use laws::{notes_tell, steps_end, worlds_end};
