@@ -101,11 +101,10 @@ def main():
     server.end()
     faults = [fault for _, fault in ends if fault]
     count = sum(count for count, _ in ends)
-    early = max(kb for at, kb in held if at <= asked.seconds / 5)
-    late = max(kb for _, kb in held)
+    fifths = [max((kb for at, kb in held if k <= at * 5 / asked.seconds < k + 1), default=0) for k in range(5)]
     print(f"{asked.links} links, {count} answers, {count / took:.0f} a second, none missing, twice or other" if not faults else "\n".join(faults))
-    print(f"memory: {early} KB at most in the first fifth, {late} KB at most in all")
-    sys.exit(bool(faults) or late > early * 1.02 + 256)
+    print("memory, KB at most in each fifth of the time:", *fifths)
+    sys.exit(bool(faults) or fifths[4] > fifths[1] * 1.05)
 
 
 if __name__ == "__main__":
