@@ -1,0 +1,3 @@
+pub mod Nowhere
+pub mod Fitting
+pub mod Refused

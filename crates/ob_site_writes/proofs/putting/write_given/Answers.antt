@@ -1,0 +1,31 @@
+use Rattle.std.proofs.Common.{◌≡◌, true, Option, None, option_map, sym, ap, ◌∙◌, subst, IsTrue}
+use Rattle.ob_object.specs.declared.kind.Kind.{Kind}
+use Rattle.ob_object.specs.Fits.{fits_slot}
+use Rattle.ob_object.specs.Kinds.{same_kind}
+use Rattle.ob_contracts.proofs.Fitting.{one_kind}
+use Rattle.ob_history.specs.Records.{is_value_kind, holds_value}
+use Rattle.ob_answers.specs.declared.fault.Fault.{Fault}
+use Rattle.ob_answers.specs.Told as told
+use Rattle.ob_site_rules.specs.Writes.{slot_fault, overfills, value_fault}
+use Rattle.ob_writes.proofs.Passed.{slot_fits}
+use Rattle.ob_writes.proofs.Refused.{nothing_of}
+use Rattle.ob_site_state.specs.Kept.{Kept}
+use Rattle.ob_site_written.specs.Fitting.{CanBeWritten}
+use Rattle.ob_site_writes.proofs.Fitting.{can_be_written}
+use Rattle.ob_site_writes.proofs.Refused.{same_of}
+use Rattle.ob_site_writes.proofs.putting.write_given.Goals as goal
+
+pub show_written-requires-clause-can : goal.show_written-requires-clause-can
+show_written-requires-clause-can c =
+    let k = c.args.state.now in
+    let p = c.args.path.now in
+    let o = c.args.object.now in
+    let new = c.args.new.now in
+    let right : value_fault k.plan k.now k.time p o.head new ≡ None = sym c.in_ok-fault.ensures.fault ∙ ap (λ (f : Option Fault). option_map told.fault f) c.in_default.is in
+    let over = overfills k.plan k.now k.time p o.head new.slot in
+    let found = slot_fault k.plan k.now o.head new.slot in
+    let fits : IsTrue (fits_slot o.head.kind new.slot) = slot_fits k.plan k.now o.head new.slot (nothing_of (same_kind new.kind o.head.kind) found over right).0 in
+    let kind : new.kind ≡ o.head.kind = one_kind new.kind o.head.kind (same_of (same_kind new.kind o.head.kind) found over right) in
+    let held = subst (λ (x : Kind). is_value_kind x ≡ true → IsTrue (fits_slot x new.slot) → IsTrue (holds_value x new.slot)) kind c.requires.held in
+    subst (λ (x : Kept). CanBeWritten x.plan x.now p o.head.kind new.slot) (sym c.in_ok-fault.ensures.same)
+    (can_be_written k.plan k.now p o new.slot c.is_sound.ensures.sound.consistent c.requires.shows fits c.requires.records (λ v. held v fits))

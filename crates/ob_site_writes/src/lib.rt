@@ -1,0 +1,15 @@
+//! Writes that requests ask of a state in place: what is wrong with one, what it makes of the state, and the reply.
+//!
+//! Each call's reply and state are those of the definitions (`Writes.antt` of ob_site_rules). A refusal leaves the state
+//! as it was; want of memory leaves all but the state now, so that `undo` gives that back.
+#![tactic(auto)]
+
+mod putting;
+mod reading;
+mod stop;
+mod value;
+mod written;
+
+pub use putting::{put, write_by};
+pub use reading::{replied, shown};
+pub use stop::Stop;

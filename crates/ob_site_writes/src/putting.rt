@@ -1,0 +1,85 @@
+//! Put, and the write of a value that a body gives.
+ghost use Rattle.std.specs.Prelude.{◌≡◌, Some, None, true, false, IsTrue, IfOk, IfErr};
+ghost use Rattle.std.specs.Option.{option_copied};
+ghost use Rattle.ob_object.specs.Fits.{fits_slot};
+ghost use Rattle.ob_history.specs.Records.{is_value_kind, holds_value};
+ghost use Rattle.ob_site_rules.specs.Build.{Path};
+ghost use Rattle.ob_site_rules.specs.Shown.{shown};
+ghost use Rattle.ob_site_rules.specs.Writes.{written, overfills, records_from, value_fault, showing, unless, write_by, put};
+ghost use Rattle.ob_site_written.specs.Fitting.{CanBeWritten};
+ghost use Rattle.ob_site_writes.specs.Stops.{IsDone, Stops};
+
+use crate::reading::replied;
+use crate::stop::Stop;
+use crate::value::{target_fault, value_fault};
+use crate::written::written_at;
+use ob_answers::Fault;
+use ob_contracts::effective;
+use ob_object::{Head, Obj, Slot};
+use ob_site_state::State;
+use ob_values::Text;
+use std::alloc::AllocError;
+
+/// Writes a value in which nothing is wrong to the object shown at a path, and answers what is shown there then.
+fn show_written(
+    state: &mut State,
+    path: &Text,
+    object: &Obj,
+    slot: &Slot,
+) -> Result<Obj, AllocError>
+    requires can { CanBeWritten state.old.plan state.old.now path.now object.now.head.kind slot.now }
+    requires room { overfills state.old.plan state.old.now state.old.time path.now object.now.head slot.now ≡ false }
+    ensures ok { IfOk result (IsDone state.old state.new (showing state.old.plan path.now object.now (written state.old.plan state.old.time path.now object.now slot.now state.old.now))) }
+    ensures stays { state.new ≡ record state.old { now = state.new.now } }
+{
+    written_at(state, path, object.head(), slot)?;
+    let default = object.copy()?;
+    replied(state, path, default)
+}
+
+/// Writes the value of a head to the object shown at a path, where nothing is wrong, and answers what is shown there
+/// then.
+fn write_given(state: &mut State, path: &Text, object: &Obj, new: &Head) -> Result<Obj, Stop>
+    requires shows { shown state.old.plan state.old.now path.now ≡ Some object.now }
+    requires records { (history : Path) → records_from state.old.plan path.now history ≡ true → is_value_kind object.now.head.kind ≡ true }
+    requires held { is_value_kind new.now.kind ≡ true → IsTrue (fits_slot new.now.kind new.now.slot) → IsTrue (holds_value new.now.kind new.now.slot) }
+    ensures ok { IfOk result (IsDone state.old state.new (unless (value_fault state.old.plan state.old.now state.old.time path.now object.now.head new.now) state.old.now (showing state.old.plan path.now object.now (written state.old.plan state.old.time path.now object.now new.now.slot state.old.now)))) }
+    ensures stop { IfErr result (Stops state.old state.new (unless (value_fault state.old.plan state.old.now state.old.time path.now object.now.head new.now) state.old.now (showing state.old.plan path.now object.now (written state.old.plan state.old.time path.now object.now new.now.slot state.old.now)))) }
+{
+    state.is_sound();
+    if let Some(fault) = value_fault(state, path, object, new)? {
+        return Err(Stop::Refused(fault));
+    }
+    let reply = show_written(state, path, object, &new.slot)?;
+    Ok(reply)
+}
+
+/// Writes the value that a body gives to the object shown at a path, where nothing is wrong, and answers what is shown
+/// there then. A node that a history records is shown with a kind that has values.
+pub fn write_by(state: &mut State, path: &Text, object: &Obj, body: &Obj) -> Result<Obj, Stop>
+    requires shows { shown state.old.plan state.old.now path.now ≡ Some object.now }
+    requires records { (history : Path) → records_from state.old.plan path.now history ≡ true → is_value_kind object.now.head.kind ≡ true }
+    ensures ok { IfOk result (IsDone state.old state.new (write_by state.old.plan state.old.now state.old.time path.now object.now None body.now)) }
+    ensures stop { IfErr result (Stops state.old state.new (write_by state.old.plan state.old.now state.old.time path.now object.now None body.now)) }
+{
+    let given = effective(state.allocator(), state.library(), body, None, None)?;
+    write_given(state, path, object, given.head())
+}
+
+/// Put on a node that is shown at a path: the tests on the node, that there is a body, and the tests on its value; then
+/// the write. It answers what is shown at the path afterwards.
+///
+/// Source: oBIX 1.1, chapter 10 (Networking: Write). The order of the refusals is this profile's own.
+pub fn put(state: &mut State, path: &Text, object: &Obj, body: Option<&Obj>) -> Result<Obj, Stop>
+    requires { shown state.old.plan state.old.now path.now ≡ Some object.now }
+    ensures ok { IfOk result (IsDone state.old state.new (put state.old.plan state.old.now state.old.time path.now object.now (option_copied body.entry))) }
+    ensures stop { IfErr result (Stops state.old state.new (put state.old.plan state.old.now state.old.time path.now object.now (option_copied body.entry))) }
+{
+    if let Some(fault) = target_fault(object.head()) {
+        return Err(Stop::Refused(fault));
+    }
+    match body {
+        Some(body) => write_by(state, path, object, body),
+        None => Err(Stop::Refused(Fault::OtherShape)),
+    }
+}

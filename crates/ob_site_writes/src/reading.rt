@@ -1,0 +1,33 @@
+//! What a state in place shows.
+ghost use Rattle.std.specs.Prelude.{◌≡◌, IfOk};
+ghost use Rattle.ob_site_rules.specs.Places.{reply_at};
+ghost use Rattle.ob_site_rules.specs.Shown.{shown};
+
+use ob_object::Obj;
+use ob_site_places::reply_at;
+use ob_site_shown::shown_at;
+use ob_site_state::State;
+use ob_values::Text;
+use std::alloc::AllocError;
+
+/// What is shown at a path, if something is. An error only for want of memory.
+pub fn shown(state: &State, path: &Text) -> Result<Option<Obj>, AllocError>
+    ensures { IfOk result (λ o. o ≡ shown state.now.plan state.now.now path.now) }
+{
+    state.is_sound();
+    shown_at(state.allocator(), state.plan(), state.contents(), path)
+}
+
+/// What is shown at a path, or else a given object; without its name. An error only for want of memory.
+pub fn replied(state: &State, path: &Text, default: Obj) -> Result<Obj, AllocError>
+    ensures { IfOk result (λ o. o ≡ reply_at state.now.plan state.now.now path.now default) }
+{
+    state.is_sound();
+    reply_at(
+        state.allocator(),
+        state.plan(),
+        state.contents(),
+        path,
+        default,
+    )
+}

@@ -1,0 +1,160 @@
+//! What is wrong with a write.
+ghost use Rattle.std.specs.Prelude.{◌≡◌, Some, is_some, option_map, option_and_then, option_copied, IfOk};
+ghost use Rattle.ob_object.specs.Write.{verdict};
+ghost use Rattle.ob_history.specs.Records.{is_value_kind};
+ghost use Rattle.ob_answers.specs.Told as told;
+ghost use Rattle.ob_site_rules.specs.Shown.{shown, node_of};
+ghost use Rattle.ob_site_rules.specs.Writes.{ranged, has_child, is_listed, fault_of, verdict_fault, slot_fault, value_fault, target_fault};
+
+use crate::reading::shown;
+use ob_answers::Fault;
+use ob_object::{Head, Kind, Obj, Slot, WriteFault, check_write};
+use ob_site_state::State;
+use ob_site_written::overfills;
+use ob_values::{Text, Value};
+use std::alloc::AllocError;
+
+/// Whether a kind is one of the ten that have values.
+fn is_value_kind(kind: Kind) -> bool
+    ensures { result ≡ is_value_kind kind }
+{
+    match kind {
+        Kind::Obj | Kind::List | Kind::Op | Kind::Feed | Kind::Ref | Kind::Err => false,
+        _ => true,
+    }
+}
+
+/// What is wrong with a node that is to be put to: it has no value, or isn't shown as writable.
+pub(crate) fn target_fault(head: &Head) -> Option<Fault>
+    ensures { option_map told.fault result ≡ target_fault head.now }
+{
+    if !is_value_kind(head.kind) {
+        return Some(Fault::NotSupported);
+    }
+    match head.facets.writable {
+        Some(true) => None,
+        _ => Some(Fault::NotWritable),
+    }
+}
+
+/// Whether an own node is at a path.
+fn has_node(state: &State, path: &Text) -> bool
+    ensures { result ≡ is_some (node_of path.now state.now.now.tree) }
+{
+    state.tree().get(path).is_some()
+}
+
+/// The object that a range names: a contract, or else what is shown of a node.
+fn ranged(state: &State, range: &Text) -> Result<Option<Obj>, AllocError>
+    ensures { IfOk result (λ o. o ≡ ranged state.now.plan state.now.now range.now) }
+{
+    if let Some(contract) = state.library().get(range.as_str()) {
+        let contract = contract.copy()?;
+        return Ok(Some(contract));
+    }
+    if !has_node(state, range) {
+        return Ok(None);
+    }
+    shown(state, range)
+}
+
+/// Whether a name is that of a child of the object that a range names, if it names one.
+fn is_in_range(state: &State, range: Option<&Text>, name: &Text) -> Result<bool, AllocError>
+    ensures { IfOk result (λ listed. listed ≡ has_child name.now (option_and_then (ranged state.now.plan state.now.now) (option_copied range.entry))) }
+{
+    let Some(range) = range else {
+        return Ok(true);
+    };
+    match ranged(state, range)? {
+        Some(object) => Ok(object.child(name.as_str()).is_some()),
+        None => Ok(true),
+    }
+}
+
+/// Whether the value of an enum is the name of a child of the object that its range names, if it names one.
+/// Other values are not held against a range.
+fn is_listed(state: &State, head: &Head, value: &Value) -> Result<bool, AllocError>
+    ensures { IfOk result (λ listed. listed ≡ is_listed state.now.plan state.now.now head.now value.now) }
+{
+    match value {
+        Value::Enum(name) => is_in_range(state, head.facets.range.as_ref(), name),
+        _ => Ok(true),
+    }
+}
+
+/// The refusal of a write fault.
+fn fault_of(fault: WriteFault) -> Fault
+    ensures { told.fault result ≡ fault_of fault }
+{
+    match fault {
+        WriteFault::WrongKind => Fault::OtherKind,
+        WriteFault::Long => Fault::TextTooLong,
+        WriteFault::Below => Fault::BelowMin,
+        WriteFault::Above => Fault::AboveMax,
+        WriteFault::NotInRange => Fault::NotInRange,
+    }
+}
+
+/// The refusal of what was found wrong with a value, if anything was.
+fn verdict_fault(verdict: Result<(), WriteFault>) -> Option<Fault>
+    ensures { option_map told.fault result ≡ verdict_fault verdict }
+{
+    match verdict {
+        Ok(()) => None,
+        Err(fault) => Some(fault_of(fault)),
+    }
+}
+
+/// What is wrong with a value for an object, where it is listed or not in what the object's range names.
+fn listed_fault(object: &Obj, value: &Value, listed: bool) -> Option<Fault>
+    ensures { option_map told.fault result ≡ verdict_fault (verdict object.now.head.kind object.now.head.facets.min object.now.head.facets.max value.now listed) }
+{
+    let head = object.head();
+    verdict_fault(check_write(
+        head.kind,
+        head.facets.min.as_ref(),
+        head.facets.max.as_ref(),
+        value,
+        listed,
+    ))
+}
+
+/// What is wrong with a slot for an object. Null is allowed.
+fn slot_fault(state: &State, object: &Obj, slot: &Slot) -> Result<Option<Fault>, AllocError>
+    ensures { IfOk result (λ fault. option_map told.fault fault ≡ slot_fault state.now.plan state.now.now object.now.head slot.now) }
+{
+    match slot {
+        Slot::Is(value) => {
+            let listed = is_listed(state, object.head(), value)?;
+            Ok(listed_fault(object, value, listed))
+        }
+        Slot::Null | Slot::Absent => Ok(None),
+    }
+}
+
+/// What is wrong with a value for the object shown at a path: its kind, a text too long, below min, above max, not in
+/// range, and last that it would store too much. All stays as it is.
+pub(crate) fn value_fault(
+    state: &mut State,
+    path: &Text,
+    object: &Obj,
+    new: &Head,
+) -> Result<Option<Fault>, AllocError>
+    requires { shown state.old.plan state.old.now path.now ≡ Some object.now }
+    ensures same { state.new ≡ state.old }
+    ensures fault { IfOk result (λ fault. option_map told.fault fault ≡ value_fault state.old.plan state.old.now state.old.time path.now object.now.head new.now) }
+{
+    let head = object.head();
+    if !new.kind.same(head.kind) {
+        return Ok(Some(Fault::OtherKind));
+    }
+    let fault = slot_fault(state, object, &new.slot)?;
+    if fault.is_some() {
+        return Ok(fault);
+    }
+    state.is_sound();
+    if overfills(state, path, head, &new.slot)? {
+        return Ok(Some(Fault::TooManyEntries));
+    }
+    Ok(None)
+}

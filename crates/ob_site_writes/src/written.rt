@@ -1,0 +1,55 @@
+//! A write at a path, whether an own node is there or not.
+ghost use Rattle.std.specs.Prelude.{◌≡◌, false, None, OnOk, OnErr};
+ghost use Rattle.ob_object.specs.Object.{Object};
+ghost use Rattle.ob_tree.specs.Laid.{paths};
+ghost use Rattle.ob_tree.specs.Paths.{place_of};
+ghost use Rattle.ob_site_rules.specs.Writes.{written, overfills};
+ghost use Rattle.ob_site_written.specs.Fitting.{CanBeWritten};
+
+use ob_object::{Head, Slot};
+use ob_site_state::State;
+use ob_site_written::{same_slot, written};
+use ob_values::Text;
+use std::alloc::AllocError;
+
+/// Writes a value to what a role derives at a path, where there is no own node: no slot is set.
+fn written_derived(
+    state: &mut State,
+    path: &Text,
+    head: &Head,
+    slot: &Slot,
+) -> Result<(), AllocError>
+    requires off { place_of path.now (paths state.old.now.tree) ≡ None }
+    requires can { CanBeWritten state.old.plan state.old.now path.now head.now.kind slot.now }
+    requires room { overfills state.old.plan state.old.now state.old.time path.now head.now slot.now ≡ false }
+    ensures ok { OnOk result ((object : Object) → object.head ≡ head.now
+        → state.new ≡ record state.old { now = written state.old.plan state.old.time path.now object slot.now state.old.now }) }
+    ensures err { OnErr result (state.new ≡ record state.old { now = state.new.now }) }
+{
+    if same_slot(slot, &head.slot) {
+        return Ok(());
+    }
+    state.is_sound();
+    state.record_all(path, head.kind, slot)?;
+    state.act(path, slot)
+}
+
+/// Writes a value to the object of a head that is shown at a path, unless it is equal to the one that is shown. Want of
+/// memory leaves all but the state now as it was.
+pub(crate) fn written_at(
+    state: &mut State,
+    path: &Text,
+    head: &Head,
+    slot: &Slot,
+) -> Result<(), AllocError>
+    requires can { CanBeWritten state.old.plan state.old.now path.now head.now.kind slot.now }
+    requires room { overfills state.old.plan state.old.now state.old.time path.now head.now slot.now ≡ false }
+    ensures ok { OnOk result ((object : Object) → object.head ≡ head.now
+        → state.new ≡ record state.old { now = written state.old.plan state.old.time path.now object slot.now state.old.now }) }
+    ensures err { OnErr result (state.new ≡ record state.old { now = state.new.now }) }
+{
+    match state.tree().get(path) {
+        Some(node) => written(state, node, path, head, slot),
+        None => written_derived(state, path, head, slot),
+    }
+}
