@@ -1,0 +1,9 @@
+pub mod Due
+pub mod Leaving
+pub mod Answering
+pub mod Named
+pub mod Leased
+pub mod Made
+pub mod Found
+pub mod Knowing
+pub mod Undone

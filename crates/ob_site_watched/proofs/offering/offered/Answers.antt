@@ -1,0 +1,11 @@
+use Rattle.std.proofs.Common.{subst}
+use Rattle.ob_answers.specs.Plans.{plan as plan_of}
+use Rattle.ob_watch_calls.specs.Calls.{found as found_of}
+use Rattle.ob_site_watched.specs.Offered.{IsFor}
+use Rattle.ob_site_watched.proofs.Found.{refusal_offered}
+use Rattle.ob_site_watched.proofs.offering.offered.Goals as goal
+
+pub returns-in_ok-entry-in-Err : goal.returns-in_ok-entry-in-Err
+returns-in_ok-entry-in-Err c =
+    refusal_offered (plan_of c.args.plan.now) c.args.contents.now c.args.numbers.now c.args.asked.now c.in_ok-text.text (found_of c.in_ok-found.found) c.in-Err.fault c.in_ok-entry-in-Err.entry c.in_ok-text.ensures
+    c.in_ok-found.ensures (subst (IsFor (plan_of c.args.plan.now) c.args.contents.now c.in_ok-text.text (found_of c.in_ok-found.found)) c.in-Err.is c.in_ok-item.ensures) c.in_ok-entry-in-Err.ensures

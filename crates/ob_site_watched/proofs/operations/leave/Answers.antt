@@ -1,0 +1,51 @@
+use Rattle.std.proofs.Common.{◌≡◌, ℕ, List, Some, Result, sym, ap, subst}
+use Rattle.std.specs.Prelude.{option_and_then}
+use Rattle.ob_watching.specs.Tables.{lookup, replace}
+use Rattle.ob_watching.specs.Asked.{Remove}
+use Rattle.ob_site_rules.specs.Build.{Text}
+use Rattle.ob_site_rules.specs.Faults.{Fault}
+use Rattle.ob_site_rules.specs.Watched.{WatchOperation}
+use Rattle.ob_site_state.specs.Contents.{state_in}
+use Rattle.ob_watch_calls.specs.Calls.{lease_in}
+use Rattle.ob_watch_calls.specs.Targets.{operation_of}
+use Rattle.ob_watch.specs.Reported.{all_reported}
+use Rattle.ob_watch.specs.Tables.{holding, touched_at, without}
+use Rattle.ob_site_watched.specs.Leaving.{leased_if, leaving}
+use Rattle.ob_site_watched.proofs.Answering.{same_lease}
+use Rattle.ob_site_watched.proofs.Leaving.{none_left, polled_left, renewed_left, two_left}
+use Rattle.ob_site_watched.proofs.operations.leave.Goals as goal
+
+pub returns-in-Renew : goal.returns-in-Renew
+returns-in-Renew c =
+    let n = c.args.call.now.number in
+    let now = c.args.call.now.moment in
+    let old = c.args.watches.now in
+    subst (λ (op : WatchOperation). c.renew.new.watches ≡ leaving c.args.contents.now now n op old) (sym (ap operation_of c.in-Renew.is))
+    (subst (λ (r : Result ℕ Fault). c.renew.new.watches ≡ holding (replace n (option_and_then (λ w. Some (leased_if r (touched_at now w))) (lookup n old.watches)) old.watches) old)
+    (same_lease (state_in c.args.contents.now) c.in-Renew.input)
+    (renewed_left n (touched_at now) old c.touch-held.new.self c.renew.new.watches (lease_in c.args.contents.now.library c.in-Renew.input) c.touch-held.ensures.touched c.renew.ensures))
+
+pub returns-in-Remove : goal.returns-in-Remove
+returns-in-Remove c =
+    let n = c.args.call.now.number in
+    let now = c.args.call.now.moment in
+    let old = c.args.watches.now in
+    subst (λ (op : WatchOperation). c.remove.new.self ≡ leaving c.args.contents.now now n op old) (sym (ap operation_of c.in-Remove.is))
+    (subst (λ (ts : List Text). c.remove.new.self ≡ leaving c.args.contents.now now n (Remove ts) old) c.deref.ensures.value
+    (two_left n (without c.deref.result.now) (touched_at now) old c.touch-held.new.self c.remove.new.self c.touch-held.ensures.touched c.remove.ensures.removed))
+
+pub returns-in-Delete : goal.returns-in-Delete
+returns-in-Delete c =
+    let n = c.args.call.now.number in
+    let now = c.args.call.now.moment in
+    let old = c.args.watches.now in
+    subst (λ (op : WatchOperation). c.delete.new.self ≡ leaving c.args.contents.now now n op old) (sym (ap operation_of c.in-Delete.is))
+    (none_left n (touched_at now) old c.touch-held.new.self c.delete.new.self c.touch-held.ensures.touched c.delete.ensures.deleted)
+
+pub returns-in-PollChanges : goal.returns-in-PollChanges
+returns-in-PollChanges c =
+    let n = c.args.call.now.number in
+    let now = c.args.call.now.moment in
+    let old = c.args.watches.now in
+    polled_left c.args.contents.now now n old c.reported.new.self c.args.call.now.asks c.in-PollChanges.is
+    (two_left n (all_reported c.args.contents.now.tree.steps) (touched_at now) old c.touch-held.new.self c.reported.new.self c.touch-held.ensures.touched c.reported.ensures.reported)

@@ -1,0 +1,14 @@
+use Rattle.std.proofs.Common.{◌≡◌, List, map, true, sym, subst}
+use Rattle.std.specs.Prelude.{is_none}
+use Rattle.std.specs.List.{list_all}
+use Rattle.ob_object.specs.Object.{Object}
+use Rattle.ob_answers.specs.Plans.{plan as plan_of}
+use Rattle.ob_site_state.specs.Contents.{state_in}
+use Rattle.ob_watch.specs.Flags.{flags}
+use Rattle.ob_site_watched.proofs.Named.{changes_named}
+use Rattle.ob_site_watched.proofs.operations.poll.Goals as goal
+
+pub watch_out-requires : goal.watch_out-requires
+watch_out-requires c =
+    subst (λ (os : List Object). list_all (λ (o : Object). is_none o.head.name) os ≡ true) (sym c.in_ok-entries.ensures)
+    (changes_named (plan_of c.args.plan.now) (state_in c.args.contents.now) (map (flags c.args.contents.now.tree) c.args.items.now))

@@ -1,0 +1,27 @@
+-- What holds of the items of watches beside the contents of a site.
+use Rattle.std.specs.Prelude.{◌≡◌, List, Some}
+use Rattle.std.specs.List.{AllByRecursion}
+use Rattle.ob_object.specs.Object.{Object}
+use Rattle.ob_tree.specs.Laid.{paths}
+use Rattle.ob_tree.specs.Paths.{place_of}
+use Rattle.ob_site_rules.specs.Build.{Path}
+use Rattle.ob_site_rules.specs.State.{Plan}
+use Rattle.ob_site_state.specs.declared.contents.Contents.{Contents}
+use Rattle.ob_site_state.specs.Contents.{state_in}
+use Rattle.ob_watch.specs.declared.item.Tracked.{Tracked}
+use Rattle.ob_watch.specs.declared.item.Tracked.TheVariants as kept
+use Rattle.ob_watch.specs.declared.item.Item.{Item}
+use Rattle.ob_watch.specs.Counted.{IsCounted}
+
+-- a watched object is the own node of the item's path
+abbrev pub IsPlacedBy : Object → Path → Tracked → Type 0
+IsPlacedBy root path (kept.Object node mark) = place_of path (paths root) ≡ Some node.number
+IsPlacedBy root path (kept.Feed filter given total due) = Unit {0}
+
+-- an item names its node, and has counted the events of its feed
+pub record IsKnown (plan : Plan) (c : Contents) (i : Item) : Type 0 where
+  pub placed : IsPlacedBy c.tree.root i.path i.tracked
+  pub counted : IsCounted plan (state_in c) i
+
+abbrev pub AreKnown : Plan → Contents → List Item → Type 0
+AreKnown plan c items = AllByRecursion (IsKnown plan c) items

@@ -1,0 +1,36 @@
+-- What an operation leaves of its watch, by marks. Watch.add, of which more is left, is told of apart.
+use Rattle.std.specs.Prelude.{◌≡◌, ℕ, Bool, true, false, Option, Some, None, option_and_then, Result, Ok, Err}
+use Rattle.ob_watching.specs.Asked.{Add, Renew, Remove, PollChanges, PollRefresh, Delete}
+use Rattle.ob_watching.specs.Tables.{lookup, replace}
+use Rattle.ob_site_rules.specs.Faults.{Fault}
+use Rattle.ob_site_rules.specs.Watched.{WatchOperation, lease_asked}
+use Rattle.ob_site_state.specs.declared.contents.Contents.{Contents}
+use Rattle.ob_site_state.specs.Contents.{state_in}
+use Rattle.ob_watch.specs.Tables.{Leased, Table, at_number, holding, leased_for, touched_at, without}
+use Rattle.ob_watch.specs.Reported.{all_reported}
+
+abbrev pub is_add : WatchOperation → Bool
+is_add (Add asked) = true
+is_add _ = false
+
+-- another lease, if one that can be asked for was
+abbrev pub leased_if : Result ℕ Fault → Leased → Leased
+leased_if (Ok lease) w = leased_for lease w
+leased_if (Err fault) w = w
+
+-- the watches after another lease was asked for the one of a number
+abbrev pub Renews : ℕ → Table → Table → Result ℕ Fault → Type 0
+Renews n old new (Ok lease) = new ≡ holding (at_number n (leased_for lease) old.watches) old
+Renews n old new (Err fault) = new ≡ old
+
+abbrev pub marks_after : Contents → ℕ → WatchOperation → Leased → Option Leased
+marks_after c now (Renew input) w = Some (leased_if (lease_asked (state_in c) input) (touched_at now w))
+marks_after c now (Remove texts) w = Some (without texts (touched_at now w))
+marks_after c now PollChanges w = Some (all_reported c.tree.steps (touched_at now w))
+marks_after c now PollRefresh w = Some (all_reported c.tree.steps (touched_at now w))
+marks_after c now Delete w = None
+marks_after c now _ w = Some (touched_at now w)
+
+-- the watches after an operation on the one of a number
+abbrev pub leaving : Contents → ℕ → ℕ → WatchOperation → Table → Table
+leaving c now n op table = holding (replace n (option_and_then (marks_after c now op) (lookup n table.watches)) table.watches) table

@@ -1,0 +1,5 @@
+pub mod Known
+pub mod Entries
+pub mod Leaving
+pub mod Answers
+pub mod Offered

@@ -1,0 +1,157 @@
+//! The entries of WatchOut.
+ghost use Rattle.std.specs.Prelude.{◌≡◌, ◌++◌, map, option_to_list, true, IfOk};
+ghost use Rattle.ob_watch.specs.Items.{is_due};
+ghost use Rattle.ob_answers.specs.Plans.{plan as plan_of};
+ghost use Rattle.ob_site_rules.specs.Replies.{content_object, entry};
+ghost use Rattle.ob_site_places.specs.Complete.{IsComplete};
+ghost use Rattle.ob_site_watched.specs.Entries.{all_changes, all_readings, changes_in, object_now, reading_entry};
+ghost use Rattle.ob_site_watched.specs.Known.{AreKnown, IsKnown, IsPlacedBy};
+
+use ob_answers::{Plan, entry};
+use ob_object::Obj;
+use ob_site_reads::{Since, feed_since, watched_node, whole_feed};
+use ob_site_state::Contents;
+use ob_watch::{Item, Tracked};
+use std::alloc::{AllocError, Global};
+
+/// What is read of an item now: the object, or the feed with all kept events that pass its filter.
+#[tactic(auto, using(crate::proofs::Due::placed_within))]
+fn object_now(
+    alloc: Global,
+    plan: &Plan,
+    contents: &Contents,
+    item: &Item,
+) -> Result<Obj, AllocError>
+    requires complete { IsComplete (plan_of plan.now) contents.now }
+    requires placed { IsPlacedBy contents.now.tree.root item.now.path item.now.tracked }
+    ensures { IfOk result (λ o. o ≡ object_now (plan_of plan.now) contents.now item.now) }
+{
+    match item.tracked() {
+        Tracked::Object { node, mark: _ } => watched_node(alloc, plan, contents, *node),
+        Tracked::Feed {
+            filter,
+            given: _,
+            total: _,
+            due: _,
+        } => whole_feed(alloc, plan, contents, item.path(), filter),
+    }
+}
+
+/// The entry of an item as it is now: the object, or the feed with all kept events that pass its filter. An error only
+/// for want of memory.
+///
+/// Source: oBIX 1.1, chapter 12 (Watch.pollRefresh).
+pub fn reading(
+    alloc: Global,
+    plan: &Plan,
+    contents: &Contents,
+    item: &Item,
+) -> Result<Obj, AllocError>
+    requires complete { IsComplete (plan_of plan.now) contents.now }
+    requires placed { IsPlacedBy contents.now.tree.root item.now.path item.now.tracked }
+    ensures { IfOk result (λ o. o ≡ reading_entry (plan_of plan.now) contents.now item.now) }
+{
+    let object = object_now(alloc, plan, contents, item)?;
+    let text = item.text().copy()?;
+    Ok(entry(object, text))
+}
+
+/// The entries of items as they are now. An error only for want of memory.
+///
+/// Source: oBIX 1.1, chapter 12 (Watch.pollRefresh).
+#[tactic(auto, using(crate::proofs::Due::known_at))]
+pub fn readings(
+    alloc: Global,
+    plan: &Plan,
+    contents: &Contents,
+    items: &[Item],
+) -> Result<Vec<Obj>, AllocError>
+    requires complete { IsComplete (plan_of plan.now) contents.now }
+    requires known { AreKnown (plan_of plan.now) contents.now items.now }
+    ensures { IfOk result (λ os. os.items ≡ all_readings (plan_of plan.now) contents.now items.now) }
+{
+    let mut entries = Vec::new(alloc);
+    for item in items {
+        entries.push(reading(alloc, plan, contents, item)?)?;
+    }
+    Ok(entries)
+}
+
+/// What has changed of an item that is to be reported.
+#[tactic(auto, using(crate::proofs::Due::placed_within))]
+fn change_due(
+    alloc: Global,
+    plan: &Plan,
+    contents: &Contents,
+    item: &Item,
+) -> Result<Option<Obj>, AllocError>
+    requires complete { IsComplete (plan_of plan.now) contents.now }
+    requires placed { IsPlacedBy contents.now.tree.root item.now.path item.now.tracked }
+    requires due { is_due contents.now.tree item.now ≡ true }
+    ensures { IfOk result (λ o. option_to_list o ≡ map (λ r. content_object r.content) (changes_in (plan_of plan.now) contents.now item.now)) }
+{
+    match item.tracked() {
+        Tracked::Object { node, mark: _ } => {
+            let object = watched_node(alloc, plan, contents, *node)?;
+            Ok(Some(object))
+        }
+        Tracked::Feed {
+            filter,
+            given,
+            total: _,
+            due: _,
+        } => {
+            let since = Since {
+                filter: *filter,
+                given: *given,
+            };
+            feed_since(alloc, plan, contents, item.path(), &since)
+        }
+    }
+}
+
+/// Puts the entry of what has changed of an item last, if something has. Nothing is read of an item that isn't due.
+#[tactic(auto, using(crate::proofs::Due::nothing_due, crate::proofs::Due::entry_due))]
+fn push_change(
+    alloc: Global,
+    plan: &Plan,
+    contents: &Contents,
+    item: &Item,
+    entries: &mut Vec<Obj>,
+) -> Result<(), AllocError>
+    requires complete { IsComplete (plan_of plan.now) contents.now }
+    requires known { IsKnown (plan_of plan.now) contents.now item.now }
+    ensures { IfOk result (λ _. entries.new.items ≡ entries.old.items ++ map entry (changes_in (plan_of plan.now) contents.now item.now)) }
+{
+    if !item.is_due(&contents.tree) {
+        return Ok(());
+    }
+    let Some(content) = change_due(alloc, plan, contents, item)? else {
+        return Ok(());
+    };
+    let text = item.text().copy()?;
+    entries.push(entry(content, text))?;
+    Ok(())
+}
+
+/// The entries of what has changed of items since it was last reported. Only the items that are due are read. An error
+/// only for want of memory.
+///
+/// Source: oBIX 1.1, chapter 12 (Watch.pollChanges).
+#[tactic(auto, using(crate::proofs::Due::changes_more, crate::proofs::Due::known_at))]
+pub fn changes(
+    alloc: Global,
+    plan: &Plan,
+    contents: &Contents,
+    items: &[Item],
+) -> Result<Vec<Obj>, AllocError>
+    requires complete { IsComplete (plan_of plan.now) contents.now }
+    requires known { AreKnown (plan_of plan.now) contents.now items.now }
+    ensures { IfOk result (λ os. os.items ≡ all_changes (plan_of plan.now) contents.now items.now) }
+{
+    let mut entries = Vec::new(alloc);
+    for item in items {
+        push_change(alloc, plan, contents, item, &mut entries)?;
+    }
+    Ok(entries)
+}

@@ -1,0 +1,35 @@
+//! What is asked of the watch service.
+ghost use Rattle.std.specs.Prelude.{◌≡◌, IfOk, OnErr};
+ghost use Rattle.ob_answers.specs.Plans.{plan as plan_of};
+ghost use Rattle.ob_site_watched.specs.Answers.{IsMade};
+
+use ob_answers::{Fault, Plan, WatchPart, refusal, watch_part};
+use ob_object::Obj;
+use ob_values::Moment;
+use ob_watch::{FIRST_LEASE, Watches};
+use std::alloc::{AllocError, Global};
+
+/// Makes a watch at this moment, and its reply; a refusal where no more can be made. An error only for want of memory,
+/// and it leaves the watches as they were.
+///
+/// Source: oBIX 1.1, chapter 12 (WatchService.make).
+#[tactic(auto, using(crate::proofs::Made::refused, crate::proofs::Made::made_one))]
+pub fn make(
+    alloc: Global,
+    plan: &Plan,
+    now: Moment,
+    watches: &mut Watches,
+) -> Result<Obj, AllocError>
+    ensures done { IfOk result (IsMade (plan_of plan.now) now watches.old watches.new) }
+    ensures err { OnErr result (watches.new ≡ watches.old) }
+{
+    if watches.is_full(now) {
+        return refusal(alloc, Fault::TooManyWatches);
+    }
+    let number = watches.next_number();
+    let reply = watch_part(alloc, plan, number, FIRST_LEASE, WatchPart::Whole)?;
+    match watches.make(now) {
+        Ok(_number) => Ok(reply),
+        Err(_fault) => Err(AllocError),
+    }
+}

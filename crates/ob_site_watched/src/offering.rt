@@ -1,0 +1,92 @@
+//! What is asked for of a watch, before it is added.
+ghost use Rattle.std.specs.Prelude.{◌≡◌, IfOk};
+ghost use Rattle.ob_answers.specs.Plans.{plan as plan_of};
+ghost use Rattle.ob_answers.specs.Told as told;
+ghost use Rattle.ob_site_places.specs.Complete.{IsComplete};
+ghost use Rattle.ob_site_state.specs.Contents.{state_in};
+ghost use Rattle.ob_watch.specs.Marks.{AreStampsPast};
+ghost use Rattle.ob_watch_calls.specs.Calls.{found as found_of};
+ghost use Rattle.ob_site_watched.specs.Offered.{IsFor, IsOffered, IsOwnFound, WatchedAreOwn, refused_entry};
+
+use crate::entries::reading;
+use ob_answers::{Fault, Plan, entry, refusal};
+use ob_object::Obj;
+use ob_site_reads::{count_at, found};
+use ob_site_state::Contents;
+use ob_values::Text;
+use ob_watch::Item;
+use ob_watch_calls::{Asked, Found};
+use std::alloc::{AllocError, Global};
+
+/// An href that is asked for: the item that it is to be added as, and its entry, or the entry of its refusal.
+#[derive(Drop)]
+pub enum Offer {
+    Item(Item, Obj),
+    Refused(Obj),
+}
+
+/// The item that an href is to be added as, or why it isn't.
+#[tactic(auto, using(crate::proofs::Found::object_for, crate::proofs::Found::feed_for))]
+fn item_for(
+    alloc: Global,
+    plan: &Plan,
+    contents: &Contents,
+    text: Text,
+    found: Found,
+) -> Result<Result<Item, Fault>, AllocError>
+    requires complete { IsComplete (plan_of plan.now) contents.now }
+    requires past { AreStampsPast contents.now.tree }
+    requires own { IsOwnFound contents.now.tree.root (found_of found) }
+    ensures { IfOk result (IsFor (plan_of plan.now) contents.now text (found_of found)) }
+{
+    match found {
+        Found::Nothing(fault) => Ok(Err(fault)),
+        Found::Object(path) => match contents.tree.get(&path) {
+            Some(node) => Ok(Ok(Item::object(text, path, node, contents.tree.steps()))),
+            None => unreachable!(),
+        },
+        Found::Feed(path, filter) => {
+            let count = count_at(alloc, plan, contents, &path)?;
+            Ok(Ok(Item::feed(text, path, filter, count)))
+        }
+    }
+}
+
+/// The entry of an href that is refused.
+fn refused(alloc: Global, text: &Text, fault: Fault) -> Result<Obj, AllocError>
+    ensures { IfOk result (λ o. o ≡ refused_entry text.now (told.fault fault)) }
+{
+    let object = refusal(alloc, fault)?;
+    let text = text.copy()?;
+    Ok(entry(object, text))
+}
+
+/// What an href that is asked for is to be added as, among watches of these numbers. An error only for want of memory.
+///
+/// Source: oBIX 1.1, chapter 12 (Watch.add).
+#[tactic(auto, using(crate::proofs::Found::item_offered, crate::proofs::Found::refusal_offered))]
+pub fn offered(
+    alloc: Global,
+    plan: &Plan,
+    contents: &Contents,
+    numbers: &[u64],
+    asked: &Asked,
+) -> Result<Offer, AllocError>
+    requires complete { IsComplete (plan_of plan.now) contents.now }
+    requires past { AreStampsPast contents.now.tree }
+    requires own { WatchedAreOwn (plan_of plan.now) (state_in contents.now) }
+    ensures { IfOk result (IsOffered (plan_of plan.now) contents.now numbers.now asked.now) }
+{
+    let found = found(alloc, plan, contents, numbers, asked)?;
+    let text = asked.0.copy()?;
+    match item_for(alloc, plan, contents, text, found)? {
+        Ok(item) => {
+            let entry = reading(alloc, plan, contents, &item)?;
+            Ok(Offer::Item(item, entry))
+        }
+        Err(fault) => {
+            let entry = refused(alloc, &asked.0, fault)?;
+            Ok(Offer::Refused(entry))
+        }
+    }
+}

@@ -1,0 +1,159 @@
+//! What is asked of a watch.
+ghost use Rattle.std.specs.Prelude.{◌≡◌, List, ℕ, false, IfOk, OnErr};
+ghost use Rattle.ob_answers.specs.Plans.{plan as plan_of};
+ghost use Rattle.ob_watch_calls.specs.Targets.{operation_of};
+ghost use Rattle.ob_site_places.specs.Complete.{IsComplete};
+ghost use Rattle.ob_site_state.specs.Contents.{state_in};
+ghost use Rattle.ob_watching.specs.Watches.{told_lease};
+ghost use Rattle.ob_site_rules.specs.Computed.{watch_out};
+ghost use Rattle.ob_site_rules.specs.Replies.{sent};
+ghost use Rattle.ob_watch.specs.Counted.{of_plan};
+ghost use Rattle.ob_watch_calls.specs.Calls.{lease_in};
+ghost use Rattle.ob_watch.specs.Marks.{AreStampsPast};
+ghost use Rattle.ob_site_rules.specs.Watched.{lease_asked};
+ghost use Rattle.ob_site_watched.specs.Entries.{all_changes, all_readings};
+ghost use Rattle.ob_site_watched.specs.Known.{AreKnown};
+ghost use Rattle.ob_site_watched.specs.Leaving.{Renews, is_add, leaving};
+ghost use Rattle.ob_site_watched.specs.Answers.{AllKnown, IsDone, IsReply};
+
+use crate::entries::{changes, readings};
+use ob_answers::{Fault, Plan, WatchPart, nil, refusal, watch_out, watch_part};
+use ob_contracts::Library;
+use ob_object::Obj;
+use ob_site_state::Contents;
+use ob_values::Moment;
+use ob_watch::{Item, Watch, Watches};
+use ob_watch_calls::{Operation, lease_asked};
+use std::alloc::{AllocError, Global};
+
+/// What is asked of the watch of a number, and when.
+#[derive(Drop)]
+pub struct Call {
+    pub number: u64,
+    pub moment: Moment,
+    pub asks: Operation,
+}
+
+/// The reply to a lease that is asked for.
+fn lease_told(
+    alloc: Global,
+    plan: &Plan,
+    contents: &Contents,
+    number: u64,
+    input: &Option<Obj>,
+) -> Result<Obj, AllocError>
+    ensures { IfOk result (λ o. o ≡ sent (plan_of plan.now) (told_lease (of_plan (plan_of plan.now)) number (lease_asked (state_in contents.now) input.now))) }
+{
+    match lease_asked(&contents.library, input) {
+        Ok(lease) => watch_part(alloc, plan, number, lease, WatchPart::Lease),
+        Err(fault) => refusal(alloc, fault),
+    }
+}
+
+/// The reply to Watch.pollChanges.
+
+fn poll(alloc: Global, plan: &Plan, contents: &Contents, items: &[Item]) -> Result<Obj, AllocError>
+    requires complete { IsComplete (plan_of plan.now) contents.now }
+    requires known { AreKnown (plan_of plan.now) contents.now items.now }
+    ensures { IfOk result (λ o. o ≡ watch_out (all_changes (plan_of plan.now) contents.now items.now)) }
+{
+    let entries = changes(alloc, plan, contents, items)?;
+    watch_out(alloc, entries)
+}
+
+/// The reply to Watch.pollRefresh.
+
+fn refresh(
+    alloc: Global,
+    plan: &Plan,
+    contents: &Contents,
+    items: &[Item],
+) -> Result<Obj, AllocError>
+    requires complete { IsComplete (plan_of plan.now) contents.now }
+    requires known { AreKnown (plan_of plan.now) contents.now items.now }
+    ensures { IfOk result (λ o. o ≡ watch_out (all_readings (plan_of plan.now) contents.now items.now)) }
+{
+    let entries = readings(alloc, plan, contents, items)?;
+    watch_out(alloc, entries)
+}
+
+/// The reply to an operation but Watch.add.
+fn reply(
+    alloc: Global,
+    plan: &Plan,
+    contents: &Contents,
+    watch: &Watch,
+    call: &Call,
+) -> Result<Obj, AllocError>
+    requires complete { IsComplete (plan_of plan.now) contents.now }
+    requires known { AreKnown (plan_of plan.now) contents.now watch.now.items }
+    requires other { is_add (operation_of call.now.asks) ≡ false }
+    ensures { IfOk result (λ o. (numbers : List ℕ) → IsReply (plan_of plan.now) contents.now call.now.moment numbers call.now.number watch.now (operation_of call.now.asks) o) }
+{
+    match &call.asks {
+        Operation::Look(part) => watch_part(alloc, plan, call.number, watch.lease(), *part),
+        Operation::Renew(input) => lease_told(alloc, plan, contents, call.number, input),
+        Operation::Add(_) => unreachable!(),
+        Operation::Remove(_) | Operation::Delete => nil(alloc),
+        Operation::PollChanges => poll(alloc, plan, contents, watch.items()),
+        Operation::PollRefresh => refresh(alloc, plan, contents, watch.items()),
+        Operation::Refuse(fault) => refusal(alloc, *fault),
+    }
+}
+
+/// Lets a watch have the lease that is asked for, if it can be.
+#[tactic(auto, using(crate::proofs::Leased::asked_fits))]
+fn renew(library: &Library, watches: &mut Watches, number: u64, input: &Option<Obj>) -> bool
+    ensures { Renews number watches.old watches.new (lease_in library.now input.now) }
+{
+    match lease_asked(library, input) {
+        Ok(lease) => watches.set_lease(number, lease),
+        Err(_fault) => true,
+    }
+}
+
+/// What an operation leaves of its watch, without memory; Watch.add is told of apart.
+fn leave(contents: &Contents, watches: &mut Watches, call: &Call) -> bool
+    ensures { watches.new ≡ leaving contents.now call.now.moment call.now.number (operation_of call.now.asks) watches.old }
+{
+    let held = watches.touch(call.number, call.moment);
+    match &call.asks {
+        Operation::Renew(input) => renew(&contents.library, watches, call.number, input),
+        Operation::Remove(texts) => watches.remove(call.number, texts),
+        Operation::PollChanges | Operation::PollRefresh => watches.reported(
+            &contents.tree,
+            call.number,
+        ),
+        Operation::Delete => watches.delete(call.number),
+        Operation::Look(_) | Operation::Add(_) | Operation::Refuse(_) => held,
+    }
+}
+
+/// What an operation but Watch.add makes of the watches, and the reply. A request to a watch renews its lease, whatever
+/// the reply is. An error only for want of memory, and it leaves the watches as they were.
+///
+/// Source: oBIX 1.1, chapter 12 (Watches).
+pub fn on_watch(
+    alloc: Global,
+    plan: &Plan,
+    contents: &Contents,
+    watches: &mut Watches,
+    call: &Call,
+) -> Result<Obj, AllocError>
+    requires complete { IsComplete (plan_of plan.now) contents.now }
+    requires past { AreStampsPast contents.now.tree }
+    requires known { AllKnown (plan_of plan.now) contents.now watches.old }
+    requires other { is_add (operation_of call.now.asks) ≡ false }
+    ensures done { IfOk result (IsDone (plan_of plan.now) contents.now call.now.moment watches.old watches.new call.now.number (operation_of call.now.asks)) }
+    ensures err { OnErr result (watches.new ≡ watches.old) }
+    ensures known { AllKnown (plan_of plan.now) contents.now watches.new }
+{
+    let _numbers = watches.numbers();
+    let Some(watch) = watches.get(call.number, call.moment) else {
+        return refusal(alloc, Fault::NoSuchObject);
+    };
+    let _lease = watch.lease();
+    let reply = reply(alloc, plan, contents, watch, call)?;
+    leave(contents, watches, call);
+    Ok(reply)
+}
