@@ -1,3 +1,5 @@
 pub mod Ends
 pub mod Notes
 pub mod Worlds
+pub mod Records
+pub mod Comparing

@@ -1,3 +1,5 @@
 pub mod Ending
 pub mod Noted
 pub mod Worlds
+pub mod Spans
+pub mod Values

@@ -2,10 +2,15 @@
 //!
 //! `specs/Noted.antt` says what the notes of a step tell of the nodes that it may have changed, `specs/Ending.antt`
 //! what the end of a step owes an item of a watch, and `specs/Worlds.antt` what it owes all watches.
+//! What is compared of a history and of an own object is in `specs/Spans.antt` and in ob_shown_laws (`same_values`).
 #![tactic(auto)]
 
 mod ending;
 mod laws;
+mod spans;
+mod values;
 
 pub use ending::end_step;
 pub use laws::{notes_tell, steps_end, worlds_end};
+pub use spans::{Span, shows_other_span};
+pub use values::shows_other_values;
