@@ -26,7 +26,7 @@ pub enum LinkEnd {
 
 /// Why a request was not answered in full.
 #[derive(Clone, Copy, Drop)]
-pub(crate) enum Break {
+pub enum Break {
     WriteFault,
     ClockFault,
     Memory,
@@ -34,7 +34,7 @@ pub(crate) enum Break {
 
 /// Why no more requests are answered.
 #[derive(Clone, Copy, Drop)]
-pub(crate) enum Stop {
+pub enum Stop {
     Asked,
     BadFrame(FrameFault),
     Broke(Break),
@@ -42,7 +42,7 @@ pub(crate) enum Stop {
 
 /// Why no piece was read.
 #[derive(Clone, Copy, Drop)]
-pub(crate) enum Pause {
+pub enum Pause {
     Ended,
     ReadFault,
     Memory,

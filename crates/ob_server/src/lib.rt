@@ -18,9 +18,10 @@ mod sort;
 mod worker;
 
 pub use alone::serve_alone;
-pub use end::LinkEnd;
+pub use end::{Break, LinkEnd, Pause, Stop};
 pub use laws::{one_end, one_sorting};
-pub use link::serve_link;
+pub use link::{end_at, end_of, read_piece, serve_link};
+pub use next::{Next, take_next};
 pub use passes::{join_workers, joined_is_whole, split_passes};
 pub use port::{PortServed, Staff, serve_port};
 pub use sort::{Sorted, sort_request};

@@ -169,7 +169,7 @@ fn answer_held<M: Machine<Request = Request, Reply = Obj>, R: Wait, L: Link, C: 
 }
 
 /// Reads a piece of at most `most` bytes, and gives it to the framer.
-fn read_piece<L: Link>(link: &mut L, framer: &mut Framer, most: usize) -> Result<usize, Pause>
+pub fn read_piece<L: Link>(link: &mut L, framer: &mut Framer, most: usize) -> Result<usize, Pause>
     requires some { (0 < most) × (most ≤ 4096) }
     requires short { framer.old.place + length framer.old.kept + most < 2 ^ 63 }
     ensures bytes { ReadsPiece most (inlet (L.left link.old) (L.taken link.old))
@@ -276,7 +276,7 @@ fn serve_pieces<M: Machine<Request = Request, Reply = Obj>, R: Wait, L: Link, C:
 }
 
 /// The end, where no more requests are answered and so many bytes were taken before those that are held.
-fn end_of(stop: Stop, place: u64) -> LinkEnd
+pub fn end_of(stop: Stop, place: u64) -> LinkEnd
     ensures { result ≡ spec.end_of stop place }
 {
     match stop {
@@ -289,7 +289,7 @@ fn end_of(stop: Stop, place: u64) -> LinkEnd
 }
 
 /// The end, where no piece was read and bytes may be held.
-fn end_at(pause: Pause, holds_none: bool) -> LinkEnd
+pub fn end_at(pause: Pause, holds_none: bool) -> LinkEnd
     ensures { result ≡ spec.end_at pause holds_none }
 {
     match pause {

@@ -7,16 +7,16 @@ use std::alloc::Global;
 
 /// A request that was taken from its stream.
 #[derive(Drop)]
-pub(crate) struct Next {
+pub struct Next {
     /// How it is to be answered.
-    pub(crate) sorted: Sorted,
+    pub sorted: Sorted,
     /// Whether the client closes the connection behind it.
-    pub(crate) close: bool,
+    pub close: bool,
 }
 
 /// Takes the request at the front, where a whole one stands there, and says how it is to be answered. The request is
 /// sorted while the framer lends it. After a fault, and None, nothing has changed.
-pub(crate) fn take_next(alloc: Global, framer: &mut Framer) -> Result<Option<Next>, FrameFault>
+pub fn take_next(alloc: Global, framer: &mut Framer) -> Result<Option<Next>, FrameFault>
     ensures { SortsNext framer.old framer.new result }
 {
     let seen = match framer.look() {

@@ -1,0 +1,4 @@
+pub mod BodyLaws
+pub mod AskLaws
+pub mod LinkLaws
+pub mod RunLaws
