@@ -9,11 +9,14 @@ use Rattle.ob_href.specs.declared.fault.HrefFault.{HrefFault}
 use Rattle.ob_command.specs.Arguments.{Argument, arguments, operands, values, has_only}
 use Rattle.ob_command.specs.Number.{number_between}
 use Rattle.ob_command.specs.Storm.{Storm, storm_of}
+use Rattle.ob_command.specs.declared.server.Output.{Output}
+use Rattle.ob_command.specs.declared.server.Output.TheVariants.{Answers, Record}
 use Rattle.ob_command.specs.Texts.{is_text, text_if, texts_if, optional_text}
 
 pub data Command : Type 0 where
-  -- the site file; the moment that the clock begins at, if it is given; the milliseconds from one moment to the next
-  stdio : (site : List ℕ) → (at : Option ℕ) → (tick : ℕ) → Command
+  -- what is written for the requests; the site file; the moment that the clock begins at, if it is given; the milliseconds from one
+  -- moment to the next
+  stdio : Output → (site : List ℕ) → (at : Option ℕ) → (tick : ℕ) → Command
   -- the site file; where it listens; how many workers there are, and how many links each of them serves
   serve : (site host : List ℕ) → (port workers quota : ℕ) → Command
   -- the site file; the record's file
@@ -54,15 +57,15 @@ last_moment = 253_402_300_799_999
 abbrev pub largest_number : ℕ
 largest_number = 999_999_999_999_999_999
 
-abbrev pub stdio_with : (operands : List (List ℕ)) → (at : Option (Option ℕ)) → (tick : Option ℕ) → Option Command
-stdio_with (site ∷ []) (Some at) (Some tick) = Some (stdio site at tick)
-stdio_with _ _ _ = None
+abbrev pub stdio_with : Output → (operands : List (List ℕ)) → (at : Option (Option ℕ)) → (tick : Option ℕ) → Option Command
+stdio_with output (site ∷ []) (Some at) (Some tick) = Some (stdio output site at tick)
+stdio_with _ _ _ _ = None
 
 -- `SITE [--at MS] [--tick MS]`
-abbrev pub stdio_of : List Argument → Option Command
-stdio_of given =
+abbrev pub stdio_of : Output → List Argument → Option Command
+stdio_of output given =
     if has_only (codes "--at" ∷ codes "--tick" ∷ []) given
-    then stdio_with (operands given) (number_given 0 last_moment (values (codes "--at") given)) (number_or 0 largest_number 0 (values (codes "--tick") given))
+    then stdio_with output (operands given) (number_given 0 last_moment (values (codes "--at") given)) (number_or 0 largest_number 0 (values (codes "--tick") given))
     else None
 
 abbrev pub auditing_with : List (List ℕ) → Option Command
@@ -145,14 +148,15 @@ console_of given =
 
 abbrev pub named : List ℕ → List Argument → Option Command
 named word given =
-    if bytes_eq word (codes "stdio") then stdio_of given
+    if bytes_eq word (codes "stdio") then stdio_of Answers given
+    else (if bytes_eq word (codes "record") then stdio_of Record given
     else (if bytes_eq word (codes "audit") then auditing_of given
     else (if bytes_eq word (codes "serve") then serve_of given
     else (if bytes_eq word (codes "check") then check_of given
     else (if bytes_eq word (codes "watch") then watch_of given
     else (if bytes_eq word (codes "console") then console_of given
     else (if bytes_eq word (codes "storm") then option_map storm (storm_of given)
-    else None))))))
+    else None)))))))
 
 -- one of the commands above with its arguments; all other words are no command
 abbrev pub command : List (List ℕ) → Option Command

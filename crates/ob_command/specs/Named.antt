@@ -14,7 +14,7 @@ abbrev pub storm_values : Storm → values.Storm
 storm_values s = record { seed = s.seed; clients = s.clients; requests = s.requests }
 
 abbrev pub command_of : Command → commands.Command
-command_of (variants.Stdio service) = commands.stdio service.site.now service.at service.tick
+command_of (variants.Stdio service) = commands.stdio service.output service.site.now service.at service.tick
 command_of (variants.Audit audit) = commands.auditing audit.site.now audit.file.now
 command_of (variants.Serve service) = commands.serve service.site.now service.host.now service.port service.workers service.quota
 command_of (variants.Check file) = commands.check file.now

@@ -9,7 +9,7 @@ use crate::argument::Arguments;
 use crate::client::{Console, Watch, console_of, watch_of};
 use crate::number::number_between;
 use crate::record::{Audit, audit_of};
-use crate::server::{Serve, Stdio, check_of, serve_of, stdio_of};
+use crate::server::{Output, Serve, Stdio, check_of, serve_of, stdio_of};
 use crate::storm::Storm;
 use crate::text::are_texts;
 use std::alloc::{AllocError, Global};
@@ -17,7 +17,7 @@ use std::alloc::{AllocError, Global};
 /// What is to be done.
 #[derive(Drop)]
 pub enum Command<'a> {
-    /// The requests of the source are answered from a site file.
+    /// The requests of the source are asked of a site file's site, and answered or recorded.
     Stdio(Stdio<'a>),
     /// Whether a record is legal from a site file.
     Audit(Audit<'a>),
@@ -62,6 +62,7 @@ fn storm_of(given: Arguments<'_>) -> Option<Command<'_>>
 /// The command that the words are, where they are one:
 ///
 /// - `stdio SITE [--at MS] [--tick MS]`
+/// - `record SITE [--at MS] [--tick MS]`
 /// - `audit SITE FILE`
 /// - `serve SITE HOST PORT [--workers N] [--quota M]`
 /// - `check FILE`
@@ -88,7 +89,8 @@ pub fn read_command<'a>(
     }
     let given = Arguments::of(behind);
     match word.as_str() {
-        "stdio" => Ok(stdio_of(given)),
+        "stdio" => Ok(stdio_of(Output::Answers, given)),
+        "record" => Ok(stdio_of(Output::Record, given)),
         "audit" => Ok(audit_of(given)),
         "serve" => Ok(serve_of(given)),
         "check" => Ok(check_of(given)),

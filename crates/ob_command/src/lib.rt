@@ -16,5 +16,5 @@ mod text;
 pub use client::{Console, Watch};
 pub use command::{Command, read_command};
 pub use record::Audit;
-pub use server::{Serve, Stdio};
+pub use server::{Output, Serve, Stdio};
 pub use storm::Storm;

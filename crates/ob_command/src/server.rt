@@ -14,9 +14,19 @@ const LAST_MOMENT: u64 = 253_402_300_799_999;
 /// The largest number of 18 digits.
 const LARGEST_NUMBER: u64 = 999_999_999_999_999_999;
 
+/// What is written for the requests of the source.
+#[derive(Clone, Copy)]
+pub enum Output {
+    /// Their answers.
+    Answers,
+    /// The record of those that go to the site.
+    Record,
+}
+
 /// A site that is served on the standard streams, and when.
 #[derive(Clone, Copy)]
 pub struct Stdio<'a> {
+    pub output: Output,
     /// The site file.
     pub site: &'a str,
     /// The moment of the boot and of the first request, in milliseconds since 1970, where the clock isn't asked.
@@ -40,8 +50,8 @@ pub struct Serve<'a> {
 }
 
 /// The command of the arguments `SITE [--at MS] [--tick MS]`.
-pub(crate) fn stdio_of(given: Arguments<'_>) -> Option<Command<'_>>
-    ensures { option_map command_of result ≡ stdio_of (arguments_of given.entry) }
+pub(crate) fn stdio_of(output: Output, given: Arguments<'_>) -> Option<Command<'_>>
+    ensures { option_map command_of result ≡ stdio_of output (arguments_of given.entry) }
 {
     if !given.has_only(&["--at", "--tick"]) {
         return None;
@@ -52,7 +62,12 @@ pub(crate) fn stdio_of(given: Arguments<'_>) -> Option<Command<'_>>
     }
     let at = given.number_given("--at", 0, LAST_MOMENT)?;
     let tick = given.number_or("--tick", 0, LARGEST_NUMBER, 0)?;
-    Some(Command::Stdio(Stdio { site, at, tick }))
+    Some(Command::Stdio(Stdio {
+        output,
+        site,
+        at,
+        tick,
+    }))
 }
 
 /// The command of the arguments `SITE HOST PORT [--workers N] [--quota M]`.

@@ -4,6 +4,9 @@ use Rattle.std.specs.Prelude.{IfSome, IsSome, min}
 use Rattle.ob_io.specs.Faults.{Rose}
 use Rattle.ob_io.specs.Links.{inlet}
 use Rattle.ob_io.specs.Ticks.{last_moment}
+use Rattle.ob_command.specs.declared.server.Output.{Output}
+use Rattle.ob_command.specs.declared.server.Output.TheVariants.{Answers, Record}
+use Rattle.ob_recording.specs.Recording.{RecordsRun}
 use Rattle.ob_server.specs.Alone.{ServesAlone}
 use Rattle.ob_server.specs.Answered.{EndRose, HasEndCause}
 use Rattle.ob_server.specs.Complete.{ServesWhole, IsWellFramed}
@@ -19,7 +22,7 @@ use Rattle.ob_program.specs.declared.stdio.StdioEnd.TheVariants.{Served, Refused
 use Rattle.ob_load.specs.Loads.{IsSite, OpenedIsNotRefused, OpensAlways, RefusesBytes, IsOutside}
 use Rattle.ob_site_file.specs.declared.fault.LoadFault.{LoadFault}
 use Rattle.ob_site_file.specs.declared.fault.LoadFault.TheVariants as faults
-use Rattle.ob_program.specs.Stdio.{exit_of, end_of_fault, site_bytes, ServesSite, HasCause, IsIdle, IsRefusedAs, Comes, StdioComes, StdioRan, IsUnserved}
+use Rattle.ob_program.specs.Stdio.{exit_of, end_of_fault, site_bytes, ServesSite, RecordsSite, HasCause, IsIdle, IsRefusedAs, Comes, StdioComes, StdioRan, IsUnserved}
 use Rattle.ob_program.specs.Outside.{Streams, ClockTold}
 
 -- a sound site was served
@@ -27,6 +30,12 @@ pub serves_site : (file : Option (List ℕ)) (boot : ℕ) (ns : Option (List ℕ
     → ServesAlone acts opening ns (inlet left taken) (inlet left' taken') held held' given given' end → ServesSite file boot left taken left' taken' held held' given given' end
 serves_site file boot ns opening left taken left' taken' held held' given given' end opened sound alone =
     record { ns = ns; opening = opening; opened = opened; sound = sound; alone = alone; watches = keeps_watches opening sound alone.calls alone.legal }
+
+-- the requests of a link were recorded from a sound site
+pub records_site : (file : Option (List ℕ)) (boot : ℕ) (ns : Option (List ℕ)) (opening last : SiteState) (left taken left' taken' held held' given given' : Option (List ℕ)) (end : LinkEnd) → IfSome file (λ whole. IsSite (site_bytes whole) boot ns opening)
+    → IsSoundSite opening → RecordsRun acts opening last boot (inlet left taken) (inlet left' taken') held held' given given' end → RecordsSite file boot left taken left' taken' held held' given given' end
+records_site file boot ns opening last left taken left' taken' held held' given given' end opened sound run =
+    record { ns = ns; opening = opening; opened = opened; sound = sound; last = last; run = run; watches = keeps_watches opening sound run.calls run.legal }
 
 -- ---- counts
 
@@ -79,14 +88,14 @@ told_refused fault None boot inside h = (tt, inside)
 told_refused fault (Some whole) boot inside h = (elim h [ inl outside ↦ absurd (inside outside) | inr why ↦ why ], inside)
 
 -- nothing was served, and the bytes are refused
-pub comes_refused : (fault : LoadFault) (file : Option (List ℕ)) (boot : ℕ) (left taken held given : Option (List ℕ)) → IfSome file (λ whole. IsOutside fault ⊎ RefusesBytes (site_bytes whole) boot fault)
-    → Comes file boot (end_of_fault fault) left taken left taken held held given given
-comes_refused fault file boot left taken held given h = by_fault fault h
+pub comes_refused : (output : Output) (fault : LoadFault) (file : Option (List ℕ)) (boot : ℕ) (left taken held given : Option (List ℕ)) → IfSome file (λ whole. IsOutside fault ⊎ RefusesBytes (site_bytes whole) boot fault)
+    → Comes output file boot (end_of_fault fault) left taken left taken held held given given
+comes_refused output fault file boot left taken held given h = by_fault fault h
   where
     idle : IsIdle left left held held given given
     idle = record { left_is = refl; held_is = refl; given_is = refl }
 
-    by_fault : (f : LoadFault) → IfSome file (λ whole. IsOutside f ⊎ RefusesBytes (site_bytes whole) boot f) → Comes file boot (end_of_fault f) left taken left taken held held given given
+    by_fault : (f : LoadFault) → IfSome file (λ whole. IsOutside f ⊎ RefusesBytes (site_bytes whole) boot f) → Comes output file boot (end_of_fault f) left taken left taken held held given given
     by_fault faults.Read k = idle
     by_fault faults.Memory k = idle
     by_fault (faults.Document refused) k = (idle, told_refused (faults.Document refused) file boot (λ no. no) k)
@@ -97,11 +106,22 @@ comes_refused fault file boot left taken held given h = by_fault fault h
     by_fault (faults.Rule part) k = (idle, told_refused (faults.Rule part) file boot (λ no. no) k)
     by_fault faults.Size k = (idle, told_refused faults.Size file boot (λ no. no) k)
 
+-- an end of what is asked of a site, by what is written of it
+pub comes_answers : (output : Output) (file : Option (List ℕ)) (boot : ℕ) (end : LinkEnd) (left taken left' taken' held held' given given' : Option (List ℕ)) → output ≡ Answers
+    → ServesSite file boot left taken left' taken' held held' given given' end → Comes output file boot (Served end) left taken left' taken' held held' given given'
+comes_answers output file boot end left taken left' taken' held held' given given' is serves =
+    subst (λ (o : Output). Comes o file boot (Served end) left taken left' taken' held held' given given') (sym is) serves
+
+pub comes_record : (output : Output) (file : Option (List ℕ)) (boot : ℕ) (end : LinkEnd) (left taken left' taken' held held' given given' : Option (List ℕ)) → output ≡ Record
+    → RecordsSite file boot left taken left' taken' held held' given given' end → Comes output file boot (Served end) left taken left' taken' held held' given given'
+comes_record output file boot end left taken left' taken' held held' given given' is records =
+    subst (λ (o : Output). Comes o file boot (Served end) left taken left' taken' held held' given given') (sym is) records
+
 -- a service at another spelling of its boot's moment
-pub comes_at : (file : Option (List ℕ)) (boot boot' : ℕ) (end : StdioEnd) (left taken left' taken' held held' given given' : Option (List ℕ)) → boot ≡ boot'
-    → Comes file boot end left taken left' taken' held held' given given' → Comes file boot' end left taken left' taken' held held' given given'
-comes_at file boot boot' end left taken left' taken' held held' given given' is comes =
-    subst (λ (b : ℕ). Comes file b end left taken left' taken' held held' given given') is comes
+pub comes_at : (output : Output) (file : Option (List ℕ)) (boot boot' : ℕ) (end : StdioEnd) (left taken left' taken' held held' given given' : Option (List ℕ)) → boot ≡ boot'
+    → Comes output file boot end left taken left' taken' held held' given given' → Comes output file boot' end left taken left' taken' held held' given given'
+comes_at output file boot boot' end left taken left' taken' held held' given given' is comes =
+    subst (λ (b : ℕ). Comes output file b end left taken left' taken' held held' given given') is comes
 
 -- the cause of a refusal
 pub refused_cause : (fault : LoadFault) (files files' reads writes clocks : ℕ) → files ≤ files' → (fault ≡ faults.Read → Rose files files') → HasCause (end_of_fault fault) files files' reads reads writes writes clocks clocks
@@ -293,21 +313,21 @@ complete_told end exit files files' reads reads' writes writes' clocks clocks' (
     subst (λ (x : Exit). (x ≡ exits.Ok) ⊎ ((x ≡ exits.Refused) ⊎ (x ≡ exits.Memory))) (sym is) (ends_well end files files' reads reads' writes writes' clocks clocks' all c whole short framed f r w k)
 
 -- a file that opens a site isn't refused
-comes_unrefused : (law : OpenedIsNotRefused) (whole : List ℕ) (boot : ℕ) (fault : LoadFault) (left taken left' taken' held held' given given' : Option (List ℕ)) → OpensAlways (site_bytes whole)
-    → Comes (Some whole) boot (Refused fault) left taken left' taken' held held' given given' → ⊥
-comes_unrefused law whole boot fault left taken left' taken' held held' given given' opens comes =
+comes_unrefused : (output : Output) (law : OpenedIsNotRefused) (whole : List ℕ) (boot : ℕ) (fault : LoadFault) (left taken left' taken' held held' given given' : Option (List ℕ)) → OpensAlways (site_bytes whole)
+    → Comes output (Some whole) boot (Refused fault) left taken left' taken' held held' given given' → ⊥
+comes_unrefused output law whole boot fault left taken left' taken' held held' given given' opens comes =
     let opened = opens boot in
     comes.1.1 (law (site_bytes whole) boot opened.0 opened.1 fault opened.2 comes.1.0)
 
-stdio_unrefused : (law : OpenedIsNotRefused) (whole : List ℕ) (at : Option ℕ) (tick : ℕ) (fault : LoadFault) (left taken left' taken' held held' given given' : Option (List ℕ)) → OpensAlways (site_bytes whole)
-    → StdioComes (Some whole) at tick (Refused fault) left taken left' taken' held held' given given' → ⊥
-stdio_unrefused law whole None tick fault left taken left' taken' held held' given given' opens comes =
+stdio_unrefused : (output : Output) (law : OpenedIsNotRefused) (whole : List ℕ) (at : Option ℕ) (tick : ℕ) (fault : LoadFault) (left taken left' taken' held held' given given' : Option (List ℕ)) → OpensAlways (site_bytes whole)
+    → StdioComes output (Some whole) at tick (Refused fault) left taken left' taken' held held' given given' → ⊥
+stdio_unrefused output law whole None tick fault left taken left' taken' held held' given given' opens comes =
     elim comes [
       | inl is ↦ (let no : Refused fault ≡ ClockFault = is.0 in absurd (cc))
-      | inr (boot, booted, gave, c) ↦ comes_unrefused law whole boot fault left taken left' taken' held held' booted given' opens c
+      | inr (boot, booted, gave, c) ↦ comes_unrefused output law whole boot fault left taken left' taken' held held' booted given' opens c
     ]
-stdio_unrefused law whole (Some start) tick fault left taken left' taken' held held' given given' opens comes =
-    comes_unrefused law whole (min start last_moment) fault left taken left' taken' held held' (Some []) comes.1.0 opens comes.1.1
+stdio_unrefused output law whole (Some start) tick fault left taken left' taken' held held' given given' opens comes =
+    comes_unrefused output law whole (min start last_moment) fault left taken left' taken' held held' (Some []) comes.1.0 opens comes.1.1
 
 exit_refused : (end : StdioEnd) → exit_of end ≡ exits.Refused → (fault : LoadFault) × (end ≡ Refused fault)
 exit_refused (Served ends.Closed) e = absurd (cc)
@@ -324,21 +344,21 @@ exit_refused ReadFault e = absurd (cc)
 exit_refused ClockFault e = absurd (cc)
 exit_refused Memory e = absurd (cc)
 
-opens_unrefused : (law : OpenedIsNotRefused) (file : Option (List ℕ)) (at : Option ℕ) (tick : ℕ) (end : StdioEnd) (exit : Exit) (left taken left' taken' held held' given given' : Option (List ℕ)) → exit ≡ exit_of end
-    → StdioComes file at tick end left taken left' taken' held held' given given' → IfSome file (λ whole. OpensAlways (site_bytes whole) → exit ≢ exits.Refused)
-opens_unrefused law None at tick end exit left taken left' taken' held held' given given' is comes = tt
-opens_unrefused law (Some whole) at tick end exit left taken left' taken' held held' given given' is comes = λ opens refused.
+opens_unrefused : (output : Output) (law : OpenedIsNotRefused) (file : Option (List ℕ)) (at : Option ℕ) (tick : ℕ) (end : StdioEnd) (exit : Exit) (left taken left' taken' held held' given given' : Option (List ℕ)) → exit ≡ exit_of end
+    → StdioComes output file at tick end left taken left' taken' held held' given given' → IfSome file (λ whole. OpensAlways (site_bytes whole) → exit ≢ exits.Refused)
+opens_unrefused output law None at tick end exit left taken left' taken' held held' given given' is comes = tt
+opens_unrefused output law (Some whole) at tick end exit left taken left' taken' held held' given given' is comes = λ opens refused.
     let r = exit_refused end (sym is ∙ refused) in
-    stdio_unrefused law whole at tick r.0 left taken left' taken' held held' given given' opens
-    (subst (λ (e : StdioEnd). StdioComes (Some whole) at tick e left taken left' taken' held held' given given') r.1 comes)
+    stdio_unrefused output law whole at tick r.0 left taken left' taken' held held' given given' opens
+    (subst (λ (e : StdioEnd). StdioComes output (Some whole) at tick e left taken left' taken' held held' given given') r.1 comes)
 
 -- the service came to this end, which is the exit
-pub stdio_ran : (file : Option (List ℕ)) (at : Option ℕ) (tick files files' : ℕ) (s s' : Streams) (t t' : ClockTold) (end : StdioEnd) (exit : Exit) → exit ≡ exit_of end
-    → OpenedIsNotRefused → StdioComes file at tick end s.left None s'.left None s.held s'.held t.given t'.given
+pub stdio_ran : (output : Output) (file : Option (List ℕ)) (at : Option ℕ) (tick files files' : ℕ) (s s' : Streams) (t t' : ClockTold) (end : StdioEnd) (exit : Exit) → exit ≡ exit_of end
+    → OpenedIsNotRefused → StdioComes output file at tick end s.left None s'.left None s.held s'.held t.given t'.given
     → HasCause end files files' s.reads s'.reads s.writes s'.writes t.faults t'.faults
     → ((link : LinkEnd) → end ≡ Served link → ServesWhole s.left s.reads s'.reads s.writes s'.writes t.faults t'.faults link)
-    → StdioRan file at tick files files' s s' t t' exit
-stdio_ran file at tick files files' s s' t t' end exit is law comes cause whole = record {
+    → StdioRan output file at tick files files' s s' t t' exit
+stdio_ran output file at tick files files' s s' t t' end exit is law comes cause whole = record {
   end = end;
   exit_is = is;
   comes = comes;
@@ -346,7 +366,7 @@ stdio_ran file at tick files files' s s' t t' end exit is law comes cause whole 
   write = write_rose end exit files files' s.reads s'.reads s.writes s'.writes t.faults t'.faults is cause;
   clock = clock_rose end exit files files' s.reads s'.reads s.writes s'.writes t.faults t'.faults is cause;
   complete = complete_told end exit files files' s.reads s'.reads s.writes s'.writes t.faults t'.faults s.left is cause whole;
-  opens = opens_unrefused law file at tick end exit s.left None s'.left None s.held s'.held t.given t'.given is comes;
+  opens = opens_unrefused output law file at tick end exit s.left None s'.left None s.held s'.held t.given t'.given is comes;
 }
 
 -- ---- moments
@@ -358,10 +378,11 @@ told_empty : (given : Option (List ℕ)) → given ≡ Some [] → IsSome given
 told_empty given is = subst (λ (g : Option (List ℕ)). IsSome g) (sym is) refl
 
 -- a clock that has given no moment yet still tells its moments when a service is over
-pub moments_told : (file : Option (List ℕ)) (boot : ℕ) (end : StdioEnd) (left taken left' taken' held held' given : Option (List ℕ))
-    → Comes file boot end left taken left' taken' held held' (Some []) given → IsSome given
-moments_told file boot (Served end) left taken left' taken' held held' given h = h.alone.serves.went.lasts (few_moments (length h.alone.serves.moments) h.alone.serves.few)
-moments_told file boot (Refused fault) left taken left' taken' held held' given h = told_empty given h.0.given_is
-moments_told file boot ReadFault left taken left' taken' held held' given h = told_empty given h.given_is
-moments_told file boot ClockFault left taken left' taken' held held' given h = told_empty given h.given_is
-moments_told file boot Memory left taken left' taken' held held' given h = told_empty given h.given_is
+pub moments_told : (output : Output) (file : Option (List ℕ)) (boot : ℕ) (end : StdioEnd) (left taken left' taken' held held' given : Option (List ℕ))
+    → Comes output file boot end left taken left' taken' held held' (Some []) given → IsSome given
+moments_told Answers file boot (Served end) left taken left' taken' held held' given h = h.alone.serves.went.lasts (few_moments (length h.alone.serves.moments) h.alone.serves.few)
+moments_told Record file boot (Served end) left taken left' taken' held held' given h = h.run.serves.went.lasts (few_moments (length h.run.serves.moments) h.run.serves.few)
+moments_told output file boot (Refused fault) left taken left' taken' held held' given h = told_empty given h.0.given_is
+moments_told output file boot ReadFault left taken left' taken' held held' given h = told_empty given h.given_is
+moments_told output file boot ClockFault left taken left' taken' held held' given h = told_empty given h.given_is
+moments_told output file boot Memory left taken left' taken' held held' given h = told_empty given h.given_is

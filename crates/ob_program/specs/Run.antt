@@ -24,8 +24,8 @@ module _ {D C : Type 0} (faults handed returned : D → ℕ) (visits : D → Opt
   -- the command was done
   abbrev pub Ran : (content : List ℕ → Option (List ℕ)) → (files files' : ℕ) → (s s' : Streams) → (p p' : PortTold) → (d d' : Dialled) → (t t' : ClockTold)
       → Command → Exit → Type 0
-  Ran content files files' s s' p p' d d' t t' (commands.stdio site at tick) exit =
-      StdioRan (content site) at tick files files' s s' t t' exit
+  Ran content files files' s s' p p' d d' t t' (commands.stdio output site at tick) exit =
+      StdioRan output (content site) at tick files files' s s' t t' exit
   Ran content files files' s s' p p' d d' t t' (commands.serve site host port workers quota) exit =
       ServeRan faults handed returned visits closed given pace misses (content site) host port workers quota files files'
       s.held s'.held s.writes s'.writes p p' t t' exit
@@ -43,8 +43,8 @@ module _ {D C : Type 0} (faults handed returned : D → ℕ) (visits : D → Opt
 -- the parts of the outside that a command has nothing to do with are as they were
 abbrev pub LeavesAlone : Option Command → (files source sink port dialer clock : Type 0) → Type 0
 LeavesAlone None files source sink port dialer clock = files × source × sink × port × dialer × clock
-LeavesAlone (Some (commands.stdio site None tick)) files source sink port dialer clock = port × dialer
-LeavesAlone (Some (commands.stdio site (Some at) tick)) files source sink port dialer clock = port × dialer × clock
+LeavesAlone (Some (commands.stdio output site None tick)) files source sink port dialer clock = port × dialer
+LeavesAlone (Some (commands.stdio output site (Some at) tick)) files source sink port dialer clock = port × dialer × clock
 LeavesAlone (Some (commands.serve site host place workers quota)) files source sink port dialer clock = source × dialer
 LeavesAlone (Some (commands.auditing site file)) files source sink port dialer clock = source × port × dialer × clock
 LeavesAlone (Some (commands.check file)) files source sink port dialer clock = source × port × dialer × clock

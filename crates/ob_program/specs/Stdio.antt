@@ -4,6 +4,9 @@ use Rattle.ob_io.specs.Faults.{Rose}
 use Rattle.ob_io.specs.Links.{inlet}
 use Rattle.ob_io.specs.Ticks.{last_moment, pace_of, AreFirstOf}
 use Rattle.ob_io.specs.Told.{Gains}
+use Rattle.ob_command.specs.declared.server.Output.{Output}
+use Rattle.ob_command.specs.declared.server.Output.TheVariants.{Answers, Record}
+use Rattle.ob_recording.specs.Recording.{RecordsRun}
 use Rattle.ob_server.specs.Alone.{ServesAlone}
 use Rattle.ob_server.specs.declared.end.LinkEnd.{LinkEnd}
 use Rattle.ob_server.specs.declared.end.LinkEnd.TheVariants as ends
@@ -60,6 +63,22 @@ pub record ServesSite (file : Option (List ℕ)) (boot : ℕ) (left taken left' 
   pub alone : ServesAlone acts opening ns (inlet left taken) (inlet left' taken') held held' given given' end
   pub watches : KeepsWatches opening alone.calls
 
+-- From such a state the requests of a link were recorded since the boot: what was written is the record of a legal run from there.
+-- The laws of watches hold of all that was asked.
+pub record RecordsSite (file : Option (List ℕ)) (boot : ℕ) (left taken left' taken' held held' given given' : Option (List ℕ)) (end : LinkEnd) : Type 0 where
+  pub ns : Option (List ℕ)
+  pub opening : SiteState
+  pub opened : IfSome file (λ whole. IsSite (site_bytes whole) boot ns opening)
+  pub sound : IsSoundSite opening
+  pub last : SiteState
+  pub run : RecordsRun acts opening last boot (inlet left taken) (inlet left' taken') held held' given given' end
+  pub watches : KeepsWatches opening run.calls
+
+-- what is written for the requests that are asked of a file's site
+abbrev pub AsksSite : Output → Option (List ℕ) → ℕ → (left taken left' taken' held held' given given' : Option (List ℕ)) → LinkEnd → Type 0
+AsksSite Answers file boot left taken left' taken' held held' given given' end = ServesSite file boot left taken left' taken' held held' given given' end
+AsksSite Record file boot left taken left' taken' held held' given given' end = RecordsSite file boot left taken left' taken' held held' given given' end
+
 -- nothing was read or written, and no moment was asked for
 pub record IsIdle (left left' held held' given given' : Option (List ℕ)) : Type 0 where
   pub left_is : left' ≡ left
@@ -71,22 +90,22 @@ abbrev pub IsRefusedAs : Option (List ℕ) → ℕ → LoadFault → Type 0
 IsRefusedAs file boot fault = IfSome file (λ whole. RefusesBytes (site_bytes whole) boot fault) × (IsOutside fault → ⊥)
 
 -- What an end says of a service that boots at a moment.
-abbrev pub Comes : Option (List ℕ) → ℕ → StdioEnd → (left taken left' taken' held held' given given' : Option (List ℕ)) → Type 0
-Comes file boot (Served end) left taken left' taken' held held' given given' = ServesSite file boot left taken left' taken' held held' given given' end
-Comes file boot (Refused fault) left taken left' taken' held held' given given' = IsIdle left left' held held' given given' × IsRefusedAs file boot fault
-Comes file boot ReadFault left taken left' taken' held held' given given' = IsIdle left left' held held' given given'
-Comes file boot ClockFault left taken left' taken' held held' given given' = IsIdle left left' held held' given given'
-Comes file boot Memory left taken left' taken' held held' given given' = IsIdle left left' held held' given given'
+abbrev pub Comes : Output → Option (List ℕ) → ℕ → StdioEnd → (left taken left' taken' held held' given given' : Option (List ℕ)) → Type 0
+Comes output file boot (Served end) left taken left' taken' held held' given given' = AsksSite output file boot left taken left' taken' held held' given given' end
+Comes output file boot (Refused fault) left taken left' taken' held held' given given' = IsIdle left left' held held' given given' × IsRefusedAs file boot fault
+Comes output file boot ReadFault left taken left' taken' held held' given given' = IsIdle left left' held held' given given'
+Comes output file boot ClockFault left taken left' taken' held held' given given' = IsIdle left left' held held' given given'
+Comes output file boot Memory left taken left' taken' held held' given given' = IsIdle left left' held held' given given'
 
 -- Without a moment to begin at, the clock's next moment is the boot's, and the requests have those behind it, where it
 -- tells its moments. Else the clock isn't asked: one that begins there and goes by the tick is asked in its place, and it tells
 -- its moments to the end: they are `at`, `at + tick` and so on, or the last moment that there is.
-abbrev pub StdioComes : Option (List ℕ) → Option ℕ → ℕ → StdioEnd → (left taken left' taken' held held' given given' : Option (List ℕ)) → Type 0
-StdioComes file None tick end left taken left' taken' held held' given given' =
+abbrev pub StdioComes : Output → Option (List ℕ) → Option ℕ → ℕ → StdioEnd → (left taken left' taken' held held' given given' : Option (List ℕ)) → Type 0
+StdioComes output file None tick end left taken left' taken' held held' given given' =
     ((end ≡ ClockFault) × Gains given [] given' × (left' ≡ left) × (held' ≡ held))
-    ⊎ ((boot : ℕ) × (booted : Option (List ℕ)) × Gains given (boot ∷ []) booted × Comes file boot end left taken left' taken' held held' booted given')
-StdioComes file (Some at) tick end left taken left' taken' held held' given given' =
-    (given' ≡ given) × ((ticked : Option (List ℕ)) × Comes file (min at last_moment) end left taken left' taken' held held' (Some []) ticked
+    ⊎ ((boot : ℕ) × (booted : Option (List ℕ)) × Gains given (boot ∷ []) booted × Comes output file boot end left taken left' taken' held held' booted given')
+StdioComes output file (Some at) tick end left taken left' taken' held held' given given' =
+    (given' ≡ given) × ((ticked : Option (List ℕ)) × Comes output file (min at last_moment) end left taken left' taken' held held' (Some []) ticked
     × IsSome ticked × IfSome ticked (λ moments. AreFirstOf (pace_of at tick) moments))
 
 abbrev pub IsUnserved : StdioEnd → Type 0
@@ -110,12 +129,12 @@ pub record HasCause (end : StdioEnd) (files files' reads reads' writes writes' c
 
 -- The service of a file's site over a source and a sink came to some end, which is the exit; where a link's taken bytes aren't
 -- told, nothing is said of them by themselves. A fault has its cause in a count. Where the file opens a site and the source's
--- bytes are whole requests, fewer than 2^40, and nothing fails, they are answered to their end. A file that opens a site isn't
+-- bytes are whole requests, fewer than 2^40, and nothing fails, they are asked to their end. A file that opens a site isn't
 -- refused.
-pub record StdioRan (file : Option (List ℕ)) (at : Option ℕ) (tick files files' : ℕ) (s s' : Streams) (t t' : ClockTold) (exit : Exit) : Type 0 where
+pub record StdioRan (output : Output) (file : Option (List ℕ)) (at : Option ℕ) (tick files files' : ℕ) (s s' : Streams) (t t' : ClockTold) (exit : Exit) : Type 0 where
   pub end : StdioEnd
   pub exit_is : exit ≡ exit_of end
-  pub comes : StdioComes file at tick end s.left None s'.left None s.held s'.held t.given t'.given
+  pub comes : StdioComes output file at tick end s.left None s'.left None s.held s'.held t.given t'.given
   pub read : exit ≡ exits.ReadFault → Rose files files' ⊎ Rose s.reads s'.reads
   pub write : exit ≡ exits.WriteFault → Rose s.writes s'.writes
   pub clock : exit ≡ exits.ClockFault → Rose t.faults t'.faults

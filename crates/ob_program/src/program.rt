@@ -21,6 +21,7 @@ use std::thread::Threads;
 /// Does what the words say.
 ///
 /// `stdio SITE [--at MS] [--tick MS]` opens the site of a file, and answers the requests of the link's source on its sink.
+/// `record SITE [--at MS] [--tick MS]` asks them of the site in the same way, and writes the record of that run in their place.
 /// `audit SITE FILE` tells whether the record of a run is legal from a site file.
 /// `serve SITE HOST PORT [--workers N] [--quota M]` answers those of links that come to a port. `check FILE` writes the
 /// canonical text of a file's document, and a line feed. `watch URL HREF.. [--polls N] [--retry R]` and `console URL SUBJECT

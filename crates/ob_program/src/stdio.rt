@@ -1,7 +1,13 @@
-//! `stdio`: the requests of the source, answered from the site of a file.
+//! `stdio` and `record`: the requests of the source are asked of the site of a file, and their answers or their record written.
 ghost use Rattle.std.specs.Prelude.{◌≡◌, ◌≤◌, min, length, IsSome};
 ghost use Rattle.ob_io.specs.Ticks.{last_moment};
 ghost use Rattle.ob_io.specs.Faults.{Rose};
+ghost use Rattle.ob_io.specs.Links.{inlet};
+ghost use Rattle.ob_recording.specs.Recording.{RecordsRun};
+ghost use Rattle.ob_server.specs.Alone.{ServesAlone};
+ghost use Rattle.ob_server.specs.Answered.{HasEndCause};
+ghost use Rattle.ob_site_laws.specs.SiteLaws.{acts, IsSoundSite};
+ghost use Rattle.ob_site_rules.specs.Sites.{SiteState};
 ghost use Rattle.ob_server.specs.declared.end.LinkEnd.{LinkEnd};
 ghost use Rattle.ob_server.specs.Complete.{ServesWhole};
 ghost use Rattle.ob_program.specs.Outside.{streams, clock_told};
@@ -9,10 +15,11 @@ ghost use Rattle.ob_program.specs.Stdio.{Comes, StdioComes, IsUnserved, HasCause
 
 use crate::exit::{Exit, tell};
 use crate::lines::site_line;
-use ob_command::Stdio;
+use ob_command::{Output, Stdio};
 use ob_http::FrameFault;
 use ob_io::{Clock, Files, Link, Pair, Sink, Source, Ticker};
 use ob_load::{LoadFault, Loaded, load, opened_is_not_refused};
+use ob_recording::record_run;
 use ob_server::{LinkEnd, serve_alone};
 use ob_times::Moment;
 use std::alloc::{AllocError, Global};
@@ -123,17 +130,64 @@ pub(crate) fn moment(ms: u64) -> Moment
     moment
 }
 
-/// Opens the site of a file that boots at a moment, and answers the requests of a link from it.
+/// Answers the requests of a link from a site.
+fn answer_site<R: Wait, L: Link, C: Clock>(
+    rt: &R,
+    alloc: Global,
+    loaded: Loaded,
+    link: &mut L,
+    clock: &mut C,
+) -> LinkEnd
+    ensures sound { IsSoundSite loaded.site }
+    ensures serves { ServesAlone acts loaded.site loaded.ns
+        (inlet (L.left link.old) (L.taken link.old)) (inlet (L.left link.new) (L.taken link.new))
+        (L.held link.old) (L.held link.new) (C.given clock.old) (C.given clock.new) result }
+    ensures pace { C.pace clock.new ≡ C.pace clock.old }
+    ensures cause { HasEndCause (L.read_faults link.old) (L.read_faults link.new)
+        (L.write_faults link.old) (L.write_faults link.new) (C.faults clock.old) (C.faults clock.new) result }
+    ensures whole { ServesWhole (L.left link.old) (L.read_faults link.old) (L.read_faults link.new)
+        (L.write_faults link.old) (L.write_faults link.new) (C.faults clock.old) (C.faults clock.new) result }
+{
+    let Loaded { ns, site } = loaded;
+    site.is_sound();
+    serve_alone(rt, alloc, site, ns.as_ref(), link, clock)
+}
+
+/// Records the requests of a link from the boot of a site on.
+fn record_site<L: Link, C: Clock>(
+    alloc: Global,
+    loaded: Loaded,
+    boot: Moment,
+    link: &mut L,
+    clock: &mut C,
+) -> LinkEnd
+    ensures sound { IsSoundSite loaded.site }
+    ensures records { (last : SiteState) × RecordsRun acts loaded.site last boot
+        (inlet (L.left link.old) (L.taken link.old)) (inlet (L.left link.new) (L.taken link.new))
+        (L.held link.old) (L.held link.new) (C.given clock.old) (C.given clock.new) result }
+    ensures pace { C.pace clock.new ≡ C.pace clock.old }
+    ensures cause { HasEndCause (L.read_faults link.old) (L.read_faults link.new)
+        (L.write_faults link.old) (L.write_faults link.new) (C.faults clock.old) (C.faults clock.new) result }
+    ensures whole { ServesWhole (L.left link.old) (L.read_faults link.old) (L.read_faults link.new)
+        (L.write_faults link.old) (L.write_faults link.new) (C.faults clock.old) (C.faults clock.new) result }
+{
+    let Loaded { ns: _, mut site } = loaded;
+    site.is_sound();
+    record_run(alloc, &mut site, boot, link, clock)
+}
+
+/// Opens the site of a file that boots at a moment, and answers or records the requests of a link from it.
 fn serve_site<R: Wait, F: Files, L: Link, C: Clock>(
     rt: &R,
     alloc: Global,
+    output: Output,
     site: &str,
     files: &mut F,
     boot: Moment,
     link: &mut L,
     clock: &mut C,
 ) -> StdioEnd
-    ensures comes { Comes (F.content files.old site.now) boot result (L.left link.old) (L.taken link.old) (L.left link.new) (L.taken link.new) (L.held link.old) (L.held link.new) (C.given clock.old) (C.given clock.new) }
+    ensures comes { Comes output (F.content files.old site.now) boot result (L.left link.old) (L.taken link.old) (L.left link.new) (L.taken link.new) (L.held link.old) (L.held link.new) (C.given clock.old) (C.given clock.new) }
     ensures unused { IsUnserved result → link.new ≡ link.old }
     ensures pace { C.pace clock.new ≡ C.pace clock.old }
     ensures cause { HasCause result (F.faults files.old) (F.faults files.new) (L.read_faults link.old) (L.read_faults link.new)
@@ -141,17 +195,17 @@ fn serve_site<R: Wait, F: Files, L: Link, C: Clock>(
     ensures whole { (end : LinkEnd) → result ≡ StdioEnd.Served end → ServesWhole (L.left link.old) (L.read_faults link.old) (L.read_faults link.new)
         (L.write_faults link.old) (L.write_faults link.new) (C.faults clock.old) (C.faults clock.new) end }
 {
-    match load(alloc, files, site, boot) {
-        Ok(Loaded { ns, site }) => {
-            site.is_sound();
-            let end = serve_alone(rt, alloc, site, ns.as_ref(), link, clock);
-            StdioEnd::Served(end)
-        }
-        Err(fault) => StdioEnd::of_fault(fault),
+    let loaded = match load(alloc, files, site, boot) {
+        Ok(loaded) => loaded,
+        Err(fault) => return StdioEnd::of_fault(fault),
+    };
+    match output {
+        Output::Answers => StdioEnd::Served(answer_site(rt, alloc, loaded, link, clock)),
+        Output::Record => StdioEnd::Served(record_site(alloc, loaded, boot, link, clock)),
     }
 }
 
-/// Opens the site of a file, and answers the requests of a link from it. The boot and the requests are at the moments
+/// Opens the site of a file, and answers or records the requests of a link from it. The boot and the requests are at the moments
 /// of the clock or, with `at`, at those of a clock that begins there and goes by `tick` milliseconds.
 fn stdio<R: Wait, F: Files, L: Link, C: Clock>(
     rt: &R,
@@ -162,7 +216,7 @@ fn stdio<R: Wait, F: Files, L: Link, C: Clock>(
     clock: &mut C,
 ) -> StdioEnd
     ensures unasked { IsSome service.entry.at → clock.new ≡ clock.old }
-    ensures comes { StdioComes (F.content files.old service.entry.site.now) service.entry.at service.entry.tick result (L.left link.old) (L.taken link.old) (L.left link.new) (L.taken link.new) (L.held link.old) (L.held link.new) (C.given clock.old) (C.given clock.new) }
+    ensures comes { StdioComes service.entry.output (F.content files.old service.entry.site.now) service.entry.at service.entry.tick result (L.left link.old) (L.taken link.old) (L.left link.new) (L.taken link.new) (L.held link.old) (L.held link.new) (C.given clock.old) (C.given clock.new) }
     ensures unused { IsUnserved result → link.new ≡ link.old }
     ensures cause { HasCause result (F.faults files.old) (F.faults files.new) (L.read_faults link.old) (L.read_faults link.new)
         (L.write_faults link.old) (L.write_faults link.new) (C.faults clock.old) (C.faults clock.new) }
@@ -173,7 +227,16 @@ fn stdio<R: Wait, F: Files, L: Link, C: Clock>(
         let Ok(boot) = clock.now() else {
             return StdioEnd::ClockFault;
         };
-        return serve_site(rt, alloc, service.site, files, boot, link, clock);
+        return serve_site(
+            rt,
+            alloc,
+            service.output,
+            service.site,
+            files,
+            boot,
+            link,
+            clock,
+        );
     };
     let mut ticker = Ticker {
         at,
@@ -183,6 +246,7 @@ fn stdio<R: Wait, F: Files, L: Link, C: Clock>(
     serve_site(
         rt,
         alloc,
+        service.output,
         service.site,
         files,
         moment(at),
@@ -191,7 +255,8 @@ fn stdio<R: Wait, F: Files, L: Link, C: Clock>(
     )
 }
 
-/// Opens the site of a file, answers the requests of the link's source on its sink, and tells on `errors` what went wrong.
+/// Opens the site of a file, answers the requests of the link's source on its sink or writes their record there, and tells on
+/// `errors` what went wrong.
 pub(crate) fn run_stdio<R: Wait, F: Files, S: Source, K: Sink, E: Sink, C: Clock>(
     rt: &R,
     alloc: Global,
@@ -201,7 +266,7 @@ pub(crate) fn run_stdio<R: Wait, F: Files, S: Source, K: Sink, E: Sink, C: Clock
     errors: &mut E,
     clock: &mut C,
 ) -> Exit
-    ensures ran { StdioRan (F.content files.old service.entry.site.now) service.entry.at service.entry.tick (F.faults files.old) (F.faults files.new)
+    ensures ran { StdioRan service.entry.output (F.content files.old service.entry.site.now) service.entry.at service.entry.tick (F.faults files.old) (F.faults files.new)
         (streams (S.left link.old.source) (K.held link.old.sink) (S.faults link.old.source) (K.faults link.old.sink))
         (streams (S.left link.new.source) (K.held link.new.sink) (S.faults link.new.source) (K.faults link.new.sink))
         (clock_told (C.faults clock.old) (C.given clock.old) (C.pace clock.old) (C.twins clock.old))

@@ -15,7 +15,7 @@ pub returns-clause-comes : goal.returns-clause-comes
 unfolding ticks
 returns-clause-comes g c =
     let ticked = told_ticks c.serve_site-2.new.clock.at c.serve_site-2.new.clock.tick c.serve_site-2.new.clock.k in
-    let comes = comes_at (g.F.Files.content c.args.files.now c.args.service.site.now) c.moment.result (min c.in-Some.at last_moment) c.serve_site-2.result
+    let comes = comes_at c.args.service.output (g.F.Files.content c.args.files.now c.args.service.site.now) c.moment.result (min c.in-Some.at last_moment) c.serve_site-2.result
     (g.L.Link.left c.args.link.now) (g.L.Link.taken c.args.link.now) (g.L.Link.left c.serve_site-2.new.link) (g.L.Link.taken c.serve_site-2.new.link)
     (g.L.Link.held c.args.link.now) (g.L.Link.held c.serve_site-2.new.link) (Some []) ticked c.moment.ensures c.serve_site-2.ensures.comes in
     rw c.in-Some.is (
@@ -23,7 +23,7 @@ returns-clause-comes g c =
       (
         ticked,
         comes,
-        moments_told (g.F.Files.content c.args.files.now c.args.service.site.now) (min c.in-Some.at last_moment) c.serve_site-2.result
+        moments_told c.args.service.output (g.F.Files.content c.args.files.now c.args.service.site.now) (min c.in-Some.at last_moment) c.serve_site-2.result
             (g.L.Link.left c.args.link.now) (g.L.Link.taken c.args.link.now) (g.L.Link.left c.serve_site-2.new.link) (g.L.Link.taken c.serve_site-2.new.link)
             (g.L.Link.held c.args.link.now) (g.L.Link.held c.serve_site-2.new.link) ticked comes,
         subst (λ (p : Option Pace). KeepsPace p ticked) c.serve_site-2.ensures.pace (told_ticks_keep c.serve_site-2.new.clock.at c.serve_site-2.new.clock.tick c.serve_site-2.new.clock.k),
