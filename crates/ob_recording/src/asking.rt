@@ -55,7 +55,7 @@ pub(crate) fn ask_entry<M: Machine<Request = Request, Reply = Obj>>(
     ensures wanting { OnErr result (Asked M.act machine.old machine.new request moment) }
 {
     moment.ms();
-    let target = request.target.as_str();
+    request.target.as_str();
     if !is_short(alloc, &request.body)? {
         return Err(AllocError);
     }

@@ -6,12 +6,12 @@ use Rattle.ob_recording.proofs.asking.ask_entry.Goals as goal
 pub returns-clause-tells : goal.returns-clause-tells
 returns-clause-tells g c = λ carried.
     let replies = c.in_ok-bytes.ensures.replies in
-    let target_short : length c.as_str-target.result.now < 2 ^ 63 = omega arith in
+    let target_short : length c.as_str.result.now < 2 ^ 63 = omega arith in
     let short : c.in_ok-is_short.field-0 ≡ true = search rules in
     let small : length c.in_ok-bytes.bytes.items < 2 ^ 63 = omega arith in
     entries_made g.M.Machine.act c.args.machine.now c.ask.new.machine c.args.request c.args.moment replies.reply c.new.result c.write_entry.result
-    (subst IsMoment c.ms.ensures.value c.ms.ensures.range) c.as_str-target.ensures.xml
-    (subst (λ (l : List ℕ). length l < 2 ^ 63) c.as_str-target.ensures.value target_short)
+    (subst IsMoment c.ms.ensures.value c.ms.ensures.range) c.as_str.ensures.xml
+    (subst (λ (l : List ℕ). length l < 2 ^ 63) c.as_str.ensures.value target_short)
     (c.in_ok-is_short.ensures carried short) replies.acts (c.new.ensures ∙ replies.text)
     (subst (λ (l : List ℕ). length l < 2 ^ 63) (sym c.new.ensures) small) c.write_entry.ensures
 
