@@ -3,3 +3,4 @@ pub mod Noted
 pub mod Worlds
 pub mod Spans
 pub mod Values
+pub mod Rows

@@ -3,6 +3,7 @@
 //! Each function states a law by its contract and does nothing.
 ghost use Rattle.ob_site_settled.specs.Ending.{StepsEnd};
 ghost use Rattle.ob_site_settled.specs.Noted.{NotesTell};
+ghost use Rattle.ob_site_settled.specs.Rows.{CountIsShown, RollingIsShown, SameSecondIsNotShown};
 ghost use Rattle.ob_site_settled.specs.Worlds.{WorldsEnd};
 
 /// A step that touches the own nodes which show themselves otherwise leaves each item of a watch as the rules of
@@ -25,4 +26,14 @@ pub fn notes_tell()
 /// Source: oBIX 1.1, chapter 12 (Watches).
 pub fn worlds_end()
     ensures { WorldsEnd }
+{}
+
+/// Worked rows, each computed from the definitions: a history of two records that gets a third shows another start,
+/// shows nothing else where all are of one second, and shows another count where it keeps all.
+///
+/// Source: oBIX 1.1, section 14.1 (History).
+pub fn worked_rows()
+    ensures rolled { RollingIsShown }
+    ensures same_second { SameSecondIsNotShown }
+    ensures counted { CountIsShown }
 {}

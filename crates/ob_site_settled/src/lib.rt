@@ -11,6 +11,6 @@ mod spans;
 mod values;
 
 pub use ending::end_step;
-pub use laws::{notes_tell, steps_end, worlds_end};
+pub use laws::{notes_tell, steps_end, worked_rows, worlds_end};
 pub use spans::{Span, shows_other_span};
 pub use values::shows_other_values;
