@@ -1,9 +1,7 @@
 -- The end of a step on a tree of own objects.
-use Rattle.std.proofs.Common.{ℕ, ◌≡◌, ◌+◌, ◌<◌, Bool, true, false, not, cond, List, [], ◌∷◌, map, length, Option, Some, option_map, refl, sym, ap, ◌∙◌, ◌++◌, take, get_or, All, arith}
+use Rattle.std.proofs.Common.{ℕ, ◌≡◌, ◌+◌, ◌<◌, Bool, true, false, not, cond, List, [], ◌∷◌, map, length, Option, Some, option_map, refl, sym, ap, ◌∙◌, arith}
 use Rattle.std.specs.Prelude.{nat_lt, slice_get, unwrap_or}
 use Rattle.std.proofs.lemmas.Bool.Decides.{nat_tests}
-use Rattle.std.proofs.lemmas.List.{take_more, map-append}
-use Rattle.std.proofs.lemmas.List.Elements.{All-get_or}
 use Rattle.ob_object.specs.Object.{parts}
 use Rattle.ob_site_rules.specs.Build.{Path}
 use Rattle.ob_site_rules.specs.State.{Plan, State}
@@ -11,25 +9,22 @@ use Rattle.ob_site_rules.specs.Shown.{dressed}
 use Rattle.ob_shown_laws.specs.Alike.{row, DifferInValues}
 use Rattle.ob_shown_laws.specs.Changed.{PathsDiffer}
 use Rattle.ob_tree.specs.Trees.{Stamped}
-use Rattle.ob_tree.specs.declared.node.NodeId.{NodeId}
 use Rattle.ob_tree.specs.LastTouch.{Begins, Touches, done, all_done}
 use Rattle.ob_tree.proofs.Within.{place_within}
 use Rattle.ob_tree_bridges.specs.Following.{is_same_watched}
 use Rattle.ob_tree_bridges.proofs.Owned.{same_count}
 use Rattle.ob_tree_bridges.proofs.Followed.{stamps_follow}
 use Rattle.ob_site_state.proofs.Noting.{got_there, head_there}
+use Rattle.ob_site_state.proofs.Stepping.{rooted}
 use Rattle.ob_watch.specs.declared.item.Tracked.{Tracked}
 use Rattle.ob_watch.specs.declared.item.Tracked.TheVariants as tracked
 use Rattle.ob_watch.specs.Items.{stamp_of}
 use Rattle.ob_watch.specs.Marks.{IsMarkPastBy, IsStampedNextBy}
 use Rattle.ob_watch.proofs.LawLemmas.{as_rules}
-use Rattle.ob_site_settled.specs.Ending.{AreChanged, after_step, IsOwnBy, StepsEnd}
+use Rattle.ob_site_state.specs.Stamping.{after_step}
+use Rattle.ob_site_settled.specs.Ending.{AreChanged, IsOwnBy, StepsEnd}
 
--- touches change neither the root nor the number of steps
-pub rooted : (ns : List ℕ) (t : Stamped) → (all_done (map Touches ns) t).root ≡ t.root
-rooted [] t = refl
-rooted (n ∷ ns) t = rooted ns (done (Touches n) t)
-
+-- touches don't change the number of steps
 pub stepped : (ns : List ℕ) (t : Stamped) → (all_done (map Touches ns) t).steps ≡ t.steps
 stepped [] t = refl
 stepped (n ∷ ns) t = stepped ns (done (Touches n) t)
@@ -77,27 +72,3 @@ steps_end plan s t values differ ns changed tree root long = record {
   root = rooted ns (done Begins tree);
   steps = stepped ns (done Begins tree);
 }
-
--- nodes that are touched one by one
-abbrev pub numbers_of : List NodeId → List ℕ
-numbers_of nodes = map (λ node. node.number) nodes
-
-touched_last : (ns : List ℕ) (n : ℕ) (t : Stamped) → all_done (map Touches (ns ++ n ∷ [])) t ≡ done (Touches n) (all_done (map Touches ns) t)
-touched_last [] n t = refl
-touched_last (m ∷ ns) n t = touched_last ns n (done (Touches m) t)
-
-pub one_within : (nodes : List NodeId) (i : ℕ) (d : NodeId) (old t : Stamped) → i < length nodes → All (λ node. node.number < parts old.root) nodes
-    → t ≡ after_step (numbers_of (take i nodes)) old → (get_or nodes i d).number < parts t.root
-one_within nodes i d old t h all so_far =
-    let root : t.root ≡ old.root = ap (λ (u : Stamped). u.root) so_far ∙ rooted (numbers_of (take i nodes)) (done Begins old) in
-    let within : (get_or nodes i d).number < parts old.root = All-get_or (λ node. node.number < parts old.root) nodes i d h all in
-    omega (arith, within, ap parts root)
-
-pub touched_next : (nodes : List NodeId) (i : ℕ) (d : NodeId) (old t u : Stamped) → i < length nodes
-    → t ≡ after_step (numbers_of (take i nodes)) old → u ≡ done (Touches (get_or nodes i d).number) t → u ≡ after_step (numbers_of (take (i + 1) nodes)) old
-touched_next nodes i d old t u h so_far next =
-    let x : NodeId = get_or nodes i d in
-    next ∙ ap (done (Touches x.number)) so_far
-    ∙ sym (touched_last (numbers_of (take i nodes)) x.number (done Begins old))
-    ∙ ap (λ (ns : List ℕ). after_step ns old)
-    (sym (ap numbers_of (take_more nodes i d h) ∙ map-append (λ (y : NodeId). y.number) (take i nodes) (x ∷ [])))

@@ -16,7 +16,8 @@ use Rattle.ob_watch.specs.Counted.{of_plan}
 use Rattle.ob_watch.specs.Flags.{flag_of, flags, flags_of}
 use Rattle.ob_watch.specs.Marks.{IsMarkPast}
 use Rattle.ob_watch.specs.Tables.{Leased, with_all_items}
-use Rattle.ob_site_settled.specs.Ending.{after_step, IsOwn, Settles}
+use Rattle.ob_site_state.specs.Stamping.{after_step}
+use Rattle.ob_site_settled.specs.Ending.{IsOwn, Settles}
 use Rattle.ob_site_settled.specs.Worlds.{AllOwn, AllMarksPast, WorldsEnd}
 use Rattle.ob_site_settled.proofs.Ends.{steps_end}
 

@@ -1,6 +1,6 @@
 -- The end of a step on a tree of own objects: one more step is counted, and the nodes that show themselves otherwise are
 -- touched. So a watch finds what it is to be told (oBIX 1.1, chapter 12, Watch.pollChanges).
-use Rattle.std.specs.Prelude.{◌≡◌, ℕ, ◌+◌, true, false, not, List, filter, length, map, Some}
+use Rattle.std.specs.Prelude.{◌≡◌, ℕ, ◌+◌, true, false, not, List, filter, length, Some}
 use Rattle.ob_object.specs.declared.head.Head.{Head}
 use Rattle.ob_object.specs.Object.{Object, parts}
 use Rattle.ob_site_rules.specs.Build.{Path}
@@ -12,7 +12,7 @@ use Rattle.ob_shown_laws.specs.Looked.{IsLeft}
 use Rattle.ob_tree.specs.Laid.{paths, head_at}
 use Rattle.ob_tree.specs.Paths.{place_of}
 use Rattle.ob_tree.specs.Trees.{Stamped}
-use Rattle.ob_tree.specs.LastTouch.{Begins, Touches, done, all_done}
+use Rattle.ob_site_state.specs.Stamping.{after_step}
 use Rattle.ob_tree_bridges.specs.Following.{AreNumbers, is_same_watched}
 use Rattle.ob_watching.specs.Watches.{settled}
 use Rattle.ob_watch.specs.declared.item.Tracked.{Tracked}
@@ -28,10 +28,6 @@ pub record AreChanged (plan : Plan) (s t : State) (ns : List ℕ) : Type 0 where
   pub looked : List Path
   pub left : (p : Path) → is_among p looked ≡ false → IsLeft plan s t p
   pub numbers : AreNumbers s.tree (filter (differs plan s t) looked) ns
-
--- a tree after one more step, which touches the objects of these numbers
-abbrev pub after_step : List ℕ → Stamped → Stamped
-after_step ns tree = all_done (map Touches ns) (done Begins tree)
 
 -- what is kept of an own node is kept under its number, and the node can be watched
 abbrev pub IsOwnBy : Object → Path → Tracked → Type 0

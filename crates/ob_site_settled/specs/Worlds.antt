@@ -15,7 +15,8 @@ use Rattle.ob_watch.specs.Flags.{flags_of}
 use Rattle.ob_watch.specs.Marks.{IsMarkPast}
 use Rattle.ob_watch.specs.Tables.{Leased, Table, with_all_items}
 use Rattle.ob_watch.specs.AsRules.{world_of}
-use Rattle.ob_site_settled.specs.Ending.{AreChanged, after_step, IsOwn}
+use Rattle.ob_site_state.specs.Stamping.{after_step}
+use Rattle.ob_site_settled.specs.Ending.{AreChanged, IsOwn}
 
 -- each item on an object names an own node that can be watched
 abbrev pub AllOwn : Object → List (ℕ × Leased) → Type 0
@@ -28,10 +29,13 @@ AllMarksPast steps ws = AllByRecursion (λ e. AllByRecursion (IsMarkPast steps) 
 -- The end of a step of the definitions is that the histories drop what they have too much of, and that the tree is stamped: the
 -- watches stay as they are. What is counted of feeds may follow, since the definitions count it by their events.
 pub record WorldEnds (plan : Plan) (s u : State) (ns : List ℕ) (tree : Stamped) (table : Table) : Type 0 where
-  pub ends : (time : ℕ) → ended (of_plan plan) s (world_of plan time u tree table) ≡ world_of plan time (roll u) (after_step ns tree) table
+  pub ends : (time : ℕ)
+      → ended (of_plan plan) s (world_of plan time u tree table) ≡ world_of plan time (roll u) (after_step ns tree) table
   pub marks : AllMarksPast (after_step ns tree).steps table.watches
-  pub events : (t : Stamped) (path : Text) (time : Instant) → flags_of t (with_all_items (one_more path time) table.watches) ≡ flags_of t table.watches
-  pub rolls : (t : Stamped) (path : Text) (gone : ℕ) → flags_of t (with_all_items (rolled_to path gone) table.watches) ≡ flags_of t table.watches
+  pub events : (t : Stamped) (path : Text) (time : Instant)
+      → flags_of t (with_all_items (one_more path time) table.watches) ≡ flags_of t table.watches
+  pub rolls : (t : Stamped) (path : Text) (gone : ℕ)
+      → flags_of t (with_all_items (rolled_to path gone) table.watches) ≡ flags_of t table.watches
 
 -- so for each step that changes values alone
 abbrev pub WorldsEnd : Type 0

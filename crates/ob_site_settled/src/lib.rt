@@ -5,12 +5,10 @@
 //! What is compared of a history and of an own object is in `specs/Spans.antt` and in ob_shown_laws (`same_values`).
 #![tactic(auto)]
 
-mod ending;
 mod laws;
 mod spans;
 mod values;
 
-pub use ending::end_step;
 pub use laws::{notes_tell, steps_end, worked_rows, worlds_end};
 pub use spans::{Span, shows_other_span};
 pub use values::shows_other_values;

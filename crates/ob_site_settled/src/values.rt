@@ -73,7 +73,8 @@ fn status_of(view: &View<'_>) -> Option<Status>
 ///
 /// Source: oBIX 1.1, chapter 7 (Contracts).
 pub fn shows_other_values<'a>(standing: &Standing<'a>, before: &'a Obj, now: &'a Obj) -> bool
-    ensures { result ≡ not (same_values (head_in (context standing.now) before.now.head) (head_in (context standing.now) now.now.head)) }
+    ensures { result ≡ not
+        (same_values (head_in (context standing.now) before.now.head) (head_in (context standing.now) now.now.head)) }
 {
     let before = standing.view(before);
     let now = standing.view(now);

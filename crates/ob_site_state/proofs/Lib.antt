@@ -10,3 +10,4 @@ pub mod Storing
 pub mod Recording
 pub mod Aligned
 pub mod Rules
+pub mod Stepping

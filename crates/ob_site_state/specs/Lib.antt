@@ -5,3 +5,4 @@ pub mod Codes
 pub mod Contents
 pub mod Tallies
 pub mod States
+pub mod Stamping

@@ -1,5 +1,5 @@
 //! What changes of a site: its library, its own objects, the logs of its histories and its alarms.
-ghost use Rattle.std.specs.Prelude.{◌≡◌, ℕ, List, Option, ◌<◌, ◌≤◌, ◌+◌, ◌^◌, [], Bool, true, false, map, length, slice_get, Some, option_map, IsTrue, IfOk, OnOk, OnErr};
+ghost use Rattle.std.specs.Prelude.{◌≡◌, ℕ, All, ◌-◌, List, Option, ◌<◌, ◌≤◌, ◌+◌, ◌^◌, [], Bool, true, false, map, length, slice_get, Some, option_map, IsTrue, IfOk, OnOk, OnErr};
 ghost use Rattle.ob_object.specs.declared.head.Head.{Head};
 ghost use Rattle.ob_object.specs.Fits.{fits_slot};
 ghost use Rattle.ob_object.specs.Object.{parts};
@@ -12,8 +12,10 @@ ghost use Rattle.ob_site_rules.specs.State.{Log as SiteLog, with_board};
 ghost use Rattle.ob_site_rules.specs.Writes.{events_ever, with_record};
 ghost use Rattle.ob_site_state.specs.Changes.{undone, rewound, settled_by, settled_all, with_log, CanUndo, CanRewind, IsPlaced, AddsEvent, HasEvents, is_turn, is_done};
 ghost use Rattle.ob_site_state.specs.Contents.{state_in, SameRest};
+ghost use Rattle.ob_site_state.specs.Stamping.{after_step};
 
 use crate::change::Change;
+use crate::ending::end_step;
 use crate::logs::{cut_at, record_at, settle_at};
 use ob_alarms::{AckResult, Alarms, Num, Turned};
 use ob_contracts::Library;
@@ -215,5 +217,17 @@ impl Contents {
         for change in found {
             self.settle_by(change);
         }
+    }
+
+    /// Counts one more step of the tree, and stamps each of these nodes and all that is round it with its number.
+    pub(crate) fn stamp(&mut self, changed: &[NodeId])
+        requires few { self.old.tree.steps < 2 ^ 64 - 1 }
+        requires within { All (λ node. node.number < parts self.old.tree.root) changed.now }
+        ensures same { state_in self.new ≡ state_in self.old }
+        ensures tree { self.new.tree ≡ after_step (map (λ node. node.number) changed.now) self.old.tree }
+        ensures root { self.new.board.root ≡ self.old.board.root }
+        ensures rules { self.new.board.rules ≡ self.old.board.rules }
+    {
+        end_step(&mut self.tree, changed);
     }
 }

@@ -6,6 +6,7 @@
 
 mod change;
 mod contents;
+mod ending;
 mod logs;
 mod roles;
 mod state;
@@ -13,4 +14,5 @@ mod tally;
 
 pub use change::Change;
 pub use contents::Contents;
+pub use ending::end_step;
 pub use state::State;

@@ -1,5 +1,5 @@
 //! The state of a site in place.
-ghost use Rattle.std.specs.Prelude.{◌≡◌, ℕ, List, Option, is_none, nat_lt, true, false, ◌<◌, ◌≤◌, ◌+◌, ◌^◌, [], None, max, map, option_map, length, slice_get, Some, IsTrue, IfOk, OnOk, OnErr};
+ghost use Rattle.std.specs.Prelude.{◌≡◌, ℕ, All, ◌-◌, List, Option, is_none, nat_lt, true, false, ◌<◌, ◌≤◌, ◌+◌, ◌^◌, [], None, max, map, option_map, length, slice_get, Some, IsTrue, IfOk, OnOk, OnErr};
 ghost use Rattle.ob_times.specs.Times.{moment_instant};
 ghost use Rattle.ob_object.specs.declared.head.Head.{Head};
 ghost use Rattle.ob_object.specs.Fits.{fits_slot};
@@ -19,7 +19,8 @@ ghost use Rattle.ob_opened.specs.Laws.{Apart};
 ghost use Rattle.ob_site_rules.specs.Shown.{rule_of};
 ghost use Rattle.ob_state.specs.Fitting.{TakesIfRule};
 ghost use Rattle.ob_site_state.specs.Recorded.{recorded_at, TakesRecord};
-ghost use Rattle.ob_site_state.specs.Changes.{with_log, HasEvents};
+ghost use Rattle.ob_site_state.specs.Changes.{with_log, rewound, CanRewind, HasEvents};
+ghost use Rattle.ob_site_state.specs.Stamping.{stamped_by};
 ghost use Rattle.ob_site_state.specs.Kept.{keys, log_of, LogsAreBy, IsNode, IsSoundFor};
 ghost use Rattle.ob_site_state.specs.Contents.{state_in};
 ghost use Rattle.ob_site_state.specs.Tallies.{capacities_of};
@@ -208,6 +209,16 @@ impl State {
         let _ = &self.time;
     }
 
+    /// What the step has changed so far, each as it was before, in order.
+    pub fn changes(&self) -> &[Change]
+        ensures before { rewound result.now self.now.now ≡ self.now.before }
+        ensures can { CanRewind result.now self.now.now }
+        ensures rolled { roll self.now.before ≡ self.now.before }
+        ensures sound { IsSoundFor self.now.plan self.now.before }
+    {
+        &self.found
+    }
+
     /// The time: the moment of the last step, or of this one.
     pub fn time(&self) -> Moment
         ensures { result ≡ self.now.time }
@@ -316,6 +327,14 @@ impl State {
         stored.saturating_add(more) > 1_000_000
     }
 
+    /// How many records the history of a place keeps, if not all.
+    pub fn capacity(&self, place: usize) -> Option<u64>
+        requires { place < length self.now.now.logs }
+        ensures { (l : Path × SiteLog) → slice_get self.now.now.logs place ≡ Some l → result ≡ l.1.capacity }
+    {
+        self.tally.capacities[place]
+    }
+
     /// Whether the history of a place keeps all its records.
     pub fn keeps_all(&self, place: usize) -> bool
         requires { place < length self.now.now.logs }
@@ -404,6 +423,17 @@ impl State {
         self.contents.take_all_back(&mut self.found);
         self.time = self.since;
         self.tally.total = self.tally.total_before;
+    }
+
+    /// Counts one more step, and stamps each of these nodes and all that is round it with its number. It takes no memory.
+    ///
+    /// Source: oBIX 1.1, chapter 12 (Watch.pollChanges); that a number stands for a flag is this profile's own.
+    pub fn stamp(&mut self, changed: &[NodeId])
+        requires few { self.old.steps < 2 ^ 64 - 1 }
+        requires within { All (λ node. node.number < parts self.old.now.tree) changed.now }
+        ensures { self.new ≡ stamped_by (map (λ node. node.number) changed.now) self.old }
+    {
+        self.contents.stamp(changed);
     }
 
     /// Ends the step: each history drops its oldest records, down to its capacity, and what the step has changed

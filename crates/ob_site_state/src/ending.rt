@@ -1,7 +1,7 @@
 //! The end of a step on a tree.
 ghost use Rattle.std.specs.Prelude.{◌≡◌, ◌<◌, ◌-◌, ◌^◌, All, map};
 ghost use Rattle.ob_object.specs.Object.{parts};
-ghost use Rattle.ob_site_settled.specs.Ending.{after_step};
+ghost use Rattle.ob_site_state.specs.Stamping.{after_step};
 
 use ob_tree::{NodeId, Tree};
 
