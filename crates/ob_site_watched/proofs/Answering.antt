@@ -1,7 +1,7 @@
 -- What marks are left of a watch is what the definitions leave of its flags.
-use Rattle.std.proofs.Common.{◌≡◌, ℕ, suc, ◌+◌, ◌*◌, ◌<◌, ◌≤◌, ◌==◌, Bool, true, false, cond, not, ◌&&◌, List, [], ◌∷◌, map, Option, Some, None, Result, Ok, Err, refl, sym, ap, ◌∙◌, subst, arith}
-use Rattle.std.specs.Prelude.{option_map, option_and_then, nat_le, nat_eq, is_none}
-use Rattle.std.specs.List.{AllByRecursion, IsDistinct, filter, list_all}
+use Rattle.std.proofs.Common.{◌≡◌, ℕ, ◌+◌, ◌*◌, ◌==◌, Bool, true, false, cond, not, List, [], ◌∷◌, map, Option, Some, None, Result, Ok, Err, refl, sym, ap, ◌∙◌, subst, arith}
+use Rattle.std.specs.Prelude.{option_map, nat_le, nat_eq}
+use Rattle.std.specs.List.{AllByRecursion, IsDistinct}
 use Rattle.std.proofs.lemmas.Map.Keys.{IsDistinct-head, IsDistinct-tail}
 use Rattle.std.proofs.lemmas.Bool.Decides.{Decides-eqb, nat_tests}
 use Rattle.ob_object.specs.Object.{Object as Node}
@@ -22,7 +22,7 @@ use Rattle.ob_site_state.specs.declared.contents.Contents.{Contents}
 use Rattle.ob_site_state.specs.Contents.{state_in}
 use Rattle.ob_tree.specs.Trees.{Stamped}
 use Rattle.ob_watch.specs.declared.item.Item.{Item}
-use Rattle.ob_watch.specs.AsRules.{LapsesCommute, ItemsAgree, ReportsAgree, TablesAgree, world_of}
+use Rattle.ob_watch.specs.AsRules.{world_of}
 use Rattle.ob_watch.specs.Counted.{of_plan}
 use Rattle.ob_watch.specs.Flags.{flagged, flags, flags_of}
 use Rattle.ob_watch.specs.Items.{reported_at}
@@ -31,7 +31,7 @@ use Rattle.ob_watch.specs.Tables.{IsLease, Leased, Table, holding, is_over, laps
 use Rattle.ob_watch.proofs.LawLemmas.{items_agree, lapses_commute, reports_agree, tables_agree}
 use Rattle.ob_site_watched.specs.Answers.{AllKnown, IsDone, IsReply}
 use Rattle.ob_site_watched.specs.Known.{AreKnown}
-use Rattle.ob_site_watched.specs.Leaving.{is_add, leased_if, leaving, marks_after}
+use Rattle.ob_site_watched.specs.Leaving.{is_add, leased_if, marks_after}
 
 abbrev Numbered : Type 0
 Numbered = List (ℕ × Leased)

@@ -1,31 +1,27 @@
 -- What has changed of items, one after the other.
-use Rattle.std.proofs.Common.{◌≡◌, ℕ, zero, suc, ◌-◌, ◌+◌, ◌<◌, Bool, true, false, List, [], ◌∷◌, ◌++◌, map, length, take, get_or, Some, None, refl, sym, ap, ◌∙◌, subst, append_assoc, arith}
+use Rattle.std.proofs.Common.{◌≡◌, ℕ, zero, suc, ◌-◌, ◌+◌, ◌<◌, true, false, List, [], ◌∷◌, ◌++◌, map, length, take, get_or, Some, None, refl, sym, ap, ◌∙◌, subst, append_assoc, arith}
 use Rattle.std.specs.Prelude.{option_to_list, option_map, Option}
 use Rattle.std.specs.List.{filter, AllByRecursion}
 use Rattle.std.proofs.lemmas.List.{append-nil, map-append, take_more}
 use Rattle.ob_object.specs.Object.{Object as Node, parts}
 use Rattle.ob_tree.specs.Laid.{paths}
 use Rattle.ob_tree.specs.Paths.{place_of}
-use Rattle.ob_tree.specs.Trees.{Stamped}
 use Rattle.ob_tree.proofs.Within.{place_within}
 use Rattle.ob_history.specs.declared.records.Filter.{Filter}
 use Rattle.ob_watching.specs.Sites.{Site}
 use Rattle.ob_watching.specs.Watches.{TrackedOf, Item as Flagged, Object, Feed, since, changes, changes_of, lists_some}
 use Rattle.ob_site_rules.specs.Build.{Text, Path, under_href}
 use Rattle.ob_site_rules.specs.State.{Plan, State}
-use Rattle.ob_site_rules.specs.Replies.{Reading, content_object, entry}
+use Rattle.ob_site_rules.specs.Replies.{content_object, entry}
 use Rattle.ob_site_state.specs.declared.contents.Contents.{Contents}
 use Rattle.ob_site_state.specs.Contents.{state_in}
-use Rattle.ob_watch.specs.declared.item.Tracked.{Tracked}
-use Rattle.ob_watch.specs.declared.item.Tracked.TheVariants as kept
 use Rattle.ob_watch.specs.declared.item.Item.{Item}
-use Rattle.ob_watch.specs.Counted.{of_plan, IsCounted}
+use Rattle.ob_watch.specs.Counted.{of_plan}
 use Rattle.ob_watch.specs.Flags.{flags, flag_of}
-use Rattle.ob_watch.specs.Items.{is_due, is_due_by}
-use Rattle.ob_watch.specs.AsRules.{ReportsAgree}
+use Rattle.ob_watch.specs.Items.{is_due}
 use Rattle.ob_watch.proofs.LawLemmas.{reports_agree}
 use Rattle.ob_site_watched.specs.Entries.{all_changes, changes_in}
-use Rattle.ob_site_watched.specs.Known.{IsKnown, IsPlacedBy, AreKnown}
+use Rattle.ob_site_watched.specs.Known.{IsKnown}
 
 -- a node that is found at a path is one of the tree
 pub placed_within : (o : Node) (p : Path) (n : ℕ) → place_of p (paths o) ≡ Some n → n < parts o

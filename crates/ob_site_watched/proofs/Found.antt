@@ -1,5 +1,5 @@
 -- What hrefs are added as.
-use Rattle.std.proofs.Common.{◌≡◌, ℕ, List, Some, Result, Ok, Err, refl, sym, ap, ap₂, ◌∙◌, subst}
+use Rattle.std.proofs.Common.{◌≡◌, ℕ, List, Some, refl, sym, ap, ◌∙◌, subst}
 use Rattle.ob_object.specs.Object.{Object as Node}
 use Rattle.ob_tree.specs.Laid.{paths}
 use Rattle.ob_tree.specs.Paths.{place_of}
@@ -7,7 +7,7 @@ use Rattle.ob_tree.specs.declared.node.NodeId.{NodeId}
 use Rattle.ob_history.specs.declared.records.Filter.{Filter}
 use Rattle.ob_watching.specs.Asked.{ObjectAt, FeedAt, Refuses}
 use Rattle.ob_watching.specs.Sites.{Site}
-use Rattle.ob_watching.specs.Watches.{Item as Flagged, ItemOf, add_found, added, count}
+use Rattle.ob_watching.specs.Watches.{Item as Flagged, add_found, added, count}
 use Rattle.ob_site_rules.specs.Build.{Path, Text}
 use Rattle.ob_site_rules.specs.Faults.{err}
 use Rattle.ob_site_rules.specs.Locating.{locate}
@@ -20,15 +20,13 @@ use Rattle.ob_answers.specs.Told as told
 use Rattle.ob_site_state.specs.declared.contents.Contents.{Contents}
 use Rattle.ob_site_state.specs.Contents.{state_in}
 use Rattle.ob_watch.specs.declared.item.Item.{Item}
-use Rattle.ob_watch.specs.AsRules.{CountsStay, ReportsAgree}
-use Rattle.ob_watch.specs.Counted.{of_plan, IsCounted}
-use Rattle.ob_watch.specs.Flags.{flags}
+use Rattle.ob_watch.specs.Counted.{of_plan}
 use Rattle.ob_watch.specs.Items.{feed_item, object_item}
 use Rattle.ob_watch.specs.Marks.{AreStampsPast}
 use Rattle.ob_watch.proofs.LawLemmas.{counts_stay, reports_agree}
 use Rattle.ob_site_watched.specs.declared.offering.Offer.TheVariants as offer
 use Rattle.ob_site_watched.specs.Entries.{reading_entry}
-use Rattle.ob_site_watched.specs.Offered.{IsFor, IsItemFor, IsOffered, IsRefusedFor, refused_entry}
+use Rattle.ob_site_watched.specs.Offered.{IsItemFor, IsOffered, IsRefusedFor, refused_entry}
 
 module _ (plan : Plan) (c : Contents) where
   abbrev m : Site

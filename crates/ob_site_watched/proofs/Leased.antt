@@ -1,5 +1,5 @@
 -- A lease that can be asked for.
-use Rattle.std.proofs.Common.{◌≡◌, ℕ, ◌≤◌, ℤ, pos, negsuc, Bool, true, false, cond, ◌&&◌, Some, None, Option, Result, Ok, Err, refl, sym, ap, ◌∙◌, subst, arith}
+use Rattle.std.proofs.Common.{◌≡◌, ℕ, ℤ, pos, negsuc, Bool, true, false, cond, ◌&&◌, Some, None, Option, Result, Ok, Err, refl, sym, subst, arith}
 use Rattle.std.specs.Prelude.{nat_le}
 use Rattle.std.specs.Ordering.{int_eq}
 use Rattle.std.proofs.lemmas.Bool.Decides.{nat_tests}

@@ -2,7 +2,6 @@
 use Rattle.std.proofs.Common.{◌≡◌, ◌⊎◌, inl, inr, ℕ, ◌==◌, Bool, true, false, cond, List, [], ◌∷◌, Option, Some, None, Result, Ok, Err, refl, sym, ap, ◌∙◌, subst}
 use Rattle.std.specs.Prelude.{option_map, option_and_then}
 use Rattle.ob_watching.specs.Tables.{lookup, replace}
-use Rattle.ob_watch.specs.AsRules.{LapsesCommute}
 use Rattle.ob_watch.specs.Tables.{Leased, Table, at_number, holding, leased_for}
 use Rattle.ob_site_rules.specs.Faults.{Fault}
 use Rattle.ob_site_rules.specs.Watched.{WatchOperation}

@@ -2,16 +2,15 @@
 use Rattle.std.proofs.Common.{◌≡◌, ℕ, Bool, true, false, cond, sym, ap, ◌∙◌}
 use Rattle.ob_object.specs.Object.{Object}
 use Rattle.ob_tree.specs.Trees.{Stamped}
-use Rattle.ob_watching.specs.Asked.{Refused, Told, NewWatch}
+use Rattle.ob_watching.specs.Asked.{Refused, Told}
 use Rattle.ob_watching.specs.Sites.{Site}
-use Rattle.ob_watching.specs.Watches.{World, Reply, acted, first_lease, is_full, made}
+use Rattle.ob_watching.specs.Watches.{World, Reply, first_lease, is_full, made}
 use Rattle.ob_site_rules.specs.Computed.{watch_part_object}
-use Rattle.ob_site_rules.specs.declared.request.Request.{Request}
 use Rattle.ob_site_rules.specs.Faults.{TooManyWatches, err}
 use Rattle.ob_site_rules.specs.Paths.{Whole}
 use Rattle.ob_site_rules.specs.Replies.{sent}
 use Rattle.ob_site_rules.specs.State.{Plan, State}
-use Rattle.ob_watch.specs.AsRules.{LapsesCommute, TablesAgree, world_of}
+use Rattle.ob_watch.specs.AsRules.{world_of}
 use Rattle.ob_watch.specs.Counted.{of_plan}
 use Rattle.ob_watch.specs.Tables.{Table, has_no_place, lapsed_at, with_new}
 use Rattle.ob_watch.proofs.LawLemmas.{lapses_commute, tables_agree}

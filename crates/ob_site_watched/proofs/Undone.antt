@@ -5,7 +5,6 @@ use Rattle.std.specs.List.{IsDistinct}
 use Rattle.std.proofs.lemmas.Bool.Decides.{Decides-eqb}
 use Rattle.std.proofs.lemmas.Map.Keys.{IsDistinct-head, IsDistinct-tail}
 use Rattle.ob_watching.specs.Tables.{lookup, numbers_of, replace}
-use Rattle.ob_watch.specs.AsRules.{LapsesCommute}
 use Rattle.ob_watch.specs.Tables.{Leased, Table, at_number, holding, watching}
 use Rattle.ob_watch.proofs.LawLemmas.{lapses_commute}
 use Rattle.ob_watch.proofs.TableLemmas.{elsewhere, none_replaced}

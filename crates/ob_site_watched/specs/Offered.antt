@@ -1,12 +1,11 @@
 -- An href that is asked for, before it is added.
-use Rattle.std.specs.Prelude.{◌≡◌, ℕ, true, is_some, List, map, Option, Some, None, Result, Ok, Err}
+use Rattle.std.specs.Prelude.{◌≡◌, ℕ, true, is_some, List, Option, Result, Ok, Err}
 use Rattle.ob_object.specs.Object.{Object}
 use Rattle.ob_tree.specs.Laid.{paths}
 use Rattle.ob_tree.specs.Paths.{place_of}
-use Rattle.ob_watching.specs.Asked.{ObjectAt, FeedAt, NotFound, Refuses}
+use Rattle.ob_watching.specs.Asked.{ObjectAt, Refuses}
 use Rattle.ob_watching.specs.Watches.{Item as Flagged, add_found, added, reading}
-use Rattle.ob_history.specs.declared.records.Filter.{Filter}
-use Rattle.ob_site_rules.specs.Build.{Path, Text}
+use Rattle.ob_site_rules.specs.Build.{Text}
 use Rattle.ob_site_rules.specs.Faults.{err}
 use Rattle.ob_site_rules.specs.Faults as faults
 use Rattle.ob_site_rules.specs.Locating.{locate}
