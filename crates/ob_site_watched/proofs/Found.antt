@@ -1,5 +1,6 @@
 -- What hrefs are added as.
-use Rattle.std.proofs.Common.{◌≡◌, ℕ, List, Some, refl, sym, ap, ◌∙◌, subst}
+use Rattle.std.proofs.Common.{◌≡◌, ℕ, ◌+◌, ◌<◌, List, [], ◌∷◌, ◌++◌, length, take, get_or, Some, refl, sym, ap, ◌∙◌, subst}
+use Rattle.std.proofs.lemmas.List.{take_more}
 use Rattle.ob_object.specs.Object.{Object as Node}
 use Rattle.ob_tree.specs.Laid.{paths}
 use Rattle.ob_tree.specs.Paths.{place_of}
@@ -24,9 +25,10 @@ use Rattle.ob_watch.specs.Counted.{of_plan}
 use Rattle.ob_watch.specs.Items.{feed_item, object_item}
 use Rattle.ob_watch.specs.Marks.{AreStampsPast}
 use Rattle.ob_watch.proofs.LawLemmas.{counts_stay, reports_agree}
+use Rattle.ob_site_watched.specs.declared.offering.Offer.{Offer}
 use Rattle.ob_site_watched.specs.declared.offering.Offer.TheVariants as offer
 use Rattle.ob_site_watched.specs.Entries.{reading_entry}
-use Rattle.ob_site_watched.specs.Offered.{IsItemFor, IsOffered, IsRefusedFor, refused_entry}
+use Rattle.ob_site_watched.specs.Offered.{AreOffered, IsItemFor, IsOffered, IsRefusedFor, refused_entry}
 
 module _ (plan : Plan) (c : Contents) where
   abbrev m : Site
@@ -67,3 +69,17 @@ module _ (plan : Plan) (c : Contents) where
       here : (items : List (Flagged m)) → add_found m s items asked.0 (there ns asked) ≡ (items, record { text = asked.0; content = Refuses (err (told.fault fault)) })
       here items = subst (λ (g : SiteFound). add_found m s items asked.0 g ≡ (items, record { text = asked.0; content = Refuses (err (told.fault fault)) })) same_found
           (subst (λ (x : Text). add_found m s items x f ≡ (items, record { text = x; content = Refuses (err (told.fault fault)) })) same_text (is items))
+
+  offered_push : (ns : List ℕ) (asked : List Asked) (offers : List Offer) (a : Asked) (o : Offer) → AreOffered plan c ns asked offers → IsOffered plan c ns a o
+      → AreOffered plan c ns (asked ++ a ∷ []) (offers ++ o ∷ [])
+  offered_push ns [] [] a o all one = (one, record {})
+  offered_push ns [] (x ∷ offers) a o all one = absurd all
+  offered_push ns (b ∷ asked) [] a o all one = absurd all
+  offered_push ns (b ∷ asked) (x ∷ offers) a o all one = (all.0, offered_push ns asked offers a o all.1 one)
+
+  -- one more is offered
+  pub offered_more : (ns : List ℕ) (all : List Asked) (k : ℕ) (a : Asked) (offers : List Offer) (o : Offer) → k < length all → a ≡ get_or all k a
+      → AreOffered plan c ns (take k all) offers → IsOffered plan c ns a o → AreOffered plan c ns (take (k + 1) all) (offers ++ o ∷ [])
+  offered_more ns all k a offers o l at so_far one =
+      subst (λ (asked : List Asked). AreOffered plan c ns asked (offers ++ o ∷ [])) (sym (take_more all k a l ∙ ap (λ b. take k all ++ b ∷ []) (sym at)))
+      (offered_push ns (take k all) offers a o so_far one)

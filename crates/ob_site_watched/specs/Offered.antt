@@ -1,5 +1,5 @@
 -- An href that is asked for, before it is added.
-use Rattle.std.specs.Prelude.{◌≡◌, ℕ, true, is_some, List, Option, Result, Ok, Err}
+use Rattle.std.specs.Prelude.{◌≡◌, ℕ, true, is_some, List, [], ◌∷◌, Option, Result, Ok, Err}
 use Rattle.ob_object.specs.Object.{Object}
 use Rattle.ob_tree.specs.Laid.{paths}
 use Rattle.ob_tree.specs.Paths.{place_of}
@@ -61,3 +61,10 @@ IsOffered plan c numbers asked (offer.Item item o) =
     IsItemFor plan c asked.0 (found locate plan (state_in c) numbers asked.0 asked.1) item × (o ≡ entry (reading (of_plan plan) (state_in c) (flags c.tree item)))
 IsOffered plan c numbers asked (offer.Refused o) =
     (items : List (Flagged (of_plan plan))) → IsLeft items (add_found (of_plan plan) (state_in c) items asked.0 (found locate plan (state_in c) numbers asked.0 asked.1)) o
+
+-- what each of these hrefs is to be added as
+abbrev pub AreOffered : Plan → Contents → List ℕ → List Asked → List Offer → Type 0
+AreOffered plan c numbers [] [] = Unit {0}
+AreOffered plan c numbers [] (o ∷ os) = ⊥
+AreOffered plan c numbers (a ∷ asked) [] = ⊥
+AreOffered plan c numbers (a ∷ asked) (o ∷ os) = IsOffered plan c numbers a o × AreOffered plan c numbers asked os

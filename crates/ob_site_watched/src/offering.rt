@@ -5,8 +5,8 @@ ghost use Rattle.ob_answers.specs.Told as told;
 ghost use Rattle.ob_site_places.specs.Complete.{IsComplete};
 ghost use Rattle.ob_site_state.specs.Contents.{state_in};
 ghost use Rattle.ob_watch.specs.Marks.{AreStampsPast};
-ghost use Rattle.ob_watch_calls.specs.Calls.{found as found_of};
-ghost use Rattle.ob_site_watched.specs.Offered.{IsFor, IsOffered, IsOwnFound, WatchedAreOwn, refused_entry};
+ghost use Rattle.ob_watch_calls.specs.Calls.{firsts as firsts_of, found as found_of};
+ghost use Rattle.ob_site_watched.specs.Offered.{AreOffered, IsFor, IsOffered, IsOwnFound, WatchedAreOwn, refused_entry};
 
 use crate::entries::reading;
 use ob_answers::{Fault, Plan, entry, refusal};
@@ -15,7 +15,7 @@ use ob_site_reads::{count_at, found};
 use ob_site_state::Contents;
 use ob_values::Text;
 use ob_watch::Item;
-use ob_watch_calls::{Asked, Found};
+use ob_watch_calls::{Asked, Found, firsts};
 use std::alloc::{AllocError, Global};
 
 /// An href that is asked for: the item that it is to be added as, and its entry, or the entry of its refusal.
@@ -89,4 +89,28 @@ pub fn offered(
             Ok(Offer::Refused(entry))
         }
     }
+}
+
+/// What each of the first of equal hrefs is to be added as, in their order. An error only for want of memory.
+///
+/// Source: oBIX 1.1, chapter 12 (Watch.add).
+pub fn offers(
+    alloc: Global,
+    plan: &Plan,
+    contents: &Contents,
+    numbers: &[u64],
+    asked: &[Asked],
+) -> Result<Vec<Offer>, AllocError>
+    requires complete { IsComplete (plan_of plan.now) contents.now }
+    requires past { AreStampsPast contents.now.tree }
+    requires own { WatchedAreOwn (plan_of plan.now) (state_in contents.now) }
+    ensures { IfOk result (λ offers. AreOffered (plan_of plan.now) contents.now numbers.now (firsts_of asked.now) offers.items) }
+{
+    let firsts = firsts(alloc, asked)?;
+    let mut offers = Vec::new(alloc);
+    for a in &firsts {
+        let offer = offered(alloc, plan, contents, numbers, a)?;
+        offers.push(offer)?;
+    }
+    Ok(offers)
 }
