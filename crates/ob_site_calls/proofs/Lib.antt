@@ -1,0 +1,3 @@
+pub mod Acked
+pub mod Pointed
+pub mod Valued

@@ -1,0 +1,119 @@
+-- What is shown of an own node is of its kind.
+use Rattle.std.proofs.Common.{◌≡◌, ℕ, zero, suc, ◌-◌, ◌<◌, ◌≤◌, Bool, true, false, cond, List, [], ◌∷◌, ◌++◌, length, map, Option, Some, None, option_map, refl, sym, ap, ◌∙◌, subst, arith}
+use Rattle.std.specs.Prelude.{is_some, slice_get, nat_lt, option_and_then}
+use Rattle.std.proofs.lemmas.Bool.{ltb-true, ltb-false}
+use Rattle.ob_object.specs.declared.kind.Kind.{Kind}
+use Rattle.ob_object.specs.declared.head.Head.{Head}
+use Rattle.ob_object.specs.Object.{Objects, none, node, Object, count}
+use Rattle.ob_contracts.specs.Inherit.{Contracts, Words, result_of, effective_of}
+use Rattle.ob_history.specs.Records.{is_value_kind}
+use Rattle.ob_standing.specs.Contexts.{Context, comes_to}
+use Rattle.ob_shown_laws.specs.Alike.{row}
+use Rattle.ob_shown_laws.specs.Own.{dressed_own}
+use Rattle.ob_shown_laws.proofs.Looking.{at_path}
+use Rattle.ob_site_rules.specs.Build.{Path}
+use Rattle.ob_site_rules.specs.State.{Plan, State, is_path, source_of}
+use Rattle.ob_site_rules.specs.Shown.{node_path, node_of, rule_of, with_status, with_status_at, with_status_by, shown}
+use Rattle.ob_state.specs.States.{NodesAre, IsOfKindAt}
+use Rattle.ob_state.proofs.ShownKinds.{good_nodes, found_kind}
+use Rattle.ob_tree.specs.Laid.{heads, heads_of, head_at, paths}
+use Rattle.ob_tree.specs.Paths.{place_of}
+use Rattle.ob_tree.specs.Shown.{part_at, standing_at}
+use Rattle.ob_tree.proofs.Changing.{length-heads, got_left, got_right}
+use Rattle.ob_tree_bridges.specs.OwnTree.{own_shown_at}
+use Rattle.ob_tree_bridges.proofs.Owned.{own_trees_tell, part_there}
+use Rattle.ob_site_state.proofs.Noting.{head_there}
+use Rattle.ob_site_written.proofs.Taking.{node_within}
+use Rattle.ob_site_writes.proofs.Nowhere.{is_there}
+use Rattle.ob_site_calls.specs.Sources.{PointsHaveValues}
+
+-- what stands at a place has the path
+placed_by : (p : Path) (g h : Head) (hs : List Head) (b : Bool) (o : Option ℕ) (n : ℕ) → is_path p (node_path g) ≡ b → cond b (Some 0) (option_map suc o) ≡ Some n → slice_get (g ∷ hs) n ≡ Some h
+    → ((m : ℕ) → o ≡ Some m → slice_get hs m ≡ Some h → is_path p (node_path h) ≡ true) → is_path p (node_path h) ≡ true
+placed_by p g h hs true o n is e f later =
+    let here : 0 ≡ n = cc in
+    let first : slice_get (g ∷ hs) 0 ≡ Some h = ap (λ (m : ℕ). slice_get (g ∷ hs) m) here ∙ f in
+    let same : g ≡ h = cc in
+    ap (λ (x : Head). is_path p (node_path x)) (sym same) ∙ is
+placed_by p g h hs false None n is e f later = absurd cc
+placed_by p g h hs false (Some m) n is e f later =
+    let next : suc m ≡ n = cc in
+    later m refl (ap (λ (k : ℕ). slice_get (g ∷ hs) k) next ∙ f)
+
+placed : (p : Path) (hs : List Head) (n : ℕ) (h : Head) → place_of p (map node_path hs) ≡ Some n → slice_get hs n ≡ Some h → is_path p (node_path h) ≡ true
+placed p [] n h e f = absurd cc
+placed p (g ∷ hs) n h e f = placed_by p g h hs (is_path p (node_path g)) (place_of p (map node_path hs)) n refl e f (λ m at is. placed p hs m h at is)
+
+-- nodes at one path are of one kind, by their numbers too
+abbrev IsOf : (Path → Kind) → Head → Type 0
+IsOf kind_at h = IsOfKindAt kind_at (node_path h) h.kind
+
+kind_by : (kind_at : Path → Kind) (h : Head) (inner rest : Objects) (n : ℕ) (b : Bool) → nat_lt n (count inner) ≡ b → slice_get (heads inner ++ heads rest) n ≡ Some h
+    → ((m : ℕ) → slice_get (heads inner) m ≡ Some h → IsOf kind_at h) → ((m : ℕ) → slice_get (heads rest) m ≡ Some h → IsOf kind_at h) → IsOf kind_at h
+kind_by kind_at h inner rest n true lt e left right =
+    let within : n < length (heads inner) = omega (arith, ltb-true n (count inner) lt, length-heads inner) in
+    left n (sym (got_left (heads inner) (heads rest) n within) ∙ e)
+kind_by kind_at h inner rest n false lt e left right =
+    let past : length (heads inner) ≤ n = omega (arith, ltb-false n (count inner) lt, length-heads inner) in
+    right (n - length (heads inner)) (sym (got_right (heads inner) (heads rest) n past) ∙ e)
+
+kind_in : (kind_at : Path → Kind) (r : Objects) (n : ℕ) (h : Head) → NodesAre kind_at r → slice_get (heads r) n ≡ Some h → IsOf kind_at h
+kind_in kind_at none n h kinds e = absurd cc
+kind_in kind_at (node g inner rest) zero h kinds e =
+    let same : g ≡ h = cc in
+    subst (IsOf kind_at) same kinds.0
+kind_in kind_at (node g inner rest) (suc n) h kinds e =
+    kind_by kind_at h inner rest n (nat_lt n (count inner)) refl e (λ m at. kind_in kind_at inner m h kinds.1 at) (λ m at. kind_in kind_at rest m h kinds.2 at)
+
+kind_of_place : (kind_at : Path → Kind) (o : Object) (p : Path) (n : ℕ) (h : Head) → NodesAre kind_at (row o) → place_of p (paths o) ≡ Some n → head_at n o ≡ Some h → h.kind ≡ kind_at p
+kind_of_place kind_at o p n h kinds place is =
+    subst (λ (q : Option Path). IsOfKindAt kind_at q h.kind) (at_path p (node_path h) (placed p (heads_of o) n h place is)) (go n is)
+  where
+    go : (n : ℕ) → head_at n o ≡ Some h → IsOf kind_at h
+    go zero e =
+        let same : o.head ≡ h = cc in
+        subst (IsOf kind_at) same kinds.0
+    go (suc n) e = kind_in kind_at o.inner n h kinds.1 e
+
+-- an object comes to one of its kind
+status_by : (plan : Plan) (s : State) (h : Head) (r : Option ℕ) → (with_status_by plan s h r).kind ≡ h.kind
+status_by plan s h None = refl
+status_by plan s h (Some rule) = refl
+
+status_at : (plan : Plan) (s : State) (h : Head) (q : Option Path) → (with_status_at plan s h q).kind ≡ h.kind
+status_at plan s h None = refl
+status_at plan s h (Some p) = status_by plan s h (rule_of plan p)
+
+effective_kind : (lib : Contracts) (o : Object) (implied : Option Words) (over : Option Object) → (effective_of lib o implied over).head.kind ≡ o.head.kind
+unfolding result_of
+effective_kind lib o implied over = refl
+
+comes_to_kind : (plan : Plan) (s : State) (c : Context) (x : Object) → (comes_to c (dressed_own plan s x)).head.kind ≡ x.head.kind
+comes_to_kind plan s c x = effective_kind c.library (dressed_own plan s x) c.implied c.over ∙ status_at plan s x.head (node_path x.head)
+
+some_same : {a b : Object} → Some a ≡ Some b → a ≡ b
+some_same e = cc
+
+number_kind : (plan : Plan) (s : State) (n : ℕ) (x o : Object) → part_at n s.tree ≡ Some x → own_shown_at plan s n ≡ Some o → o.head.kind ≡ x.head.kind
+number_kind plan s n x o there shows =
+    go (standing_at s.library n s.tree) (sym (ap (λ (q : Option Object). option_and_then (λ c. option_map (λ y. comes_to c (dressed_own plan s y)) q) (standing_at s.library n s.tree)) there) ∙ shows)
+  where
+    go : (c : Option Context) → option_and_then (λ c. option_map (λ y. comes_to c (dressed_own plan s y)) (Some x)) c ≡ Some o → o.head.kind ≡ x.head.kind
+    go None e = absurd cc
+    go (Some c) e = ap (λ (y : Object). y.head.kind) (sym (some_same e)) ∙ comes_to_kind plan s c x
+
+found : {A : Type 0} (o : Option A) → is_some o ≡ true → (x : A) × (o ≡ Some x)
+found None e = absurd cc
+found (Some x) e = (x, refl)
+
+pub points_have_values : PointsHaveValues
+points_have_values plan s consistent differ sources p history o among records shows =
+    let kind_at = consistent.kind_at in
+    let own = found (node_of p s.tree) (consistent.points p among) in
+    let value : is_value_kind own.0.head.kind ≡ true = sources history p own.0 (at_path p (source_of plan history) records) own.1 in
+    let kind : own.0.head.kind ≡ kind_at p = found_kind kind_at p own.0 (row s.tree) (good_nodes kind_at (row s.tree) consistent.kinds) own.1 value in
+    let place = found (place_of p (paths s.tree)) (sym (is_there p s.tree) ∙ consistent.points p among) in
+    let head = head_there s.tree place.0 (node_within s.tree p place.0 place.1) in
+    let part = part_there place.0 s.tree head.0 head.1 in
+    let shown : o.head.kind ≡ part.0.head.kind = number_kind plan s place.0 part.0 o part.1 (sym ((own_trees_tell plan s).shows_own p place.0 differ place.1) ∙ shows) in
+    ap is_value_kind (shown ∙ ap (λ (h : Head). h.kind) part.2 ∙ kind_of_place kind_at s.tree p place.0 head.0 consistent.kinds place.1 head.1 ∙ sym kind) ∙ value

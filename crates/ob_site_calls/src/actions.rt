@@ -1,0 +1,85 @@
+//! One action at a place.
+ghost use Rattle.std.specs.Prelude.{◌≡◌, Some, IfOk, IfErr};
+ghost use Rattle.std.specs.Option.{option_copied};
+ghost use Rattle.ob_site_rules.specs.Places.{place_at, object_at};
+ghost use Rattle.ob_site_rules.specs.Actions.{put_at, act_at};
+ghost use Rattle.ob_shown.specs.Named.{place as place_of};
+ghost use Rattle.ob_site_writes.specs.Stops.{IsDone, Stops};
+ghost use Rattle.ob_site_calls.specs.Sources.{SourcesHaveValues};
+
+use crate::calls::call;
+use ob_answers::Fault;
+use ob_object::Obj;
+use ob_shown::Place;
+use ob_site_places::object_at;
+use ob_site_state::State;
+use ob_site_writes::{Stop, put};
+use ob_values::{Text, Verb};
+use std::alloc::AllocError;
+
+/// A write at a place: only a node is put to.
+fn put_at(
+    state: &mut State,
+    path: &Text,
+    place: &Place,
+    body: Option<&Obj>,
+) -> Result<Obj, Stop>
+    requires { place_at state.old.plan state.old.now path.now ≡ Some (place_of place.now) }
+    ensures ok { IfOk result (IsDone state.old state.new (put_at state.old.plan state.old.now state.old.time path.now (place_of place.now) (option_copied body.entry))) }
+    ensures stop { IfErr result (Stops state.old state.new (put_at state.old.plan state.old.now state.old.time path.now (place_of place.now) (option_copied body.entry))) }
+{
+    match place {
+        Place::Node(object) => put(state, path, object, body),
+        Place::About
+        | Place::Batch
+        | Place::Service
+        | Place::Make
+        | Place::AlarmAt(_)
+        | Place::AckOf(_)
+        | Place::WritePointOf(_)
+        | Place::QueryOf(_)
+        | Place::FeedOf(_)
+        | Place::AlarmQuery
+        | Place::AlarmFeed => Err(Stop::Refused(Fault::NotSupported)),
+    }
+}
+
+/// The object that is read at a path, which names this place.
+fn read_at(state: &State, path: &Text, place: Place) -> Result<Obj, AllocError>
+    ensures { IfOk result (λ o. o ≡ object_at state.now.plan state.now.now state.now.time path.now (place_of place)) }
+{
+    state.is_sound();
+    object_at(
+        state.allocator(),
+        state.plan(),
+        state.contents(),
+        state.time(),
+        path,
+        place,
+    )
+}
+
+/// One action at a place.
+///
+/// Source: oBIX 1.1, chapter 10 (Networking: Read, Write and Invoke).
+pub fn act_at(
+    state: &mut State,
+    path: &Text,
+    verb: Verb,
+    place: Place,
+    body: Option<&Obj>,
+) -> Result<Obj, Stop>
+    requires named { place_at state.old.plan state.old.now path.now ≡ Some (place_of place) }
+    requires sources { SourcesHaveValues state.old.plan state.old.now }
+    ensures ok { IfOk result (IsDone state.old state.new (act_at state.old.plan state.old.now state.old.time path.now verb (place_of place) (option_copied body.entry))) }
+    ensures stop { IfErr result (Stops state.old state.new (act_at state.old.plan state.old.now state.old.time path.now verb (place_of place) (option_copied body.entry))) }
+{
+    match verb {
+        Verb::Get => {
+            let reply = read_at(state, path, place)?;
+            Ok(reply)
+        }
+        Verb::Put => put_at(state, path, &place, body),
+        Verb::Post => call(state, path, &place, body),
+    }
+}

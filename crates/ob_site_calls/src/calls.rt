@@ -1,0 +1,113 @@
+//! Calls of ops.
+ghost use Rattle.std.specs.Prelude.{◌≡◌, Some, true, IfOk, IfErr};
+ghost use Rattle.std.specs.Option.{option_copied};
+ghost use Rattle.ob_site_rules.specs.State.{board, is_among};
+ghost use Rattle.ob_site_rules.specs.Places.{place_at};
+ghost use Rattle.ob_site_rules.specs.Entries.{records_out, alarms_out};
+ghost use Rattle.ob_site_rules.specs.Posts.{child_of_obj, query, records_of, write_point, call, acknowledge, or_nil};
+ghost use Rattle.ob_shown.specs.Named.{place as place_of};
+ghost use Rattle.ob_site_writes.specs.Stops.{IsDone, Stops};
+ghost use Rattle.ob_site_calls.specs.Sources.{SourcesHaveValues};
+
+use crate::acks::acknowledge;
+use ob_answers::{Fault, nil};
+use ob_object::{Kind, Obj};
+use ob_shown::Place;
+use ob_site_places::{query_alarms, query_records};
+use ob_site_state::State;
+use ob_site_writes::{Stop, shown, write_by};
+use ob_values::Text;
+use std::alloc::AllocError;
+
+/// The child of an obj.
+fn child_of_obj<'a>(object: &'a Obj, name: &str) -> Option<&'a Obj>
+    ensures { option_copied result ≡ child_of_obj name.now object.entry.now }
+{
+    if object.kind().same(Kind::Obj) {
+        object.child(name)
+    } else {
+        None
+    }
+}
+
+/// WritePointIn: the child `value` is written to the point, whether or not the point is writable.
+///
+/// Source: oBIX 1.1, chapter 13 (WritablePoint).
+fn write_point(state: &mut State, point: &Text, value: Option<&Obj>) -> Result<Obj, Stop>
+    requires point { is_among point.now state.old.plan.points ≡ true }
+    requires sources { SourcesHaveValues state.old.plan state.old.now }
+    ensures ok { IfOk result (IsDone state.old state.new (write_point state.old.plan state.old.now state.old.time point.now (option_copied value.entry))) }
+    ensures stop { IfErr result (Stops state.old state.new (write_point state.old.plan state.old.now state.old.time point.now (option_copied value.entry))) }
+{
+    let Some(new) = value else {
+        return Err(Stop::Refused(Fault::OtherShape));
+    };
+    state.is_sound();
+    match shown(state, point)? {
+        Some(target) => write_by(state, point, &target, new),
+        None => unreachable!(),
+    }
+}
+
+/// The answer to a query of a history.
+fn records_asked(state: &State, history: &Text, input: Option<&Obj>) -> Result<Obj, AllocError>
+    ensures { IfOk result (λ o. o ≡ query (λ f. records_out f (records_of state.now.now history.now)) (option_copied input.entry)) }
+{
+    query_records(state.allocator(), state.contents(), history, input)
+}
+
+/// The answer to a query of the alarms.
+fn alarms_asked(state: &State, input: Option<&Obj>) -> Result<Obj, AllocError>
+    ensures { IfOk result (λ o. o ≡ query (alarms_out (board state.now.plan state.now.now)) (option_copied input.entry)) }
+{
+    state.is_sound();
+    query_alarms(state.allocator(), state.plan(), state.contents(), input)
+}
+
+/// An acknowledgement whose input may be left out: then it is Nil.
+fn ack_call(state: &mut State, number: u64, input: Option<&Obj>) -> Result<Obj, Stop>
+    ensures ok { IfOk result (IsDone state.old state.new (acknowledge state.old.plan state.old.now state.old.time number (or_nil (option_copied input.entry)))) }
+    ensures stop { IfErr result (Stops state.old state.new (acknowledge state.old.plan state.old.now state.old.time number (or_nil (option_copied input.entry)))) }
+{
+    match input {
+        Some(input) => acknowledge(state, number, input),
+        None => {
+            let input = nil(state.allocator())?;
+            acknowledge(state, number, &input)
+        }
+    }
+}
+
+/// A call of the op at a path, other than batch, make and those of watches. An input that is left out is Nil.
+///
+/// Source: oBIX 1.1, chapters 8 (Operations) and 13 to 15.
+pub fn call(state: &mut State, path: &Text, place: &Place, input: Option<&Obj>) -> Result<Obj, Stop>
+    requires named { place_at state.old.plan state.old.now path.now ≡ Some (place_of place.now) }
+    requires sources { SourcesHaveValues state.old.plan state.old.now }
+    ensures ok { IfOk result (IsDone state.old state.new (call state.old.plan state.old.now state.old.time (place_of place.now) (option_copied input.entry))) }
+    ensures stop { IfErr result (Stops state.old state.new (call state.old.plan state.old.now state.old.time (place_of place.now) (option_copied input.entry))) }
+{
+    match place {
+        Place::AckOf(number) => ack_call(state, *number, input),
+        Place::WritePointOf(point) => match input {
+            Some(input) => write_point(state, point, child_of_obj(input, "value")),
+            None => write_point(state, point, None),
+        },
+        Place::QueryOf(history) => {
+            let reply = records_asked(state, history, input)?;
+            Ok(reply)
+        }
+        Place::AlarmQuery => {
+            let reply = alarms_asked(state, input)?;
+            Ok(reply)
+        }
+        Place::About
+        | Place::Batch
+        | Place::Service
+        | Place::Make
+        | Place::AlarmAt(_)
+        | Place::FeedOf(_)
+        | Place::AlarmFeed
+        | Place::Node(_) => Err(Stop::Refused(Fault::NotSupported)),
+    }
+}
