@@ -32,18 +32,18 @@ use Rattle.ob_default_laws.specs.Defaults.{unslotted, defaults_off, StayGiven, w
 use Rattle.ob_default_laws.proofs.Unslotted.{off, first-map, overridden-off, sources-off, words-off}
 
 -- what is handed down is the same but for slots
-record Handed (r q : HandedDown) : Type 0 where
+pub record Handed (r q : HandedDown) : Type 0 where
   pub library : defaults_off r.library ≡ defaults_off q.library
   pub implied : r.implied ≡ q.implied
   pub sources : map unslotted r.sources ≡ map unslotted q.sources
 
 -- and a place
-record Stands (c d : Context) : Type 0 where
+pub record Stands (c d : Context) : Type 0 where
   pub library : defaults_off c.library ≡ defaults_off d.library
   pub implied : c.implied ≡ d.implied
   pub over : option_map unslotted c.over ≡ option_map unslotted d.over
 
-stands_under : (r q : HandedDown) → Handed r q → (name : Option Text) → Stands (under r name) (under q name)
+pub stands_under : (r q : HandedDown) → Handed r q → (name : Option Text) → Stands (under r name) (under q name)
 stands_under r q h name = record {
   library = h.library;
   implied = h.implied;
@@ -58,14 +58,14 @@ sources_same c d s h =
     ∙ ap (λ (o : Option Object). sources (defaults_off d.library) (off h) d.implied o) s.over
     ∙ sources-off d.library h d.implied d.over
 
-hands_down : (c d : Context) → Stands c d → (h : Head) → Handed (handed_down c h) (handed_down d h)
+pub hands_down : (c d : Context) → Stands c d → (h : Head) → Handed (handed_down c h) (handed_down d h)
 hands_down c d s h = record {
   library = s.library;
   implied = sym (words-off h (sources_in c h)) ∙ ap (λ (l : List Object). implied_by (inherited_head (off h) l)) (sources_same c d s h) ∙ words-off h (sources_in d h);
   sources = sources_same c d s h;
 }
 
-status_same : (c d : Context) → Stands c d → (h : Head) → (head_in c h).facets.status ≡ (head_in d h).facets.status
+pub status_same : (c d : Context) → Stands c d → (h : Head) → (head_in c h).facets.status ≡ (head_in d h).facets.status
 status_same c d s h =
     let first : List Object → Option Status = first_given (λ o. o.head.facets.status) in
     ap (or_else h.facets.status)
@@ -75,7 +75,7 @@ status_same c d s h =
 abbrev with_values : Head → Slot → Option Status → Head
 with_values h slot status = record h { slot = slot; facets = record h.facets { status = status } }
 
-one_head : (x y : Head) → without_values x ≡ without_values y → x.slot ≡ y.slot → x.facets.status ≡ y.facets.status → x ≡ y
+pub one_head : (x y : Head) → without_values x ≡ without_values y → x.slot ≡ y.slot → x.facets.status ≡ y.facets.status → x ≡ y
 one_head x y e slot status =
     ap (λ (u : Head). with_values u x.slot x.facets.status) e
     ∙ ap (λ (s : Slot). with_values y s x.facets.status) slot
@@ -103,10 +103,10 @@ head_before c d s h k e stays slot status =
     one_head (head_in c h) (head_in c k) (head_in-alike c h k e) (slot_before c d h k e stays slot) (status ∙ sym (status_same c d s k))
 
 -- rows that have more behind
-abbrev behind : Objects → List Object → Objects
+abbrev pub behind : Objects → List Object → Objects
 behind r os = row_with_defaults (in_row (listed r ++ os))
 
-behind_rows : (r : Objects) (os : List Object) → behind r os ≡ in_row (listed (row_with_defaults r) ++ listed (row_with_defaults (in_row os)))
+pub behind_rows : (r : Objects) (os : List Object) → behind r os ≡ in_row (listed (row_with_defaults r) ++ listed (row_with_defaults (in_row os)))
 behind_rows none os = sym (in_row-listed (row_with_defaults (in_row os)))
 behind_rows (node h inner rest) os = ap (node (head_with_default h) (row_with_defaults inner)) (behind_rows rest os)
 
@@ -119,15 +119,15 @@ effective_same d below inner alike e =
     ∙ ap (λ (l : List Object). behind (own_row d inner) (map bare l)) (missing_names (listed below) (listed inner) d.sources (names_alike below inner alike))
 
 -- the parts of two rows that are one
-abbrev head_of : Head → Objects → Head
+abbrev pub head_of : Head → Objects → Head
 head_of h none = h
 head_of h (node k inner rest) = k
 
-abbrev inner_of : Objects → Objects
+abbrev pub inner_of : Objects → Objects
 inner_of none = none
 inner_of (node k inner rest) = inner
 
-abbrev rest_of : Objects → Objects
+abbrev pub rest_of : Objects → Objects
 rest_of none = none
 rest_of (node k inner rest) = rest
 
@@ -177,17 +177,17 @@ row_before r q h (node i below rest) (node k inner more) a g xs ys e =
     inners deep = effective_same d below inner a.1 (deep second)
 
 -- what a watch shows of a node that was found, or not
-abbrev as_watched : Option Standing → Object
+abbrev pub as_watched : Option Standing → Object
 as_watched o = plain_or_empty (watched (unwrap_or (option_map effective o) empty_object))
 
-abbrev plain_or : Bool → Object → Object
+abbrev pub plain_or : Bool → Object → Object
 plain_or b o = cond b o empty_object
 
 -- an object as it is watched, by its head and what is in it
-abbrev shape : Context → Head → Objects → Object
+abbrev pub shape : Context → Head → Objects → Object
 shape c h below = record { head = record (head_in c h) { name = None; href = None }; inner = effective_row (handed_down c h) below }
 
-as_shape : (c : Context) (h : Head) (below : Objects) → as_watched (Some (record { context = c; object = record { head = h; inner = below } })) ≡ plain_or (is_watchable h) (shape c h below)
+pub as_shape : (c : Context) (h : Head) (below : Objects) → as_watched (Some (record { context = c; object = record { head = h; inner = below } })) ≡ plain_or (is_watchable h) (shape c h below)
 unfolding result_of
 as_shape c h below = refl
 
@@ -273,7 +273,7 @@ found_before p r q h (node i below rest) (node k inner more) a g e =
     go false None None None s t deep later f = later f
 
 -- what roles derive is given, where it has a value
-given_itself : (r : Objects) → StayGiven r r
+pub given_itself : (r : Objects) → StayGiven r r
 given_itself none = tt
 given_itself (node h inner rest) = (λ e. e, given_itself inner, given_itself rest)
 
@@ -319,7 +319,7 @@ slot_kept plan s h (Some p) = by_rule (rule_of plan p)
 given_listed : (r q : Objects) → StayGiven r q → StayGiven (in_row (listed r)) (in_row (listed q))
 given_listed r q g = subst (λ (x : Objects). StayGiven x (in_row (listed q))) (sym (in_row-listed r)) (subst (λ (x : Objects). StayGiven r x) (sym (in_row-listed q)) g)
 
-roles_given : (plan : Plan) (s t : State) → paths_of s.logs ≡ paths_of t.logs → (os qs : Objects) → DifferInSlots os qs → StayGiven os qs → StayGiven (with_roles plan s os) (with_roles plan t qs)
+pub roles_given : (plan : Plan) (s t : State) → paths_of s.logs ≡ paths_of t.logs → (os qs : Objects) → DifferInSlots os qs → StayGiven os qs → StayGiven (with_roles plan s os) (with_roles plan t qs)
 roles_given plan s t e none none d g = tt
 roles_given plan s t e none (node k inner more) d g = tt
 roles_given plan s t e (node h below rest) none d g = tt
@@ -345,14 +345,14 @@ derived_library : (plan : Plan) (s : State) (lib : Contracts) (o : Option Path) 
 derived_library plan s lib None = refl
 derived_library plan s lib (Some p) = refl
 
-roles_library : (plan : Plan) (s : State) (lib : Contracts) (r : Objects) → with_roles plan (with_library lib s) r ≡ with_roles plan s r
+pub roles_library : (plan : Plan) (s : State) (lib : Contracts) (r : Objects) → with_roles plan (with_library lib s) r ≡ with_roles plan s r
 roles_library plan s lib none = refl
 roles_library plan s lib (node h inner rest) =
     ap (λ (k : Head). node k (in_row (listed (with_roles plan (with_library lib s) inner) ++ derived plan (with_library lib s) (node_path h))) (with_roles plan (with_library lib s) rest)) (status_library plan s lib h (node_path h))
     ∙ ap₂ (λ (q : Objects) (l : List Object). node (with_status plan s h) (in_row (listed q ++ l)) (with_roles plan (with_library lib s) rest)) (roles_library plan s lib inner) (derived_library plan s lib (node_path h))
     ∙ ap (node (with_status plan s h) (in_row (listed (with_roles plan s inner) ++ derived plan s (node_path h)))) (roles_library plan s lib rest)
 
-watched_at : (plan : Plan) (s : State) (p : Path) → watched_object plan s p ≡ as_watched (standing_in p (root_row s.library) (row (dressed plan s)))
+pub watched_at : (plan : Plan) (s : State) (p : Path) → watched_object plan s p ≡ as_watched (standing_in p (root_row s.library) (row (dressed plan s)))
 watched_at plan s p =
     ap (λ (o : Option Object). plain_or_empty (watched (unwrap_or o empty_object))) (node_of-effective p (root_standing plan s))
     ∙ ap as_watched (at_row plan s p)

@@ -1,2 +1,3 @@
 pub mod Unslotted
 pub mod Either
+pub mod Reached

@@ -4,6 +4,7 @@
 #![tactic(auto)]
 
 ghost use Rattle.ob_default_laws.specs.Defaults.{ChangesAreEither, DefaultsDiffer, DefaultsSettle};
+ghost use Rattle.ob_default_laws.specs.Reaching.{DefaultsReach, DefaultsStand};
 
 /// The libraries that two kept trees give, which differ in slots alone, differ in slots alone.
 pub fn defaults_differ()
@@ -22,4 +23,20 @@ pub fn changes_are_either()
 /// slots have changed and what the library has.
 pub fn defaults_settle()
     ensures { DefaultsSettle }
+{}
+
+/// Where a watch shows a node with another library as before, it shows each node in it as before: so a step that stamps
+/// the nodes which are shown otherwise, and all round them, stamps no other.
+///
+/// Source: oBIX 1.1, chapter 7 (Contracts).
+pub fn defaults_reach()
+    ensures { DefaultsReach }
+{}
+
+/// Whether another library, which differs in slots alone, changes what a watch shows of a node doesn't depend on the
+/// values that are given, on records or on alarms.
+///
+/// Source: oBIX 1.1, chapter 7 (Contracts).
+pub fn defaults_stand()
+    ensures { DefaultsStand }
 {}
