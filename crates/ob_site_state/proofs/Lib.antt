@@ -2,6 +2,7 @@ pub mod Rewinding
 pub mod Times
 pub mod Places
 pub mod Events
+pub mod Named
 pub mod Sound
 pub mod Noting
 pub mod Settling

@@ -18,6 +18,7 @@ use Rattle.ob_consistent_laws.proofs.Paths.{steps_keep_paths}
 use Rattle.ob_site_state.specs.Changes.{with_log}
 use Rattle.ob_site_state.specs.Kept.{keys, IsNode, IsSoundFor}
 use Rattle.ob_site_state.proofs.Rewinding.{set_to}
+use Rattle.ob_site_state.proofs.Named.{roles_slotted, roles_over}
 use Rattle.ob_site_state.proofs.Places.{keys-with_log}
 
 pub slot_sound : (plan : Plan) (s : State) (n : ℕ) (slot : Slot) → first_twice [] (paths s.tree) ≡ None → IsNode n s.tree → IsSoundFor plan s
@@ -26,30 +27,35 @@ slot_sound plan s n slot differ node sound =
     subst (λ (o : Object). let t : State = record s { tree = o } in IsSoundFor plan t) (sym (slot_is_set s.tree node.0 n slot differ node.1)) (record {
       consistent = (steps_stay_consistent plan s sound.consistent).slot node.0 slot;
       paths_differ = (steps_keep_paths plan s sound.paths_differ).slot node.0 slot;
+      roles = roles_slotted plan s node.0 slot sound.roles;
     })
 
 pub logs_sound : (plan : Plan) (s : State) (ls : List (Path × Log)) → keys ls ≡ keys s.logs → AreCounted ls → IsSoundFor plan s → IsSoundFor plan (record s { logs = ls })
 logs_sound plan s ls same counted sound = record {
   consistent = (steps_stay_consistent plan s sound.consistent).logs ls same counted;
   paths_differ = (steps_keep_paths plan s sound.paths_differ).logs ls same;
+  roles = roles_over plan s (record s { logs = ls }) refl sound.roles;
 }
 
 pub library_sound : (plan : Plan) (s : State) (lib : Contracts) → IsSoundFor plan s → IsSoundFor plan (record s { library = lib })
 library_sound plan s lib sound = record {
   consistent = (steps_stay_consistent plan s sound.consistent).library lib;
   paths_differ = (steps_keep_paths plan s sound.paths_differ).library lib;
+  roles = roles_over plan s (record s { library = lib }) refl sound.roles;
 }
 
 pub board_sound : (plan : Plan) (s : State) (b : Board) → IsSoundFor plan s → IsSoundFor plan (with_board s b)
 board_sound plan s b sound = record {
   consistent = (steps_stay_consistent plan s sound.consistent).board b;
   paths_differ = (steps_keep_paths plan s sound.paths_differ).board b;
+  roles = roles_over plan s (with_board s b) refl sound.roles;
 }
 
 pub rolls_sound : (plan : Plan) (s : State) → IsSoundFor plan s → IsSoundFor plan (roll s)
 rolls_sound plan s sound = record {
   consistent = (steps_stay_consistent plan s sound.consistent).rolls;
   paths_differ = (steps_keep_paths plan s sound.paths_differ).rolls;
+  roles = roles_over plan s (roll s) refl sound.roles;
 }
 
 -- one more event can be counted

@@ -1,5 +1,6 @@
 -- One more step of the tree of a state.
 use Rattle.std.proofs.Common.{ℕ, ◌≡◌, ◌+◌, ◌<◌, List, [], ◌∷◌, ◌++◌, map, take, length, get_or, All, refl, sym, ap, ◌∙◌, arith}
+use Rattle.std.specs.Prelude.{replicate}
 use Rattle.std.proofs.lemmas.List.{take_more, map-append}
 use Rattle.std.proofs.lemmas.List.Elements.{All-get_or}
 use Rattle.ob_object.specs.Object.{parts}
@@ -47,3 +48,13 @@ stamped_as old k t b u ns e is before next =
     same_kept old.plan old.time old.since t old.now b old.before u.stamps (after_step ns (tree_of old)).stamps u.steps (after_step ns (tree_of old)).steps is before
     (ap (λ (x : Stamped). x.stamps) next) (ap (λ (x : Stamped). x.steps) next)
     ∙ ap (stamped_by ns) e
+
+-- and with its steps counted from 1 again
+pub renumbered_as : (old k : Kept) (t b : State) (u : Stamped) → old ≡ k → t ≡ old.now → b ≡ old.before
+    → u ≡ record (tree_of old) { stamps = replicate (parts old.now.tree) 1; steps = 1 }
+    → (let x : Kept = record { plan = old.plan; time = old.time; now = t; since = old.since; before = b; stamps = u.stamps; steps = u.steps } in x)
+    ≡ record k { stamps = replicate (parts k.now.tree) 1; steps = 1 }
+renumbered_as old k t b u e is before next =
+    same_kept old.plan old.time old.since t old.now b old.before u.stamps (replicate (parts old.now.tree) 1) u.steps 1 is before
+    (ap (λ (x : Stamped). x.stamps) next) (ap (λ (x : Stamped). x.steps) next)
+    ∙ ap (λ (x : Kept). let y : Kept = record x { stamps = replicate (parts x.now.tree) 1; steps = 1 } in y) e

@@ -18,6 +18,7 @@ use Rattle.ob_shown_laws.specs.Alike.{row}
 use Rattle.ob_shown_laws.specs.Changed.{PathsDiffer}
 use Rattle.ob_site_state.specs.declared.change.Change.{Change}
 use Rattle.ob_site_state.specs.Changes.{rewound, CanRewind}
+use Rattle.ob_site_state.specs.Roles.{RolesStand}
 
 -- a log, in which no room is counted
 abbrev pub log_of : History → Log
@@ -66,11 +67,12 @@ keys ls = map (λ l. l.0) ls
 abbrev pub IsNode : ℕ → Object → Type 0
 IsNode n o = (p : Path) × (place_of p (paths o) ≡ Some n)
 
--- What each state of a site is: it owes its plan nothing, and no two nodes of the root have one path, those that roles derive
--- among them.
+-- What each state of a site is: it owes its plan nothing, no two nodes of the root have one path, those that roles derive
+-- among them, and what roles name are own nodes.
 pub record IsSoundFor (plan : Plan) (s : State) : Type 0 where
   pub consistent : IsConsistent plan s
   pub paths_differ : PathsDiffer (row (dressed plan s))
+  pub roles : RolesStand plan s
 
 -- What the parts owe one another: the alarms are those of the plan's root and rules; the logs are those of the
 -- plan's histories, in their order, no two of which have one path; the own objects are well formed, and no two

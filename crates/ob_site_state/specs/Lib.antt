@@ -1,3 +1,4 @@
+pub mod Roles
 pub mod Changes
 pub mod Kept
 pub mod Recorded

@@ -1,5 +1,5 @@
 //! What changes of a site: its library, its own objects, the logs of its histories and its alarms.
-ghost use Rattle.std.specs.Prelude.{◌≡◌, ℕ, All, ◌-◌, List, Option, ◌<◌, ◌≤◌, ◌+◌, ◌^◌, [], Bool, true, false, map, length, slice_get, Some, option_map, IsTrue, IfOk, OnOk, OnErr};
+ghost use Rattle.std.specs.Prelude.{◌≡◌, ℕ, All, ◌-◌, List, Option, ◌<◌, ◌≤◌, ◌+◌, ◌^◌, [], Bool, true, false, map, length, replicate, slice_get, Some, option_map, IsTrue, IfOk, OnOk, OnErr};
 ghost use Rattle.ob_object.specs.declared.head.Head.{Head};
 ghost use Rattle.ob_object.specs.Fits.{fits_slot};
 ghost use Rattle.ob_object.specs.Object.{parts};
@@ -229,5 +229,15 @@ impl Contents {
         ensures rules { self.new.board.rules ≡ self.old.board.rules }
     {
         end_step(&mut self.tree, changed);
+    }
+
+    /// Counts the steps of the tree from 1 again: all stamps and the number of steps are 1.
+    pub fn renumber(&mut self)
+        ensures same { state_in self.new ≡ state_in self.old }
+        ensures tree { self.new.tree ≡ record self.old.tree { stamps = replicate (parts self.old.tree.root) 1; steps = 1 } }
+        ensures root { self.new.board.root ≡ self.old.board.root }
+        ensures rules { self.new.board.rules ≡ self.old.board.rules }
+    {
+        self.tree.renumber();
     }
 }

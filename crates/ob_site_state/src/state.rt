@@ -1,5 +1,5 @@
 //! The state of a site in place.
-ghost use Rattle.std.specs.Prelude.{◌≡◌, ℕ, All, ◌-◌, List, Option, is_none, nat_lt, true, false, ◌<◌, ◌≤◌, ◌+◌, ◌^◌, [], None, max, map, option_map, length, slice_get, Some, IsTrue, IfOk, OnOk, OnErr};
+ghost use Rattle.std.specs.Prelude.{◌≡◌, ℕ, All, ◌-◌, List, Option, is_none, nat_lt, true, false, ◌<◌, ◌≤◌, ◌+◌, ◌^◌, [], None, max, map, option_map, length, replicate, slice_get, Some, IsTrue, IfOk, OnOk, OnErr};
 ghost use Rattle.ob_times.specs.Times.{moment_instant};
 ghost use Rattle.ob_object.specs.declared.head.Head.{Head};
 ghost use Rattle.ob_object.specs.Fits.{fits_slot};
@@ -434,6 +434,20 @@ impl State {
         ensures { self.new ≡ stamped_by (map (λ node. node.number) changed.now) self.old }
     {
         self.contents.stamp(changed);
+    }
+
+    /// How many steps of the own objects were counted.
+    pub fn steps(&self) -> u64
+        ensures { result ≡ self.now.steps }
+    {
+        self.contents.tree.steps()
+    }
+
+    /// Counts the steps of the own objects from 1 again: every stamp is 1, and so is the number of steps. It takes no memory.
+    pub fn renumber(&mut self)
+        ensures { self.new ≡ record self.old { stamps = replicate (parts self.old.now.tree) 1; steps = 1 } }
+    {
+        self.contents.renumber();
     }
 
     /// Ends the step: each history drops its oldest records, down to its capacity, and what the step has changed
