@@ -21,8 +21,7 @@ use Rattle.ob_alarms.specs.declared.board.AckResult.TheVariants as answer
 use Rattle.ob_alarms.proofs.Told.{open_at}
 use Rattle.ob_site_rules.specs.Build.{Path}
 use Rattle.ob_site_rules.specs.State.{Plan, State, numbered_from, board, with_board}
-use Rattle.ob_site_state.specs.Changes.{alarms_before, events_before, undone, AddsEvent, HasEvents, is_turn, is_done}
-use Rattle.ob_site_state.specs.declared.change.Change.TheVariants as change
+use Rattle.ob_site_state.specs.Changes.{alarms_before, events_before, without_event, AddsEvent, HasEvents, is_turn, is_done}
 
 pub alarms_before-append : (es : List Event) (e : Event) (al : List Alarm) → alarms_before (es ++ e ∷ []) al ≡ before e al
 alarms_before-append [] e al = refl
@@ -236,7 +235,7 @@ ack_event s b c number user now (answer.Already u) al es e = adds_none s b c al 
 ack_event s b c number user now (answer.NoSuch u) al es e = adds_none s b c al es (ack_not b c number user now (answer.NoSuch u) (no_such u) e)
 
 -- an event that the alarms took back
-pub event_undone : (s : State) (new : Board) (e : Event) → s.events ≡ new.events ++ e ∷ [] → new.alarms ≡ before e s.alarms → (let t : State = record s { alarms = new.alarms; events = new.events } in t) ≡ undone change.Event s
+pub event_undone : (s : State) (new : Board) (e : Event) → s.events ≡ new.events ++ e ∷ [] → new.alarms ≡ before e s.alarms → (let t : State = record s { alarms = new.alarms; events = new.events } in t) ≡ without_event s
 event_undone s new e es al =
     ap (λ (x : List Alarm). let t : State = record s { alarms = x; events = new.events } in t)
     (al ∙ sym (ap (λ (x : List Event). alarms_before x s.alarms) es ∙ alarms_before-append new.events e s.alarms))

@@ -3,6 +3,8 @@ pub mod Times
 pub mod Places
 pub mod Events
 pub mod Named
+pub mod Newest
+pub mod Statuses
 pub mod Sound
 pub mod Noting
 pub mod Settling

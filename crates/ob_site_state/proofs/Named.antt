@@ -1,5 +1,5 @@
 -- What roles name stays where it is: no step moves an own node, or makes another kind of one.
-use Rattle.std.proofs.Common.{◌≡◌, Bool, true, false, cond, List, ◌∷◌, ◌++◌, map, Option, Some, None, option_map, refl, sym, ap, ap₂, ◌∙◌, subst}
+use Rattle.std.proofs.Common.{◌≡◌, Bool, true, false, cond, List, ◌∷◌, ◌++◌, map, Option, Some, None, option_map, refl, sym, ap, ap₂, ◌∙◌}
 use Rattle.std.specs.Prelude.{is_some}
 use Rattle.std.proofs.lemmas.List.{map-append}
 use Rattle.ob_object.specs.declared.kind.Kind.{Kind}
@@ -14,7 +14,7 @@ use Rattle.ob_site_rules.specs.Build.{Path}
 use Rattle.ob_site_rules.specs.State.{Plan, State, is_path}
 use Rattle.ob_site_rules.specs.Shown.{node_path, node_in, node_of}
 use Rattle.ob_site_rules.specs.Writes.{with_slot_in, with_slot}
-use Rattle.ob_site_state.specs.Roles.{SourcesHaveValues, RolesStand}
+use Rattle.ob_site_state.specs.Roles.{RolesStand}
 
 slot_path : (b : Bool) (h : Head) (slot : Slot) → node_path (cond b (record h { slot = slot }) h) ≡ node_path h
 slot_path true h slot = refl

@@ -3,12 +3,13 @@ use Rattle.std.proofs.Common.{◌≡◌, ℕ, zero, suc, ◌+◌, ◌^◌, ◌<�
 use Rattle.std.specs.Prelude.{slice_get}
 use Rattle.ob_object.specs.declared.head.Head.{Head}
 use Rattle.ob_object.specs.declared.head.Slot.{Slot}
+use Rattle.ob_object.specs.declared.status.Status.{Status}
 use Rattle.ob_object.specs.Fits.{fits_slot, fits_name, fits_lists, fits_facets}
 use Rattle.ob_object.specs.Object.{Object, parts}
 use Rattle.ob_object.specs.WellFormed.{IsWellFormed}
 use Rattle.ob_contracts.specs.Inherit.{Contracts}
 use Rattle.ob_alarms.specs.Changes.{State as Board}
-use Rattle.ob_tree.specs.Paths.{Path as TreePath, first_twice, node_path}
+use Rattle.ob_tree.specs.Paths.{Path as TreePath, first_twice, place_of, node_path}
 use Rattle.ob_tree.specs.Laid.{heads_of, head_at, changed, paths}
 use Rattle.ob_tree.proofs.Changing.{heads-changed, length-heads, parts-changed}
 use Rattle.ob_tree.proofs.Naming.{well-changed, head_fits_at, slot_fits}
@@ -21,12 +22,12 @@ use Rattle.ob_times.specs.Times.{moment_instant}
 use Rattle.ob_tree.specs.declared.node.NodeId.{NodeId}
 use Rattle.ob_site_state.specs.declared.change.Change.{Change}
 use Rattle.ob_site_state.specs.declared.change.Change.TheVariants as change
-use Rattle.ob_site_state.specs.Changes.{cut, undone, rewound, with_log, CanUndo, CanRewind, AddsEvent}
-use Rattle.ob_site_state.specs.Kept.{Kept, keys, LogsAreBy, IsNode, IsSoundFor, IsKept}
-use Rattle.ob_site_state.proofs.Rewinding.{set_to, set_back, rewound-append, CanRewind-append}
+use Rattle.ob_site_state.specs.Changes.{cut, undone, rewound, with_log, CanUndo, CanRewind, IsNode, IsTold, AreTold, AddsEvent}
+use Rattle.ob_site_state.specs.Kept.{Kept, keys, LogsAreBy, IsSoundFor, IsKept}
+use Rattle.ob_site_state.proofs.Rewinding.{set_to, set_back, rewound-append, CanRewind-append, AreTold-append}
 use Rattle.ob_site_state.proofs.Sound.{slot_sound, record_sound, library_sound, board_sound}
 use Rattle.ob_site_state.proofs.Times.{LogsAreBy-later}
-use Rattle.ob_site_state.proofs.Places.{keys-with_log, length-with_log, cut_back, recorded_by}
+use Rattle.ob_site_state.proofs.Places.{keys-with_log, length-with_log, cut_back, record_told, recorded_by}
 
 pub got_there : {A : Type 0} (xs : List A) (n : ℕ) → n < length xs → (x : A) × (slice_get xs n ≡ Some x)
 got_there [] n h = absurd (omega arith)
@@ -76,9 +77,9 @@ can_set_back o n old new g well e is h f =
 
 -- A change that is noted.
 pub noted : (plan : Plan) (time : ℕ) (s t : State) (b c : Board) (since : ℕ) (found : List Change) (ch : Change) → IsKept plan time s b since found
-    → c.root ≡ b.root → c.rules ≡ b.rules → IsWellFormed t.tree → first_twice [] (paths t.tree) ≡ None → LogsAreBy time t.logs → keys t.logs ≡ keys s.logs → IsSoundFor plan t → CanUndo ch t → undone ch t ≡ s
+    → c.root ≡ b.root → c.rules ≡ b.rules → IsWellFormed t.tree → first_twice [] (paths t.tree) ≡ None → LogsAreBy time t.logs → keys t.logs ≡ keys s.logs → IsSoundFor plan t → CanUndo ch t → IsTold plan ch s t → undone ch t ≡ s
     → IsKept plan time t c since (found ++ ch ∷ [])
-noted plan time s t b c since found ch k root rules well differ by same sound can back =
+noted plan time s t b c since found ch k root rules well differ by same sound can told back =
     let e : rewound (found ++ ch ∷ []) t ≡ rewound found s = rewound-append found ch t ∙ ap (rewound found) back in record {
       root = root ∙ k.root;
       rules = rules ∙ k.rules;
@@ -90,6 +91,7 @@ noted plan time s t b c since found ch k root rules well differ by same sound ca
       sound = sound;
       later = k.later;
       can_rewind = CanRewind-append found ch t can (subst (λ (x : State). CanRewind found x) (sym back) k.can_rewind);
+      told = AreTold-append plan found ch t (subst (λ (x : State). IsTold plan ch x t) (sym back) told) (subst (λ (x : State). AreTold plan found x) (sym back) k.told);
       in_time_before = subst (λ (x : State). LogsAreBy since x.logs) (sym e) k.in_time_before;
       rolled_before = subst (λ (x : State). roll x ≡ x) (sym e) k.rolled_before;
       sound_before = subst (λ (x : State). IsSoundFor plan x) (sym e) k.sound_before;
@@ -145,6 +147,7 @@ slot_noted plan time s t b c since found items node old new k root rules there_i
     (ap (λ (x : State). keys x.logs) is)
     (subst (λ (x : State). IsSoundFor plan x) (sym is) (slot_sound plan s n new k.differ there_is k.sound))
     (subst (λ (x : State). CanUndo (change.Slot node old) x) (sym is) can)
+    (subst (λ (x : State). IsNode n x.tree) (sym is) (there_is.0, ap (place_of there_is.0) (paths_stay s.tree n new within) ∙ there_is.1))
     (slot_back s t node old new within was is))
 
 -- a record that is put last, and cut off
@@ -166,20 +169,22 @@ record_noted plan time s t b c since found items r place len k root rules at mor
     (ap (λ (x : State). keys x.logs) is ∙ keys-with_log (with_record r) place s.logs)
     (subst (λ (x : State). IsSoundFor plan x) (sym is) (record_sound plan s r place more k.sound))
     (subst (λ (x : State). CanUndo (change.Records place len) x) (sym is) (subst (λ (n : ℕ). place < n) (sym (length-with_log (with_record r) place s.logs)) within))
+    (subst (λ (x : State). IsTold plan (change.Records place len) s x) (sym is) (record_told r len place s.logs was))
     (record_back s t r place len was is))
 
 -- an event
-pub event_noted : (plan : Plan) (time : ℕ) (s t : State) (b c a : Board) (since : ℕ) (found items : List Change) → IsKept plan time s b since found
-    → c.root ≡ b.root → c.rules ≡ b.rules → t ≡ with_board s a → AddsEvent true s t → items ≡ found ++ change.Event ∷ [] → IsKept plan time t c since items
-event_noted plan time s t b c a since found items k root rules is adds all =
+pub event_noted : (plan : Plan) (time : ℕ) (s t : State) (b c a : Board) (since : ℕ) (found items : List Change) (rule : ℕ) (status : Status) → IsKept plan time s b since found
+    → c.root ≡ b.root → c.rules ≡ b.rules → t ≡ with_board s a → AddsEvent true s t → IsTold plan (change.Event rule status) s (with_board s a) → items ≡ found ++ change.Event rule status ∷ []
+    → IsKept plan time t c since items
+event_noted plan time s t b c a since found items rule status k root rules is adds told all =
     subst (λ (l : List Change). IsKept plan time t c since l) (sym all)
-    (noted plan time s t b c since found change.Event k root rules
+    (noted plan time s t b c since found (change.Event rule status) k root rules
     (subst (λ (x : State). IsWellFormed x.tree) (sym is) k.well_formed)
     (subst (λ (x : State). first_twice [] (paths x.tree) ≡ None) (sym is) k.differ)
     (subst (λ (x : State). LogsAreBy time x.logs) (sym is) k.in_time)
     (ap (λ (x : State). keys x.logs) is)
     (subst (λ (x : State). IsSoundFor plan x) (sym is) (board_sound plan s a k.sound))
-    adds.0 adds.1)
+    adds.0 (subst (λ (x : State). IsTold plan (change.Event rule status) s x) (sym is) told) adds.1)
 
 -- what was before is what it was
 pub before_as : (s t : State) (found items : List Change) (ch : Change) → undone ch t ≡ s → items ≡ found ++ ch ∷ [] → rewound items t ≡ rewound found s
@@ -198,6 +203,7 @@ begun plan time later s b since found k h = record {
   sound = k.sound;
   later = omega (arith, k.later);
   can_rewind = k.can_rewind;
+  told = k.told;
   in_time_before = k.in_time_before;
   rolled_before = k.rolled_before;
   sound_before = k.sound_before;
@@ -206,19 +212,19 @@ begun plan time later s b since found k h = record {
 undone_well : (c : Change) (s : State) → CanUndo c s → IsWellFormed s.tree → IsWellFormed (undone c s).tree
 undone_well (change.Slot node slot) s can well = well_set s.tree node.number slot well can.0 can.1
 undone_well (change.Records place len) s can well = well
-undone_well change.Event s can well = well
+undone_well (change.Event rule status) s can well = well
 undone_well (change.Contracts library) s can well = well
 
 undone_differ : (c : Change) (s : State) → CanUndo c s → first_twice [] (paths s.tree) ≡ None → first_twice [] (paths (undone c s).tree) ≡ None
 undone_differ (change.Slot node slot) s can differ = ap (λ (ps : List (Option TreePath)). first_twice [] ps) (paths_stay s.tree node.number slot can.0) ∙ differ
 undone_differ (change.Records place len) s can differ = differ
-undone_differ change.Event s can differ = differ
+undone_differ (change.Event rule status) s can differ = differ
 undone_differ (change.Contracts library) s can differ = differ
 
 keys-undone : (c : Change) (s : State) → keys (undone c s).logs ≡ keys s.logs
 keys-undone (change.Slot node slot) s = refl
 keys-undone (change.Records place len) s = keys-with_log (cut len) place s.logs
-keys-undone change.Event s = refl
+keys-undone (change.Event rule status) s = refl
 keys-undone (change.Contracts library) s = refl
 
 keys-rewound : (cs : List Change) (s : State) → keys (rewound cs s).logs ≡ keys s.logs
@@ -248,6 +254,7 @@ taken_back plan time s t b c since found k root rules is =
       sound = subst (λ (x : State). IsSoundFor plan x) (sym is) k.sound_before;
       later = omega arith;
       can_rewind = tt;
+      told = tt;
       in_time_before = by;
       rolled_before = subst (λ (x : State). roll x ≡ x) (sym is) k.rolled_before;
       sound_before = subst (λ (x : State). IsSoundFor plan x) (sym is) k.sound_before;
@@ -267,6 +274,7 @@ kept_same plan time s t b c since found k root rules is =
       sound = k.sound;
       later = k.later;
       can_rewind = k.can_rewind;
+      told = k.told;
       in_time_before = k.in_time_before;
       rolled_before = k.rolled_before;
       sound_before = k.sound_before;
@@ -286,5 +294,5 @@ library_noted plan time s t b since found items old new k was is all =
     (subst (λ (x : State). LogsAreBy time x.logs) (sym is) k.in_time)
     (ap (λ (x : State). keys x.logs) is)
     (subst (λ (x : State). IsSoundFor plan x) (sym is) (library_sound plan s new k.sound))
-    tt
+    tt tt
     (library_back s t old new was is))

@@ -1,5 +1,5 @@
 -- Logs of which one, told by its place, is another.
-use Rattle.std.proofs.Common.{◌≡◌, ℕ, zero, suc, ◌<◌, List, [], ◌∷◌, ◌++◌, length, take, map, Option, Some, option_map, refl, sym, ap, ◌∙◌, subst, arith}
+use Rattle.std.proofs.Common.{◌≡◌, ℕ, zero, suc, ◌<◌, List, [], ◌∷◌, ◌++◌, length, take, map, Option, Some, option_map, refl, sym, ap, ◌∙◌, subst, arith, ◌+◌, length-append}
 use Rattle.std.specs.Prelude.{slice_get, slice_set, slice_index_or}
 use Rattle.std.proofs.Math.Seq.{take-append_seam}
 use Rattle.std.proofs.lemmas.List.{take_at}
@@ -41,6 +41,18 @@ cut_back r len zero (l ∷ ls) e =
     ap (λ (k : List Record). let m : Log = record l.1 { kept = k } in let x : Path × Log = (l.0, m) in x ∷ ls)
     (ap (λ n. take n (l.1.kept ++ r ∷ [])) same ∙ take-append_seam l.1.kept (r ∷ []))
 cut_back r len (suc place) (l ∷ ls) e = ap (λ (ms : List (Path × Log)). l ∷ ms) (cut_back r len place ls e)
+
+-- a record that is put last is one more
+pub record_told : (r : Record) (len place : ℕ) (ls : List (Path × Log)) → Some len ≡ option_map (λ l. length l.1.kept) (slice_get ls place)
+    → (l : Path × Log) → slice_get (with_log (with_record r) place ls) place ≡ Some l → length l.1.kept ≡ len + 1
+record_told r len place [] e l f = absurd cc
+record_told r len zero (x ∷ ls) e l f =
+    let y : Path × Log = (x.0, with_record r x.1) in
+    let same : y ≡ l = cc in
+    let was : len ≡ length x.1.kept = cc in
+    let more : length (x.1.kept ++ r ∷ []) ≡ len + 1 = omega (arith, length-append x.1.kept (r ∷ []), was) in
+    sym (ap (λ (z : Path × Log). length z.1.kept) same) ∙ more
+record_told r len (suc place) (x ∷ ls) e l f = record_told r len place ls e l f
 
 -- in time
 pub follows_at : (time : ℕ) (r : Record) → r.time ≡ moment_instant time → (place : ℕ) (ls : List (Path × Log)) → LogsAreBy time ls → (l : Path × Log) → slice_get ls place ≡ Some l → MayFollow l.1.kept r

@@ -56,7 +56,7 @@ other_log f (suc place) (suc i) (l ∷ ls) h = other_log f place i ls (λ e. h (
 undone_other : (c : Change) (s : State) (i : ℕ) → records_at i c ≡ false → slice_get (undone c s).logs i ≡ slice_get s.logs i
 undone_other (change.Slot node slot) s i e = refl
 undone_other (change.Records place len) s i e = other_log (cut len) place i s.logs (differ_of i place e)
-undone_other change.Event s i e = refl
+undone_other (change.Event rule status) s i e = refl
 undone_other (change.Contracts library) s i e = refl
 
 neither : (a b : Bool) → (a || b) ≡ false → (a ≡ false) × (b ≡ false)
@@ -110,13 +110,13 @@ nearly_by s (change.Records place len) cs ls h = λ i l e at. go i l (nat_eq i p
     go : (i : ℕ) (l : Path × Log) (b : Bool) → nat_eq i place ≡ b → is_recorded i cs ≡ false → slice_get (with_log rolled place ls) i ≡ Some l → rolled l.1 ≡ l.1
     go i l true is e at = rolled_here s place l ls (subst (λ (k : ℕ). slice_get (with_log rolled place ls) k ≡ Some l) (equal_of i place is) at)
     go i l false is e at = h i l (ap (λ (b : Bool). b || is_recorded i cs) is ∙ e) (sym (other_log rolled place i ls (differ_of i place is)) ∙ at)
-nearly_by s change.Event cs ls h = h
+nearly_by s (change.Event rule status) cs ls h = h
 nearly_by s (change.Contracts library) cs ls h = h
 
 same_rolled : (s : State) (c : Change) (ls : List (Path × Log)) → rolled_logs (settled_by c ls) ≡ rolled_logs ls
 same_rolled s (change.Slot node slot) ls = refl
 same_rolled s (change.Records place len) ls = with_log-rolled s place ls
-same_rolled s change.Event ls = refl
+same_rolled s (change.Event rule status) ls = refl
 same_rolled s (change.Contracts library) ls = refl
 
 settled_rolled : (s : State) (cs : List Change) (ls : List (Path × Log)) → NearlyRolled cs ls → settled_all cs ls ≡ rolled_logs ls
@@ -162,6 +162,7 @@ committed plan time s t b c since found k root rules is =
       sound = sound;
       later = omega arith;
       can_rewind = tt;
+      told = tt;
       in_time_before = by;
       rolled_before = ap roll is ∙ rolls_once s ∙ sym is;
       sound_before = sound;
@@ -174,13 +175,13 @@ length-settled (c ∷ cs) ls = length-settled cs (settled_by c ls) ∙ one c ls
     one : (c : Change) (ls : List (Path × Log)) → length (settled_by c ls) ≡ length ls
     one (change.Slot node slot) ls = refl
     one (change.Records place len) ls = length-with_log rolled place ls
-    one change.Event ls = refl
+    one (change.Event rule status) ls = refl
     one (change.Contracts library) ls = refl
 
 length-undone : (c : Change) (s : State) → length (undone c s).logs ≡ length s.logs
 length-undone (change.Slot node slot) s = refl
 length-undone (change.Records place len) s = length-with_log (cut len) place s.logs
-length-undone change.Event s = refl
+length-undone (change.Event rule status) s = refl
 length-undone (change.Contracts library) s = refl
 
 length-rewound : (cs : List Change) (s : State) → length (rewound cs s).logs ≡ length s.logs
@@ -190,7 +191,7 @@ length-rewound (c ∷ cs) s = length-undone c (rewound cs s) ∙ length-rewound 
 placed_by : (c : Change) (s : State) → CanUndo c s → IsPlaced (length s.logs) c
 placed_by (change.Slot node slot) s can = tt
 placed_by (change.Records place len) s can = can
-placed_by change.Event s can = tt
+placed_by (change.Event rule status) s can = tt
 placed_by (change.Contracts library) s can = tt
 
 -- each change that can be taken back is of a history that is there

@@ -15,8 +15,8 @@ use Rattle.ob_state.specs.States.{AreCounted}
 use Rattle.ob_tree_bridges.proofs.Bridging.{slot_is_set}
 use Rattle.ob_consistent_laws.proofs.Staying.{steps_stay_consistent}
 use Rattle.ob_consistent_laws.proofs.Paths.{steps_keep_paths}
-use Rattle.ob_site_state.specs.Changes.{with_log}
-use Rattle.ob_site_state.specs.Kept.{keys, IsNode, IsSoundFor}
+use Rattle.ob_site_state.specs.Changes.{with_log, IsNode}
+use Rattle.ob_site_state.specs.Kept.{keys, IsSoundFor}
 use Rattle.ob_site_state.proofs.Rewinding.{set_to}
 use Rattle.ob_site_state.proofs.Named.{roles_slotted, roles_over}
 use Rattle.ob_site_state.proofs.Places.{keys-with_log}

@@ -56,7 +56,7 @@ capacities-rolled (l ∷ ls) = ap (λ (cs : List (Option ℕ)). l.1.capacity ∷
 capacities-undone : (c : Change) (s : State) → capacities_of (undone c s).logs ≡ capacities_of s.logs
 capacities-undone (change.Slot node slot) s = refl
 capacities-undone (change.Records place len) s = capacities-with_log (cut len) (λ l. refl) place s.logs
-capacities-undone change.Event s = refl
+capacities-undone (change.Event rule status) s = refl
 capacities-undone (change.Contracts library) s = refl
 
 pub capacities-rewound : (cs : List Change) (s : State) → capacities_of (rewound cs s).logs ≡ capacities_of s.logs

@@ -1,5 +1,5 @@
 -- What a `State` stands for.
-use Rattle.std.specs.Prelude.{◌≡◌, ℕ, ◌≤◌, ◌≤ℤ◌, List, [], ◌∷◌, map, Some, None}
+use Rattle.std.specs.Prelude.{◌≡◌, ℕ, ◌≤◌, ◌≤ℤ◌, List, [], ◌∷◌, map, None}
 use Rattle.ob_times.specs.Times.{instant, moment_instant}
 use Rattle.ob_contracts.specs.Inherit.{Contracts}
 use Rattle.ob_object.specs.Object.{Object}
@@ -7,7 +7,7 @@ use Rattle.ob_object.specs.WellFormed.{IsWellFormed}
 use Rattle.ob_history.specs.declared.records.Record.{Record}
 use Rattle.ob_history.specs.Logs.{History}
 use Rattle.ob_alarms.specs.Changes.{State as Board}
-use Rattle.ob_tree.specs.Paths.{first_twice, place_of}
+use Rattle.ob_tree.specs.Paths.{first_twice}
 use Rattle.ob_tree.specs.Laid.{paths}
 use Rattle.ob_site_rules.specs.Build.{Path}
 use Rattle.ob_site_rules.specs.State.{Plan, Log, State, numbered_from, roll}
@@ -17,7 +17,7 @@ use Rattle.ob_opened.specs.Consistent.{IsConsistent}
 use Rattle.ob_shown_laws.specs.Alike.{row}
 use Rattle.ob_shown_laws.specs.Changed.{PathsDiffer}
 use Rattle.ob_site_state.specs.declared.change.Change.{Change}
-use Rattle.ob_site_state.specs.Changes.{rewound, CanRewind}
+use Rattle.ob_site_state.specs.Changes.{rewound, CanRewind, AreTold}
 use Rattle.ob_site_state.specs.Roles.{RolesStand}
 
 -- a log, in which no room is counted
@@ -63,10 +63,6 @@ LogsAreBy time (l ∷ ls) = AreBy time l.1.kept × LogsAreBy time ls
 abbrev pub keys : List (Path × Log) → List Path
 keys ls = map (λ l. l.0) ls
 
--- the object of a number is a node
-abbrev pub IsNode : ℕ → Object → Type 0
-IsNode n o = (p : Path) × (place_of p (paths o) ≡ Some n)
-
 -- What each state of a site is: it owes its plan nothing, no two nodes of the root have one path, those that roles derive
 -- among them, and what roles name are own nodes.
 pub record IsSoundFor (plan : Plan) (s : State) : Type 0 where
@@ -76,8 +72,8 @@ pub record IsSoundFor (plan : Plan) (s : State) : Type 0 where
 
 -- What the parts owe one another: the alarms are those of the plan's root and rules; the logs are those of the
 -- plan's histories, in their order, no two of which have one path; the own objects are well formed, and no two
--- nodes have one path; no record is after the time; the state is sound for its plan; each change can be taken back; and before the
--- step no record was after the time before it, each log was within its capacity, and the state was sound.
+-- nodes have one path; no record is after the time; the state is sound for its plan; each change can be taken back, and tells what it
+-- should; and before the step no record was after the time before it, each log was within its capacity, and the state was sound.
 pub record IsKept (plan : Plan) (time : ℕ) (s : State) (board : Board) (since : ℕ) (found : List Change) : Type 0 where
   pub root : board.root ≡ plan.root
   pub rules : board.rules ≡ numbered_from 0 plan.rules
@@ -89,6 +85,7 @@ pub record IsKept (plan : Plan) (time : ℕ) (s : State) (board : Board) (since 
   pub sound : IsSoundFor plan s
   pub later : since ≤ time
   pub can_rewind : CanRewind found s
+  pub told : AreTold plan found s
   pub in_time_before : LogsAreBy since (rewound found s).logs
   pub rolled_before : roll (rewound found s) ≡ rewound found s
   pub sound_before : IsSoundFor plan (rewound found s)

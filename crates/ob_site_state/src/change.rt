@@ -1,6 +1,6 @@
 //! What a step changed.
 use ob_contracts::Library;
-use ob_object::Slot;
+use ob_object::{Slot, Status};
 use ob_tree::NodeId;
 
 /// What a step changed, as it was before.
@@ -10,8 +10,8 @@ pub enum Change {
     Slot { node: NodeId, slot: Slot },
     /// How many records the history of this place kept.
     Records { place: usize, len: u64 },
-    /// The alarms have one more event.
-    Event,
+    /// The alarms have one more event: of the alarms of this rule, whose source had this status.
+    Event { rule: u64, status: Status },
     /// The library.
     Contracts { library: Library },
 }

@@ -5,7 +5,8 @@ ghost use Rattle.ob_object.specs.Fits.{fits_slot};
 ghost use Rattle.ob_object.specs.Object.{parts};
 ghost use Rattle.ob_tree.specs.Laid.{head_at, changed};
 ghost use Rattle.ob_alarms.specs.Limits.{Takes};
-ghost use Rattle.ob_alarms.specs.Changes.{on_value, on_ack};
+ghost use Rattle.ob_alarms.specs.Changes.{alarm_of, on_value, on_ack};
+ghost use Rattle.ob_alarms.specs.declared.alarm.Alarm.{Alarm};
 ghost use Rattle.ob_history.specs.Records.{MayFollow, IsRecord};
 ghost use Rattle.ob_site_rules.specs.Build.{Path};
 ghost use Rattle.ob_site_rules.specs.State.{Log as SiteLog, with_board};
@@ -96,6 +97,16 @@ impl Contents {
         record_at(self.logs.as_mut_slice(), place, entry)
     }
 
+    /// The rule of the alarm of a number, or 0 where there is none.
+    pub(crate) fn rule_of_alarm(&self, number: u64) -> u64
+        ensures { (a : Alarm) → alarm_of number self.now.board.alarms ≡ Some a → result ≡ a.rule }
+    {
+        match self.board.alarm(number) {
+            Some(alarm) => alarm.rule,
+            None => 0,
+        }
+    }
+
     /// Lets a rule act on a value of its source, and tells whether that is an event.
     pub(crate) fn take_value(
         &mut self,
@@ -178,7 +189,7 @@ impl Contents {
                 let _new = self.tree.set(node, slot);
             }
             Change::Records { place, len } => cut_at(self.logs.as_mut_slice(), place, len),
-            Change::Event => self.board.undo(),
+            Change::Event { rule: _, status: _ } => self.board.undo(),
             Change::Contracts { library } => self.library = library,
         }
     }
@@ -203,8 +214,9 @@ impl Contents {
     {
         match change {
             Change::Records { place, len: _ } => settle_at(self.logs.as_mut_slice(), *place),
-            Change::Slot { node: _, slot: _ } | Change::Event | Change::Contracts { library: _ } =>
-                {}
+            Change::Slot { node: _, slot: _ }
+            | Change::Event { rule: _, status: _ }
+            | Change::Contracts { library: _ } => {}
         }
     }
 

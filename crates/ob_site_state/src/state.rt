@@ -19,9 +19,9 @@ ghost use Rattle.ob_opened.specs.Laws.{Apart};
 ghost use Rattle.ob_site_rules.specs.Shown.{rule_of};
 ghost use Rattle.ob_state.specs.Fitting.{TakesIfRule};
 ghost use Rattle.ob_site_state.specs.Recorded.{recorded_at, TakesRecord};
-ghost use Rattle.ob_site_state.specs.Changes.{with_log, rewound, CanRewind, HasEvents};
+ghost use Rattle.ob_site_state.specs.Changes.{with_log, rewound, CanRewind, AreTold, IsNode, HasEvents};
 ghost use Rattle.ob_site_state.specs.Stamping.{stamped_by};
-ghost use Rattle.ob_site_state.specs.Kept.{keys, log_of, LogsAreBy, IsNode, IsSoundFor};
+ghost use Rattle.ob_site_state.specs.Kept.{keys, log_of, LogsAreBy, IsSoundFor};
 ghost use Rattle.ob_site_state.specs.Contents.{state_in};
 ghost use Rattle.ob_site_state.specs.Tallies.{capacities_of};
 
@@ -200,19 +200,22 @@ impl State {
         log.gone() + log.len()
     }
 
-    /// The state now owes its plan nothing, and no two nodes of its root have one path, those that roles derive among
-    /// them.
+    /// The state now owes its plan nothing, no two nodes of its root have one path, those that roles derive among them,
+    /// what roles name are own nodes, and the logs are those of the plan's histories, in their order.
     pub fn is_sound(&self)
         ensures sound { IsSoundFor self.now.plan self.now.now }
         ensures differ { first_twice [] (paths self.now.now.tree) ≡ None }
+        ensures histories { keys self.now.now.logs ≡ map (λ h. h.0) self.now.plan.histories }
+        ensures apart { Apart (map (λ h. h.0) self.now.plan.histories) }
     {
         let _ = &self.time;
     }
 
-    /// What the step has changed so far, each as it was before, in order.
+    /// What the step has changed so far, each as it was before, in order. `AreTold` says what each tells of the step.
     pub fn changes(&self) -> &[Change]
         ensures before { rewound result.now self.now.now ≡ self.now.before }
         ensures can { CanRewind result.now self.now.now }
+        ensures told { AreTold self.now.plan result.now self.now.now }
         ensures rolled { roll self.now.before ≡ self.now.before }
         ensures sound { IsSoundFor self.now.plan self.now.before }
     {
@@ -281,9 +284,10 @@ impl State {
         ensures err { OnErr result (self.new ≡ self.old) }
     {
         self.found.reserve(1)?;
+        let status = self.contents.board.status_of(rule);
         let is_event = self.contents.take_value(rule, value, self.time)?;
         if is_event {
-            self.found.push_reserved(Change::Event);
+            self.found.push_reserved(Change::Event { rule, status });
         }
         Ok(())
     }
@@ -311,9 +315,11 @@ impl State {
         ensures err { OnErr result (self.new ≡ self.old) }
     {
         self.found.reserve(1)?;
+        let rule = self.contents.rule_of_alarm(number);
+        let status = self.contents.board.status_of(rule);
         let is_event = self.contents.acknowledge(number, user, self.time)?;
         if is_event {
-            self.found.push_reserved(Change::Event);
+            self.found.push_reserved(Change::Event { rule, status });
         }
         Ok(())
     }

@@ -8,9 +8,9 @@ use Rattle.ob_site_rules.specs.State.{State}
 use Rattle.ob_site_state.specs.declared.change.Change.{Change}
 use Rattle.ob_site_state.specs.declared.change.Change.TheVariants as change
 use Rattle.ob_site_state.specs.Contents.{state_in}
-use Rattle.ob_site_state.specs.Kept.{Kept, IsNode}
+use Rattle.ob_site_state.specs.Kept.{Kept}
 use Rattle.ob_site_state.specs.States.{kept}
-use Rattle.ob_site_state.specs.Changes.{rewound}
+use Rattle.ob_site_state.specs.Changes.{rewound, IsNode}
 use Rattle.ob_site_state.proofs.Rewinding.{set_to}
 use Rattle.ob_site_state.proofs.Noting.{slot_noted, slot_back, before_as, seen_as}
 use Rattle.ob_site_state.proofs.Storing.{tallied_as}
