@@ -1,2 +1,3 @@
 pub mod Slotted
 pub mod Steps
+pub mod Opening
