@@ -1,0 +1,4 @@
+pub mod Stamps
+pub mod Tables
+pub mod Items
+pub mod Anew
