@@ -30,14 +30,17 @@ use Rattle.ob_shown_laws.specs.Changed.{PathsDiffer}
 use Rattle.ob_consistent_laws.proofs.Apart.{opens_apart}
 use Rattle.ob_opens_laws.specs.Records.{EachLog}
 use Rattle.ob_opens_laws.proofs.Records.{opens_records}
+use Rattle.ob_opens_laws.proofs.Sources.{opens_sources}
+use Rattle.ob_opens_laws.proofs.Roles.{opens_roles}
 use Rattle.ob_site_file.specs.Opened.{site_of, state_with}
 use Rattle.ob_site_file.specs.declared.document.Opened.{Opened}
 use Rattle.ob_site_state.specs.declared.contents.Contents.{Contents}
 use Rattle.ob_site_state.specs.Contents.{state_in}
+use Rattle.ob_site_state.specs.Roles.{RolesStand}
 use Rattle.ob_site_state.specs.Kept.{LogsAreBy, IsSoundFor, keys, entry_of as entry_in}
 use Rattle.ob_site_open.specs.Logs.{CanStand, HaveNanos}
 use Rattle.ob_site_state.specs.Tallies.{capacities_of}
-use Rattle.ob_site_open.proofs.Paths.{tree_differs}
+use Rattle.ob_site_open.proofs.Paths.{tree_differs, has_place}
 use Rattle.ob_site_open.proofs.Standing.{logs_stand, logs_by}
 
 -- the alarms of a plan, none yet
@@ -88,6 +91,14 @@ module _ (root : Object) (boot : ℕ) (o : Opened) (formed : IsWellFormed root) 
   pub apart : Apart (map (λ h. h.0) (plan_of o.plan).histories)
   apart = ordered.histories
 
+  roles : RolesStand st.plan st.world.site
+  roles = record {
+    histories = λ p named. has_place p o.tree (ordered.nodes p named);
+    rules = λ p named. has_place p o.tree ((opens_roles root boot st h p).0 named);
+    subject = λ p named. has_place p o.tree ((opens_roles root boot st h p).1 named);
+    values = λ history p x source found. opens_sources root boot st history p x h source found;
+  }
+
   -- what fills a state
   module _ (c : Contents) (f : Fills o c) where
     state_is : state_in c ≡ st.world.site
@@ -108,7 +119,7 @@ module _ (root : Object) (boot : ℕ) (o : Opened) (formed : IsWellFormed root) 
     rolled = ap roll state_is ∙ rolls_once (state_with o.library o.tree (map entry_of o.logs.items)) ∙ sym state_is
 
     pub sound : IsSoundFor (plan_of o.plan) (state_in c)
-    sound = subst (IsSoundFor (plan_of o.plan)) (sym state_is) (record { consistent = consistent; paths_differ = shown_differ })
+    sound = subst (IsSoundFor (plan_of o.plan)) (sym state_is) (record { consistent = consistent; paths_differ = shown_differ; roles = roles })
 
     pub capacities : capacities_of (state_in c).logs ≡ capacities_of st.world.site.logs
     capacities = ap (λ (s : State). capacities_of s.logs) state_is

@@ -1,5 +1,5 @@
 -- Paths that are apart, as a tree asks for them.
-use Rattle.std.proofs.Common.{◌≡◌, ℕ, Bool, true, false, cond, ◌||◌, bytes_eq, List, [], ◌∷◌, ◌++◌, Option, Some, None, refl, sym, ap, ap₂, ◌∙◌, append_assoc, subst, true≢false}
+use Rattle.std.proofs.Common.{◌≡◌, ℕ, Bool, true, false, cond, ◌||◌, bytes_eq, List, [], ◌∷◌, ◌++◌, Option, Some, None, option_map, suc, refl, sym, ap, ap₂, ◌∙◌, append_assoc, subst, true≢false}
 use Rattle.std.specs.Prelude.{is_some}
 use Rattle.std.proofs.lemmas.List.{map-append}
 use Rattle.std.proofs.lemmas.Slice.Eq.{bytes_eq-Decides}
@@ -9,7 +9,7 @@ use Rattle.ob_site_rules.specs.State.{is_among}
 use Rattle.ob_site_rules.specs.Shown.{node_path}
 use Rattle.ob_opening.specs.Loading.{listed_path, row_of}
 use Rattle.ob_tree.specs.Laid.{heads, paths}
-use Rattle.ob_tree.specs.Paths.{first_twice}
+use Rattle.ob_tree.specs.Paths.{place_of, first_twice}
 use Rattle.ob_tree_bridges.proofs.Places.{row_paths as tree_paths, paths_by_row, has, has-append}
 use Rattle.ob_opened.specs.Laws.{Apart, row_paths}
 
@@ -62,6 +62,21 @@ none_twice before (Some q ∷ qs) a out =
     ∙ none_twice (before ++ Some q ∷ []) qs a.1 (λ p h.
     has-append p before (Some q ∷ [])
     ∙ ap₂ (λ x y. x || y) (out p (ap (λ b. bytes_eq q p || b) h ∙ or_true (bytes_eq q p))) (ap (λ b. let o : Option ℕ = cond b (Some 0) None in is_some o) (other p q (listed qs) a.0 h)))
+
+-- the place of a path that is there
+some_if : (b : Bool) (o : Option ℕ) → is_some (cond b (Some 0) (option_map suc o)) ≡ (b || is_some o)
+some_if true o = refl
+some_if false None = refl
+some_if false (Some n) = refl
+
+listed_has : (p : Path) (qs : List (Option Path)) → is_some (place_of p qs) ≡ is_among p (listed qs)
+listed_has p [] = refl
+listed_has p (None ∷ qs) = some_if false (place_of p qs) ∙ listed_has p qs
+listed_has p (Some q ∷ qs) = some_if (bytes_eq q p) (place_of p qs) ∙ ap (λ b. bytes_eq q p || b) (listed_has p qs)
+
+pub has_place : (p : Path) (o : Object) → is_among p (row_paths (row_of o)) ≡ true → is_some (place_of p (paths o)) ≡ true
+has_place p o h =
+    ap (λ qs. is_some (place_of p qs)) (paths_by_row o) ∙ listed_has p (tree_paths (row_of o)) ∙ ap (is_among p) (listed_row (row_of o)) ∙ h
 
 -- of a tree whose paths are apart none stands twice
 pub tree_differs : (o : Object) → Apart (row_paths (row_of o)) → first_twice [] (paths o) ≡ None
