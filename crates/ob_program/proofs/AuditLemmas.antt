@@ -8,10 +8,9 @@ use Rattle.ob_load.specs.Causes.{HasLoadCause}
 use Rattle.ob_load.specs.Loads.{IsSite, OpenedIsNotRefused, OpensAlways, RefusesBytes, IsOutside}
 use Rattle.ob_record.specs.Broken.{BreaksAt, SpelledIsUnbroken}
 use Rattle.ob_record.specs.Legal.{Audits}
-use Rattle.ob_record.specs.Runs.{Recorded, recorded, Records}
+use Rattle.ob_record.specs.Runs.{Recorded, Records, IsRecord}
 use Rattle.ob_record.specs.declared.auditing.Verdict.{Verdict}
 use Rattle.ob_record.specs.declared.auditing.Verdict.TheVariants.{Legal, Illegal}
-use Rattle.ob_record.specs.declared.run.Run.{Run}
 use Rattle.ob_site_file.specs.declared.fault.LoadFault.{LoadFault}
 use Rattle.ob_site_file.specs.declared.fault.LoadFault.TheVariants as loads
 use Rattle.ob_site_laws.specs.SiteLaws.{acts}
@@ -59,18 +58,19 @@ told_none (Some whole) bytes (faults.Record place) is short r =
 told_none content bytes faults.Failed is short r = tt
 told_none content bytes faults.Memory is short r = tt
 
-pub runs_told : (content : Option (List ℕ)) (bytes : List ℕ) (r : Result Run RunFault) → IfSome content (λ whole. bytes ≡ take 1_073_741_825 whole) → length bytes ≤ most_bytes
-    → IfOk r (λ run. Records bytes (recorded run)) → IfOk r (λ run. IfSome content (IsRecordOf (recorded run)))
-runs_told content bytes (Ok run) is short r = told_run content bytes (recorded run) is short r
+pub runs_told : (content : Option (List ℕ)) (bytes : List ℕ) (r : Result (List ℕ) RunFault) → IfSome content (λ whole. bytes ≡ take 1_073_741_825 whole) → length bytes ≤ most_bytes
+    → IfOk r (λ run. (run ≡ bytes) × IsRecord bytes) → IfOk r (λ run. (recorded : Recorded) × Records run recorded × IfSome content (IsRecordOf recorded))
+runs_told content bytes (Ok run) is short r =
+    (r.1.0, subst (λ (l : List ℕ). Records l r.1.0) (sym r.0) r.1.1, told_run content bytes r.1.0 is short r.1.1)
 runs_told content bytes (Err e) is short r = tt
 
-pub runs_none : (content : Option (List ℕ)) (bytes : List ℕ) (r : Result Run RunFault) → IfSome content (λ whole. bytes ≡ take 1_073_741_825 whole) → length bytes ≤ most_bytes
+pub runs_none : (content : Option (List ℕ)) (bytes : List ℕ) (r : Result (List ℕ) RunFault) → IfSome content (λ whole. bytes ≡ take 1_073_741_825 whole) → length bytes ≤ most_bytes
     → IfErr r (Unread bytes) → IfErr r (NoRun content)
 runs_none content bytes (Ok run) is short r = tt
 runs_none content bytes (Err e) is short r = told_none content bytes e is short r
 
 -- a run that was read of bytes isn't said to have failed
-pub never_failed : (bytes : List ℕ) (r : Result Run RunFault) (P : Type 0) → IfErr r (Unread bytes) → IsErrOf r faults.Failed → P
+pub never_failed : (bytes : List ℕ) (r : Result (List ℕ) RunFault) (P : Type 0) → IfErr r (Unread bytes) → IsErrOf r faults.Failed → P
 never_failed bytes (Ok run) P h failed = absurd (cc failed)
 never_failed bytes (Err (faults.Record place)) P h failed = absurd (cc failed)
 never_failed bytes (Err faults.Failed) P h failed = absurd h
@@ -111,17 +111,23 @@ run_unjudged site file files files' (faults.Record place) none failed = none
 run_unjudged site file files files' faults.Failed none failed = failed refl
 run_unjudged site file files files' faults.Memory none failed = tt
 
+-- bytes are the record of a run, which is that of a file
+abbrev pub IsRead : Option (List ℕ) → List ℕ → Type 0
+IsRead file bytes = (recorded : Recorded) × Records bytes recorded × IfSome file (IsRecordOf recorded)
+
 -- a run was read before it was judged
-pub judged_file : (site site' file : Option (List ℕ)) (run : Recorded) (r : Result Verdict AuditEnd) → site' ≡ site → IfSome file (IsRecordOf run) → IfOk r (Judges site' run)
-    → IfOk r (λ verdict. (run : Recorded) × IfSome file (IsRecordOf run) × Judges site run verdict)
-judged_file site site' file run (Ok verdict) same is judged = (run, is, subst (λ (s : Option (List ℕ)). Judges s run verdict) same judged)
+pub judged_file : (site site' file : Option (List ℕ)) (run : List ℕ) (r : Result Verdict AuditEnd) → site' ≡ site → IsRead file run
+    → IfOk r (λ verdict. (recorded : Recorded) → Records run recorded → Judges site' recorded verdict)
+    → IfOk r (λ verdict. (recorded : Recorded) × IfSome file (IsRecordOf recorded) × Judges site recorded verdict)
+judged_file site site' file run (Ok verdict) same is judged =
+    (is.0, is.2, subst (λ (s : Option (List ℕ)). Judges s is.0 verdict) same (judged is.0 is.1))
 judged_file site site' file run (Err e) same is judged = tt
 
-pub unjudged_file : (site site' file : Option (List ℕ)) (run : Recorded) (files files' files'' : ℕ) (r : Result Verdict AuditEnd) → site' ≡ site → files ≤ files' → IfSome file (IsRecordOf run)
-    → IfErr r (Unjudged site' run.boot files' files'') → IfErr r (JudgesNone site file files files'')
+pub unjudged_file : (site site' file : Option (List ℕ)) (run : List ℕ) (files files' files'' : ℕ) (r : Result Verdict AuditEnd) → site' ≡ site → files ≤ files' → IsRead file run
+    → IfErr r (λ end. (recorded : Recorded) → Records run recorded → Unjudged site' recorded.boot files' files'' end) → IfErr r (JudgesNone site file files files'')
 unjudged_file site site' file run files files' files'' (Ok verdict) same later is none = tt
 unjudged_file site site' file run files files' files'' (Err e) same later is none =
-    unjudged_since site file run files files' files'' e later is (subst (λ (s : Option (List ℕ)). Unjudged s run.boot files' files'' e) same none)
+    unjudged_since site file is.0 files files' files'' e later is.2 (subst (λ (s : Option (List ℕ)). Unjudged s is.0.boot files' files'' e) same (none is.0 is.1))
 
 -- nothing was printed
 pub none_comes : (site file held : Option (List ℕ)) (files files' : ℕ) (end : AuditEnd) → JudgesNone site file files files' end → AuditComes site file held held end

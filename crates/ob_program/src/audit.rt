@@ -1,7 +1,7 @@
 //! `audit`: whether a record is legal from a site file.
 ghost use Rattle.std.specs.Prelude.{◌≡◌, ◌≤◌, ℕ, List, IfOk, IfErr, IfSome, IsErrOf};
 ghost use Rattle.ob_io.specs.Faults.{Rose};
-ghost use Rattle.ob_record.specs.Runs.{Recorded, Records, recorded};
+ghost use Rattle.ob_record.specs.Runs.{Recorded, Records, IsRecord};
 ghost use Rattle.ob_program.specs.Audit.{IsRecordOf, Unread, NoRun, Judges, Unjudged, JudgesNone, IsUntold, AuditComes, AuditRose, AuditRan, verdict_text};
 
 use crate::exit::{Exit, tell};
@@ -105,9 +105,9 @@ fn record_line(alloc: Global, place: u64) -> Result<Vec<u8>, AllocError> {
 }
 
 /// The run of the record that bytes are.
-fn run_of(alloc: Global, bytes: &[u8]) -> Result<Run, RunFault>
-    ensures run { IfOk result (λ run. Records bytes.now (recorded run)) }
-    ensures none { IfErr result (Unread bytes.now) }
+fn run_of(alloc: Global, bytes: Vec<u8>) -> Result<Run, RunFault>
+    ensures run { IfOk result (λ run. (run ≡ bytes.items) × IsRecord bytes.items) }
+    ensures none { IfErr result (Unread bytes.items) }
 {
     match read_record(alloc, bytes) {
         Ok(run) => Ok(run),
@@ -118,7 +118,7 @@ fn run_of(alloc: Global, bytes: &[u8]) -> Result<Run, RunFault>
 
 /// The run that the record of a file tells.
 fn read_run<F: Files>(alloc: Global, name: &str, files: &mut F) -> Result<Run, RunFault>
-    ensures run { IfOk result (λ run. IfSome (F.content files.old name.now) (IsRecordOf (recorded run))) }
+    ensures run { IfOk result (λ run. (recorded : Recorded) × Records run recorded × IfSome (F.content files.old name.now) (IsRecordOf recorded)) }
     ensures none { IfErr result (NoRun (F.content files.old name.now)) }
     ensures same { (n : List ℕ) → F.content files.new n ≡ F.content files.old n }
     ensures later { F.faults files.old ≤ F.faults files.new }
@@ -132,13 +132,14 @@ fn read_run<F: Files>(alloc: Global, name: &str, files: &mut F) -> Result<Run, R
     if bytes.len() as u64 > MOST_BYTES {
         return Err(RunFault::Record { place: MOST_BYTES });
     }
-    run_of(alloc, &bytes)
+    run_of(alloc, bytes)
 }
 
 /// The verdict on a run, from the site that a file opens at the run's first moment.
 fn judge<F: Files>(alloc: Global, files: &mut F, name: &str, run: &Run) -> Result<Verdict, AuditEnd>
-    ensures judged { IfOk result (Judges (F.content files.old name.now) (recorded run.now)) }
-    ensures none { IfErr result (Unjudged (F.content files.old name.now) (recorded run.now).boot (F.faults files.old) (F.faults files.new)) }
+    ensures judged { IfOk result (λ verdict. (recorded : Recorded) → Records run.now recorded → Judges (F.content files.old name.now) recorded verdict) }
+    ensures none { IfErr result (λ end. (recorded : Recorded) → Records run.now recorded
+        → Unjudged (F.content files.old name.now) recorded.boot (F.faults files.old) (F.faults files.new) end) }
     ensures later { F.faults files.old ≤ F.faults files.new }
 {
     let mut loaded = match load(alloc, files, name, run.boot()) {

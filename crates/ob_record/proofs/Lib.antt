@@ -5,3 +5,4 @@ pub mod Bodies
 pub mod RunLaws
 pub mod Reading
 pub mod AuditLaws
+pub mod InPlace

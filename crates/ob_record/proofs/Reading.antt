@@ -1,6 +1,5 @@
 -- What reading a record comes to.
-use Rattle.std.proofs.Common.{◌≡◌, ◌≢◌, ℕ, ◌+◌, ◌<◌, ◌≤◌, List, [], ◌∷◌, ◌++◌, length, codes, decimal, option_map, unwrap_or, Some, None, Result, Ok, Err, refl, sym, ap, subst, ◌∙◌, append_assoc, append-nil, arith, length-append}
-use Rattle.std.specs.Prelude.{IfOk, IfErr}
+use Rattle.std.proofs.Common.{◌≡◌, ◌≢◌, ℕ, ◌+◌, ◌<◌, ◌≤◌, List, [], ◌∷◌, ◌++◌, length, codes, decimal, option_map, unwrap_or, Some, None, refl, sym, ap, subst, ◌∙◌, append_assoc, append-nil, arith, length-append}
 use Rattle.std.specs.List.{flat_map, AllByRecursion}
 use Rattle.std.proofs.lemmas.List.Concat.{flat_map-cons, flat_map-append}
 use Rattle.std.proofs.lemmas.Option.{some_pair_parts}
@@ -8,10 +7,9 @@ use Rattle.ob_times.specs.Times.{IsMoment}
 use Rattle.ob_record.specs.declared.fault.RecordFault.{RecordFault}
 use Rattle.ob_record.specs.declared.fault.RecordFault.TheVariants.{At, Memory}
 use Rattle.ob_record.specs.declared.run.Entry.{Entry}
-use Rattle.ob_record.specs.declared.run.Run.{Run}
 use Rattle.ob_record.specs.Parts.{Parts, parts_text, verb_word, number_word, size_word}
 use Rattle.ob_record.specs.Reading.{after, number_at, boot_at, parts_at}
-use Rattle.ob_record.specs.Runs.{Recorded, recorded, parts_of, entry_text, IsEntry, Records, AreEntries, BeginsNone, first_line, boot_line, head_text, run_text}
+use Rattle.ob_record.specs.Runs.{Recorded, parts_of, entry_text, IsEntry, Records, AreEntries, IsMeasured, BeginsNone, first_line, boot_line, head_text, run_text}
 use Rattle.ob_record.specs.Broken.{BreaksAt, in_first_line, in_second_line, in_entry, BreaksOff, Breaks}
 use Rattle.ob_record.proofs.Words.{bind_some, after_again, after_found, number_found, number_again}
 use Rattle.ob_record.proofs.PartLaws.{parts_again, parts_found}
@@ -42,10 +40,9 @@ all_snoc (f ∷ entries) e all one = (all.0, all_snoc entries e all.1 one)
 pub read_none : (bytes : List ℕ) → ReadSoFar bytes [] bytes
 read_none bytes = record { valid = tt; text = refl }
 
-pub read_more : (bytes : List ℕ) (entries : List Entry) (rest : List ℕ) (p : Parts) (e : Entry) (more : List ℕ) → ReadSoFar bytes entries rest → parts_at rest ≡ Some (p, more)
-    → IsEntry e → p ≡ parts_of e → ReadSoFar bytes (entries ++ e ∷ []) more
-read_more bytes entries rest p e more so_far found valid is =
-    let text : rest ≡ entry_text e ++ more = (parts_found rest p more found).1 ∙ ap (λ (q : Parts). parts_text q ++ more) is in
+pub read_more : (bytes : List ℕ) (entries : List Entry) (rest : List ℕ) (e : Entry) (more : List ℕ) → ReadSoFar bytes entries rest
+    → IsEntry e → rest ≡ entry_text e ++ more → ReadSoFar bytes (entries ++ e ∷ []) more
+read_more bytes entries rest e more so_far valid text =
     record {
       valid = all_snoc entries e so_far.valid valid;
       text = so_far.text ∙ ap (λ (l : List ℕ). flat_map entry_text entries ++ l) text
@@ -142,12 +139,50 @@ pub behind_within : (bytes rest : List ℕ) (number : ℕ) (behind : List ℕ) �
 behind_within bytes rest number behind first found =
     omega (arith, ap (λ (l : List ℕ). length l) (headed bytes rest number behind first found), length-append (head_text number) behind)
 
-pub run_found : (bytes rest : List ℕ) (number boot : ℕ) (behind : List ℕ) (r : Result Run RecordFault) → after first_line bytes ≡ Some rest → boot_at rest ≡ Some (number, behind) → IsMoment number → boot ≡ number
-    → IfOk r (λ run. ((recorded run).boot ≡ boot) × AreEntries (recorded run).entries behind) → IfOk r (λ run. Records bytes (recorded run))
-run_found bytes rest number boot behind (Ok run) first found moment is told = record_found bytes rest number behind (recorded run) first found moment (told.0 ∙ is) told.1
-run_found bytes rest number boot behind (Err e) first found moment is told = tt
+-- an entry has bytes
+pub entry_shorter : (bytes : List ℕ) (e : Entry) (rest : List ℕ) → IsEntry e → bytes ≡ entry_text e ++ rest → length rest < length bytes
+entry_shorter bytes e rest valid is = shorter bytes (parts_of e) rest (ap parts_at is ∙ parts_again (parts_of e) rest (small_parts e valid))
 
-pub run_broken : (bytes rest : List ℕ) (number : ℕ) (behind : List ℕ) (r : Result Run RecordFault) → after first_line bytes ≡ Some rest → boot_at rest ≡ Some (number, behind) → IsMoment number
-    → IfErr r (Breaks behind (length bytes)) → IfErr r (BreaksOff bytes)
-run_broken bytes rest number behind (Ok run) first found moment told = tt
-run_broken bytes rest number behind (Err e) first found moment told = record_broken bytes rest number behind e first found moment told
+-- so many entries were read, and no fewer bytes
+pub record Counted (bytes : List ℕ) (len : ℕ) (rest : List ℕ) : Type 0 where
+  pub entries : List Entry
+  pub so_far : ReadSoFar bytes entries rest
+  pub len_is : len ≡ length entries
+  pub within : len + length rest ≤ length bytes
+
+pub counted_none : (bytes : List ℕ) → Counted bytes 0 bytes
+counted_none bytes = record { entries = []; so_far = read_none bytes; len_is = refl; within = omega arith }
+
+pub counted_more : (bytes : List ℕ) (len : ℕ) (rest : List ℕ) (e : Entry) (more : List ℕ) → Counted bytes len rest → IsEntry e → rest ≡ entry_text e ++ more
+    → Counted bytes (len + 1) more
+counted_more bytes len rest e more c valid is = record {
+  entries = c.entries ++ e ∷ [];
+  so_far = read_more bytes c.entries rest e more c.so_far valid is;
+  len_is = omega (arith, c.len_is, length-append c.entries (e ∷ []));
+  within = omega (arith, c.within, entry_shorter rest e more valid is);
+}
+
+pub counted_broken : (bytes : List ℕ) (len : ℕ) (rest : List ℕ) (whole place : ℕ) → Counted bytes len rest → rest ≢ [] → BeginsNone rest → place + length rest ≡ whole
+    → Breaks bytes whole (At place)
+counted_broken bytes len rest whole place c some none is = read_broken bytes c.entries rest whole place c.so_far some none is
+
+pub counted_ended : (bytes : List ℕ) (len : ℕ) (rest : List ℕ) → rest ≡ [] → Counted bytes len rest
+    → (entries : List Entry) × AreEntries entries bytes × (len ≡ length entries)
+counted_ended bytes len rest none c = (c.entries, read_ended bytes c.entries rest none c.so_far, c.len_is)
+
+pub measured : (bytes rest : List ℕ) (number boot : ℕ) (behind : List ℕ) (begin len : ℕ) → after first_line bytes ≡ Some rest → boot_at rest ≡ Some (number, behind)
+    → IsMoment number → boot ≡ number → begin + length behind ≡ length bytes
+    → (entries : List Entry) × AreEntries entries behind × (len ≡ length entries) → IsMeasured bytes boot begin len
+measured bytes rest number boot behind begin len first found moment is at_begin told = record {
+  run = record { boot = boot; entries = told.0 };
+  records = record_found bytes rest number behind (record { boot = boot; entries = told.0 }) first found moment is told.1;
+  boot_is = refl;
+  first_is = omega (
+    arith,
+    at_begin,
+    ap (λ (l : List ℕ). length l) (headed bytes rest number behind first found),
+    length-append (head_text number) behind,
+    ap (λ (b : ℕ). length (head_text b)) is,
+  );
+  len_is = told.2;
+}

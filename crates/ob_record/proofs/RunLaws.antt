@@ -76,7 +76,7 @@ module _ (spells : TextSpells) (one : OneDocument) where
       let r = one_told e.reply f.reply (ap (λ (p : Parts). p.reply) is) in
       λ i. record { moment = m i; request = record { verb = v i; target = t i; body = b i }; reply = r i }
 
-  one_entry : (e f : Entry) (rest more : List ℕ) → IsEntry e → IsEntry f → entry_text e ++ rest ≡ entry_text f ++ more → (e ≡ f) × (rest ≡ more)
+  pub one_entry : (e f : Entry) (rest more : List ℕ) → IsEntry e → IsEntry f → entry_text e ++ rest ≡ entry_text f ++ more → (e ≡ f) × (rest ≡ more)
   one_entry e f rest more x y same =
       let read : Some (parts_of e, rest) ≡ Some (parts_of f, more) =
       sym (parts_again (parts_of e) rest (small_parts e x)) ∙ ap parts_at same ∙ parts_again (parts_of f) more (small_parts f y) in

@@ -8,7 +8,6 @@ use Rattle.ob_object.specs.Object.{Object}
 use Rattle.ob_times.specs.Times.{IsMoment}
 use Rattle.ob_values.specs.XmlText.{IsXmlText}
 use Rattle.ob_record.specs.declared.run.Entry.{Entry}
-use Rattle.ob_record.specs.declared.run.Run.{Run}
 use Rattle.ob_record.specs.declared.run.Told.{Told}
 use Rattle.ob_record.specs.declared.run.Told.TheVariants.{Reply, NoMemory}
 use Rattle.ob_record.specs.Parts.{Parts, parts_text, number_word}
@@ -61,10 +60,6 @@ pub record Recorded : Type 0 where
   pub boot : ℕ
   pub entries : List Entry
 
--- a run that a program holds
-abbrev pub recorded : Run → Recorded
-recorded run = record { boot = run.boot; entries = run.entries.items }
-
 abbrev pub first_line : List ℕ
 first_line = codes "obix-record 1\n"
 
@@ -88,6 +83,18 @@ pub record IsRun (run : Recorded) : Type 0 where
 pub record Records (bytes : List ℕ) (run : Recorded) : Type 0 where
   pub valid : IsRun run
   pub text : bytes ≡ run_text run
+
+-- bytes that are the record of a run
+abbrev pub IsRecord : List ℕ → Type 0
+IsRecord bytes = (run : Recorded) × Records bytes run
+
+-- The bytes are the record of a run of this moment, whose entries begin at this place, and which has so many.
+pub record IsMeasured (bytes : List ℕ) (boot first len : ℕ) : Type 0 where
+  pub run : Recorded
+  pub records : Records bytes run
+  pub boot_is : run.boot ≡ boot
+  pub first_is : first ≡ length (head_text run.boot)
+  pub len_is : len ≡ length run.entries
 
 -- no run has the second line that stands first in the bytes
 abbrev pub NoBoot : List ℕ → Type 0

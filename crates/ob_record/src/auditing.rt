@@ -1,10 +1,12 @@
 //! The audit of a run.
 ghost use Rattle.std.specs.Prelude.{◌≡◌, ◌≢◌, IfSome, IfNone};
 ghost use Rattle.ob_record.specs.Legal.{StepsEntry, Audits};
-ghost use Rattle.ob_record.specs.Runs.{recorded};
+ghost use Rattle.ob_record.specs.Runs.{Recorded, Records};
 
+use crate::decode::next_entry;
 use crate::run::{Entry, Run, Told};
 use ob_encode::encode;
+use ob_grammar::{one_document, text_spells};
 use ob_machine::Machine;
 use ob_object::Obj;
 use ob_site_rules::Request;
@@ -62,18 +64,31 @@ pub fn audit<M: Machine<Request = Request, Reply = Obj>>(
     machine: &mut M,
     run: &Run,
 ) -> Result<Verdict, AllocError>
-    ensures { Audits M.act machine.old machine.new (recorded run.now).entries result }
+    ensures { (recorded : Recorded) → Records run.now recorded → Audits M.act machine.old machine.new recorded.entries result }
 {
-    'entries: for place in 0..run.entries.len() {
-        match step_entry(alloc, machine, &run.entries[place]) {
+    text_spells();
+    one_document();
+    run.is_record();
+    let entries = run.len();
+    let mut rest = run.entries();
+    'entries: for place in 0..entries {
+        let Some(found) = next_entry(alloc, rest)? else {
+            unreachable!()
+        };
+        let (entry, more) = found;
+        let stepped = step_entry(alloc, machine, &entry);
+        drop(entry);
+        match stepped {
             Ok(None) => {}
             Ok(Some(expected)) => {
-                let entry = place as u64;
-                return Ok(Verdict::Illegal { entry, expected });
+                return Ok(Verdict::Illegal {
+                    entry: place,
+                    expected,
+                });
             }
             Err(fault) => return Err(fault),
         }
+        rest = more;
     }
-    let entries = run.entries.len() as u64;
     Ok(Verdict::Legal { entries })
 }

@@ -1,14 +1,14 @@
 //! An entry from its parts: target and body are read.
-ghost use Rattle.std.specs.Prelude.{◌≡◌, true, false, IfOk, IfSome, IfNone, option_map};
+ghost use Rattle.std.specs.Prelude.{◌≡◌, ◌++◌, true, false, IfOk, IfSome, IfNone, option_map};
 ghost use Rattle.ob_values.specs.XmlText.{IsXmlText};
 ghost use Rattle.ob_encode.specs.Canonical.{canonical_text};
 ghost use Rattle.std.specs.declared.option.Option.{Option};
 ghost use Rattle.ob_object.specs.Object.{Object};
 ghost use Rattle.ob_record.specs.declared.run.Entry.{Entry};
 ghost use Rattle.ob_record.specs.Parts.{parts_of_slices, AreSmall};
-ghost use Rattle.ob_record.specs.Runs.{body_text, reply_bytes, parts_of, IsBody, IsEntry};
+ghost use Rattle.ob_record.specs.Runs.{body_text, reply_bytes, parts_of, entry_text, BeginsNone, IsBody, IsEntry};
 
-use crate::parts::Slices;
+use crate::parts::{Slices, take_parts};
 use crate::run::{Entry, Told};
 use ob_documents::{carried, read};
 use ob_encode::encode;
@@ -102,7 +102,7 @@ fn told_of(alloc: Global, reply: Option<&[u8]>) -> Result<Told, AllocError>
 }
 
 /// The entry that has these parts, or None where none has.
-pub(crate) fn entry_of(alloc: Global, parts: Slices<'_>) -> Result<Option<Entry>, AllocError>
+fn entry_of(alloc: Global, parts: Slices<'_>) -> Result<Option<Entry>, AllocError>
     requires { AreSmall (parts_of_slices parts) }
     ensures found { IfOk result (λ found. IfSome found (λ e. IsEntry e × (parts_of_slices parts.entry ≡ parts_of e))) }
     ensures none { IfOk result (λ found. IfNone found ((e : Entry) → IsEntry e → parts_of_slices parts.entry ≡ parts_of e → ⊥)) }
@@ -127,4 +127,18 @@ pub(crate) fn entry_of(alloc: Global, parts: Slices<'_>) -> Result<Option<Entry>
         request,
         reply,
     }))
+}
+
+/// The entry that stands first in the bytes, and what follows it; None where no run has the entry that does.
+pub(crate) fn next_entry(alloc: Global, bytes: &[u8]) -> Result<Option<(Entry, &[u8])>, AllocError>
+    ensures found { IfOk result (λ found. IfSome found (λ x. IsEntry x.0 × (bytes.now ≡ entry_text x.0 ++ x.1.now))) }
+    ensures none { IfOk result (λ found. IfNone found (BeginsNone bytes.now)) }
+{
+    let Some((parts, rest)) = take_parts(bytes) else {
+        return Ok(None);
+    };
+    match entry_of(alloc, parts)? {
+        Some(entry) => Ok(Some((entry, rest))),
+        None => Ok(None),
+    }
 }

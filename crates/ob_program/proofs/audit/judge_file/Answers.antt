@@ -1,5 +1,4 @@
 use Rattle.std.proofs.Common.{sym, subst}
-use Rattle.ob_record.specs.Runs.{recorded}
 use Rattle.ob_program.specs.declared.audit.AuditEnd.{AuditEnd}
 use Rattle.ob_program.specs.Audit.{JudgesNone}
 use Rattle.ob_program.proofs.AuditLemmas.{run_unjudged, judged_file, unjudged_file}
@@ -17,10 +16,10 @@ returns-in-Err-clause-none g c =
 pub returns-clause-judged : goal.returns-clause-judged
 returns-clause-judged g c =
     judged_file (g.F.Files.content c.args.files.now c.args.words.site.now) (g.F.Files.content c.read_run.new.files c.args.words.site.now) (g.F.Files.content c.args.files.now c.args.words.file.now)
-    (recorded c.in-Ok.run') c.judge.result (c.read_run.ensures.same c.args.words.site.now) c.in-Ok.ensures.run c.judge.ensures.judged
+    c.in-Ok.run' c.judge.result (c.read_run.ensures.same c.args.words.site.now) c.in-Ok.ensures.run c.judge.ensures.judged
 
 pub returns-clause-none : goal.returns-clause-none
 returns-clause-none g c =
     unjudged_file (g.F.Files.content c.args.files.now c.args.words.site.now) (g.F.Files.content c.read_run.new.files c.args.words.site.now) (g.F.Files.content c.args.files.now c.args.words.file.now)
-    (recorded c.in-Ok.run') (g.F.Files.faults c.args.files.now) (g.F.Files.faults c.read_run.new.files) (g.F.Files.faults c.judge.new.files) c.judge.result
+    c.in-Ok.run' (g.F.Files.faults c.args.files.now) (g.F.Files.faults c.read_run.new.files) (g.F.Files.faults c.judge.new.files) c.judge.result
     (c.read_run.ensures.same c.args.words.site.now) c.read_run.ensures.later c.in-Ok.ensures.run c.judge.ensures.none

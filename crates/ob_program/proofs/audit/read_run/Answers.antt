@@ -1,7 +1,5 @@
-use Rattle.std.proofs.Common.{◌≤◌, ◌<◌, ℕ, List, length, subst, arith}
-use Rattle.std.specs.Prelude.{IfOk, IfErr}
-use Rattle.ob_record.specs.Runs.{recorded, Records}
-use Rattle.ob_program.specs.Audit.{Unread, most_bytes}
+use Rattle.std.proofs.Common.{◌≤◌, ◌<◌, length, arith}
+use Rattle.ob_program.specs.Audit.{most_bytes}
 use Rattle.ob_program.proofs.AuditLemmas.{too_long, runs_told, runs_none}
 use Rattle.ob_program.proofs.audit.read_run.Goals as goal
 
@@ -14,10 +12,10 @@ pub returns-clause-run : goal.returns-clause-run
 returns-clause-run g c =
     let short : length c.in-Ok.bytes.items ≤ most_bytes = (let test = c.if-len-gt-MOST_BYTES.false in let len = c.len.ensures in omega (arith, test, len)) in
     runs_told (g.F.Files.content c.args.files.now c.args.name.now) c.in-Ok.bytes.items c.run_of.result c.in-Ok.ensures.bytes short
-    (subst (λ (l : List ℕ). IfOk c.run_of.result (λ run. Records l (recorded run))) c.deref.ensures.value c.run_of.ensures.run)
+    c.run_of.ensures.run
 
 pub returns-clause-none : goal.returns-clause-none
 returns-clause-none g c =
     let short : length c.in-Ok.bytes.items ≤ most_bytes = (let test = c.if-len-gt-MOST_BYTES.false in let len = c.len.ensures in omega (arith, test, len)) in
     runs_none (g.F.Files.content c.args.files.now c.args.name.now) c.in-Ok.bytes.items c.run_of.result c.in-Ok.ensures.bytes short
-    (subst (λ (l : List ℕ). IfErr c.run_of.result (Unread l)) c.deref.ensures.value c.run_of.ensures.none)
+    c.run_of.ensures.none
