@@ -3,3 +3,9 @@ pub mod Notes
 pub mod Worlds
 pub mod Records
 pub mod Comparing
+pub mod Before
+pub mod Slots
+pub mod Differing
+pub mod Telling
+pub mod Changing
+pub mod Looping

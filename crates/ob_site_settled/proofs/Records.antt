@@ -27,7 +27,7 @@ got_drop zero k xs = let e : k ≡ 0 + k = omega arith in ap (slice_get xs) e
 got_drop (suc n) k [] = refl
 got_drop (suc n) k (x ∷ xs) = let e : suc (n + k) ≡ suc n + k = omega arith in got_drop n k xs ∙ ap (slice_get (x ∷ xs)) e
 
-got_take : {A : Type 0} (n k : ℕ) (xs : List A) → k < n → slice_get (take n xs) k ≡ slice_get xs k
+pub got_take : {A : Type 0} (n k : ℕ) (xs : List A) → k < n → slice_get (take n xs) k ≡ slice_get xs k
 got_take zero k xs h = absurd (omega arith)
 got_take (suc n) k [] h = refl
 got_take (suc n) zero (x ∷ xs) h = refl
@@ -81,7 +81,7 @@ both_true : (a b : Bool) → (a && b) ≡ true → (a ≡ true) × (b ≡ true)
 both_true true b h = (refl, h)
 both_true false b h = absurd (true≢false (sym h))
 
-number_of : (m n : ℕ) → number_slot m ≡ number_slot n → m ≡ n
+pub number_of : (m n : ℕ) → number_slot m ≡ number_slot n → m ≡ n
 number_of m n e = cc
 
 time_in : (a b : Option Instant) → time_slot a ≡ time_slot b → a ≡ b

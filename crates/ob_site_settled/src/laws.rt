@@ -4,6 +4,7 @@
 ghost use Rattle.ob_site_settled.specs.Ending.{StepsEnd};
 ghost use Rattle.ob_site_settled.specs.Noted.{NotesTell};
 ghost use Rattle.ob_site_settled.specs.Rows.{CountIsShown, RollingIsShown, SameSecondIsNotShown};
+ghost use Rattle.ob_site_settled.specs.Telling.{NotesAreValues};
 ghost use Rattle.ob_site_settled.specs.Worlds.{WorldsEnd};
 
 /// A step that touches the own nodes which show themselves otherwise leaves each item of a watch as the rules of
@@ -15,9 +16,14 @@ pub fn steps_end()
 {}
 
 /// A step left every path alone but those that its notes are of: the nodes whose slots were set, the histories
-/// with a new record, and with an alarm event the subject of alarms and the sources of rules.
+/// with a new record, and with an alarm event the subject of alarms and the source of its rule.
 pub fn notes_tell()
     ensures { NotesTell }
+{}
+
+/// Whatever a step does, but for another library it changes values alone: the slots of nodes, records and alarms.
+pub fn notes_are_values()
+    ensures { NotesAreValues }
 {}
 
 /// So such a step leaves all watches at once as the definitions' end of a step does, and no mark is of a step to

@@ -5,10 +5,15 @@
 //! What is compared of a history and of an own object is in `specs/Spans.antt` and in ob_shown_laws (`same_values`).
 #![tactic(auto)]
 
+mod changes;
 mod laws;
+mod noted;
+mod seen;
 mod spans;
 mod values;
 
-pub use laws::{notes_tell, steps_end, worked_rows, worlds_end};
+pub use changes::changed;
+pub use laws::{notes_are_values, notes_tell, steps_end, worked_rows, worlds_end};
+pub use noted::{changes_values, library_before};
 pub use spans::{Span, shows_other_span};
 pub use values::shows_other_values;

@@ -29,7 +29,7 @@ fn same_slot(slot: &Slot, other: &Slot) -> bool
 }
 
 /// Whether two statuses are one, or both are absent.
-fn same_status(status: Option<Status>, other: Option<Status>) -> bool
+pub(crate) fn same_status(status: Option<Status>, other: Option<Status>) -> bool
     ensures { result ≡ same_option same_status status other }
 {
     match (status, other) {
