@@ -30,7 +30,7 @@ stepped [] t = refl
 stepped (n ∷ ns) t = stepped ns (done (Touches n) t)
 
 -- a stamp that is the next step's where something has changed
-next_stamp : (b : Bool) (steps old : ℕ) (o q : Option ℕ) → o ≡ Some old → q ≡ option_map (λ x. cond b x (steps + 1)) o
+pub next_stamp : (b : Bool) (steps old : ℕ) (o q : Option ℕ) → o ≡ Some old → q ≡ option_map (λ x. cond b x (steps + 1)) o
     → unwrap_or q 0 ≡ cond (not b) (steps + 1) (unwrap_or o 0)
 next_stamp true steps old o q is next = ap (λ (x : Option ℕ). unwrap_or x 0) next ∙ ap (λ (x : Option ℕ). unwrap_or (option_map (λ (y : ℕ). y) x) 0) is ∙ sym (ap (λ (x : Option ℕ). unwrap_or x 0) is)
 next_stamp false steps old o q is next = ap (λ (x : Option ℕ). unwrap_or x 0) next ∙ ap (λ (x : Option ℕ). unwrap_or (option_map (λ (y : ℕ). steps + 1) x) 0) is
@@ -38,7 +38,7 @@ next_stamp false steps old o q is next = ap (λ (x : Option ℕ). unwrap_or x 0)
 lt_true : (a b : ℕ) → a < b → nat_lt a b ≡ true
 lt_true a b h = grind (arith, nat_tests)
 
-there : (t : Stamped) (n : ℕ) → n < parts t.root → stamp_of t n ≡ unwrap_or (slice_get t.stamps n) 0
+pub there : (t : Stamped) (n : ℕ) → n < parts t.root → stamp_of t n ≡ unwrap_or (slice_get t.stamps n) 0
 there t n h = ap (λ (b : Bool). cond b (unwrap_or (slice_get t.stamps n) 0) 0) (lt_true n (parts t.root) h)
 
 stamped : (plan : Plan) (s t : State) → DifferInValues s t → PathsDiffer (row (dressed plan s)) → (ns : List ℕ) → AreChanged plan s t ns
@@ -58,7 +58,7 @@ stamped plan s t values differ ns changed tree root long p (tracked.Object node 
     ∙ ap (λ (x : ℕ). cond (not (is_same_watched plan s t p)) (tree.steps + 1) x) (sym (there tree n within))
 stamped plan s t values differ ns changed tree root long p (tracked.Feed filter given total due) own = tt
 
-later_mark : (steps more : ℕ) (k : Tracked) → more ≡ steps + 1 → IsMarkPastBy steps k → IsMarkPastBy more k
+pub later_mark : (steps more : ℕ) (k : Tracked) → more ≡ steps + 1 → IsMarkPastBy steps k → IsMarkPastBy more k
 later_mark steps more (tracked.Object node mark) is past = omega (arith, past, is)
 later_mark steps more (tracked.Feed filter given total due) is past = tt
 

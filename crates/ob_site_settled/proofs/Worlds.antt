@@ -15,10 +15,10 @@ use Rattle.ob_watch.specs.Items.{Text, at_path, changed_by, one_more_by, rolled_
 use Rattle.ob_watch.specs.Counted.{of_plan}
 use Rattle.ob_watch.specs.Flags.{flag_of, flags, flags_of}
 use Rattle.ob_watch.specs.Marks.{IsMarkPast}
-use Rattle.ob_watch.specs.Tables.{Leased, with_all_items}
+use Rattle.ob_watch.specs.Tables.{Leased, Table, with_all_items}
 use Rattle.ob_site_state.specs.Stamping.{after_step}
 use Rattle.ob_site_settled.specs.Ending.{IsOwn, Settles}
-use Rattle.ob_site_settled.specs.Worlds.{AllOwn, AllMarksPast, WorldsEnd}
+use Rattle.ob_site_settled.specs.Worlds.{AllOwn, AllMarksPast, WorldEnds, WorldsEnd}
 use Rattle.ob_site_settled.proofs.Ends.{steps_end}
 
 -- an item, and a watch, with flags
@@ -75,14 +75,18 @@ rolled_flag : (t : Stamped) (gone : ℕ) (k : Tracked) → flag_of t (rolled_by 
 rolled_flag t gone (tracked.Object node mark) = refl
 rolled_flag t gone (tracked.Feed filter given total due) = refl
 
+-- where each item is as the rules of watches have it, all watches are
+pub world_ends : (plan : Plan) (s u : State) (ns : List ℕ) (tree : Stamped) (table : Table) → Settles plan s (roll u) ns tree → AllOwn s.tree table.watches → AllMarksPast tree.steps table.watches
+    → WorldEnds plan s u ns tree table
+world_ends plan s u ns tree table ends own past = record {
+  ends = λ time.
+      ap (λ (vs : List (ℕ × Watched)). record { time = time; site = roll u; watches = vs; next = table.next })
+      (watches_end plan s (roll u) ns tree ends table.watches own past);
+  marks = all_marks plan s (roll u) ns tree ends table.watches past;
+  events = λ t path time. flags_stay t (one_more_by time) (one_more_flag t time) path table.watches;
+  rolls = λ t path gone. flags_stay t (rolled_by gone) (rolled_flag t gone) path table.watches;
+}
+
 pub worlds_end : WorldsEnd
 worlds_end plan s u values differ ns changed tree root long table own past =
-    let ends : Settles plan s (roll u) ns tree = steps_end plan s (roll u) values differ ns changed tree root long in
-    record {
-      ends = λ time.
-          ap (λ (vs : List (ℕ × Watched)). record { time = time; site = roll u; watches = vs; next = table.next })
-          (watches_end plan s (roll u) ns tree ends table.watches own past);
-      marks = all_marks plan s (roll u) ns tree ends table.watches past;
-      events = λ t path time. flags_stay t (one_more_by time) (one_more_flag t time) path table.watches;
-      rolls = λ t path gone. flags_stay t (rolled_by gone) (rolled_flag t gone) path table.watches;
-    }
+    world_ends plan s u ns tree table (steps_end plan s (roll u) values differ ns changed tree root long) own past
