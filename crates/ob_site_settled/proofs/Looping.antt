@@ -297,11 +297,11 @@ records_other s place len l log path is o there same test holds named found =
     ∙ ap (option_and_then (λ (x : Path × Log). only_if (not (same_log (Some (cut len x.1)) (Some (rolled x.1)))) (place_of x.0 (paths s.tree)))) (sym there)
 
 -- all together
-pub changed_nodes : (k : Kept) (xs : List Change) (library : Contracts) (ms ns : List ℕ) (o : Option ℕ) → rewound xs k.now ≡ k.before → CanRewind xs k.now → AreTold k.plan xs k.now
+are_changed_nodes : (k : Kept) (xs : List Change) (library : Contracts) (ms ns : List ℕ) (o : Option ℕ) → rewound xs k.now ≡ k.before → CanRewind xs k.now → AreTold k.plan xs k.now
     → roll k.before ≡ k.before → IsSoundFor k.plan k.before → keys k.now.logs ≡ map (λ h. h.0) k.plan.histories → Apart (map (λ h. h.0) k.plan.histories)
     → library ≡ k.before.library → ms ≡ all_told library k.plan k.now [] xs → o ≡ subject_told k.plan k.now (length k.before.alarms) → ns ≡ ms ++ option_to_list o
     → AreChanged k.plan k.before (ended_in_values k) ns
-changed_nodes k xs library ms ns o before can told rolled sound same apart lib notes subject all =
+are_changed_nodes k xs library ms ns o before can told rolled sound same apart lib notes subject all =
     subst (λ (l : List ℕ). AreChanged k.plan k.before (ended_in_values k) l)
     (sym
     (all
@@ -320,7 +320,7 @@ all_within o [] (n ∷ ns) are = absurd are
 all_within o (p ∷ ps) [] are = absurd are
 all_within o (p ∷ ps) (n ∷ ns) are = (place_within o p n are.0, all_within o ps ns are.1)
 
-pub nodes_within : (k : Kept) (xs : List Change) (nodes : List NodeId) → rewound xs k.now ≡ k.before → AreChanged k.plan k.before (ended_in_values k) (numbers nodes)
+nodes_within : (k : Kept) (xs : List Change) (nodes : List NodeId) → rewound xs k.now ≡ k.before → AreChanged k.plan k.before (ended_in_values k) (numbers nodes)
     → All (λ node. node.number < parts k.now.tree) nodes
 nodes_within k xs nodes before changed =
     All-from_recursion (λ node. node.number < parts k.now.tree) nodes
@@ -333,3 +333,21 @@ nodes_within k xs nodes before changed =
     of_nodes : (nodes : List NodeId) → AllByRecursion (λ n. n < parts k.before.tree) (numbers nodes) → AllByRecursion (λ node. node.number < parts k.now.tree) nodes
     of_nodes [] all = tt
     of_nodes (n ∷ nodes) all = (subst (λ (m : ℕ). n.number < m) same all.0, of_nodes nodes all.1)
+
+-- a state with the library that it has
+same_library : (library : Contracts) (s : State) → library ≡ s.library → record s { library = library } ≡ s
+same_library library s e = ap (λ (l : Contracts). let t : State = record s { library = l } in t) e
+
+pub changed_nodes : (k : Kept) (xs : List Change) (library : Contracts) (ms : List ℕ) (nodes : List NodeId) (o : Option ℕ) → rewound xs k.now ≡ k.before → CanRewind xs k.now → AreTold k.plan xs k.now
+    → roll k.before ≡ k.before → IsSoundFor k.plan k.before → keys k.now.logs ≡ map (λ h. h.0) k.plan.histories → Apart (map (λ h. h.0) k.plan.histories)
+    → library ≡ k.before.library → ms ≡ all_told library k.plan k.now [] xs → o ≡ subject_told k.plan k.now (length k.before.alarms) → numbers nodes ≡ ms ++ option_to_list o
+    → AreChanged k.plan k.before (ended_in_values k) (numbers nodes)
+    × (DifferInValues k.before (roll k.now) → AreChanged k.plan k.before (roll k.now) (numbers nodes))
+    × All (λ node. node.number < parts k.now.tree) nodes
+changed_nodes k xs library ms nodes o before can told rolled sound same apart lib notes subject all =
+    let are : AreChanged k.plan k.before (ended_in_values k) (numbers nodes) = are_changed_nodes k xs library ms (numbers nodes) o before can told rolled sound same apart lib notes subject all in
+    (
+      are,
+      (λ values. subst (λ (t : State). AreChanged k.plan k.before t (numbers nodes)) (same_library k.before.library (roll k.now) values.library) are),
+      nodes_within k xs nodes before are,
+    )

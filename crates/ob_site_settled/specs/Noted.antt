@@ -26,4 +26,5 @@ looked_at plan s (c ∷ cs) = paths_of plan s c ++ looked_at plan s cs
 -- A step left every path alone but those that its notes are of: up to its end, at which histories drop their oldest records.
 abbrev pub NotesTell : Type 0
 NotesTell = (plan : Plan) (found : List Change) (s : State) → CanRewind found s → AreTold plan found s
-    → roll (rewound found s) ≡ rewound found s → (p : Path) → is_among p (looked_at plan s found) ≡ false → IsLeft plan (rewound found s) (roll s) p
+    → roll (rewound found s) ≡ rewound found s
+    → (p : Path) → is_among p (looked_at plan s found) ≡ false → IsLeft plan (rewound found s) (roll s) p

@@ -68,7 +68,8 @@ other_slot_in (Some c) (Some h) slot = not (same_values (head_in c (record h { s
 abbrev pub other_slot : Contracts → State → ℕ → Slot → Option ℕ
 other_slot library s n slot = only_if (other_slot_in (standing_at library n s.tree) (head_at n s.tree) slot) (Some n)
 
--- the node of a history that kept so many records, if it shows another count, start or end once it has rolled (oBIX 1.1, section 14.1)
+-- the node of a history that kept so many records, if it shows another count, start or end once it has rolled (oBIX 1.1,
+-- section 14.1)
 abbrev pub other_records : State → ℕ → ℕ → Option ℕ
 other_records s place len =
     option_and_then
@@ -83,7 +84,9 @@ is_rule rule (Some first) = nat_eq first rule
 -- the node that has a rule; where two have one source, it has the first
 abbrev pub node_with : Plan → State → ℕ → Option ℕ
 node_with plan s rule =
-    option_and_then (λ r. only_if (is_rule rule (rule_of plan r.source)) (place_of r.source (paths s.tree))) (slice_get plan.rules rule)
+    option_and_then
+    (λ r. only_if (is_rule rule (rule_of plan r.source)) (place_of r.source (paths s.tree)))
+    (slice_get plan.rules rule)
 
 -- the node of a rule whose alarms had this status, if they have another one (oBIX 1.1, section 15.2)
 abbrev pub other_status : Plan → State → ℕ → Status → Option ℕ

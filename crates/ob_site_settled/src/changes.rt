@@ -5,7 +5,8 @@ ghost use Rattle.ob_contracts.specs.Inherit.{only_if};
 ghost use Rattle.ob_tree.specs.Laid.{head_at};
 ghost use Rattle.ob_tree.specs.Shown.{standing_at};
 ghost use Rattle.ob_site_rules.specs.Build.{Path};
-ghost use Rattle.ob_site_rules.specs.State.{Log as SiteLog};
+ghost use Rattle.ob_site_rules.specs.State.{Log as SiteLog, roll};
+ghost use Rattle.ob_shown_laws.specs.Alike.{DifferInValues};
 ghost use Rattle.ob_site_state.specs.Kept.{entry_of};
 ghost use Rattle.ob_site_state.specs.declared.change.Change.{Change as Note};
 ghost use Rattle.ob_site_state.specs.declared.change.Change.TheVariants as note;
@@ -214,6 +215,8 @@ fn changed_subject(state: &State) -> Option<NodeId>
 pub fn changed(state: &State) -> Result<Vec<NodeId>, AllocError>
     ensures changed { IfOk result (λ nodes. AreChanged state.now.plan state.now.before (ended_in_values state.now)
         (map (λ node. node.number) nodes.items)) }
+    ensures values { IfOk result (λ nodes. DifferInValues state.now.before (roll state.now.now)
+        → AreChanged state.now.plan state.now.before (roll state.now.now) (map (λ node. node.number) nodes.items)) }
     ensures within { IfOk result (λ nodes. All (λ node. node.number < parts state.now.now.tree) nodes.items) }
 {
     state.is_sound();

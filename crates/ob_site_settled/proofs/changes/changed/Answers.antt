@@ -1,27 +1,18 @@
 use Rattle.std.proofs.Common.{List, [], ◌++◌, ap, ◌∙◌}
 use Rattle.ob_tree.specs.declared.node.NodeId.{NodeId}
 use Rattle.ob_site_settled.specs.Telling.{all_told}
-use Rattle.ob_site_settled.proofs.Looping.{numbers, can_compare, changed_nodes, nodes_within}
+use Rattle.ob_site_settled.proofs.Looping.{numbers, can_compare, changed_nodes}
 use Rattle.ob_site_settled.proofs.changes.changed.Goals as goal
 
 pub push_all-requires : goal.push_all-requires
 push_all-requires c = can_compare c.args.state.now.plan c.changes.result.now c.args.state.now.now c.changes.ensures.can c.changes.ensures.told
 
-pub returns-clause-changed : goal.returns-clause-changed
-returns-clause-changed c =
-    changed_nodes c.args.state.now c.changes.result.now c.library_before-library.result.now (numbers c.push_all.new.found.items) (numbers c.push_some.new.found.items) _
+pub returns : goal.returns
+returns c =
+    let are = changed_nodes c.args.state.now c.changes.result.now c.library_before-library.result.now (numbers c.push_all.new.found.items) c.push_some.new.found.items _
     c.changes.ensures.before c.changes.ensures.can c.changes.ensures.told c.changes.ensures.rolled c.changes.ensures.sound c.is_sound.ensures.histories c.is_sound.ensures.apart
     c.library_before-library.ensures
     (c.in_ok-push_all.ensures
     ∙ ap (λ (l : List NodeId). numbers l ++ all_told c.library_before-library.result.now c.args.state.now.plan c.args.state.now.now [] c.changes.result.now) c.new-found.ensures.items)
-    c.changed_subject.ensures c.in_ok-push_some.ensures
-
-pub returns-clause-within : goal.returns-clause-within
-returns-clause-within c =
-    nodes_within c.args.state.now c.changes.result.now c.push_some.new.found.items c.changes.ensures.before
-    (changed_nodes c.args.state.now c.changes.result.now c.library_before-library.result.now (numbers c.push_all.new.found.items) (numbers c.push_some.new.found.items) _
-    c.changes.ensures.before c.changes.ensures.can c.changes.ensures.told c.changes.ensures.rolled c.changes.ensures.sound c.is_sound.ensures.histories c.is_sound.ensures.apart
-    c.library_before-library.ensures
-    (c.in_ok-push_all.ensures
-    ∙ ap (λ (l : List NodeId). numbers l ++ all_told c.library_before-library.result.now c.args.state.now.plan c.args.state.now.now [] c.changes.result.now) c.new-found.ensures.items)
-    c.changed_subject.ensures c.in_ok-push_some.ensures)
+    c.changed_subject.ensures c.in_ok-push_some.ensures in
+    record { changed = are.0; values = are.1; within = are.2 }
