@@ -1,0 +1,99 @@
+-- What is in a node that is shown as before is shown as before.
+use Rattle.std.proofs.Common.{ℕ, ◌≡◌, ◌+◌, ◌-◌, ◌<◌, Bool, true, false, ◌&&◌, cond, [], Option, Some, None, option_map, refl, sym, ap, ◌∙◌, true≢false}
+use Rattle.std.specs.Prelude.{IfSome, is_some, nat_le, nat_lt, option_and_then}
+use Rattle.ob_object.specs.declared.head.Head.{Head}
+use Rattle.ob_object.specs.Object.{Object, parts}
+use Rattle.ob_contracts.specs.Inherit.{Contracts}
+use Rattle.ob_site_rules.specs.Build.{Path}
+use Rattle.ob_site_rules.specs.State.{Plan, State}
+use Rattle.ob_site_rules.specs.Shown.{node_path, dressed}
+use Rattle.ob_standing.specs.Contexts.{Context, under}
+use Rattle.ob_shown_laws.specs.Alike.{row}
+use Rattle.ob_shown_laws.specs.Changed.{is_watchable, PathsDiffer}
+use Rattle.ob_shown_laws.specs.Own.{dressed_own}
+use Rattle.ob_tree.specs.declared.node.NodeId.{NodeId}
+use Rattle.ob_tree.specs.Children.{place_at}
+use Rattle.ob_tree.specs.Laid.{head_at, paths}
+use Rattle.ob_tree.specs.Paths.{place_of, first_twice}
+use Rattle.ob_tree.specs.Shown.{part_at, handed_at, standing_at}
+use Rattle.ob_tree.proofs.Within.{place_within}
+use Rattle.ob_tree_bridges.proofs.Owned.{part_there, round}
+use Rattle.ob_site_state.proofs.Noting.{head_there}
+use Rattle.ob_default_laws.specs.Defaults.{with_library, is_same}
+use Rattle.ob_default_laws.proofs.Reached.{defaults_reach}
+use Rattle.ob_site_defaults.specs.Otherwise.{IsOtherwise}
+use Rattle.ob_site_defaults.specs.Watched.{can_be_watched, is_inside}
+use Rattle.ob_site_defaults.proofs.Places.{placed_at}
+use Rattle.ob_site_defaults.proofs.Compared.{standing, own_there, kind_off}
+
+some_object : {a b : Object} → Some a ≡ Some b → a ≡ b
+some_object e = cc
+
+-- the head of an own object that is there
+pub head_part : (n : ℕ) (o x : Object) → n < parts o → part_at n o ≡ Some x → head_at n o ≡ Some x.head
+head_part n o x within here =
+    let h : (h : Head) × (head_at n o ≡ Some h) = head_there o n within in
+    let y : (y : Object) × (part_at n o ≡ Some y) × (y.head ≡ h.0) = part_there n o h.0 h.1 in
+    let is : y.0 ≡ x = some_object (sym y.1 ∙ here) in
+    h.1 ∙ ap (λ (k : Head). Some k) (sym y.2 ∙ ap (λ (z : Object). z.head) is)
+
+-- where a watch shows a node as before, it shows the nodes in it as before, told by their numbers
+pub reached : (plan : Plan) (s : State) (new : Contracts) → PathsDiffer (row (dressed plan s)) → (p : Path) (n : ℕ) (x : Object) → place_of p (paths s.tree) ≡ Some n → part_at n s.tree ≡ Some x
+    → is_watchable x.head ≡ true → (q : Path) (m : ℕ) → place_of q (paths s.tree) ≡ Some m → (nat_le n m && nat_lt m (n + parts x)) ≡ true
+    → is_same plan s (with_library new s) p ≡ true → is_same plan s (with_library new s) q ≡ true
+reached plan s new differ p n x at_n here watchable q m at_m inside same =
+    let c : Context = under (handed_at s.library n s.tree) x.head.name in
+    let stands : standing_at s.library n s.tree ≡ Some c =
+    ap (option_map (λ (k : Head). under (handed_at s.library n s.tree) k.name)) (head_part n s.tree x (place_within s.tree p n at_n) here) in
+    defaults_reach plan s new differ p q (standing c (dressed_own plan s x)) (own_there plan s p n x c differ at_n stands here)
+    (kind_off plan s x.head (node_path x.head) ∙ watchable)
+    (round plan s q m n x differ at_m here ∙ inside) same
+
+-- a node that can be watched, and is shown as before
+abbrev pub IsSameNode : Plan → State → Contracts → ℕ → Type 0
+IsSameNode plan s new k = (k < parts s.tree) × ((can_be_watched (head_at k s.tree) ≡ true) × (IsOtherwise plan s new k → ⊥))
+
+placed_inside : (k n : ℕ) (o : Object) → is_some (place_at n k o) ≡ true → (x : Object) × (part_at k o ≡ Some x) × ((nat_le k n && nat_lt n (k + parts x)) ≡ true)
+placed_inside k n o e = go (part_at k o) refl e
+  where
+    within : (x : Object) (b : Bool) → (nat_le k n && nat_lt n (k + parts x)) ≡ b → is_some (cond b (cond (nat_lt (n - k) 4294967296) (Some (n - k)) None) None) ≡ true → b ≡ true
+    within x true f g = refl
+    within x false f g = absurd cc
+
+    go : (p : Option Object) → part_at k o ≡ p
+        → is_some (option_and_then (λ p. cond (nat_le k n && nat_lt n (k + parts p)) (cond (nat_lt (n - k) 4294967296) (Some (n - k)) None) None) p) ≡ true
+        → (x : Object) × (part_at k o ≡ Some x) × ((nat_le k n && nat_lt n (k + parts x)) ≡ true)
+    go None f g = absurd cc
+    go (Some x) f g = (x, f, within x (nat_le k n && nat_lt n (k + parts x)) refl g)
+
+some_path : (o : Option Path) → is_some o ≡ true → (p : Path) × (o ≡ Some p)
+some_path None e = absurd cc
+some_path (Some p) e = (p, refl)
+
+and_first : (a b : Bool) → (a && b) ≡ true → a ≡ true
+and_first true b e = refl
+and_first false b e = absurd cc
+
+and_second : (a b : Bool) → (a && b) ≡ true → b ≡ true
+and_second true b e = e
+and_second false b e = absurd cc
+
+is_true : (b : Bool) → (b ≡ false → ⊥) → b ≡ true
+is_true true never = refl
+is_true false never = absurd (never refl)
+
+-- what is in it isn't shown otherwise
+pub inside_same : (plan : Plan) (s : State) (new : Contracts) (n : ℕ) (same : Option NodeId) → PathsDiffer (row (dressed plan s)) → first_twice [] (paths s.tree) ≡ None
+    → IfSome same (λ k. IsSameNode plan s new k.number) → is_inside n (option_map (λ k. k.number) same) s.tree ≡ true → IsOtherwise plan s new n → ⊥
+inside_same plan s new n None differ once is inside otherwise = absurd cc
+inside_same plan s new n (Some id) differ once is inside otherwise =
+    let k : ℕ = id.number in
+    let x : (x : Object) × (part_at k s.tree ≡ Some x) × ((nat_le k n && nat_lt n (k + parts x)) ≡ true) = placed_inside k n s.tree inside in
+    let head : head_at k s.tree ≡ Some x.0.head = head_part k s.tree x.0 is.0 x.1 in
+    let watched : (is_some (node_path x.0.head) && is_watchable x.0.head) ≡ true = sym (ap (λ (o : Option Head). can_be_watched o) head) ∙ is.1.0 in
+    let p : (p : Path) × (node_path x.0.head ≡ Some p) = some_path (node_path x.0.head) (and_first (is_some (node_path x.0.head)) (is_watchable x.0.head) watched) in
+    let at_k : place_of p.0 (paths s.tree) ≡ Some k = placed_at s.tree k x.0.head p.0 once head p.1 in
+    let same : is_same plan s (with_library new s) p.0 ≡ true = is_true (is_same plan s (with_library new s) p.0) (λ f. is.1.1 (p.0, at_k, f)) in
+    true≢false
+    (sym (reached plan s new differ p.0 k x.0 at_k x.1 (and_second (is_some (node_path x.0.head)) (is_watchable x.0.head) watched) otherwise.0 n otherwise.1 x.2 same)
+    ∙ otherwise.2)
