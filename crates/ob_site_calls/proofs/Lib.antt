@@ -1,3 +1,4 @@
 pub mod Acked
+pub mod Batched
 pub mod Pointed
 pub mod Valued

@@ -78,7 +78,8 @@ fn is_unacked(alarms: &Alarms, number: u64) -> bool
 /// be too many. All stays as it is.
 fn ack_fault(state: &mut State, number: u64, input: &Obj) -> Result<Option<Fault>, AllocError>
     ensures same { state.new ≡ state.old }
-    ensures fault { IfOk result (λ fault. option_map told.fault fault ≡ ack_fault state.old.plan state.old.now state.old.time number input.now) }
+    ensures fault { IfOk result (λ fault. option_map told.fault fault
+        ≡ ack_fault state.old.plan state.old.now state.old.time number input.now) }
 {
     if !is_ack_in(input) {
         return Ok(Some(Fault::OtherShape));
@@ -97,7 +98,9 @@ fn ack_fault(state: &mut State, number: u64, input: &Obj) -> Result<Option<Fault
 
 /// Acknowledges an alarm for the user that an input names, and answers it as it then is.
 fn show_acknowledged(state: &mut State, number: u64, input: &Obj) -> Result<Obj, AllocError>
-    ensures ok { IfOk result (λ reply. (after : Board) → after ≡ acked (board state.old.plan state.old.now) number (user_in input.now) state.old.time → IsDone state.old state.new (with_board state.old.now after, ack_out (alarm_object after number)) reply) }
+    ensures ok { IfOk result (λ reply. (after : Board)
+        → after ≡ acked (board state.old.plan state.old.now) number (user_in input.now) state.old.time
+        → IsDone state.old state.new (with_board state.old.now after, ack_out (alarm_object after number)) reply) }
     ensures stays { state.new ≡ record state.old { now = state.new.now } }
 {
     let user = copy_user(user_in(input))?;
@@ -110,8 +113,10 @@ fn show_acknowledged(state: &mut State, number: u64, input: &Obj) -> Result<Obj,
 ///
 /// Source: oBIX 1.1, chapter 15 (AckAlarm).
 pub fn acknowledge(state: &mut State, number: u64, input: &Obj) -> Result<Obj, Stop>
-    ensures ok { IfOk result (IsDone state.old state.new (acknowledge state.old.plan state.old.now state.old.time number input.now)) }
-    ensures stop { IfErr result (Stops state.old state.new (acknowledge state.old.plan state.old.now state.old.time number input.now)) }
+    ensures ok { IfOk result (IsDone state.old state.new
+        (acknowledge state.old.plan state.old.now state.old.time number input.now)) }
+    ensures stop { IfErr result (Stops state.old state.new
+        (acknowledge state.old.plan state.old.now state.old.time number input.now)) }
 {
     if let Some(fault) = ack_fault(state, number, input)? {
         return Err(Stop::Refused(fault));

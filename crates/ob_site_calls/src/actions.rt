@@ -5,7 +5,6 @@ ghost use Rattle.ob_site_rules.specs.Places.{place_at, object_at};
 ghost use Rattle.ob_site_rules.specs.Actions.{put_at, act_at};
 ghost use Rattle.ob_shown.specs.Named.{place as place_of};
 ghost use Rattle.ob_site_writes.specs.Stops.{IsDone, Stops};
-ghost use Rattle.ob_site_calls.specs.Sources.{SourcesHaveValues};
 
 use crate::calls::call;
 use ob_answers::Fault;
@@ -18,15 +17,12 @@ use ob_values::{Text, Verb};
 use std::alloc::AllocError;
 
 /// A write at a place: only a node is put to.
-fn put_at(
-    state: &mut State,
-    path: &Text,
-    place: &Place,
-    body: Option<&Obj>,
-) -> Result<Obj, Stop>
+fn put_at(state: &mut State, path: &Text, place: &Place, body: Option<&Obj>) -> Result<Obj, Stop>
     requires { place_at state.old.plan state.old.now path.now ≡ Some (place_of place.now) }
-    ensures ok { IfOk result (IsDone state.old state.new (put_at state.old.plan state.old.now state.old.time path.now (place_of place.now) (option_copied body.entry))) }
-    ensures stop { IfErr result (Stops state.old state.new (put_at state.old.plan state.old.now state.old.time path.now (place_of place.now) (option_copied body.entry))) }
+    ensures ok { IfOk result (IsDone state.old state.new
+        (put_at state.old.plan state.old.now state.old.time path.now (place_of place.now) (option_copied body.entry))) }
+    ensures stop { IfErr result (Stops state.old state.new
+        (put_at state.old.plan state.old.now state.old.time path.now (place_of place.now) (option_copied body.entry))) }
 {
     match place {
         Place::Node(object) => put(state, path, object, body),
@@ -69,10 +65,11 @@ pub fn act_at(
     place: Place,
     body: Option<&Obj>,
 ) -> Result<Obj, Stop>
-    requires named { place_at state.old.plan state.old.now path.now ≡ Some (place_of place) }
-    requires sources { SourcesHaveValues state.old.plan state.old.now }
-    ensures ok { IfOk result (IsDone state.old state.new (act_at state.old.plan state.old.now state.old.time path.now verb (place_of place) (option_copied body.entry))) }
-    ensures stop { IfErr result (Stops state.old state.new (act_at state.old.plan state.old.now state.old.time path.now verb (place_of place) (option_copied body.entry))) }
+    requires { place_at state.old.plan state.old.now path.now ≡ Some (place_of place) }
+    ensures ok { IfOk result (IsDone state.old state.new
+        (act_at state.old.plan state.old.now state.old.time path.now verb (place_of place) (option_copied body.entry))) }
+    ensures stop { IfErr result (Stops state.old state.new
+        (act_at state.old.plan state.old.now state.old.time path.now verb (place_of place) (option_copied body.entry))) }
 {
     match verb {
         Verb::Get => {

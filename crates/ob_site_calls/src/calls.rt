@@ -7,7 +7,6 @@ ghost use Rattle.ob_site_rules.specs.Entries.{records_out, alarms_out};
 ghost use Rattle.ob_site_rules.specs.Posts.{child_of_obj, query, records_of, write_point, call, acknowledge, or_nil};
 ghost use Rattle.ob_shown.specs.Named.{place as place_of};
 ghost use Rattle.ob_site_writes.specs.Stops.{IsDone, Stops};
-ghost use Rattle.ob_site_calls.specs.Sources.{SourcesHaveValues};
 
 use crate::acks::acknowledge;
 use ob_answers::{Fault, nil};
@@ -34,10 +33,11 @@ fn child_of_obj<'a>(object: &'a Obj, name: &str) -> Option<&'a Obj>
 ///
 /// Source: oBIX 1.1, chapter 13 (WritablePoint).
 fn write_point(state: &mut State, point: &Text, value: Option<&Obj>) -> Result<Obj, Stop>
-    requires point { is_among point.now state.old.plan.points ≡ true }
-    requires sources { SourcesHaveValues state.old.plan state.old.now }
-    ensures ok { IfOk result (IsDone state.old state.new (write_point state.old.plan state.old.now state.old.time point.now (option_copied value.entry))) }
-    ensures stop { IfErr result (Stops state.old state.new (write_point state.old.plan state.old.now state.old.time point.now (option_copied value.entry))) }
+    requires { is_among point.now state.old.plan.points ≡ true }
+    ensures ok { IfOk result (IsDone state.old state.new
+        (write_point state.old.plan state.old.now state.old.time point.now (option_copied value.entry))) }
+    ensures stop { IfErr result (Stops state.old state.new
+        (write_point state.old.plan state.old.now state.old.time point.now (option_copied value.entry))) }
 {
     let Some(new) = value else {
         return Err(Stop::Refused(Fault::OtherShape));
@@ -51,7 +51,8 @@ fn write_point(state: &mut State, point: &Text, value: Option<&Obj>) -> Result<O
 
 /// The answer to a query of a history.
 fn records_asked(state: &State, history: &Text, input: Option<&Obj>) -> Result<Obj, AllocError>
-    ensures { IfOk result (λ o. o ≡ query (λ f. records_out f (records_of state.now.now history.now)) (option_copied input.entry)) }
+    ensures { IfOk result (λ o. o
+        ≡ query (λ f. records_out f (records_of state.now.now history.now)) (option_copied input.entry)) }
 {
     query_records(state.allocator(), state.contents(), history, input)
 }
@@ -66,8 +67,10 @@ fn alarms_asked(state: &State, input: Option<&Obj>) -> Result<Obj, AllocError>
 
 /// An acknowledgement whose input may be left out: then it is Nil.
 fn ack_call(state: &mut State, number: u64, input: Option<&Obj>) -> Result<Obj, Stop>
-    ensures ok { IfOk result (IsDone state.old state.new (acknowledge state.old.plan state.old.now state.old.time number (or_nil (option_copied input.entry)))) }
-    ensures stop { IfErr result (Stops state.old state.new (acknowledge state.old.plan state.old.now state.old.time number (or_nil (option_copied input.entry)))) }
+    ensures ok { IfOk result (IsDone state.old state.new
+        (acknowledge state.old.plan state.old.now state.old.time number (or_nil (option_copied input.entry)))) }
+    ensures stop { IfErr result (Stops state.old state.new
+        (acknowledge state.old.plan state.old.now state.old.time number (or_nil (option_copied input.entry)))) }
 {
     match input {
         Some(input) => acknowledge(state, number, input),
@@ -82,10 +85,11 @@ fn ack_call(state: &mut State, number: u64, input: Option<&Obj>) -> Result<Obj, 
 ///
 /// Source: oBIX 1.1, chapters 8 (Operations) and 13 to 15.
 pub fn call(state: &mut State, path: &Text, place: &Place, input: Option<&Obj>) -> Result<Obj, Stop>
-    requires named { place_at state.old.plan state.old.now path.now ≡ Some (place_of place.now) }
-    requires sources { SourcesHaveValues state.old.plan state.old.now }
-    ensures ok { IfOk result (IsDone state.old state.new (call state.old.plan state.old.now state.old.time (place_of place.now) (option_copied input.entry))) }
-    ensures stop { IfErr result (Stops state.old state.new (call state.old.plan state.old.now state.old.time (place_of place.now) (option_copied input.entry))) }
+    requires { place_at state.old.plan state.old.now path.now ≡ Some (place_of place.now) }
+    ensures ok { IfOk result (IsDone state.old state.new
+        (call state.old.plan state.old.now state.old.time (place_of place.now) (option_copied input.entry))) }
+    ensures stop { IfErr result (Stops state.old state.new
+        (call state.old.plan state.old.now state.old.time (place_of place.now) (option_copied input.entry))) }
 {
     match place {
         Place::AckOf(number) => ack_call(state, *number, input),

@@ -6,8 +6,10 @@
 
 mod acks;
 mod actions;
+mod batch;
 mod calls;
 
 pub use acks::acknowledge;
 pub use actions::act_at;
+pub use batch::act_itself;
 pub use calls::call;

@@ -1,6 +1,5 @@
 use Rattle.std.proofs.Common.{◌≡◌, ◌∙◌}
 use Rattle.std.proofs.lemmas.Result.{IfOk-weaker}
-use Rattle.ob_object.specs.Object.{Object}
 use Rattle.ob_alarms.specs.Changes.{State as Board}
 use Rattle.ob_site_rules.specs.State.{board, with_board}
 use Rattle.ob_site_rules.specs.Computed.{ack_out}

@@ -1,0 +1,234 @@
+//! Batches, and requests to the site itself.
+ghost use Rattle.std.specs.Prelude.{◌≡◌, Some, true, cond, is_none, option_map, IfOk, IfErr};
+ghost use Rattle.std.specs.List.{list_all};
+ghost use Rattle.std.specs.Option.{option_copied};
+ghost use Rattle.ob_answers.specs.Told as told;
+ghost use Rattle.ob_site_rules.specs.Faults.{first_fault, NotInBatch, NoSuchObject};
+ghost use Rattle.ob_site_rules.specs.Locating.{locate};
+ghost use Rattle.ob_site_rules.specs.Places.{place_at};
+ghost use Rattle.ob_site_rules.specs.Actions.{is_of_watch, is_post, is_left_out, item_on, act_item, act_all, item_request};
+ghost use Rattle.ob_site_rules.specs.Actions.{batch, batch_rows, act_located, act_itself};
+ghost use Rattle.ob_shown.specs.Named.{place as place_of};
+ghost use Rattle.ob_calls.specs.Calls.{is_batch_call};
+ghost use Rattle.ob_site_writes.specs.Stops.{IsDone, Stops};
+
+use crate::actions::act_at;
+use ob_answers::build::put;
+use ob_answers::{Fault, batch_out, refusal};
+use ob_calls::{item_request, located};
+use ob_object::{Kind, Obj};
+use ob_shown::Place;
+use ob_site_places::place_at;
+use ob_site_rules::Request;
+use ob_site_state::State;
+use ob_site_writes::Stop;
+use ob_values::{Text, Verb};
+use ob_watch_calls::is_of_watch;
+use std::alloc::AllocError;
+
+/// Whether a batch leaves a place out.
+fn is_left_out(place: &Place) -> bool
+    ensures { result ≡ is_left_out (place_of place.now) }
+{
+    match place {
+        Place::Batch | Place::Make => true,
+        Place::About
+        | Place::Service
+        | Place::AlarmAt(_)
+        | Place::AckOf(_)
+        | Place::WritePointOf(_)
+        | Place::QueryOf(_)
+        | Place::FeedOf(_)
+        | Place::AlarmQuery
+        | Place::AlarmFeed
+        | Place::Node(_) => false,
+    }
+}
+
+/// What a path names, if it names something.
+fn named(state: &State, path: &Text) -> Result<Option<Place>, AllocError>
+    ensures { IfOk result (λ place. option_map place_of place ≡ place_at state.now.plan state.now.now path.now) }
+{
+    state.is_sound();
+    place_at(state.allocator(), state.plan(), state.contents(), path)
+}
+
+/// Why an item whose path names nothing is refused.
+fn nowhere(state: &State, numbers: &[u64], path: &Text) -> Fault
+    ensures { told.fault result ≡ cond (is_of_watch state.now.plan numbers.now path.now) NotInBatch NoSuchObject }
+{
+    if is_of_watch(state.plan(), numbers, path.as_str()) {
+        Fault::NotInBatch
+    } else {
+        Fault::NoSuchObject
+    }
+}
+
+/// An item of a batch at its path.
+#[tactic(auto, using(crate::proofs::Batched::items))]
+fn item_at(state: &mut State, numbers: &[u64], request: &Request, path: &Text) -> Result<Obj, Stop>
+    ensures ok { IfOk result (IsDone state.old state.new
+        (item_on state.old.plan state.old.now numbers.now state.old.time request.now (Some path.now))) }
+    ensures stop { IfErr result (Stops state.old state.new
+        (item_on state.old.plan state.old.now numbers.now state.old.time request.now (Some path.now))) }
+{
+    let Some(place) = named(state, path)? else {
+        return Err(Stop::Refused(nowhere(state, numbers, path)));
+    };
+    if is_left_out(&place) {
+        return Err(Stop::Refused(Fault::NotInBatch));
+    }
+    act_at(state, path, request.verb, place, request.body.as_ref())
+}
+
+/// An item of a batch that is a request.
+fn item_on(state: &mut State, numbers: &[u64], request: &Request) -> Result<Obj, Stop>
+    ensures ok { IfOk result (IsDone state.old state.new
+        (item_on state.old.plan state.old.now numbers.now state.old.time request.now
+        (locate state.old.plan.base request.now.target))) }
+    ensures stop { IfErr result (Stops state.old state.new
+        (item_on state.old.plan state.old.now numbers.now state.old.time request.now
+        (locate state.old.plan.base request.now.target))) }
+{
+    match located(state.allocator(), state.plan(), &request.target)? {
+        Some(path) => item_at(state, numbers, request, &path),
+        None => Err(Stop::Refused(Fault::NoSuchObject)),
+    }
+}
+
+/// An item of a batch, if it is a request.
+fn act_item(state: &mut State, numbers: &[u64], item: &Obj) -> Result<Obj, Stop>
+    ensures ok { IfOk result (IsDone state.old state.new
+        (act_item locate state.old.plan state.old.now numbers.now state.old.time (item_request item.now))) }
+    ensures stop { IfErr result (Stops state.old state.new
+        (act_item locate state.old.plan state.old.now numbers.now state.old.time (item_request item.now))) }
+{
+    match item_request(item)? {
+        Some(request) => item_on(state, numbers, &request),
+        None => Err(Stop::Refused(Fault::OtherShape)),
+    }
+}
+
+/// An item of a batch, whose refusal is its result.
+fn item_result(state: &mut State, numbers: &[u64], item: &Obj) -> Result<Obj, AllocError>
+    ensures ok { IfOk result (IsDone state.old state.new
+        (act_item locate state.old.plan state.old.now numbers.now state.old.time (item_request item.now))) }
+    ensures stays { state.new ≡ record state.old { now = state.new.now } }
+{
+    match act_item(state, numbers, item) {
+        Ok(reply) => Ok(reply),
+        Err(Stop::Refused(fault)) => refusal(state.allocator(), fault),
+        Err(Stop::Memory) => Err(AllocError),
+    }
+}
+
+/// The items in order, each seeing the ones before.
+fn act_all(state: &mut State, numbers: &[u64], items: &[Obj]) -> Result<Vec<Obj>, AllocError>
+    ensures nameless { IfOk result (λ os. list_all (λ o. is_none o.head.name) os.items ≡ true) }
+    ensures reply { IfOk result (λ os. (state.new.now, os.items)
+        ≡ act_all locate state.old.plan state.old.now numbers.now state.old.time items.now) }
+    ensures stays { state.new ≡ record state.old { now = state.new.now } }
+{
+    let mut results = Vec::new(state.allocator());
+    for item in items {
+        let reply = item_result(state, numbers, item)?;
+        put(&mut results, reply)?;
+    }
+    Ok(results)
+}
+
+/// A batch: its items are done in order, and there is one result for each.
+///
+/// Source: oBIX 1.1, chapter 5 (Batch).
+fn batch(state: &mut State, numbers: &[u64], body: Option<&Obj>) -> Result<Obj, Stop>
+    ensures ok { IfOk result (IsDone state.old state.new
+        (batch locate state.old.plan state.old.now numbers.now state.old.time (option_copied body.entry))) }
+    ensures stop { IfErr result (Stops state.old state.new
+        (batch locate state.old.plan state.old.now numbers.now state.old.time (option_copied body.entry))) }
+{
+    let Some(body) = body else {
+        return Err(Stop::Refused(Fault::OtherShape));
+    };
+    if let Some(fault) = batch_fault(body) {
+        return Err(Stop::Refused(fault));
+    }
+    let results = act_all(state, numbers, body.children())?;
+    let reply = batch_out(state.allocator(), results)?;
+    Ok(reply)
+}
+
+/// What is wrong with the body of a batch: it is no list, or has more than 1,000 items.
+fn batch_fault(body: &Obj) -> Option<Fault>
+    ensures { option_map told.fault result ≡ first_fault (batch_rows locate body.now) }
+{
+    if !body.kind().same(Kind::List) {
+        Some(Fault::OtherShape)
+    } else if body.len() > 1_000 {
+        Some(Fault::TooManyBatchItems)
+    } else {
+        None
+    }
+}
+
+/// Whether a verb is that of a call.
+fn is_post(verb: Verb) -> bool
+    ensures { result ≡ is_post verb }
+{
+    match verb {
+        Verb::Post => true,
+        Verb::Get | Verb::Put => false,
+    }
+}
+
+/// Whether a verb at a place is the call of the op that does batches.
+fn is_batch_call(place: &Place, verb: Verb) -> bool
+    ensures { result ≡ is_batch_call (place_of place.now) verb }
+{
+    match place {
+        Place::Batch => is_post(verb),
+        Place::About
+        | Place::Service
+        | Place::Make
+        | Place::AlarmAt(_)
+        | Place::AckOf(_)
+        | Place::WritePointOf(_)
+        | Place::QueryOf(_)
+        | Place::FeedOf(_)
+        | Place::AlarmQuery
+        | Place::AlarmFeed
+        | Place::Node(_) => false,
+    }
+}
+
+/// A request at its path: a batch is done as a whole, and every other request is one action.
+#[tactic(auto, using(crate::proofs::Batched::requests))]
+fn act_on(state: &mut State, numbers: &[u64], request: &Request, path: &Text) -> Result<Obj, Stop>
+    ensures ok { IfOk result (IsDone state.old state.new
+        (act_located locate state.old.plan state.old.now numbers.now state.old.time request.now (Some path.now))) }
+    ensures stop { IfErr result (Stops state.old state.new
+        (act_located locate state.old.plan state.old.now numbers.now state.old.time request.now (Some path.now))) }
+{
+    let Some(place) = named(state, path)? else {
+        return Err(Stop::Refused(Fault::NoSuchObject));
+    };
+    let body = request.body.as_ref();
+    if is_batch_call(&place, request.verb) {
+        return batch(state, numbers, body);
+    }
+    act_at(state, path, request.verb, place, body)
+}
+
+/// What a request to the site itself leaves of it, and the reply; `numbers` are those of the watches that stand.
+///
+/// Source: oBIX 1.1, chapters 5 (Batch) and 10 (Networking).
+pub fn act_itself(state: &mut State, numbers: &[u64], request: &Request) -> Result<Obj, Stop>
+    ensures ok { IfOk result
+        (IsDone state.old state.new (act_itself locate state.old.plan state.old.now numbers.now request.now state.old.time)) }
+    ensures stop { IfErr result (Stops state.old state.new
+        (act_itself locate state.old.plan state.old.now numbers.now request.now state.old.time)) }
+{
+    match located(state.allocator(), state.plan(), &request.target)? {
+        Some(path) => act_on(state, numbers, request, &path),
+        None => Err(Stop::Refused(Fault::NoSuchObject)),
+    }
+}
