@@ -76,7 +76,7 @@ live_there now n (w ∷ ws) v distinct there = go (w.0 == n) refl (is_over now w
     go false is false there rest = rest (sym (ap (λ b. cond b (Some w.1) (lookup n (live now ws))) is) ∙ there)
 
 -- A lease that was just renewed hasn't run out.
-fresh : (now lease : ℕ) → IsLease lease → nat_le (now * 1_000_000 + lease) (now * 1_000_000) ≡ false
+pub fresh : (now lease : ℕ) → IsLease lease → nat_le (now * 1_000_000 + lease) (now * 1_000_000) ≡ false
 fresh now lease fits = let l = fits.long in grind (arith, nat_tests, l)
 
 pub same_lease : (s : State) (input : Option Node) → lease_in s.library input ≡ lease_asked s input

@@ -1,8 +1,8 @@
 -- What hrefs are added as.
-use Rattle.std.proofs.Common.{◌≡◌, ℕ, ◌+◌, ◌<◌, List, [], ◌∷◌, ◌++◌, length, take, get_or, Some, refl, sym, ap, ◌∙◌, subst}
+use Rattle.std.proofs.Common.{◌≡◌, ℕ, ◌+◌, ◌<◌, List, [], ◌∷◌, ◌++◌, length, take, get_or, Option, Some, refl, sym, ap, ◌∙◌, subst}
 use Rattle.std.proofs.lemmas.List.{take_more}
 use Rattle.ob_object.specs.Object.{Object as Node}
-use Rattle.ob_tree.specs.Laid.{paths}
+use Rattle.ob_tree.specs.Laid.{head_at, paths}
 use Rattle.ob_tree.specs.Paths.{place_of}
 use Rattle.ob_tree.specs.declared.node.NodeId.{NodeId}
 use Rattle.ob_history.specs.declared.records.Filter.{Filter}
@@ -28,7 +28,7 @@ use Rattle.ob_watch.proofs.LawLemmas.{counts_stay, reports_agree}
 use Rattle.ob_site_watched.specs.declared.offering.Offer.{Offer}
 use Rattle.ob_site_watched.specs.declared.offering.Offer.TheVariants as offer
 use Rattle.ob_site_watched.specs.Entries.{reading_entry}
-use Rattle.ob_site_watched.specs.Offered.{AreOffered, IsItemFor, IsOffered, IsRefusedFor, refused_entry}
+use Rattle.ob_site_watched.specs.Offered.{AreOffered, IsItemFor, IsOwnFound, IsOffered, IsRefusedFor, refused_entry}
 
 module _ (plan : Plan) (c : Contents) where
   abbrev m : Site
@@ -38,12 +38,15 @@ module _ (plan : Plan) (c : Contents) where
   s = state_in c
 
   -- an own node
-  pub object_for : (text : Text) (path : Path) (node : NodeId) → AreStampsPast c.tree → Some node.number ≡ place_of path (paths c.tree.root)
+  pub object_for : (text : Text) (path : Path) (node : NodeId) → AreStampsPast c.tree → IsOwnFound c.tree.root (ObjectAt path) → Some node.number ≡ place_of path (paths c.tree.root)
       → IsItemFor plan c text (ObjectAt path) (object_item text path node c.tree.steps)
-  object_for text path node past there = record {
+  object_for text path node past own there = record {
     adds = λ items. ap (added m s items) (sym ((reports_agree plan c.tree).adds past text path node));
-    known = record { placed = sym there; counted = record {} };
+    known = record { placed = (sym there, λ h e. own.2 h (ap (λ (k : ℕ). head_at k c.tree.root) (same_number own.0 node.number (sym own.1 ∙ sym there)) ∙ e)); counted = record {} };
   }
+    where
+      same_number : (a b : ℕ) → (let r : Option ℕ = Some a in r) ≡ Some b → a ≡ b
+      same_number a b e = cc
 
   -- a feed
   pub feed_for : (text : Text) (path : Path) (filter : Filter) (n : ℕ) → n ≡ count m s path → IsItemFor plan c text (FeedAt path filter) (feed_item text path filter n)

@@ -77,7 +77,7 @@ module _ (plan : Plan) (c : Contents) where
       go true rest = rest
       go false rest = (known.0, rest)
 
-  one_known : (n : ℕ) (v : Leased) (ws : Numbered) → AreKnown plan c v.items → AllByRecursion Known ws → AllByRecursion Known (replace n (Some v) ws)
+  pub one_known : (n : ℕ) (v : Leased) (ws : Numbered) → AreKnown plan c v.items → AllByRecursion Known ws → AllByRecursion Known (replace n (Some v) ws)
   one_known n v [] own known = known
   one_known n v (w ∷ ws) own known = (go (w.0 == n), one_known n v ws own known.1)
     where

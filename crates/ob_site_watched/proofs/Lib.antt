@@ -7,3 +7,5 @@ pub mod Made
 pub mod Found
 pub mod Knowing
 pub mod Undone
+pub mod Put
+pub mod Grown

@@ -19,7 +19,7 @@ none_same : (b : Leased) → (let r : Option Leased = None in r) ≡ Some b → 
 none_same b h = cc
 
 -- the watch of a number put where it is
-same_put : (n : ℕ) (v : Leased) (ws : Numbered) → IsDistinct nat_eq (numbers_of ws) → lookup n ws ≡ Some v → replace n (Some v) ws ≡ ws
+pub same_put : (n : ℕ) (v : Leased) (ws : Numbered) → IsDistinct nat_eq (numbers_of ws) → lookup n ws ≡ Some v → replace n (Some v) ws ≡ ws
 same_put n v [] distinct there = absurd (none_same v there)
 same_put n v (w ∷ ws) distinct there = go (w.0 == n) refl there (same_put n v ws (IsDistinct-tail nat_eq w.0 (numbers_of ws) distinct))
   where

@@ -1,8 +1,10 @@
 -- What holds of the items of watches beside the contents of a site.
-use Rattle.std.specs.Prelude.{◌≡◌, List, Some}
+use Rattle.std.specs.Prelude.{◌≡◌, true, List, Some}
 use Rattle.std.specs.List.{AllByRecursion}
+use Rattle.ob_object.specs.declared.head.Head.{Head}
 use Rattle.ob_object.specs.Object.{Object}
-use Rattle.ob_tree.specs.Laid.{paths}
+use Rattle.ob_shown_laws.specs.Changed.{is_watchable}
+use Rattle.ob_tree.specs.Laid.{head_at, paths}
 use Rattle.ob_tree.specs.Paths.{place_of}
 use Rattle.ob_site_rules.specs.Build.{Path}
 use Rattle.ob_site_rules.specs.State.{Plan}
@@ -13,9 +15,10 @@ use Rattle.ob_watch.specs.declared.item.Tracked.TheVariants as kept
 use Rattle.ob_watch.specs.declared.item.Item.{Item}
 use Rattle.ob_watch.specs.Counted.{IsCounted}
 
--- a watched object is the own node of the item's path
+-- a watched object is the own node of the item's path, and can be watched
 abbrev pub IsPlacedBy : Object → Path → Tracked → Type 0
-IsPlacedBy root path (kept.Object node mark) = place_of path (paths root) ≡ Some node.number
+IsPlacedBy root path (kept.Object node mark) =
+    (place_of path (paths root) ≡ Some node.number) × ((h : Head) → head_at node.number root ≡ Some h → is_watchable h ≡ true)
 IsPlacedBy root path (kept.Feed filter given total due) = Unit {0}
 
 -- an item names its node, and has counted the events of its feed

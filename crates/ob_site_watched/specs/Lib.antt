@@ -3,3 +3,4 @@ pub mod Entries
 pub mod Leaving
 pub mod Answers
 pub mod Offered
+pub mod Putting

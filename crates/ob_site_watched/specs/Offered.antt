@@ -1,7 +1,9 @@
 -- An href that is asked for, before it is added.
-use Rattle.std.specs.Prelude.{◌≡◌, ℕ, true, is_some, List, [], ◌∷◌, Option, Result, Ok, Err}
+use Rattle.std.specs.Prelude.{◌≡◌, ℕ, true, List, [], ◌∷◌, Option, Some, Result, Ok, Err}
+use Rattle.ob_object.specs.declared.head.Head.{Head}
 use Rattle.ob_object.specs.Object.{Object}
-use Rattle.ob_tree.specs.Laid.{paths}
+use Rattle.ob_shown_laws.specs.Changed.{is_watchable}
+use Rattle.ob_tree.specs.Laid.{head_at, paths}
 use Rattle.ob_tree.specs.Paths.{place_of}
 use Rattle.ob_watching.specs.Asked.{ObjectAt, Refuses}
 use Rattle.ob_watching.specs.Watches.{Item as Flagged, add_found, added, reading}
@@ -24,9 +26,9 @@ use Rattle.ob_site_watched.specs.declared.offering.Offer.{Offer}
 use Rattle.ob_site_watched.specs.declared.offering.Offer.TheVariants as offer
 use Rattle.ob_site_watched.specs.Known.{IsKnown}
 
--- what is found to be a watched object is an own node
+-- what is found to be a watched object is an own node that can be watched
 abbrev pub IsOwnFound : Object → SiteFound → Type 0
-IsOwnFound root (ObjectAt path) = is_some (place_of path (paths root)) ≡ true
+IsOwnFound root (ObjectAt path) = (n : ℕ) × (place_of path (paths root) ≡ Some n) × ((h : Head) → head_at n root ≡ Some h → is_watchable h ≡ true)
 IsOwnFound root _ = Unit {0}
 
 -- whatever text is asked for

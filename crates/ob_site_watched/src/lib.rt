@@ -4,6 +4,7 @@
 //! memory. The clauses speak of watches with flags, for which the marked ones stand beside the tree of the site.
 #![tactic(auto)]
 
+mod adding;
 mod entries;
 mod making;
 mod offering;

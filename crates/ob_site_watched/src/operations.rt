@@ -15,7 +15,9 @@ ghost use Rattle.ob_site_watched.specs.Entries.{all_changes, all_readings};
 ghost use Rattle.ob_site_watched.specs.Known.{AreKnown};
 ghost use Rattle.ob_site_watched.specs.Leaving.{Renews, is_add, leaving};
 ghost use Rattle.ob_site_watched.specs.Answers.{AllKnown, IsDone, IsReply};
+ghost use Rattle.ob_site_watched.specs.Offered.{WatchedAreOwn};
 
+use crate::adding::{Adding, add};
 use crate::entries::{changes, readings};
 use ob_answers::{Fault, Plan, WatchPart, nil, refusal, watch_out, watch_part};
 use ob_contracts::Library;
@@ -129,11 +131,8 @@ fn leave(contents: &Contents, watches: &mut Watches, call: &Call) -> bool
     }
 }
 
-/// What an operation but Watch.add makes of the watches, and the reply. A request to a watch renews its lease, whatever
-/// the reply is. An error only for want of memory, and it leaves the watches as they were.
-///
-/// Source: oBIX 1.1, chapter 12 (Watches).
-pub fn on_watch(
+/// What an operation but Watch.add makes of the watches, and the reply.
+fn on_other(
     alloc: Global,
     plan: &Plan,
     contents: &Contents,
@@ -156,4 +155,42 @@ pub fn on_watch(
     let reply = reply(alloc, plan, contents, watch, call)?;
     leave(contents, watches, call);
     Ok(reply)
+}
+
+/// What an operation makes of the watches, and the reply. A request to a watch renews its lease, whatever the reply is.
+/// An error only for want of memory, and it leaves the watches as they were.
+///
+/// Source: oBIX 1.1, chapter 12 (Watches).
+pub fn on_watch(
+    alloc: Global,
+    plan: &Plan,
+    contents: &Contents,
+    watches: &mut Watches,
+    call: &Call,
+) -> Result<Obj, AllocError>
+    requires complete { IsComplete (plan_of plan.now) contents.now }
+    requires past { AreStampsPast contents.now.tree }
+    requires known { AllKnown (plan_of plan.now) contents.now watches.old }
+    requires own { WatchedAreOwn (plan_of plan.now) (state_in contents.now) }
+    ensures done { IfOk result (IsDone (plan_of plan.now) contents.now call.now.moment watches.old watches.new call.now.number (operation_of call.now.asks)) }
+    ensures err { OnErr result (watches.new ≡ watches.old) }
+    ensures known { AllKnown (plan_of plan.now) contents.now watches.new }
+{
+    match &call.asks {
+        Operation::Add(asked) => {
+            let adding = Adding {
+                number: call.number,
+                moment: call.moment,
+                asked,
+            };
+            add(alloc, plan, contents, watches, &adding)
+        }
+        Operation::Look(_)
+        | Operation::Renew(_)
+        | Operation::Remove(_)
+        | Operation::PollChanges
+        | Operation::PollRefresh
+        | Operation::Delete
+        | Operation::Refuse(_) => on_other(alloc, plan, contents, watches, call),
+    }
 }

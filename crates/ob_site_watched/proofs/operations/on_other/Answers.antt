@@ -9,7 +9,7 @@ use Rattle.ob_site_watched.specs.Answers.{AllKnown}
 use Rattle.ob_site_watched.specs.Leaving.{marks_after}
 use Rattle.ob_site_watched.proofs.Knowing.{left_known}
 use Rattle.ob_site_watched.proofs.Answering.{agrees, known_there, live_there, marks_last, none_stands, one_stands}
-use Rattle.ob_site_watched.proofs.operations.on_watch.Goals as goal
+use Rattle.ob_site_watched.proofs.operations.on_other.Goals as goal
 
 pub returns-in_default-clause-done : goal.returns-in_default-clause-done
 returns-in_default-clause-done c =
