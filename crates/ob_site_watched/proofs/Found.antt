@@ -1,5 +1,5 @@
 -- What hrefs are added as.
-use Rattle.std.proofs.Common.{◌≡◌, ℕ, ◌+◌, ◌<◌, List, [], ◌∷◌, ◌++◌, length, take, get_or, Option, Some, refl, sym, ap, ◌∙◌, subst}
+use Rattle.std.proofs.Common.{◌≡◌, ℕ, ◌+◌, ◌<◌, List, [], ◌∷◌, ◌++◌, length, take, get_or, Option, Some, refl, sym, ap, ◌∙◌, subst, ◌≤◌, arith}
 use Rattle.std.proofs.lemmas.List.{take_more}
 use Rattle.ob_object.specs.Object.{Object as Node}
 use Rattle.ob_tree.specs.Laid.{head_at, paths}
@@ -42,7 +42,7 @@ module _ (plan : Plan) (c : Contents) where
       → IsItemFor plan c text (ObjectAt path) (object_item text path node c.tree.steps)
   object_for text path node past own there = record {
     adds = λ items. ap (added m s items) (sym ((reports_agree plan c.tree).adds past text path node));
-    known = record { placed = (sym there, λ h e. own.2 h (ap (λ (k : ℕ). head_at k c.tree.root) (same_number own.0 node.number (sym own.1 ∙ sym there)) ∙ e)); counted = record {} };
+    known = record { placed = (sym there, λ h e. own.2 h (ap (λ (k : ℕ). head_at k c.tree.root) (same_number own.0 node.number (sym own.1 ∙ sym there)) ∙ e)); counted = record {}; past = (let e : c.tree.steps ≤ c.tree.steps = omega arith in e) };
   }
     where
       same_number : (a b : ℕ) → (let r : Option ℕ = Some a in r) ≡ Some b → a ≡ b
@@ -52,7 +52,7 @@ module _ (plan : Plan) (c : Contents) where
   pub feed_for : (text : Text) (path : Path) (filter : Filter) (n : ℕ) → n ≡ count m s path → IsItemFor plan c text (FeedAt path filter) (feed_item text path filter n)
   feed_for text path filter n counted = subst (λ (k : ℕ). IsItemFor plan c text (FeedAt path filter) (feed_item text path filter k)) (sym counted) (record {
     adds = λ items. refl;
-    known = record { placed = record {}; counted = (counts_stay plan).adds s text path filter };
+    known = record { placed = record {}; counted = (counts_stay plan).adds s text path filter; past = record {} };
   })
 
   abbrev there : List ℕ → Asked → SiteFound

@@ -1,5 +1,5 @@
 -- What is known of items stays known.
-use Rattle.std.proofs.Common.{◌≡◌, ℕ, ◌==◌, Bool, true, false, cond, not, List, [], ◌∷◌, map, Option, Some, None, Result, Ok, Err, refl}
+use Rattle.std.proofs.Common.{◌≡◌, ℕ, ◌+◌, ◌≤◌, ◌==◌, Bool, true, false, cond, not, List, [], ◌∷◌, ◌++◌, map, Option, Some, None, Result, Ok, Err, refl, sym, subst, arith}
 use Rattle.std.specs.Prelude.{option_and_then}
 use Rattle.std.specs.List.{AllByRecursion, filter}
 use Rattle.ob_object.specs.Object.{Object as Node}
@@ -15,7 +15,8 @@ use Rattle.ob_watch.specs.declared.item.Tracked.{Tracked}
 use Rattle.ob_watch.specs.declared.item.Tracked.TheVariants as kept
 use Rattle.ob_watch.specs.declared.item.Item.{Item}
 use Rattle.ob_watch.specs.Items.{among, reported_at, reported_by}
-use Rattle.ob_watch.specs.Tables.{Leased, Table, touched_at}
+use Rattle.ob_watch.specs.Tables.{Leased, Table, new_watch, touched_at, with_new}
+use Rattle.ob_watch.specs.Marks.{IsMarkPastBy}
 use Rattle.ob_watch.proofs.LawLemmas.{counts_stay}
 use Rattle.ob_site_watched.specs.Answers.{AllKnown}
 use Rattle.ob_site_watched.specs.Known.{AreKnown, IsPlacedBy}
@@ -37,14 +38,19 @@ module _ (plan : Plan) (c : Contents) where
   placed_reported root path steps (kept.Object node mark) placed = placed
   placed_reported root path steps (kept.Feed bounds given total due) placed = placed
 
-  reported_known : (steps : ℕ) (items : List Item) → AreKnown plan c items → AreKnown plan c (map (reported_at steps) items)
-  reported_known steps [] known = known
-  reported_known steps (i ∷ items) known = (
+  past_reported : (steps : ℕ) (k : Tracked) → IsMarkPastBy steps (reported_by steps k)
+  past_reported steps (kept.Object node mark) = (let e : steps ≤ steps = omega arith in e)
+  past_reported steps (kept.Feed bounds given total due) = record {}
+
+  reported_known : (items : List Item) → AreKnown plan c items → AreKnown plan c (map (reported_at c.tree.steps) items)
+  reported_known [] known = known
+  reported_known (i ∷ items) known = (
     record {
-      placed = placed_reported c.tree.root i.path steps i.tracked known.0.placed;
-      counted = (counts_stay plan).reports (state_in c) steps i known.0.counted;
+      placed = placed_reported c.tree.root i.path c.tree.steps i.tracked known.0.placed;
+      counted = (counts_stay plan).reports (state_in c) c.tree.steps i known.0.counted;
+      past = past_reported c.tree.steps i.tracked;
     },
-    reported_known steps items known.1,
+    reported_known items known.1,
   )
 
   some_known : (p : Item → Bool) (items : List Item) → AreKnown plan c items → AreKnown plan c (filter p items)
@@ -64,8 +70,8 @@ module _ (plan : Plan) (c : Contents) where
   marks_known now (Renew input) w known = leased_known (lease_asked (state_in c) input) (touched_at now w) known
   marks_known now (Add asked) w known = known
   marks_known now (Remove texts) w known = some_known (λ i. not (among texts i.text)) w.items known
-  marks_known now PollChanges w known = reported_known c.tree.steps w.items known
-  marks_known now PollRefresh w known = reported_known c.tree.steps w.items known
+  marks_known now PollChanges w known = reported_known w.items known
+  marks_known now PollRefresh w known = reported_known w.items known
   marks_known now Delete w known = record {}
   marks_known now (Refuse fault) w known = known
 
@@ -96,3 +102,11 @@ module _ (plan : Plan) (c : Contents) where
       go : (o : Option Leased) → lookup n old.watches ≡ o → LeftKnown (option_and_then (marks_after c now op) o)
       go None e = record {}
       go (Some w) e = marks_known now op w (all_there (λ (v : Leased). AreKnown plan c v.items) n old.watches w known e)
+
+-- and so it is where a watch is made
+pushed_known : (plan : Plan) (c : Contents) (ws : Numbered) (n now : ℕ) → AllByRecursion (λ (e : ℕ × Leased). AreKnown plan c e.1.items) ws → AllByRecursion (λ (e : ℕ × Leased). AreKnown plan c e.1.items) (ws ++ (n, new_watch now) ∷ [])
+pushed_known plan c [] n now known = (record {}, record {})
+pushed_known plan c (w ∷ ws) n now known = (known.0, pushed_known plan c ws n now known.1)
+
+pub made_known : (plan : Plan) (now : ℕ) (old new : Table) → new ≡ with_new now old → (c : Contents) → AllKnown plan c old → AllKnown plan c new
+made_known plan now old new is c known = subst (λ (t : Table). AllKnown plan c t) (sym is) (pushed_known plan c old.watches old.next now known)

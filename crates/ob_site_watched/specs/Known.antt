@@ -14,6 +14,7 @@ use Rattle.ob_watch.specs.declared.item.Tracked.{Tracked}
 use Rattle.ob_watch.specs.declared.item.Tracked.TheVariants as kept
 use Rattle.ob_watch.specs.declared.item.Item.{Item}
 use Rattle.ob_watch.specs.Counted.{IsCounted}
+use Rattle.ob_watch.specs.Marks.{IsMarkPast}
 
 -- a watched object is the own node of the item's path, and can be watched
 abbrev pub IsPlacedBy : Object → Path → Tracked → Type 0
@@ -21,10 +22,11 @@ IsPlacedBy root path (kept.Object node mark) =
     (place_of path (paths root) ≡ Some node.number) × ((h : Head) → head_at node.number root ≡ Some h → is_watchable h ≡ true)
 IsPlacedBy root path (kept.Feed filter given total due) = Unit {0}
 
--- an item names its node, and has counted the events of its feed
+-- an item names its node, has counted the events of its feed, and its mark is of no step to come
 pub record IsKnown (plan : Plan) (c : Contents) (i : Item) : Type 0 where
   pub placed : IsPlacedBy c.tree.root i.path i.tracked
   pub counted : IsCounted plan (state_in c) i
+  pub past : IsMarkPast c.tree.steps i
 
 abbrev pub AreKnown : Plan → Contents → List Item → Type 0
 AreKnown plan c items = AllByRecursion (IsKnown plan c) items

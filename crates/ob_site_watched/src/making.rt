@@ -1,7 +1,8 @@
 //! What is asked of the watch service.
 ghost use Rattle.std.specs.Prelude.{◌≡◌, IfOk, OnErr};
 ghost use Rattle.ob_answers.specs.Plans.{plan as plan_of};
-ghost use Rattle.ob_site_watched.specs.Answers.{IsMade};
+ghost use Rattle.ob_site_state.specs.declared.contents.Contents.{Contents};
+ghost use Rattle.ob_site_watched.specs.Answers.{AllKnown, IsMade};
 
 use ob_answers::{Fault, Plan, WatchPart, refusal, watch_part};
 use ob_object::Obj;
@@ -22,6 +23,7 @@ pub fn make(
 ) -> Result<Obj, AllocError>
     ensures done { IfOk result (IsMade (plan_of plan.now) now watches.old watches.new) }
     ensures err { OnErr result (watches.new ≡ watches.old) }
+    ensures known { (c : Contents) → AllKnown (plan_of plan.now) c watches.old → AllKnown (plan_of plan.now) c watches.new }
 {
     if watches.is_full(now) {
         return refusal(alloc, Fault::TooManyWatches);
