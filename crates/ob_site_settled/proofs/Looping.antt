@@ -345,8 +345,7 @@ pub changed_nodes : (k : Kept) (xs : List Change) (library : Contracts) (ms : Li
     × (DifferInValues k.before (roll k.now) → AreChanged k.plan k.before (roll k.now) (numbers nodes))
     × All (λ node. node.number < parts k.now.tree) nodes
 changed_nodes k xs library ms nodes o before can told rolled sound same apart lib notes subject all =
-    let are : AreChanged k.plan k.before (ended_in_values k) (numbers nodes) = are_changed_nodes k xs library ms (numbers nodes) o before can told rolled sound same apart lib notes subject all in
-    (
+    let are : AreChanged k.plan k.before (ended_in_values k) (numbers nodes) = are_changed_nodes k xs library ms (numbers nodes) o before can told rolled sound same apart lib notes subject all in (
       are,
       (λ values. subst (λ (t : State). AreChanged k.plan k.before t (numbers nodes)) (same_library k.before.library (roll k.now) values.library) are),
       nodes_within k xs nodes before are,
