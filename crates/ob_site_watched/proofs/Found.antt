@@ -1,5 +1,5 @@
 -- What hrefs are added as.
-use Rattle.std.proofs.Common.{◌≡◌, ℕ, ◌+◌, ◌<◌, List, [], ◌∷◌, ◌++◌, length, take, get_or, Option, Some, refl, sym, ap, ◌∙◌, subst, ◌≤◌, arith}
+use Rattle.std.proofs.Common.{◌≡◌, ℕ, ◌+◌, ◌<◌, ◌≤◌, List, [], ◌∷◌, ◌++◌, length, take, get_or, Option, Some, refl, sym, ap, ◌∙◌, subst, arith}
 use Rattle.std.proofs.lemmas.List.{take_more}
 use Rattle.ob_object.specs.Object.{Object as Node}
 use Rattle.ob_tree.specs.Laid.{head_at, paths}
@@ -9,6 +9,7 @@ use Rattle.ob_history.specs.declared.records.Filter.{Filter}
 use Rattle.ob_watching.specs.Asked.{ObjectAt, FeedAt, Refuses}
 use Rattle.ob_watching.specs.Sites.{Site}
 use Rattle.ob_watching.specs.Watches.{Item as Flagged, add_found, added, count}
+use Rattle.ob_own_laws.specs.Watched.{IsOwnFound}
 use Rattle.ob_site_rules.specs.Build.{Path, Text}
 use Rattle.ob_site_rules.specs.Faults.{err}
 use Rattle.ob_site_rules.specs.Locating.{locate}
@@ -28,7 +29,7 @@ use Rattle.ob_watch.proofs.LawLemmas.{counts_stay, reports_agree}
 use Rattle.ob_site_watched.specs.declared.offering.Offer.{Offer}
 use Rattle.ob_site_watched.specs.declared.offering.Offer.TheVariants as offer
 use Rattle.ob_site_watched.specs.Entries.{reading_entry}
-use Rattle.ob_site_watched.specs.Offered.{AreOffered, IsItemFor, IsOwnFound, IsOffered, IsRefusedFor, refused_entry}
+use Rattle.ob_site_watched.specs.Offered.{AreOffered, IsItemFor, IsOffered, IsRefusedFor, refused_entry}
 
 module _ (plan : Plan) (c : Contents) where
   abbrev m : Site

@@ -1,5 +1,5 @@
 -- What is known of items stays known.
-use Rattle.std.proofs.Common.{◌≡◌, ℕ, ◌+◌, ◌≤◌, ◌==◌, Bool, true, false, cond, not, List, [], ◌∷◌, ◌++◌, map, Option, Some, None, Result, Ok, Err, refl, sym, subst, arith}
+use Rattle.std.proofs.Common.{◌≡◌, ℕ, ◌≤◌, ◌==◌, Bool, true, false, cond, not, List, [], ◌∷◌, ◌++◌, map, Option, Some, None, Result, Ok, Err, refl, sym, subst, arith}
 use Rattle.std.specs.Prelude.{option_and_then}
 use Rattle.std.specs.List.{AllByRecursion, filter}
 use Rattle.ob_object.specs.Object.{Object as Node}
@@ -15,8 +15,8 @@ use Rattle.ob_watch.specs.declared.item.Tracked.{Tracked}
 use Rattle.ob_watch.specs.declared.item.Tracked.TheVariants as kept
 use Rattle.ob_watch.specs.declared.item.Item.{Item}
 use Rattle.ob_watch.specs.Items.{among, reported_at, reported_by}
-use Rattle.ob_watch.specs.Tables.{Leased, Table, new_watch, touched_at, with_new}
 use Rattle.ob_watch.specs.Marks.{IsMarkPastBy}
+use Rattle.ob_watch.specs.Tables.{Leased, Table, new_watch, touched_at, with_new}
 use Rattle.ob_watch.proofs.LawLemmas.{counts_stay}
 use Rattle.ob_site_watched.specs.Answers.{AllKnown}
 use Rattle.ob_site_watched.specs.Known.{AreKnown, IsPlacedBy}

@@ -1,11 +1,7 @@
 -- An href that is asked for, before it is added.
-use Rattle.std.specs.Prelude.{◌≡◌, ℕ, true, List, [], ◌∷◌, Option, Some, Result, Ok, Err}
-use Rattle.ob_object.specs.declared.head.Head.{Head}
+use Rattle.std.specs.Prelude.{◌≡◌, ℕ, List, [], ◌∷◌, Result, Ok, Err}
 use Rattle.ob_object.specs.Object.{Object}
-use Rattle.ob_shown_laws.specs.Changed.{is_watchable}
-use Rattle.ob_tree.specs.Laid.{head_at, paths}
-use Rattle.ob_tree.specs.Paths.{place_of}
-use Rattle.ob_watching.specs.Asked.{ObjectAt, Refuses}
+use Rattle.ob_watching.specs.Asked.{Refuses}
 use Rattle.ob_watching.specs.Watches.{Item as Flagged, add_found, added, reading}
 use Rattle.ob_site_rules.specs.Build.{Text}
 use Rattle.ob_site_rules.specs.Faults.{err}
@@ -13,7 +9,7 @@ use Rattle.ob_site_rules.specs.Faults as faults
 use Rattle.ob_site_rules.specs.Locating.{locate}
 use Rattle.ob_site_rules.specs.Replies.{Reading, entry}
 use Rattle.ob_site_rules.specs.Sites.{found}
-use Rattle.ob_site_rules.specs.State.{Plan, State}
+use Rattle.ob_site_rules.specs.State.{Plan}
 use Rattle.ob_site_rules.specs.Watched.{Asked, SiteFound}
 use Rattle.ob_answers.specs.declared.fault.Fault.{Fault}
 use Rattle.ob_answers.specs.Told as told
@@ -25,15 +21,6 @@ use Rattle.ob_watch.specs.Flags.{flags}
 use Rattle.ob_site_watched.specs.declared.offering.Offer.{Offer}
 use Rattle.ob_site_watched.specs.declared.offering.Offer.TheVariants as offer
 use Rattle.ob_site_watched.specs.Known.{IsKnown}
-
--- what is found to be a watched object is an own node that can be watched
-abbrev pub IsOwnFound : Object → SiteFound → Type 0
-IsOwnFound root (ObjectAt path) = (n : ℕ) × (place_of path (paths root) ≡ Some n) × ((h : Head) → head_at n root ≡ Some h → is_watchable h ≡ true)
-IsOwnFound root _ = Unit {0}
-
--- whatever text is asked for
-abbrev pub WatchedAreOwn : Plan → State → Type 0
-WatchedAreOwn plan s = (numbers : List ℕ) → (text : Text) → (input : Option Object) → IsOwnFound s.tree (found locate plan s numbers text input)
 
 -- what adding what is found under a text is, whatever items there are: adding this item
 pub record IsItemFor (plan : Plan) (c : Contents) (text : Text) (f : SiteFound) (item : Item) : Type 0 where

@@ -5,7 +5,6 @@ ghost use Rattle.ob_answers.specs.Plans.{plan as plan_of};
 ghost use Rattle.ob_site_places.specs.Complete.{IsComplete};
 ghost use Rattle.ob_site_rules.specs.Build.{under_href};
 ghost use Rattle.ob_site_rules.specs.Faults.{TooManyItems, err};
-ghost use Rattle.ob_site_state.specs.Contents.{state_in};
 ghost use Rattle.ob_watch.specs.Marks.{AreStampsPast};
 ghost use Rattle.ob_watch.specs.Tables.{lapsed_at};
 ghost use Rattle.ob_watch.specs.Undo.{Undoes};
@@ -13,7 +12,7 @@ ghost use Rattle.ob_watch_calls.specs.Calls.{firsts as firsts_of};
 ghost use Rattle.ob_watching.specs.Asked.{Add};
 ghost use Rattle.ob_watching.specs.Tables.{lookup, numbers_of};
 ghost use Rattle.ob_site_watched.specs.Answers.{AllKnown, IsDone};
-ghost use Rattle.ob_site_watched.specs.Offered.{AreOffered, WatchedAreOwn};
+ghost use Rattle.ob_site_watched.specs.Offered.{AreOffered};
 ghost use Rattle.ob_site_watched.specs.Putting.{ArePut, HasPut, IsPut, OfHeld, entries_put};
 
 use crate::offering::{Offer, offers};
@@ -120,7 +119,6 @@ fn offers_to(
 ) -> Result<Vec<Offer>, AllocError>
     requires complete { IsComplete (plan_of plan.now) contents.now }
     requires past { AreStampsPast contents.now.tree }
-    requires own { WatchedAreOwn (plan_of plan.now) (state_in contents.now) }
     ensures { IfOk result (λ offers. AreOffered (plan_of plan.now) contents.now (numbers_of (lapsed_at adding.now.moment watches.now).watches) (firsts_of adding.now.asked.now) offers.items) }
 {
     let numbers = watches.live_numbers(adding.moment)?;
@@ -141,7 +139,6 @@ pub(crate) fn add(
     requires complete { IsComplete (plan_of plan.now) contents.now }
     requires past { AreStampsPast contents.now.tree }
     requires known { AllKnown (plan_of plan.now) contents.now watches.old }
-    requires own { WatchedAreOwn (plan_of plan.now) (state_in contents.now) }
     ensures done { IfOk result (IsDone (plan_of plan.now) contents.now adding.now.moment watches.old watches.new adding.now.number (Add adding.now.asked.now)) }
     ensures err { OnErr result (watches.new ≡ watches.old) }
     ensures known { AllKnown (plan_of plan.now) contents.now watches.new }

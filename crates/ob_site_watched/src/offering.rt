@@ -2,15 +2,17 @@
 ghost use Rattle.std.specs.Prelude.{◌≡◌, IfOk};
 ghost use Rattle.ob_answers.specs.Plans.{plan as plan_of};
 ghost use Rattle.ob_answers.specs.Told as told;
+ghost use Rattle.ob_own_laws.specs.Watched.{IsOwnFound};
 ghost use Rattle.ob_site_places.specs.Complete.{IsComplete};
 ghost use Rattle.ob_site_state.specs.Contents.{state_in};
 ghost use Rattle.ob_watch.specs.Marks.{AreStampsPast};
 ghost use Rattle.ob_watch_calls.specs.Calls.{firsts as firsts_of, found as found_of};
-ghost use Rattle.ob_site_watched.specs.Offered.{AreOffered, IsFor, IsOffered, IsOwnFound, WatchedAreOwn, refused_entry};
+ghost use Rattle.ob_site_watched.specs.Offered.{AreOffered, IsFor, IsOffered, refused_entry};
 
 use crate::entries::reading;
 use ob_answers::{Fault, Plan, entry, refusal};
 use ob_object::Obj;
+use ob_own_laws::watched_are_own;
 use ob_site_reads::{count_at, found};
 use ob_site_state::Contents;
 use ob_values::Text;
@@ -74,9 +76,9 @@ pub fn offered(
 ) -> Result<Offer, AllocError>
     requires complete { IsComplete (plan_of plan.now) contents.now }
     requires past { AreStampsPast contents.now.tree }
-    requires own { WatchedAreOwn (plan_of plan.now) (state_in contents.now) }
     ensures { IfOk result (IsOffered (plan_of plan.now) contents.now numbers.now asked.now) }
 {
+    watched_are_own();
     let found = found(alloc, plan, contents, numbers, asked)?;
     let text = asked.0.copy()?;
     match item_for(alloc, plan, contents, text, found)? {
@@ -103,7 +105,6 @@ pub fn offers(
 ) -> Result<Vec<Offer>, AllocError>
     requires complete { IsComplete (plan_of plan.now) contents.now }
     requires past { AreStampsPast contents.now.tree }
-    requires own { WatchedAreOwn (plan_of plan.now) (state_in contents.now) }
     ensures { IfOk result (λ offers. AreOffered (plan_of plan.now) contents.now numbers.now (firsts_of asked.now) offers.items) }
 {
     let firsts = firsts(alloc, asked)?;

@@ -15,7 +15,6 @@ ghost use Rattle.ob_site_watched.specs.Entries.{all_changes, all_readings};
 ghost use Rattle.ob_site_watched.specs.Known.{AreKnown};
 ghost use Rattle.ob_site_watched.specs.Leaving.{Renews, is_add, leaving};
 ghost use Rattle.ob_site_watched.specs.Answers.{AllKnown, IsDone, IsReply};
-ghost use Rattle.ob_site_watched.specs.Offered.{WatchedAreOwn};
 
 use crate::adding::{Adding, add};
 use crate::entries::{changes, readings};
@@ -171,7 +170,6 @@ pub fn on_watch(
     requires complete { IsComplete (plan_of plan.now) contents.now }
     requires past { AreStampsPast contents.now.tree }
     requires known { AllKnown (plan_of plan.now) contents.now watches.old }
-    requires own { WatchedAreOwn (plan_of plan.now) (state_in contents.now) }
     ensures done { IfOk result (IsDone (plan_of plan.now) contents.now call.now.moment watches.old watches.new call.now.number (operation_of call.now.asks)) }
     ensures err { OnErr result (watches.new ≡ watches.old) }
     ensures known { AllKnown (plan_of plan.now) contents.now watches.new }
