@@ -1,0 +1,89 @@
+-- What is asked of a watch, of the watch service or of nothing.
+use Rattle.std.proofs.Common.{◌≡◌, ℕ, suc, ◌≤◌, ◌<◌, ◌^◌, ◌==◌, Bool, true, false, not, cond, List, [], ◌∷◌, get_or, Option, Some, None, option_map, refl, sym, ap, ◌∙◌, subst, arith}
+use Rattle.std.proofs.lemmas.Bool.Decides.{nat_tests}
+use Rattle.ob_object.specs.Object.{Object}
+use Rattle.ob_tree.specs.Trees.{Stamped}
+use Rattle.ob_history.specs.declared.records.Filter.{Filter}
+use Rattle.ob_watching.specs.Asked.{NewWatch, Nowhere, OneWatch}
+use Rattle.ob_watching.specs.Tables.{lookup, numbers_of}
+use Rattle.ob_watching.specs.Watches.{WatchOf, on_watch}
+use Rattle.ob_site_rules.specs.declared.request.Request.{Request}
+use Rattle.ob_site_rules.specs.Build.{Path, Text}
+use Rattle.ob_site_rules.specs.Faults.{NoSuchObject, err}
+use Rattle.ob_site_rules.specs.Replies.{sent}
+use Rattle.ob_site_rules.specs.State.{Plan, State}
+use Rattle.ob_site_rules.specs.Watched.{WatchOperation}
+use Rattle.ob_site_state.specs.declared.contents.Contents.{Contents}
+use Rattle.ob_site_state.specs.Contents.{state_in}
+use Rattle.ob_site_state.specs.Kept.{Kept}
+use Rattle.ob_site_state.specs.Stamping.{tree_of}
+use Rattle.ob_site_watched.specs.Answers.{IsDone, IsMade}
+use Rattle.ob_watch.specs.AsRules.{world_of}
+use Rattle.ob_watch.specs.Counted.{of_plan}
+use Rattle.ob_watch.specs.Flags.{flagged, flags_of}
+use Rattle.ob_watch.specs.Tables.{Leased, Table, is_over, lapsed_at, live}
+use Rattle.ob_watch.proofs.LawLemmas.{tables_agree}
+use Rattle.ob_site.specs.Steps.{IsQuiet}
+
+-- nothing is asked
+pub nobody : (k : Kept) (t : Table) (r : Request) (o : Object) → o ≡ err NoSuchObject → IsQuiet k t t r Nowhere o
+nobody k t r o e = record { world = refl; reply = e }
+
+-- a number that is none of theirs
+none_there : (n : ℕ) (ws : List (ℕ × Leased)) → 2 ^ 64 ≤ n → ((i : ℕ) → get_or (numbers_of ws) i 0 < 2 ^ 64) → lookup n ws ≡ None
+none_there n [] l few = refl
+none_there n (w ∷ ws) l few =
+    let first : w.0 < 2 ^ 64 = few 0 in
+    let rest = none_there n ws l (λ i. few (suc i)) in
+    grind (arith, nat_tests, first, rest)
+
+-- nor is it one of those whose lease has not run out
+none_live : (now n : ℕ) (ws : List (ℕ × Leased)) → lookup n ws ≡ None → lookup n (live now ws) ≡ None
+none_live now n [] none = refl
+none_live now n (w ∷ ws) none = go (w.0 == n) refl (is_over now w.1) (λ e. none_live now n ws e)
+  where
+    rest : (b : Bool) → (w.0 == n) ≡ b → cond b (Some w.1) (lookup n ws) ≡ None
+    rest b e = sym (ap (λ (x : Bool). cond x (Some w.1) (lookup n ws)) e) ∙ none
+
+    go : (b : Bool) → (w.0 == n) ≡ b → (c : Bool) → (lookup n ws ≡ None → lookup n (live now ws) ≡ None) → lookup n (cond (not c) (w ∷ live now ws) (live now ws)) ≡ None
+    go true e c behind = absurd (let f : Some w.1 ≡ None = rest true e in cc)
+    go false e true behind = behind (rest false e)
+    go false e false behind = ap (λ (b : Bool). cond b (Some w.1) (lookup n (live now ws))) e ∙ behind (rest false e)
+
+-- no watch has the number
+pub beyond : (k : Kept) (t : Table) (r : Request) (n : ℕ) (op : WatchOperation) (o : Object) → 2 ^ 64 ≤ n → ((i : ℕ) → get_or (numbers_of t.watches) i 0 < 2 ^ 64) → o ≡ err NoSuchObject
+    → IsQuiet k t t r (OneWatch n op) o
+beyond k t r n op o l few e =
+    let gone : lookup n (flags_of (tree_of k) (live k.time t.watches)) ≡ None =
+    (tables_agree k.plan (tree_of k)).looks_up n (live k.time t.watches) ∙ ap (λ (w : Option Leased). option_map (flagged (tree_of k)) w) (none_live k.time n t.watches (none_there n t.watches l few)) in record {
+      world = sym (ap (λ (found : Option (WatchOf Text Path Filter)). (on_watch (of_plan k.plan) (world_of k.plan k.time k.now (tree_of k) (lapsed_at k.time t)) n op found).0) gone);
+      reply = e ∙ sym (ap (λ (found : Option (WatchOf Text Path Filter)). sent k.plan (on_watch (of_plan k.plan) (world_of k.plan k.time k.now (tree_of k) (lapsed_at k.time t)) n op found).1) gone);
+    }
+
+-- a watch is made
+pub made_so : (k : Kept) (plan : Plan) (now : ℕ) (t u : Table) (o : Object) → plan ≡ k.plan → now ≡ k.time → IsMade plan now t u o → (r : Request) → IsQuiet k t u r NewWatch o
+made_so k plan now t u o a b is r =
+    let made : IsMade k.plan k.time t u o = subst (λ (p : Plan). IsMade p k.time t u o) a (subst (λ (n : ℕ). IsMade plan n t u o) b is) in record {
+      world = made.watches k.now (tree_of k) r;
+      reply = made.reply k.now (tree_of k) r;
+    }
+
+-- a watch is asked
+abbrev Answers : Plan → ℕ → State → Stamped → Table → Table → ℕ → WatchOperation → Object → Type 0
+Answers plan now s tree t u n op o =
+    (world_of plan now s tree (lapsed_at now u) ≡ (on_watch (of_plan plan) (world_of plan now s tree (lapsed_at now t)) n op (lookup n (flags_of tree (live now t.watches)))).0)
+    × (o ≡ sent plan (on_watch (of_plan plan) (world_of plan now s tree (lapsed_at now t)) n op (lookup n (flags_of tree (live now t.watches)))).1)
+
+pub tree_is : (k : Kept) (c : Contents) → state_in c ≡ k.now → c.tree.stamps ≡ k.stamps → c.tree.steps ≡ k.steps → c.tree ≡ tree_of k
+tree_is k c a b d = λ i. record { root = (a i).tree; stamps = b i; steps = d i }
+
+pub asked_so : (k : Kept) (plan : Plan) (now : ℕ) (c : Contents) (t u : Table) (n : ℕ) (op : WatchOperation) (o : Object)
+    → plan ≡ k.plan → now ≡ k.time → state_in c ≡ k.now → c.tree ≡ tree_of k → IsDone plan c now t u n op o → (r : Request) → IsQuiet k t u r (OneWatch n op) o
+asked_so k plan now c t u n op o a b d e is r =
+    let first : Answers plan now (state_in c) c.tree t u n op o = (is.watches, is.reply) in
+    let all : Answers k.plan k.time k.now (tree_of k) t u n op o =
+    subst (λ (p : Plan). Answers p k.time k.now (tree_of k) t u n op o) a
+    (subst (λ (m : ℕ). Answers plan m k.now (tree_of k) t u n op o) b
+    (subst (λ (s : State). Answers plan now s (tree_of k) t u n op o) d
+    (subst (λ (x : Stamped). Answers plan now (state_in c) x t u n op o) e first))) in
+    record { world = all.0; reply = all.1 }

@@ -1,0 +1,109 @@
+-- A site may go to another thread, since each of its parts may.
+use denote.Enum.Declared as E
+use denote.Param.Send.{IsSend, view_send, sendable}
+use denote.Param.SendFields.{FieldsHave, VariantsHave, as_row_send, declared_send, variants_send}
+use Rattle.std.proofs.Crossing as heap
+use Rattle.std.proofs.MapsCrossing as maps
+use Rattle.std.proofs.MapsCrossingOver as sets
+use Rattle.ob_values.proofs.text.Text.TheSendSync as text
+use Rattle.ob_values.specs.contracts.value.Value as value
+use Rattle.ob_object.specs.contracts.head.Slot as slot
+use Rattle.ob_object.proofs.head.Head.TheSendSync as head
+use Rattle.ob_object.proofs.object.Obj.TheLaws.TheKnot as object
+use Rattle.ob_alarms.proofs.board.Alarms.TheSendSync as board
+use Rattle.ob_contracts.proofs.library.Defaults.TheSendSync as defaults
+use Rattle.ob_history.proofs.log.Log.TheSendSync as log
+use Rattle.ob_times.proofs.moment.Moment.TheSendSync as moment
+use Rattle.ob_answers.specs.contracts.plan.Plan as plan_type
+use Rattle.ob_answers.proofs.plan.Plan.TheSendSync as plan
+use Rattle.ob_site_state.specs.contracts.change.Change as change
+use Rattle.ob_site_state.specs.contracts.contents.Contents as contents
+use Rattle.ob_site_state.specs.contracts.state.State as state
+use Rattle.ob_site_state.specs.contracts.state.State.TheInside as state_inside
+use Rattle.ob_watch.proofs.watches.Watches.TheSendSync as watches
+use Rattle.ob_site.specs.contracts.site.Site as site
+use Rattle.ob_site.specs.contracts.site.Site.TheInside as inside
+
+-- values
+value_send : IsSend (E.row (E.declared value.enum))
+value_send =
+    let parts : VariantsHave IsSend (value.enum).parts = (
+      (search sendable depth 24, tt),
+      (
+        (search sendable depth 24, tt),
+        (
+          (search sendable depth 24, tt),
+          (
+            (search (sendable, text.the_send) depth 24, tt),
+            (
+              (search (sendable, text.the_send) depth 24, tt),
+              (
+                (search (sendable, text.the_send) depth 24, tt),
+                (
+                  (search sendable depth 24, tt),
+                  ((search sendable depth 24, tt), ((search sendable depth 24, tt), ((search sendable depth 24, tt), tt))),
+                ),
+              ),
+            ),
+          ),
+        ),
+      ),
+    ) in
+    variants_send value.enum parts
+
+slot_send : IsSend (E.row (E.declared slot.enum))
+slot_send =
+    let parts : VariantsHave IsSend (slot.enum).parts = (tt, (tt, ((value_send, tt), tt))) in
+    variants_send slot.enum parts
+
+-- what a step changed
+change_send : IsSend (E.row (E.declared change.enum))
+change_send =
+    let parts : VariantsHave IsSend (change.enum).parts = (
+      (search sendable depth 24, (slot_send, tt)),
+      (
+        (search sendable depth 24, (search sendable depth 24, tt)),
+        (
+          (search sendable depth 24, (search sendable depth 24, tt)),
+          ((search (sendable, heap.crosses, maps.crosses, sets.crosses, text.the_send, head.the_send, object.send-Obj, defaults.the_field_send) depth 24, tt), tt),
+        ),
+      ),
+    ) in
+    variants_send change.enum parts
+
+contents_send : IsSend (contents.the_field).row
+contents_send = search (sendable, heap.crosses, maps.crosses, sets.crosses, text.the_send, head.the_send, object.send-Obj, board.the_send, defaults.the_field_send, log.the_send) depth 24
+
+state_parts_send : IsSend state_inside.the_row
+state_parts_send =
+    let parts : FieldsHave IsSend (state_inside.the_type).parts = (
+      search (sendable, heap.crosses) depth 24,
+      (
+        as_row_send plan_type.the_field plan.the_field_send,
+        (
+          search (sendable, moment.the_send) depth 24,
+          (
+            as_row_send contents.the_field contents_send,
+            (
+              search (sendable, moment.the_send) depth 24,
+              (
+                search (sendable, heap.crosses, change_send) depth 24,
+                (search (sendable, heap.crosses) depth 24, tt),
+              ),
+            ),
+          ),
+        ),
+      ),
+    ) in
+    declared_send state_inside.the_type parts
+
+pub state_send : IsSend state.the_row
+state_send = view_send _ _ _ _ _ state_parts_send
+
+parts_send : IsSend inside.the_row
+parts_send =
+    let parts : FieldsHave IsSend (inside.the_type).parts = (search (sendable, state_send) depth 24, (search (sendable, watches.the_send) depth 24, tt)) in
+    declared_send inside.the_type parts
+
+pub site_send : IsSend site.the_row
+site_send = view_send _ _ _ _ _ parts_send

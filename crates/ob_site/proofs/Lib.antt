@@ -1,0 +1,12 @@
+pub mod Unchanged
+pub mod Known
+pub mod Asked
+pub mod Nodes
+pub mod Marks
+pub mod Ended
+pub mod Acted
+pub mod Told
+pub mod Renumbered
+pub mod Sound
+pub mod Stepped
+pub mod Crossing

@@ -1,0 +1,48 @@
+-- What the parts of a site owe one another between two steps.
+use Rattle.std.specs.Prelude.{◌≡◌, ℕ, ◌<◌, ◌-◌, ◌^◌, List, length, replicate}
+use Rattle.ob_object.specs.Object.{Object, parts}
+use Rattle.ob_object.specs.WellFormed.{IsWellFormed}
+use Rattle.ob_given_laws.specs.Given.{IsMade, PointsHaveValues}
+use Rattle.ob_marks_laws.specs.Tables.{AllItems}
+use Rattle.ob_site_laws.specs.SiteLaws.{IsSoundSite}
+use Rattle.ob_site_open.specs.Opens.{Opens}
+use Rattle.ob_site_rules.specs.State.{Plan, State, roll}
+use Rattle.ob_site_settled.specs.Ending.{IsOwn}
+use Rattle.ob_site_state.specs.Kept.{Kept}
+use Rattle.ob_watch.specs.Counted.{IsCounted}
+use Rattle.ob_watch.specs.Marks.{AreStampsPast, IsMarkPast}
+use Rattle.ob_watch.specs.Tables.{Table}
+use Rattle.ob_site.specs.Views.{site_of, tree_with}
+
+-- The library is the one that the site's contracts make, and each writable point is of a kind that has values. Each own object
+-- has a stamp, and no stamp and no mark is of a step to come; each item on an object names an own node that can be watched, and
+-- each item on a feed has counted its events.
+pub record AreKept (plan : Plan) (s : State) (stamps : List ℕ) (steps : ℕ) (t : Table) : Type 0 where
+  pub made : IsMade s
+  pub points : PointsHaveValues plan s
+  pub long : length stamps ≡ parts s.tree
+  pub past : AreStampsPast (tree_with s stamps steps)
+  pub own : AllItems (IsOwn s.tree) t.watches
+  pub marks : AllItems (IsMarkPast steps) t.watches
+  pub counted : AllItems (IsCounted plan s) t.watches
+
+-- So it is between two steps, of which the state notes nothing; and the site is sound.
+pub record IsSite (k : Kept) (t : Table) : Type 0 where
+  pub since : k.since ≡ k.time
+  pub before : k.before ≡ k.now
+  pub kept : AreKept k.plan k.now k.stamps k.steps t
+  pub sound : IsSoundSite (site_of k t)
+
+-- A step has begun and has changed nothing yet: each history is within its capacity, and one more step can be counted.
+pub record IsBegun (k : Kept) (t : Table) : Type 0 where
+  pub before : k.before ≡ k.now
+  pub rolled : roll k.now ≡ k.now
+  pub kept : AreKept k.plan k.now k.stamps k.steps t
+  pub room : k.steps < 2 ^ 64 - 1
+
+-- a state that some document's root opens at some moment
+pub record IsOpened (k : Kept) : Type 0 where
+  pub root : Object
+  pub boot : ℕ
+  pub well_formed : IsWellFormed root
+  pub opens : Opens root boot k

@@ -1,0 +1,5 @@
+pub mod Codes
+pub mod Views
+pub mod Between
+pub mod Steps
+pub mod Ending

@@ -1,0 +1,54 @@
+//! Requests to the site itself.
+ghost use Rattle.std.specs.Prelude.{◌≡◌, IfOk, OnErr};
+ghost use Rattle.ob_watching.specs.Asked.{Itself};
+ghost use Rattle.ob_watching.specs.Tables.{numbers_of};
+ghost use Rattle.ob_site_rules.specs.Actions.{act_itself};
+ghost use Rattle.ob_site_rules.specs.Locating.{locate};
+ghost use Rattle.ob_site_writes.specs.Stops.{IsDone};
+ghost use Rattle.ob_watch.specs.Tables.{lapsed_at};
+ghost use Rattle.ob_site.specs.Between.{IsBegun};
+ghost use Rattle.ob_site.specs.Steps.{IsAnswered, IsUnanswered};
+
+use crate::ending::end_step;
+use ob_answers::refusal;
+use ob_given_laws::steps_take_none_away;
+use ob_object::Obj;
+use ob_site_calls::act_itself;
+use ob_site_rules::Request;
+use ob_site_state::State;
+use ob_site_writes::Stop;
+use ob_watch::Watches;
+use std::alloc::AllocError;
+
+/// What a request does to the state, and its reply, before the step ends. An error only for want of memory.
+fn act(state: &mut State, watches: &Watches, request: &Request) -> Result<Obj, AllocError>
+    ensures done { IfOk result (IsDone state.old state.new (act_itself locate state.old.plan state.old.now (numbers_of (lapsed_at state.old.time watches.now).watches) request.now state.old.time)) }
+    ensures stays { OnErr result (state.new ≡ record state.old { now = state.new.now }) }
+{
+    let numbers = watches.live_numbers(state.time())?;
+    match act_itself(state, &numbers, request) {
+        Ok(reply) => Ok(reply),
+        Err(Stop::Refused(fault)) => refusal(state.allocator(), fault),
+        Err(Stop::Memory) => Err(AllocError),
+    }
+}
+
+/// What a request to the site itself leaves of the state and of the watches, and its reply. An error only for want of
+/// memory; it leaves all but the state now.
+///
+/// Source: oBIX 1.1, chapters 5 (Batch) and 10 (Networking).
+pub(crate) fn on_itself(
+    state: &mut State,
+    watches: &mut Watches,
+    request: &Request,
+) -> Result<Obj, AllocError>
+    requires { IsBegun state.old watches.old }
+    ensures done { IfOk result (IsAnswered state.old state.new watches.old watches.new request.now Itself) }
+    ensures err { OnErr result (IsUnanswered state.old state.new watches.old watches.new) }
+{
+    state.is_sound();
+    steps_take_none_away();
+    let reply = act(state, watches, request)?;
+    end_step(state, watches)?;
+    Ok(reply)
+}

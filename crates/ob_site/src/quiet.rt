@@ -1,0 +1,99 @@
+//! Requests that leave the state as it is: those to a watch, to the watch service, or to nothing.
+ghost use Rattle.std.specs.Prelude.{◌≡◌, ℕ, ◌<◌, ◌≤◌, ◌^◌, slice_index, IfOk, OnErr};
+ghost use Rattle.ob_watching.specs.Asked.{NewWatch, Nowhere, OneWatch};
+ghost use Rattle.ob_site_rules.specs.declared.request.Request.{Request};
+ghost use Rattle.ob_site_rules.specs.State.{roll};
+ghost use Rattle.ob_site_rules.specs.Watched.{WatchOperation};
+ghost use Rattle.ob_watch.specs.Tables.{lapsed_at};
+ghost use Rattle.ob_watch_calls.specs.Targets.{operation_of};
+ghost use Rattle.ob_site.specs.Between.{IsBegun};
+ghost use Rattle.ob_site.specs.Steps.{IsAnswered, IsUnanswered};
+
+use ob_answers::{Fault, refusal};
+use ob_object::Obj;
+use ob_site_state::State;
+use ob_site_watched::{Call, make, on_watch};
+use ob_watch::Watches;
+use ob_watch_calls::Operation;
+use std::alloc::AllocError;
+
+/// Ends a step that has changed nothing of the state. It takes no memory.
+fn end_quietly(state: &mut State, watches: &mut Watches)
+    ensures state { state.new ≡ record state.old { now = roll state.old.now; since = state.old.time; before = roll state.old.now } }
+    ensures watches { watches.new ≡ lapsed_at state.old.time watches.old }
+{
+    watches.sweep(state.time());
+    state.commit();
+}
+
+/// Numbers of watches are of 64 bits.
+fn fit(_numbers: &[u64])
+    ensures { (place : ℕ) → slice_index _numbers.now place < 2 ^ 64 }
+{}
+
+/// Answers a request to a path that names nothing.
+pub(crate) fn to_nobody(state: &mut State, watches: &mut Watches) -> Result<Obj, AllocError>
+    requires { IsBegun state.old watches.old }
+    ensures done { IfOk result (λ o. (r : Request) → IsAnswered state.old state.new watches.old watches.new r Nowhere o) }
+    ensures err { OnErr result (IsUnanswered state.old state.new watches.old watches.new) }
+{
+    let reply = refusal(state.allocator(), Fault::NoSuchObject)?;
+    end_quietly(state, watches);
+    Ok(reply)
+}
+
+/// Answers a request to a watch whose number 64 bits don't hold: no watch has it.
+pub(crate) fn to_no_watch(state: &mut State, watches: &mut Watches) -> Result<Obj, AllocError>
+    requires { IsBegun state.old watches.old }
+    ensures done { IfOk result (λ o. (r : Request) (n : ℕ) (op : WatchOperation) → 2 ^ 64 ≤ n → IsAnswered state.old state.new watches.old watches.new r (OneWatch n op) o) }
+    ensures err { OnErr result (IsUnanswered state.old state.new watches.old watches.new) }
+{
+    fit(watches.numbers());
+    let reply = refusal(state.allocator(), Fault::NoSuchObject)?;
+    end_quietly(state, watches);
+    Ok(reply)
+}
+
+/// Makes a watch, if there is a place for one more.
+///
+/// Source: oBIX 1.1, chapter 12 (WatchService.make).
+pub(crate) fn to_service(state: &mut State, watches: &mut Watches) -> Result<Obj, AllocError>
+    requires { IsBegun state.old watches.old }
+    ensures done { IfOk result (λ o. (r : Request) → IsAnswered state.old state.new watches.old watches.new r NewWatch o) }
+    ensures err { OnErr result (IsUnanswered state.old state.new watches.old watches.new) }
+{
+    let _contents = state.contents();
+    let reply = make(state.allocator(), state.plan(), state.time(), watches)?;
+    end_quietly(state, watches);
+    Ok(reply)
+}
+
+/// Asks the watch of a number.
+///
+/// Source: oBIX 1.1, chapter 12 (Watches).
+pub(crate) fn to_watch(
+    state: &mut State,
+    watches: &mut Watches,
+    number: u64,
+    asks: Operation,
+) -> Result<Obj, AllocError>
+    requires { IsBegun state.old watches.old }
+    ensures done { IfOk result (λ o. (r : Request) → IsAnswered state.old state.new watches.old watches.new r (OneWatch number (operation_of asks)) o) }
+    ensures err { OnErr result (IsUnanswered state.old state.new watches.old watches.new) }
+{
+    state.is_sound();
+    let call = Call {
+        number,
+        moment: state.time(),
+        asks,
+    };
+    let reply = on_watch(
+        state.allocator(),
+        state.plan(),
+        state.contents(),
+        watches,
+        &call,
+    )?;
+    end_quietly(state, watches);
+    Ok(reply)
+}
