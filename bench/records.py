@@ -82,8 +82,8 @@ with tempfile.TemporaryDirectory() as folder, ThreadPoolExecutor(os.cpu_count())
         run = subprocess.run(words, input=b"".join(spelled(*r) for r in requests), capture_output=True)
         spans = list(replies(run.stdout))
         legal = audited(site, run.stdout, f"{folder}/record") == (0, b"legal %d\n" % len(spans))
-        if run.returncode != 0 or len(spans) != len(requests) or not legal:
-            print("wrong:", name, run.returncode, run.stderr, len(spans), len(requests), legal)
+        if run.returncode != 0 or not legal:
+            print("wrong:", name, run.returncode, run.stderr, legal)
             wrong += 1
             continue
         places = [(place, entry) for entry, span in enumerate(spans) for place in range(*span)][::every]
