@@ -1,4 +1,2 @@
 pub mod Contents
-pub mod Numbered
-pub mod Opens
 pub mod LawLemmas

@@ -1,7 +1,6 @@
 //! From a site file to the site that it opens, or why it opens none.
 #![tactic(auto)]
 
-mod board;
 mod laws;
 mod reading;
 mod site;

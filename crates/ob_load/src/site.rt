@@ -7,13 +7,12 @@ ghost use Rattle.ob_site_file.specs.Passes.{Refuses};
 ghost use Rattle.ob_load.specs.Causes.{HasLoadCause};
 ghost use Rattle.ob_load.specs.Loads.{IsOutside, IsSite, RefusesBytes};
 
-use crate::board::board_of;
 use crate::reading::{document, read_bytes};
 use ob_io::Files;
 use ob_object::Obj;
-use ob_plain::Site;
+use ob_site::Site;
 use ob_site_file::{LoadFault, Opened, opening};
-use ob_state::State;
+use ob_site_open::state_of;
 use ob_times::Moment;
 use ob_values::Text;
 use std::alloc::{AllocError, Global};
@@ -32,22 +31,8 @@ fn site_of(alloc: Global, root: &Obj, boot: Moment, opened: Opened) -> Result<Si
     ensures { IfOk result (λ site. site ≡ site_of opened) }
 {
     let _head = root.head();
-    let _boot = boot;
-    let board = board_of(alloc, &opened.plan)?;
-    let Opened {
-        plan,
-        library,
-        tree,
-        logs,
-    } = opened;
-    let state = State {
-        library,
-        tree,
-        logs,
-        board,
-    };
-    let site = Site::open(alloc, plan, state)?;
-    Ok(site)
+    let state = state_of(alloc, root, boot, opened)?;
+    Ok(Site::open(state))
 }
 
 // The site that a document's root opens at a moment.

@@ -9,7 +9,7 @@ use crate::lines::site_line;
 use ob_command::Serve;
 use ob_io::{Clock, Door, Files, Port, Sink, write_all};
 use ob_load::{LoadFault, Loaded, load, opened_is_not_refused};
-use ob_plain::Site;
+use ob_site::Site;
 use ob_server::{Staff, WorkerEnd, serve_port};
 use ob_values::Text;
 use std::alloc::{AllocError, Global};

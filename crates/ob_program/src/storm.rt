@@ -16,7 +16,7 @@ use crate::stdio::moment;
 use ob_command::Storm;
 use ob_io::{FileFault, Files, Sink, write_all};
 use ob_load::{LoadFault, Loaded, load};
-use ob_plain::Site;
+use ob_site::Site;
 use ob_storm::{BOOT, Totals, count_storm, site_text};
 use std::alloc::{AllocError, Global};
 use std::sync::Wait;

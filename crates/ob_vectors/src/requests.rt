@@ -3,7 +3,7 @@ use crate::sites::open;
 use crate::spelled::object;
 use ob_encode::encode;
 use ob_object::Obj;
-use ob_plain::{Machine, Site};
+use ob_site::{Machine, Site};
 use ob_rows::{Asked, Table, push_bytes, split_word, text_of};
 use ob_site_rules::Request;
 use ob_values::{Moment, Text, Verb};

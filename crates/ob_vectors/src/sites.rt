@@ -1,7 +1,7 @@
 //! Sites of documents.
 use ob_io::{MemFiles, NamedFile};
 use ob_load::{LoadFault, Loaded, load};
-use ob_plain::Site;
+use ob_site::Site;
 use ob_rows::named_part;
 use ob_values::Moment;
 use std::alloc::{AllocError, Global};

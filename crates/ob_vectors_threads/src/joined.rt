@@ -8,7 +8,7 @@ use ob_http::Media;
 use ob_load::Loaded;
 use ob_machine::Machine;
 use ob_object::Obj;
-use ob_plain::Site;
+use ob_site::Site;
 use ob_server::{Sorted, sort_request};
 use ob_site_desk::{ask, open_desk};
 use ob_site_rules::Request;

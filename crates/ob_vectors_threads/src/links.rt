@@ -4,7 +4,7 @@ ghost use Rattle.std.specs.Prelude.{◌≡◌, ◌<◌, All, IfSome, length};
 use crate::plant::{BOOT, open_plant};
 use ob_io::{Fresh, Gated, MemDoor, MemLink, MemPort, Port, Ticker, Waiting};
 use ob_load::Loaded;
-use ob_plain::Site;
+use ob_site::Site;
 use ob_server::{Served, Staff, Worker, WorkerEnd, join_workers, serve, serve_port, split_passes};
 use ob_site_desk::open_desk;
 use ob_turn::{Desk, Pass};

@@ -1,12 +1,15 @@
-use Rattle.std.proofs.Common.{refl, ◌∙◌}
-use Rattle.ob_load.proofs.Opens.{rules_fit, owes, opens_site}
+use Rattle.std.proofs.Common.{◌≡◌, ap, ◌∙◌}
+use Rattle.ob_site_file.specs.Opened.{site_of}
+use Rattle.ob_site.specs.Views.{opened}
 use Rattle.ob_load.proofs.site.site_of.Goals as goal
 
-pub board_of-requires : goal.board_of-requires
-board_of-requires c = rules_fit c.args.root.now c.args.boot c.args.opened c.head-head.ensures.well_formed c.requires.counted c.requires.opens
-
 pub open-requires : goal.open-requires
-open-requires c = owes c.args.root.now c.args.boot c.args.opened c.head-head.ensures.well_formed c.requires.counted c.requires.opens _ (record { library = refl; tree = refl; logs = refl; board = c.in_ok-board.ensures })
+open-requires c = record {
+  root = c.args.root.now;
+  boot = c.args.boot;
+  well_formed = c.head-_head.ensures.well_formed;
+  opens = record { site = site_of c.args.opened; opens = c.requires.opens; is = c.in_ok-state.ensures };
+}
 
 pub returns : goal.returns
-returns c = c.in_ok-site.ensures ∙ opens_site c.args.root.now c.args.boot c.args.opened c.head-head.ensures.well_formed c.requires.counted c.requires.opens _ (record { library = refl; tree = refl; logs = refl; board = c.in_ok-board.ensures })
+returns c = c.open.ensures ∙ ap opened c.in_ok-state.ensures
