@@ -4,8 +4,8 @@ ghost use Rattle.ob_site_laws.specs.SiteLaws.{IsSoundSite};
 
 use crate::requests::{numbered, request, tell_reply};
 use crate::sites::open;
-use ob_site::Site;
 use ob_rows::{Asked, Table, split_bar};
+use ob_site::Site;
 use ob_site_desk::{ask, open_desk};
 use ob_turn::{Answer, Desk, Pass};
 use ob_values::Moment;

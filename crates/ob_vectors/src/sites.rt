@@ -1,8 +1,8 @@
 //! Sites of documents.
 use ob_io::{MemFiles, NamedFile};
 use ob_load::{LoadFault, Loaded, load};
-use ob_site::Site;
 use ob_rows::named_part;
+use ob_site::Site;
 use ob_values::Moment;
 use std::alloc::{AllocError, Global};
 
