@@ -7,7 +7,7 @@ pub open-requires : goal.open-requires
 open-requires c = record {
   root = c.args.root.now;
   boot = c.args.boot;
-  well_formed = c.head-_head.ensures.well_formed;
+  well_formed = c.head-head.ensures.well_formed;
   opens = record { site = site_of c.args.opened; opens = c.requires.opens; is = c.in_ok-state.ensures };
 }
 
