@@ -1,8 +1,6 @@
 pub mod Verbs
 pub mod Leading
 pub mod Places
-pub mod Points
 pub mod Replies
 pub mod Requests
 pub mod Batches
-pub mod Spare

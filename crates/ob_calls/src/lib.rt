@@ -1,16 +1,11 @@
-//! What a request does to the site itself: calls of ops, one action at a place, and batches of them.
+//! What the requests to a site itself ask: the path that a text leads to, and an item of a batch as a request.
 //!
-//! Each call's contract is the definition of the site's rules. The only other answer is want of memory,
-//! and nothing is promised of the state then: a request is done on a copy.
+//! Each call's contract is the definition of the site's rules. The lemmas of `proofs/` on places, replies, requests and
+//! batches are for the crates that do what is asked.
 #![tactic(auto)]
 
-mod acks;
-mod actions;
-mod batch;
-mod calls;
 mod items;
+mod locating;
 
-pub use actions::{act_at, located};
-pub use batch::act_itself;
-pub use calls::call;
 pub use items::item_request;
+pub use locating::located;

@@ -1,8 +1,8 @@
-//! Paths of nodes, and lists of paths.
+//! Paths of nodes.
 ghost use Rattle.std.specs.Prelude.{◌≡◌};
 ghost use Rattle.std.specs.Option.{option_copied};
 ghost use Rattle.ob_site_rules.specs.Shown.{node_path};
-ghost use Rattle.ob_site_rules.specs.State.{is_among, is_path};
+ghost use Rattle.ob_site_rules.specs.State.{is_path};
 
 use ob_object::{Head, Kind};
 use ob_values::Text;
@@ -25,11 +25,4 @@ pub fn is_path(path: &Text, other: Option<&Text>) -> bool
         Some(other) => other.as_str() == path.as_str(),
         None => false,
     }
-}
-
-/// Whether a path is among these.
-pub(crate) fn is_among(path: &Text, paths: &[Text]) -> bool
-    ensures { result ≡ is_among path.now paths.now }
-{
-    paths.iter().any(|other| other.as_str() == path.as_str())
 }

@@ -1,7 +1,7 @@
 -- What is wrong with a write, and the answer to it.
 use Rattle.std.proofs.Common.{◌≡◌, Bool, true, false, not, cond, Option, Some, None, option_map, refl, sym, ap, ◌∙◌}
 use Rattle.ob_object.specs.Object.{Object}
-use Rattle.ob_writes.proofs.Refused.{by_table}
+use Rattle.ob_site_written.proofs.Refused.{by_table}
 use Rattle.ob_site_rules.specs.Build.{Path}
 use Rattle.ob_site_rules.specs.Faults.{Fault as SiteFault}
 use Rattle.ob_site_rules.specs.State.{Plan, State}

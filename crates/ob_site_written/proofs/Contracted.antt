@@ -16,7 +16,7 @@ use Rattle.ob_tree.specs.Shown.{row, part_at}
 use Rattle.ob_tree.proofs.Growing.{grows}
 use Rattle.ob_tree_bridges.specs.Contracted.{is_within, is_inside}
 use Rattle.ob_tree_bridges.proofs.Bridging.{nodes_numbered}
-use Rattle.ob_writes.specs.Parts.{contracts_in}
+use Rattle.ob_site_written.specs.Parts.{contracts_in}
 use Rattle.ob_site_written.proofs.Named.{child_is, child_not}
 
 -- the site's contracts are the nodes among the children of the root's own child `contracts`

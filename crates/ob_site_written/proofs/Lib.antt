@@ -1,4 +1,9 @@
 pub mod Named
+pub mod Equal
+pub mod Within
+pub mod Passed
+pub mod Refused
+pub mod Otherwise
 pub mod Contracted
 pub mod Counting
 pub mod Taking

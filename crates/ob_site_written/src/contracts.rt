@@ -12,7 +12,7 @@ ghost use Rattle.ob_site_rules.specs.Build.{Path, child};
 ghost use Rattle.ob_site_rules.specs.Shown.{node_of};
 ghost use Rattle.ob_site_rules.specs.Writes.{site_contracts, is_in_contract, library_after};
 ghost use Rattle.ob_state.specs.States.{AreTaken};
-ghost use Rattle.ob_writes.specs.Parts.{contracts_in};
+ghost use Rattle.ob_site_written.specs.Parts.{contracts_in};
 
 use ob_contracts::{LibFault, Library};
 use ob_object::Obj;

@@ -1,5 +1,4 @@
 pub mod Copies
-pub mod Spares
 pub mod Keeping
 pub mod Slots
 pub mod ShownKinds

@@ -7,8 +7,8 @@ use Rattle.ob_history.specs.Records.{is_value_kind, holds_value}
 use Rattle.ob_answers.specs.declared.fault.Fault.{Fault}
 use Rattle.ob_answers.specs.Told as told
 use Rattle.ob_site_rules.specs.Writes.{slot_fault, overfills, value_fault}
-use Rattle.ob_writes.proofs.Passed.{slot_fits}
-use Rattle.ob_writes.proofs.Refused.{nothing_of}
+use Rattle.ob_site_written.proofs.Passed.{slot_fits}
+use Rattle.ob_site_written.proofs.Refused.{nothing_of}
 use Rattle.ob_site_state.specs.Kept.{Kept}
 use Rattle.ob_site_written.specs.Fitting.{CanBeWritten}
 use Rattle.ob_site_writes.proofs.Fitting.{can_be_written}

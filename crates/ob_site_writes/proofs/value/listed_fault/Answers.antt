@@ -1,4 +1,4 @@
-use Rattle.ob_writes.proofs.Passed.{min_fits, max_fits}
+use Rattle.ob_site_written.proofs.Passed.{min_fits, max_fits}
 use Rattle.ob_site_writes.proofs.value.listed_fault.Goals as goal
 
 pub check_write-requires-clause-min : goal.check_write-requires-clause-min

@@ -1,6 +1,6 @@
 use Rattle.std.proofs.Common.{sym, ◌∙◌}
-use Rattle.ob_writes.proofs.Passed.{slot_fits}
-use Rattle.ob_writes.proofs.Refused.{none_told}
+use Rattle.ob_site_written.proofs.Passed.{slot_fits}
+use Rattle.ob_site_written.proofs.Refused.{none_told}
 use Rattle.ob_site_writes.proofs.Fitting.{rule_takes}
 use Rattle.ob_site_writes.proofs.value.value_fault.Goals as goal
 

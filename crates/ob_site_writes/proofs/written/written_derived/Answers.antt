@@ -4,7 +4,7 @@ use Rattle.ob_object.specs.Object.{Object}
 use Rattle.ob_site_rules.specs.State.{State}
 use Rattle.ob_site_rules.specs.Sameness.{same_slot}
 use Rattle.ob_site_rules.specs.Writes.{write, written}
-use Rattle.ob_writes.proofs.Writing.{other_written}
+use Rattle.ob_site_written.proofs.Otherwise.{other_written}
 use Rattle.ob_site_state.specs.Kept.{Kept}
 use Rattle.ob_site_written.proofs.Counting.{counts_more, room_counts}
 use Rattle.ob_site_written.proofs.Steps.{with_alarms}

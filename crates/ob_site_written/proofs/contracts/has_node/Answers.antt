@@ -1,5 +1,5 @@
 use Rattle.std.proofs.Common.{◌∙◌}
-use Rattle.ob_writes.proofs.Within.{node_there, no_node}
+use Rattle.ob_site_written.proofs.Within.{node_there, no_node}
 use Rattle.ob_site_written.proofs.contracts.has_node.Goals as goal
 
 pub returns-in-Some : goal.returns-in-Some

@@ -1,5 +1,5 @@
-use Rattle.ob_writes.specs.Parts.{contracts_in}
-use Rattle.ob_writes.proofs.Within.{is_in, in_here, not_here, in_none}
+use Rattle.ob_site_written.specs.Parts.{contracts_in}
+use Rattle.ob_site_written.proofs.Within.{is_in, in_here, not_here, in_none}
 use Rattle.ob_site_written.proofs.contracts.is_among.Goals as goal
 
 pub returns-then-has_node : goal.returns-then-has_node

@@ -1,6 +1,6 @@
 use Rattle.std.proofs.Common.{◌≡◌, drop}
-use Rattle.ob_writes.specs.Parts.{contracts_in}
-use Rattle.ob_writes.proofs.Within.{is_in}
+use Rattle.ob_site_written.specs.Parts.{contracts_in}
+use Rattle.ob_site_written.proofs.Within.{is_in}
 use Rattle.ob_site_written.proofs.contracts.is_among.Given as goal
 
 abbrev pub invariant-loop-contract : goal.invariant-loop-contract

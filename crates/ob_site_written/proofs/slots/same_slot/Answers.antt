@@ -1,4 +1,4 @@
-use Rattle.ob_writes.proofs.Equal.{same_test}
+use Rattle.ob_site_written.proofs.Equal.{same_test}
 use Rattle.ob_site_written.proofs.slots.same_slot.Goals as goal
 
 pub returns : goal.returns

@@ -10,7 +10,7 @@ use Rattle.ob_object.specs.Object.{Object}
 use Rattle.ob_contracts.specs.Inherit.{Contracts}
 use Rattle.ob_site_rules.specs.Build.{Path}
 use Rattle.ob_site_rules.specs.Shown.{node_path, node_of}
-use Rattle.ob_writes.specs.Parts.{contracts_in}
+use Rattle.ob_site_written.specs.Parts.{contracts_in}
 
 in_front : (x : Object) (os : List Object) → contracts_in (x ∷ os) ≡ contracts_in (x ∷ []) ++ contracts_in os
 in_front x os = go (node_path x.head)
@@ -79,10 +79,3 @@ not_here p os i x b r lt is so_far has other =
 
 pub in_none : (p : Path) (os : List Object) (i : ℕ) (r : Bool) → length os ≤ i → is_in p (contracts_in (drop i os)) ≡ r → false ≡ r
 in_none p os i r end so_far = sym (ap (is_in p) (none_left os i end)) ∙ so_far
-
--- the library after a write
-pub made_anew : (b : Bool) (after made lib : Contracts) → b ≡ true → after ≡ made → after ≡ cond b made lib
-made_anew b after made lib e is = is ∙ ap (λ (x : Bool). cond x made lib) (sym e)
-
-pub left_so : (b : Bool) (after made lib : Contracts) → b ≡ false → after ≡ lib → after ≡ cond b made lib
-left_so b after made lib e is = is ∙ ap (λ (x : Bool). cond x made lib) (sym e)

@@ -1,8 +1,0 @@
-pub mod Slotted
-pub mod Within
-pub mod Recorded
-pub mod Counts
-pub mod Equal
-pub mod Passed
-pub mod Writing
-pub mod Refused
