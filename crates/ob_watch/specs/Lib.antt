@@ -1,5 +1,6 @@
 pub mod Items
 pub mod Held
+pub mod Feeds
 pub mod Tables
 pub mod Restoring
 pub mod Undo

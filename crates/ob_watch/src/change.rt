@@ -8,14 +8,20 @@ use ob_values::{Abstime, Text};
 
 /// What happens to what is kept of an item, by the path that it names.
 pub(crate) trait Change {
-    ghost use Rattle.std.specs.Prelude.{List, ℕ};
+    ghost use Rattle.std.specs.Prelude.{List, ℕ, true};
     ghost use Rattle.ob_watch.specs.declared.item.Tracked.{Tracked};
+    ghost use Rattle.ob_watch.specs.Feeds.{KeepsKinds, SparesObjects};
 
     ghost made: { Self → List ℕ → Tracked → Tracked };
 
     /// Makes the change.
     fn make(&self, path: &Text, tracked: &mut Tracked)
         ensures { tracked.new ≡ made self.now path.now tracked.old };
+
+    /// Whether it leaves what is kept of objects as it is. None makes an object of a feed, or a feed of an object.
+    fn spares_objects(&self) -> bool
+        ensures spared { result ≡ true → SparesObjects (made self.now) }
+        ensures kinds { KeepsKinds (made self.now) };
 }
 
 /// All is reported after a step.
@@ -42,6 +48,10 @@ impl Change for Report {
                 *due = false;
             }
         }
+    }
+
+    fn spares_objects(&self) -> bool {
+        false
     }
 }
 
@@ -72,6 +82,10 @@ impl Change for Event<'_> {
             *total = total.saturating_add(1);
         }
     }
+
+    fn spares_objects(&self) -> bool {
+        true
+    }
 }
 
 /// So many events of the feed at a path rolled off.
@@ -100,6 +114,10 @@ impl Change for Roll<'_> {
             *due = *due || *given < self.gone;
         }
     }
+
+    fn spares_objects(&self) -> bool {
+        true
+    }
 }
 
 /// Steps are counted from 1 again.
@@ -121,5 +139,9 @@ impl Change for Renumber<'_> {
                 1
             };
         }
+    }
+
+    fn spares_objects(&self) -> bool {
+        false
     }
 }

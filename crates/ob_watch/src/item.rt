@@ -1,5 +1,6 @@
 //! One item of a watch.
 ghost use Rattle.std.specs.Prelude.{◌≡◌, IfOk};
+ghost use Rattle.ob_watch.specs.Feeds.{is_on_feed};
 ghost use Rattle.ob_watch.specs.Items.{changed_by, feed_item, is_due, object_item, stamp_of};
 
 use crate::change::Change;
@@ -120,6 +121,21 @@ impl Item {
                 total: _,
                 due,
             } => *due,
+        }
+    }
+
+    /// Whether it is on a feed.
+    pub(crate) fn is_on_feed(&self) -> bool
+        ensures { result ≡ is_on_feed self.now }
+    {
+        match &self.tracked {
+            Tracked::Object { node: _, mark: _ } => false,
+            Tracked::Feed {
+                filter: _,
+                given: _,
+                total: _,
+                due: _,
+            } => true,
         }
     }
 

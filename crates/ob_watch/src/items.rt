@@ -1,9 +1,12 @@
 //! The items of a watch by their hrefs, in the order in which these were first added.
-ghost use Rattle.std.specs.Prelude.{◌≡◌, [], map, take, not, IfOk, OnErr, string_bytes};
+ghost use Rattle.std.specs.Prelude.{◌≡◌, [], map, take, not, IfOk, OnErr, string_bytes, true};
 ghost use Rattle.std.specs.List.{filter};
+ghost use Rattle.ob_watch.specs.Feeds.{AreFeedPlaces, KeepsKinds, SparesObjects, feed_places, is_on_feed};
+ghost use Rattle.ob_watch.specs.Held.{StandUnderOwn, items_of};
 ghost use Rattle.ob_watch.specs.Items.{Differ, among, changed_by, found_item, has_text, put_item, put_over};
 
 use crate::change::Change;
+use crate::feeds::{Feeds, after_put, cut, found};
 use crate::item::Item;
 use indexmap::IndexMap;
 use ob_values::Text;
@@ -16,21 +19,31 @@ type Map = IndexMap<String, Item>;
 /// The items of a watch by their hrefs, in the order in which these were first added. No two have one href.
 ///
 /// Source: oBIX 1.1, chapter 12 (Watches).
-#[derive(Drop)]
 pub struct Items {
     map: Map,
+    feeds: Feeds,
+}
+
+impl Drop for Items {
+    // By one call for each part, so that to drop items is one call to whoever may have to.
+    fn drop(self) {
+        let Items { map, feeds } = self;
+        drop(map);
+        drop(feeds);
+    }
 }
 
 impl Model for Items {
     ghost use Rattle.std.specs.Prelude.{List};
     ghost use Rattle.ob_watch.specs.declared.item.Item.{Item};
-    ghost use Rattle.ob_watch.specs.Held.{items_of, StandUnderOwn};
+    ghost use Rattle.ob_watch.specs.Feeds.{AreKept};
+    ghost use Rattle.ob_watch.specs.Held.{items_of};
 
     ghost Value = { List Item };
 
     ghost view = { λ m. items_of m.map.entries };
 
-    ghost invariant = { λ m. StandUnderOwn m.map.entries };
+    ghost invariant = { λ m. AreKept m.map.entries m.feeds };
 }
 
 // Whether a text is one of these.
@@ -38,6 +51,13 @@ fn is_among(texts: &[Text], text: &str) -> bool
     ensures { result ≡ among texts.now text.now }
 {
     texts.iter().any(|other| text == other.as_str())
+}
+
+// The items of a map in their order.
+fn as_items(held: &Map) -> &[Item]
+    ensures { result.now ≡ items_of held.now.entries }
+{
+    held.as_slice().values().as_slice()
 }
 
 // Makes a change of each item.
@@ -50,6 +70,57 @@ fn change_each<C: Change>(held: &mut Map, change: &C)
     }
 }
 
+// Makes a change of the items on feeds, which stand at these places.
+fn change_at<C: Change>(held: &mut Map, places: &[usize], change: &C)
+    requires places { places.now ≡ feed_places (items_of held.old.entries) }
+    requires spares { SparesObjects (C.made change.now) }
+    ensures { held.new.entries ≡ map (λ e. (e.0, changed_by (C.made change.now) e.1)) held.old.entries }
+{
+    for place in places {
+        let item = &mut held[*place];
+        item.change(change);
+    }
+}
+
+// Makes a change of each item: where it spares objects, and the places are known, of those on feeds alone.
+fn change_items<C: Change>(held: &mut Map, feeds: &Feeds, change: &C)
+    requires { AreFeedPlaces feeds.now (items_of held.old.entries) }
+    ensures changed { held.new.entries ≡ map (λ e. (e.0, changed_by (C.made change.now) e.1)) held.old.entries }
+    ensures kinds { KeepsKinds (C.made change.now) }
+{
+    if !change.spares_objects() {
+        return change_each(held, change);
+    }
+    match feeds {
+        Some(places) => change_at(held, places.as_slice(), change),
+        None => change_each(held, change),
+    }
+}
+
+// Whether the item in whose place this one would be put is on a feed as this one is, or as little; true where
+// there is none of its href.
+fn has_same_kind(held: &Map, item: &Item) -> bool
+    requires { StandUnderOwn held.now.entries }
+    ensures { result ≡ true → map is_on_feed (put_over item.now (items_of held.now.entries)) ≡ map is_on_feed (items_of held.now.entries) }
+{
+    match held.get(item.text().as_str()) {
+        Some(old) => old.is_on_feed() == item.is_on_feed(),
+        None => true,
+    }
+}
+
+// Puts an item in the place of the one of its href, if there is one.
+fn put_over(held: &mut Map, item: Item)
+    requires { StandUnderOwn held.old.entries }
+    ensures put { items_of held.new.entries ≡ put_over item (items_of held.old.entries) }
+    ensures own { StandUnderOwn held.new.entries }
+{
+    match held.get_mut(item.text().as_str()) {
+        Some(old) => *old = item,
+        None => return,
+    }
+}
+
 impl Items {
     /// No items.
     pub(crate) fn new(alloc: Global) -> Items
@@ -57,6 +128,7 @@ impl Items {
     {
         Items {
             map: IndexMap::new(alloc),
+            feeds: Some(Vec::new(alloc)),
         }
     }
 
@@ -83,7 +155,10 @@ impl Items {
         ensures err { OnErr result (self.new ≡ self.old) }
     {
         let text = String::from_str(alloc, item.text().as_str())?;
+        let on_feed = item.is_on_feed();
         let old = self.map.insert(text, item)?;
+        let feeds = self.feeds.take();
+        self.feeds = after_put(alloc, feeds, as_items(&self.map), on_feed, &old);
         Ok(old)
     }
 
@@ -91,10 +166,13 @@ impl Items {
     pub(crate) fn put_over(&mut self, item: Item)
         ensures { self.new ≡ put_over item self.old }
     {
-        match self.map.get_mut(item.text().as_str()) {
-            Some(old) => *old = item,
-            None => return,
+        let same = has_same_kind(&self.map, &item);
+        put_over(&mut self.map, item);
+        if same {
+            return;
         }
+        let feeds = self.feeds.take();
+        self.feeds = found(feeds, as_items(&self.map));
     }
 
     /// Keeps the first so many items.
@@ -102,6 +180,8 @@ impl Items {
         ensures { self.new ≡ take count self.old }
     {
         self.map.truncate(count);
+        let feeds = self.feeds.take();
+        self.feeds = cut(feeds, count);
     }
 
     /// Drops the items of these hrefs.
@@ -113,13 +193,15 @@ impl Items {
                 ensures { (result ≡ not (among texts.entry.now (string_bytes text.now))) × (_item.new ≡ _item.old) }
             { !is_among(texts, text.as_str()) },
         );
+        let feeds = self.feeds.take();
+        self.feeds = found(feeds, as_items(&self.map));
     }
 
     /// Makes a change of each item.
     pub(crate) fn change<C: Change>(&mut self, change: &C)
         ensures { self.new ≡ map (changed_by (C.made change.now)) self.old }
     {
-        change_each(&mut self.map, change);
+        change_items(&mut self.map, &self.feeds, change);
     }
 
     /// A copy of the items. An error only for want of memory.

@@ -9,6 +9,7 @@
 mod additions;
 mod change;
 mod fault;
+mod feeds;
 mod item;
 mod items;
 mod laws;

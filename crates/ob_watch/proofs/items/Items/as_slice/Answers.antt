@@ -5,4 +5,4 @@ use Rattle.ob_watch.proofs.ItemLemmas.{items_differ}
 use Rattle.ob_watch.proofs.items.Items.as_slice.Goals as goal
 
 pub returns-clause-differ : goal.returns-clause-differ
-returns-clause-differ c = subst (λ (items : List Item). Differ items) c.self.view_is (items_differ c.self.inside.map.entries c.self.invariant c.as_slice.ensures.unique)
+returns-clause-differ c = subst (λ (items : List Item). Differ items) c.self.view_is (items_differ c.self.inside.map.entries c.self.invariant.own c.as_slice.ensures.unique)

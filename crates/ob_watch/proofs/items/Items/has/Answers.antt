@@ -9,7 +9,7 @@ use Rattle.ob_watch.proofs.items.Items.has.Goals as goal
 pub returns : goal.returns
 returns c =
     c.contains_key.ensures
-    ∙ ap is_some (items_found c.as_str.result.now c.self.inside.map.entries c.self.invariant)
+    ∙ ap is_some (items_found c.as_str.result.now c.self.inside.map.entries c.self.invariant.own)
     ∙ found_has c.as_str.result.now (items_of c.self.inside.map.entries)
     ∙ ap (λ (t : Text). has_text (items_of c.self.inside.map.entries) t) c.as_str.ensures.value
     ∙ ap (λ (items : List Item). has_text items c.args.text.now) c.self.view_is
