@@ -11,7 +11,7 @@ use Rattle.ob_watch.specs.declared.item.Tracked.TheVariants.{Object, Feed}
 use Rattle.ob_watch.specs.declared.item.Item.{Item}
 use Rattle.ob_watch.specs.Feeds.{AreFeedPlaces, KeepsKinds, SparesObjects, feed_places, is_feed, is_on_feed}
 use Rattle.ob_watch.specs.Held.{Entries, items_of}
-use Rattle.ob_watch.specs.Items.{Text, anew_by, at_path, changed_by, found_item, has_text, one_more_by, put_item, put_over, reported_by, rolled_by, tracking}
+use Rattle.ob_watch.specs.Items.{Text, anew_by, at_path, changed_by, found_item, one_more_by, put_item, put_over, reported_by, rolled_by, tracking}
 use Rattle.ob_watch.proofs.ItemLemmas.{found_has, put_differs}
 use Rattle.ob_watch.proofs.PlaceLemmas.{all_at, changed_at, changed_end, changed_places, length_changed, places_below, places_push, places_same}
 

@@ -97,8 +97,7 @@ fn change_items<C: Change>(held: &mut Map, feeds: &Feeds, change: &C)
     }
 }
 
-// Whether the item in whose place this one would be put is on a feed as this one is, or as little; true where
-// there is none of its href.
+// Whether an item and the one of its href are both on feeds, or both on objects; true where there is none.
 fn has_same_kind(held: &Map, item: &Item) -> bool
     requires { StandUnderOwn held.now.entries }
     ensures { result ≡ true → map is_on_feed (put_over item.now (items_of held.now.entries)) ≡ map is_on_feed (items_of held.now.entries) }

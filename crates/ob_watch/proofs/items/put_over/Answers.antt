@@ -1,4 +1,4 @@
-use Rattle.std.proofs.Common.{◌≡◌, List, ap, ◌∙◌, subst, sym, None}
+use Rattle.std.proofs.Common.{◌≡◌, ap, ◌∙◌, subst, sym, None}
 use Rattle.std.specs.Option.{option_copied_mut}
 use Rattle.ob_watch.specs.Held.{items_of, StandUnderOwn}
 use Rattle.ob_watch.specs.Items.{Text, found_item, put_over}

@@ -1,9 +1,9 @@
 use Rattle.std.proofs.Common.{List, ap, ◌∙◌, not, rules}
 use Rattle.std.specs.List.{filter}
 use Rattle.ob_watch.specs.declared.item.Item.{Item}
+use Rattle.ob_watch.specs.Held.{items_of}
 use Rattle.ob_watch.specs.Items.{among}
 use Rattle.ob_watch.proofs.FeedLemmas.{places_of_same}
-use Rattle.ob_watch.specs.Held.{items_of}
 use Rattle.ob_watch.proofs.ItemLemmas.{items_retained, own_retained}
 use Rattle.ob_watch.proofs.items.Items.remove.Goals as goal
 
