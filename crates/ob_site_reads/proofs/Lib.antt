@@ -1,2 +1,3 @@
 pub mod Eventful
 pub mod Nameless
+pub mod Plain

@@ -1,6 +1,7 @@
 //! Objects as watches report them.
-ghost use Rattle.std.specs.Prelude.{◌≡◌, ◌<◌, Some, None, IfOk};
+ghost use Rattle.std.specs.Prelude.{◌≡◌, ◌<◌, ◌+◌, ◌-◌, ◌^◌, min, Some, None, IfOk};
 ghost use Rattle.ob_object.specs.Object.{parts};
+ghost use Rattle.ob_tree.specs.Depths.{depth_at};
 ghost use Rattle.ob_tree.specs.Laid.{paths};
 ghost use Rattle.ob_tree.specs.Paths.{place_of};
 ghost use Rattle.ob_answers.specs.Plans.{plan as plan_of};
@@ -8,14 +9,17 @@ ghost use Rattle.ob_site_rules.specs.Build.{Path, nameless, under_href};
 ghost use Rattle.ob_site_rules.specs.Sites.{plain_or_empty, watched_object};
 ghost use Rattle.ob_site_state.specs.Contents.{state_in};
 ghost use Rattle.ob_site_shown.specs.Readable.{IsReadable};
+ghost use Rattle.ob_site_reads.specs.Watchable.{IsWatchableAt};
 
 use ob_answers::Plan;
 use ob_object::{Kind, Obj};
-use ob_site_shown::{shown_at, shown_own};
+use ob_site_shown::{shown_at, shown_own, shown_own_counted};
 use ob_site_state::Contents;
+use ob_steps::Steps;
 use ob_tree::NodeId;
 use ob_values::Text;
 use std::alloc::{AllocError, Global};
+use std::sync::ledger::Ledger;
 
 /// An object without its name and its href; an empty obj where it is a feed or an err.
 fn unnamed(alloc: Global, mut object: Obj) -> Obj
@@ -64,5 +68,24 @@ pub fn watched_node(
     ensures { IfOk result (λ o. (p : Path) → place_of p (paths contents.now.tree.root) ≡ Some node.number → o ≡ watched_object (plan_of plan.now) (state_in contents.now) p) }
 {
     let object = shown_own(alloc, plan, contents, node)?;
+    Ok(unnamed(alloc, object))
+}
+
+/// The same of an own node by its number, counted: where it succeeds at a node that can be watched, it counts one step
+/// for each object round the node, and one for each object of the answer (`Obj::parts`).
+pub fn watched_node_counted<L: Ledger>(
+    alloc: Global,
+    plan: &Plan,
+    contents: &Contents,
+    node: NodeId,
+    steps: &mut Steps<L>,
+) -> Result<Obj, AllocError>
+    requires readable { IsReadable (plan_of plan.now) contents.now }
+    requires within { node.number < parts contents.now.tree.root }
+    ensures object { IfOk result (λ o. (p : Path) → place_of p (paths contents.now.tree.root) ≡ Some node.number → o ≡ watched_object (plan_of plan.now) (state_in contents.now) p) }
+    ensures steps { IfOk result (λ o. IsWatchableAt node.number contents.now.tree.root
+        → steps.new ≡ steps.old + depth_at node.number contents.now.tree.root + min (parts o) (2 ^ 64 - 1)) }
+{
+    let object = shown_own_counted(alloc, plan, contents, node, steps)?;
     Ok(unnamed(alloc, object))
 }

@@ -12,4 +12,4 @@ pub use dressing::dress;
 pub use logs::log_at;
 pub use owners::{begins_with, shown_derived};
 pub use roles::derived;
-pub use shown::{dressed_part, shown_at, shown_own};
+pub use shown::{dressed_part, shown_at, shown_own, shown_own_counted};

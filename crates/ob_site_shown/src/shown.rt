@@ -1,6 +1,7 @@
 //! What is shown of an own object where it stands.
-ghost use Rattle.std.specs.Prelude.{◌≡◌, ◌<◌, Some, option_map, IfOk};
+ghost use Rattle.std.specs.Prelude.{◌≡◌, ◌<◌, ◌+◌, ◌-◌, ◌^◌, min, Some, option_map, IfOk};
 ghost use Rattle.ob_object.specs.Object.{parts};
+ghost use Rattle.ob_tree.specs.Depths.{depth_at};
 ghost use Rattle.ob_tree.specs.Shown.{part_at};
 ghost use Rattle.ob_tree.specs.Laid.{paths};
 ghost use Rattle.ob_tree.specs.Paths.{place_of};
@@ -17,9 +18,12 @@ use crate::owners::shown_derived;
 use ob_answers::Plan;
 use ob_object::Obj;
 use ob_site_state::Contents;
+use ob_steps::Steps;
 use ob_tree::NodeId;
 use ob_values::Text;
 use std::alloc::{AllocError, Global};
+use std::marker::Brand;
+use std::sync::ledger::{Blank, Ledger};
 
 /// The own object of a number with all that is in it, with the status of each source and the children that roles
 /// derive. An error only for want of memory.
@@ -38,9 +42,51 @@ pub fn dressed_part(
 }
 
 /// What is shown of the own object of a number where it stands: it and all in it, with statuses, derived children
-/// and all that they inherit. An error only for want of memory.
+/// and all that they inherit. Where it succeeds it counts one step for each object round it, and one for each object
+/// of the answer (`Obj::parts`). An error only for want of memory.
 ///
 /// Source: oBIX 1.1, chapters 6 (Naming) and 7 (Contracts). That roles derive children is this profile's own.
+pub fn shown_own_counted<L: Ledger>(
+    alloc: Global,
+    plan: &Plan,
+    contents: &Contents,
+    node: NodeId,
+    steps: &mut Steps<L>,
+) -> Result<Obj, AllocError>
+    requires readable { IsReadable (plan_of plan.now) contents.now }
+    requires within { node.number < parts contents.now.tree.root }
+    ensures stands { IfOk result (λ o. Some o ≡ own_shown_at (plan_of plan.now) (state_in contents.now) node.number) }
+    ensures shows { IfOk result (λ o. (p : Path) → place_of p (paths contents.now.tree.root) ≡ Some node.number → shown (plan_of plan.now) (state_in contents.now) p ≡ Some o) }
+    ensures steps { IfOk result (λ o. steps.new ≡ steps.old + depth_at node.number contents.now.tree.root + min (parts o) (2 ^ 64 - 1)) }
+{
+    let dressed = dressed_part(alloc, plan, contents, node)?;
+    let standing = contents
+        .tree
+        .standing_counted(&contents.library, node, steps);
+    standing.whole_counted(alloc, &dressed, steps)
+}
+
+/// The same, by a counter of its own.
+fn shown_own_by<L: Ledger>(
+    alloc: Global,
+    plan: &Plan,
+    contents: &Contents,
+    node: NodeId,
+    blank: Blank,
+) -> Result<Obj, AllocError>
+    requires readable { IsReadable (plan_of plan.now) contents.now }
+    requires within { node.number < parts contents.now.tree.root }
+    requires name { blank.name ≡ L.name }
+    requires parts { blank.parts ≡ L.parts }
+    requires cut { 0 < blank.parts }
+    ensures stands { IfOk result (λ o. Some o ≡ own_shown_at (plan_of plan.now) (state_in contents.now) node.number) }
+    ensures shows { IfOk result (λ o. (p : Path) → place_of p (paths contents.now.tree.root) ≡ Some node.number → shown (plan_of plan.now) (state_in contents.now) p ≡ Some o) }
+{
+    let mut steps = Steps::<L>::begin(blank);
+    shown_own_counted(alloc, plan, contents, node, &mut steps)
+}
+
+/// The same as `shown_own_counted`, for a caller that counts nothing.
 pub fn shown_own(
     alloc: Global,
     plan: &Plan,
@@ -52,9 +98,7 @@ pub fn shown_own(
     ensures stands { IfOk result (λ o. Some o ≡ own_shown_at (plan_of plan.now) (state_in contents.now) node.number) }
     ensures shows { IfOk result (λ o. (p : Path) → place_of p (paths contents.now.tree.root) ≡ Some node.number → shown (plan_of plan.now) (state_in contents.now) p ≡ Some o) }
 {
-    let dressed = dressed_part(alloc, plan, contents, node)?;
-    let standing = contents.tree.standing(&contents.library, node);
-    standing.whole(alloc, &dressed)
+    shown_own_by::<Brand>(alloc, plan, contents, node, Blank::new(1))
 }
 
 /// What is shown at a path: of the own node there, or of the node that a role derives there, and `None` where neither
