@@ -1,11 +1,12 @@
 //! Requests that leave the state as it is: those to a watch, to the watch service, or to nothing.
-ghost use Rattle.std.specs.Prelude.{◌≡◌, ℕ, ◌<◌, ◌≤◌, ◌^◌, slice_index, IfOk, OnErr};
+ghost use Rattle.std.specs.Prelude.{◌≡◌, ℕ, ◌+◌, ◌<◌, ◌≤◌, ◌^◌, slice_index, IfOk, OnErr};
 ghost use Rattle.ob_watching.specs.Asked.{NewWatch, Nowhere, OneWatch};
 ghost use Rattle.ob_site_rules.specs.declared.request.Request.{Request};
 ghost use Rattle.ob_site_rules.specs.State.{roll};
 ghost use Rattle.ob_site_rules.specs.Watched.{WatchOperation};
 ghost use Rattle.ob_watch.specs.Tables.{lapsed_at};
 ghost use Rattle.ob_watch_calls.specs.Targets.{operation_of};
+ghost use Rattle.ob_site_watched.specs.Polls.{object_entries, steps_in};
 ghost use Rattle.ob_site.specs.Between.{IsBegun};
 ghost use Rattle.ob_site.specs.Steps.{IsAnswered, IsUnanswered};
 
@@ -13,9 +14,11 @@ use ob_answers::{Fault, refusal};
 use ob_object::Obj;
 use ob_site_state::State;
 use ob_site_watched::{Call, make, on_watch};
+use ob_steps::Steps;
 use ob_watch::Watches;
 use ob_watch_calls::Operation;
 use std::alloc::AllocError;
+use std::sync::ledger::Ledger;
 
 /// Ends a step that has changed nothing of the state. It takes no memory.
 fn end_quietly(state: &mut State, watches: &mut Watches)
@@ -68,18 +71,21 @@ pub(crate) fn to_service(state: &mut State, watches: &mut Watches) -> Result<Obj
     Ok(reply)
 }
 
-/// Asks the watch of a number.
+/// Asks the watch of a number. A poll counts at most as many steps as the object entries of its reply have parts, and for
+/// each the objects round it.
 ///
 /// Source: oBIX 1.1, chapter 12 (Watches).
-pub(crate) fn to_watch(
+pub(crate) fn to_watch<L: Ledger>(
     state: &mut State,
     watches: &mut Watches,
     number: u64,
     asks: Operation,
+    steps: &mut Steps<L>,
 ) -> Result<Obj, AllocError>
     requires { IsBegun state.old watches.old }
     ensures done { IfOk result (λ o. (r : Request) → IsAnswered state.old state.new watches.old watches.new r (OneWatch number (operation_of asks)) o) }
     ensures err { OnErr result (IsUnanswered state.old state.new watches.old watches.new) }
+    ensures steps { IfOk result (λ o. steps.new ≤ steps.old + steps_in state.old.now.tree (object_entries o)) }
 {
     state.is_sound();
     let call = Call {
@@ -93,6 +99,7 @@ pub(crate) fn to_watch(
         state.contents(),
         watches,
         &call,
+        steps,
     )?;
     end_quietly(state, watches);
     Ok(reply)

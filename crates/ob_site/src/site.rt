@@ -1,17 +1,21 @@
 //! A site.
-ghost use Rattle.std.specs.Prelude.{◌≡◌};
+ghost use Rattle.std.specs.Prelude.{◌≡◌, ℕ, ◌+◌, ◌<◌, ◌≤◌, IfOk, OnErr};
+ghost use Rattle.ob_watching.specs.Asked.{OneWatch, PollChanges};
 ghost use Rattle.ob_site_rules.specs.Locating.{locate};
-ghost use Rattle.ob_site_rules.specs.Sites.{step};
+ghost use Rattle.ob_site_rules.specs.Sites.{site, step};
+ghost use Rattle.ob_site_watched.specs.Polls.{object_entries, steps_in};
 
 use crate::step::step;
 use ob_machine::Machine;
 use ob_object::Obj;
 use ob_site_rules::Request;
 use ob_site_state::State;
+use ob_steps::Steps;
 use ob_times::Moment;
 use ob_watch::Watches;
 use std::alloc::AllocError;
-use std::marker::Model;
+use std::marker::{Brand, Model};
+use std::sync::ledger::{Blank, Ledger};
 
 /// A site: its state in place, and its watches.
 ///
@@ -65,6 +69,28 @@ impl Site {
         }
     }
 
+    /// Does one request at a moment, and gives the reply, as `Machine::step` does, with a counter of the steps that a
+    /// poll takes. A step is a view taken of what an object inherits, or one object of an effective object that is built.
+    ///
+    /// A pollChanges that is answered counts at most as many steps as the entries for objects that it reports have parts,
+    /// and for each of them the levels of the site's tree: a document nests at most 32 deep. So it counts none where it
+    /// reports no object. Other requests count none. Want of memory leaves the site as it was.
+    ///
+    /// Source: oBIX 1.1, chapter 12 (Watch.pollChanges).
+    pub fn step_counted<L: Ledger>(
+        &mut self,
+        request: &Request,
+        moment: Moment,
+        steps: &mut Steps<L>,
+    ) -> Result<Obj, AllocError>
+        ensures done { IfOk result (λ reply. step locate self.old request.now moment ≡ (self.new, reply)) }
+        ensures refused { OnErr result (self.new ≡ self.old) }
+        ensures polls { IfOk result (λ reply. (number : ℕ) → (site locate self.old.plan).target request.now ≡ OneWatch number PollChanges
+            → steps.new ≤ steps.old + steps_in self.old.world.site.tree (object_entries reply)) }
+    {
+        step(&mut self.state, &mut self.watches, request, moment, steps)
+    }
+
     /// The time of the last step.
     pub fn time(&self) -> Moment
         ensures { result ≡ self.now.world.time }
@@ -81,6 +107,23 @@ impl Site {
     }
 }
 
+/// The same as `step_counted`, by a counter of its own.
+fn step_by<L: Ledger>(
+    machine: &mut Site,
+    request: &Request,
+    moment: Moment,
+    blank: Blank,
+) -> Result<Obj, AllocError>
+    requires name { blank.name ≡ L.name }
+    requires parts { blank.parts ≡ L.parts }
+    requires cut { 0 < blank.parts }
+    ensures done { IfOk result (λ reply. step locate machine.old request.now moment ≡ (machine.new, reply)) }
+    ensures refused { OnErr result (machine.new ≡ machine.old) }
+{
+    let mut steps = Steps::<L>::begin(blank);
+    machine.step_counted(request, moment, &mut steps)
+}
+
 impl Machine for Site {
     type Request = Request;
 
@@ -91,7 +134,7 @@ impl Machine for Site {
     /// Does one request at a moment, and gives the reply. Time never goes back: an earlier moment is that of
     /// the step before. Want of memory leaves the site as it was.
     fn step(&mut self, request: &Request, moment: Moment) -> Result<Obj, AllocError> {
-        step(&mut self.state, &mut self.watches, request, moment)
+        step_by::<Brand>(self, request, moment, Blank::new(1))
     }
 }
 

@@ -1,8 +1,9 @@
 //! One step of a site, over its state and its watches.
-ghost use Rattle.std.specs.Prelude.{◌≡◌, IfOk, OnErr};
+ghost use Rattle.std.specs.Prelude.{◌≡◌, ◌+◌, ◌≤◌, IfOk, OnErr};
 ghost use Rattle.ob_site_rules.specs.Locating.{locate};
 ghost use Rattle.ob_site_rules.specs.Sites.{site, step};
 ghost use Rattle.ob_watch_calls.specs.Targets.{IsTarget};
+ghost use Rattle.ob_site_watched.specs.Polls.{object_entries, steps_in};
 ghost use Rattle.ob_site.specs.Between.{IsBegun, IsSite};
 ghost use Rattle.ob_site.specs.Steps.{IsAnswered, IsUnanswered};
 ghost use Rattle.ob_site.specs.Views.{site_of};
@@ -14,10 +15,12 @@ use ob_calls::located;
 use ob_object::Obj;
 use ob_site_rules::Request;
 use ob_site_state::State;
+use ob_steps::Steps;
 use ob_times::Moment;
 use ob_watch::Watches;
 use ob_watch_calls::{Target, target_at};
 use std::alloc::AllocError;
+use std::sync::ledger::Ledger;
 
 /// Whom a request is for.
 fn target(state: &State, request: &Request) -> Result<Target, AllocError>
@@ -31,35 +34,43 @@ fn target(state: &State, request: &Request) -> Result<Target, AllocError>
 
 /// What a request leaves of the state and of the watches, and its reply. An error only for want of memory; it leaves all
 /// but the state now.
-fn answer(state: &mut State, watches: &mut Watches, request: &Request) -> Result<Obj, AllocError>
+fn answer<L: Ledger>(
+    state: &mut State,
+    watches: &mut Watches,
+    request: &Request,
+    steps: &mut Steps<L>,
+) -> Result<Obj, AllocError>
     requires { IsBegun state.old watches.old }
     ensures done { IfOk result (IsAnswered state.old state.new watches.old watches.new request.now ((site locate state.old.plan).target request.now)) }
     ensures err { OnErr result (IsUnanswered state.old state.new watches.old watches.new) }
+    ensures steps { IfOk result (λ o. steps.new ≤ steps.old + steps_in state.old.now.tree (object_entries o)) }
 {
     match target(state, request)? {
         Target::Itself => on_itself(state, watches, request),
         Target::Nowhere => to_nobody(state, watches),
         Target::Beyond => to_no_watch(state, watches),
         Target::NewWatch => to_service(state, watches),
-        Target::OneWatch(number, asks) => to_watch(state, watches, number, asks),
+        Target::OneWatch(number, asks) => to_watch(state, watches, number, asks, steps),
     }
 }
 
 /// Does one request at a moment, and gives the reply. Want of memory leaves the site as it was.
-pub(crate) fn step(
+pub(crate) fn step<L: Ledger>(
     state: &mut State,
     watches: &mut Watches,
     request: &Request,
     moment: Moment,
+    steps: &mut Steps<L>,
 ) -> Result<Obj, AllocError>
     requires { IsSite state.old watches.old }
     ensures done { IfOk result (λ reply. (site_of state.new watches.new, reply) ≡ step locate (site_of state.old watches.old) request.now moment) }
     ensures refused { OnErr result (site_of state.new watches.new ≡ site_of state.old watches.old) }
     ensures kept { IsSite state.new watches.new }
+    ensures steps { IfOk result (λ o. steps.new ≤ steps.old + steps_in (site_of state.old watches.old).world.site.tree (object_entries o)) }
 {
     make_room(state, watches);
     state.begin(moment);
-    match answer(state, watches, request) {
+    match answer(state, watches, request, steps) {
         Ok(reply) => Ok(reply),
         Err(error) => {
             state.undo();

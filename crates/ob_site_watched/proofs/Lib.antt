@@ -9,3 +9,4 @@ pub mod Knowing
 pub mod Undone
 pub mod Put
 pub mod Grown
+pub mod Polled

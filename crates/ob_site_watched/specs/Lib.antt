@@ -4,3 +4,4 @@ pub mod Leaving
 pub mod Answers
 pub mod Offered
 pub mod Putting
+pub mod Polls

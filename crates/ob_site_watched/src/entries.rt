@@ -1,18 +1,21 @@
 //! The entries of WatchOut.
-ghost use Rattle.std.specs.Prelude.{◌≡◌, ◌++◌, map, option_to_list, true, IfOk};
+ghost use Rattle.std.specs.Prelude.{◌≡◌, ◌+◌, ◌≤◌, ◌++◌, map, option_to_list, true, IfOk};
 ghost use Rattle.ob_watch.specs.Items.{is_due};
 ghost use Rattle.ob_answers.specs.Plans.{plan as plan_of};
 ghost use Rattle.ob_site_rules.specs.Replies.{content_object, entry};
 ghost use Rattle.ob_site_places.specs.Complete.{IsComplete};
 ghost use Rattle.ob_site_watched.specs.Entries.{all_changes, all_readings, changes_in, object_now, reading_entry};
 ghost use Rattle.ob_site_watched.specs.Known.{AreKnown, IsKnown, IsPlacedBy};
+ghost use Rattle.ob_site_watched.specs.Polls.{of_objects, steps_in};
 
 use ob_answers::{Plan, entry};
 use ob_object::Obj;
-use ob_site_reads::{Since, feed_since, watched_node, whole_feed};
+use ob_site_reads::{Since, feed_since, watched_node, watched_node_counted, whole_feed};
 use ob_site_state::Contents;
+use ob_steps::Steps;
 use ob_watch::{Item, Tracked};
 use std::alloc::{AllocError, Global};
+use std::sync::ledger::Ledger;
 
 /// What is read of an item now: the object, or the feed with all kept events that pass its filter.
 #[tactic(auto, using(crate::proofs::Due::placed_within))]
@@ -77,22 +80,24 @@ pub fn readings(
     Ok(entries)
 }
 
-/// What has changed of an item that is to be reported.
+/// What has changed of an item that is to be reported. Only an object counts steps.
 #[tactic(auto, using(crate::proofs::Due::placed_within))]
-fn change_due(
+fn change_due<L: Ledger>(
     alloc: Global,
     plan: &Plan,
     contents: &Contents,
     item: &Item,
+    steps: &mut Steps<L>,
 ) -> Result<Option<Obj>, AllocError>
     requires complete { IsComplete (plan_of plan.now) contents.now }
     requires placed { IsPlacedBy contents.now.tree.root item.now.path item.now.tracked }
     requires due { is_due contents.now.tree item.now ≡ true }
-    ensures { IfOk result (λ o. option_to_list o ≡ map (λ r. content_object r.content) (changes_in (plan_of plan.now) contents.now item.now)) }
+    ensures content { IfOk result (λ o. option_to_list o ≡ map (λ r. content_object r.content) (changes_in (plan_of plan.now) contents.now item.now)) }
+    ensures steps { IfOk result (λ o. steps.new ≤ steps.old + steps_in contents.now.tree.root (of_objects (option_to_list o))) }
 {
     match item.tracked() {
         Tracked::Object { node, mark: _ } => {
-            let object = watched_node(alloc, plan, contents, *node)?;
+            let object = watched_node_counted(alloc, plan, contents, *node, steps)?;
             Ok(Some(object))
         }
         Tracked::Feed {
@@ -112,21 +117,23 @@ fn change_due(
 
 /// Puts the entry of what has changed of an item last, if something has. Nothing is read of an item that isn't due.
 #[tactic(auto, using(crate::proofs::Due::nothing_due, crate::proofs::Due::entry_due))]
-fn push_change(
+fn push_change<L: Ledger>(
     alloc: Global,
     plan: &Plan,
     contents: &Contents,
     item: &Item,
     entries: &mut Vec<Obj>,
+    steps: &mut Steps<L>,
 ) -> Result<(), AllocError>
     requires complete { IsComplete (plan_of plan.now) contents.now }
     requires known { IsKnown (plan_of plan.now) contents.now item.now }
-    ensures { IfOk result (λ _. entries.new.items ≡ entries.old.items ++ map entry (changes_in (plan_of plan.now) contents.now item.now)) }
+    ensures entries { IfOk result (λ _. entries.new.items ≡ entries.old.items ++ map entry (changes_in (plan_of plan.now) contents.now item.now)) }
+    ensures steps { IfOk result (λ _. steps.new + steps_in contents.now.tree.root (of_objects entries.old.items) ≤ steps.old + steps_in contents.now.tree.root (of_objects entries.new.items)) }
 {
     if !item.is_due(&contents.tree) {
         return Ok(());
     }
-    let Some(content) = change_due(alloc, plan, contents, item)? else {
+    let Some(content) = change_due(alloc, plan, contents, item, steps)? else {
         return Ok(());
     };
     let text = item.text().copy()?;
@@ -134,24 +141,27 @@ fn push_change(
     Ok(())
 }
 
-/// The entries of what has changed of items since it was last reported. Only the items that are due are read. An error
-/// only for want of memory.
+/// The entries of what has changed of items since it was last reported. Only the items that are due are read: it counts
+/// at most as many steps as the entries for objects have parts, and for each the objects round it. An error only for want
+/// of memory.
 ///
 /// Source: oBIX 1.1, chapter 12 (Watch.pollChanges).
 #[tactic(auto, using(crate::proofs::Due::changes_more, crate::proofs::Due::known_at))]
-pub fn changes(
+pub fn changes<L: Ledger>(
     alloc: Global,
     plan: &Plan,
     contents: &Contents,
     items: &[Item],
+    steps: &mut Steps<L>,
 ) -> Result<Vec<Obj>, AllocError>
     requires complete { IsComplete (plan_of plan.now) contents.now }
     requires known { AreKnown (plan_of plan.now) contents.now items.now }
-    ensures { IfOk result (λ os. os.items ≡ all_changes (plan_of plan.now) contents.now items.now) }
+    ensures entries { IfOk result (λ os. os.items ≡ all_changes (plan_of plan.now) contents.now items.now) }
+    ensures steps { IfOk result (λ os. steps.new ≤ steps.old + steps_in contents.now.tree.root (of_objects os.items)) }
 {
     let mut entries = Vec::new(alloc);
     for item in items {
-        push_change(alloc, plan, contents, item, &mut entries)?;
+        push_change(alloc, plan, contents, item, &mut entries, steps)?;
     }
     Ok(entries)
 }

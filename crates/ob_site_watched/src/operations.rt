@@ -1,5 +1,5 @@
 //! What is asked of a watch.
-ghost use Rattle.std.specs.Prelude.{◌≡◌, List, ℕ, false, IfOk, OnErr};
+ghost use Rattle.std.specs.Prelude.{◌≡◌, ◌+◌, ◌≤◌, List, ℕ, false, IfOk, OnErr};
 ghost use Rattle.ob_answers.specs.Plans.{plan as plan_of};
 ghost use Rattle.ob_watch_calls.specs.Targets.{operation_of};
 ghost use Rattle.ob_site_places.specs.Complete.{IsComplete};
@@ -15,6 +15,7 @@ ghost use Rattle.ob_site_watched.specs.Entries.{all_changes, all_readings};
 ghost use Rattle.ob_site_watched.specs.Known.{AreKnown};
 ghost use Rattle.ob_site_watched.specs.Leaving.{Renews, is_add, leaving};
 ghost use Rattle.ob_site_watched.specs.Answers.{AllKnown, IsDone, IsReply};
+ghost use Rattle.ob_site_watched.specs.Polls.{object_entries, steps_in};
 
 use crate::adding::{Adding, add};
 use crate::entries::{changes, readings};
@@ -22,10 +23,12 @@ use ob_answers::{Fault, Plan, WatchPart, nil, refusal, watch_out, watch_part};
 use ob_contracts::Library;
 use ob_object::Obj;
 use ob_site_state::Contents;
+use ob_steps::Steps;
 use ob_values::Moment;
 use ob_watch::{Item, Watch, Watches};
 use ob_watch_calls::{Operation, lease_asked};
 use std::alloc::{AllocError, Global};
+use std::sync::ledger::Ledger;
 
 /// What is asked of the watch of a number, and when.
 #[derive(Drop)]
@@ -52,18 +55,23 @@ fn lease_told(
 }
 
 /// The reply to Watch.pollChanges.
-
-fn poll(alloc: Global, plan: &Plan, contents: &Contents, items: &[Item]) -> Result<Obj, AllocError>
+fn poll<L: Ledger>(
+    alloc: Global,
+    plan: &Plan,
+    contents: &Contents,
+    items: &[Item],
+    steps: &mut Steps<L>,
+) -> Result<Obj, AllocError>
     requires complete { IsComplete (plan_of plan.now) contents.now }
     requires known { AreKnown (plan_of plan.now) contents.now items.now }
-    ensures { IfOk result (λ o. o ≡ watch_out (all_changes (plan_of plan.now) contents.now items.now)) }
+    ensures reply { IfOk result (λ o. o ≡ watch_out (all_changes (plan_of plan.now) contents.now items.now)) }
+    ensures steps { IfOk result (λ o. steps.new ≤ steps.old + steps_in contents.now.tree.root (object_entries o)) }
 {
-    let entries = changes(alloc, plan, contents, items)?;
+    let entries = changes(alloc, plan, contents, items, steps)?;
     watch_out(alloc, entries)
 }
 
 /// The reply to Watch.pollRefresh.
-
 fn refresh(
     alloc: Global,
     plan: &Plan,
@@ -78,25 +86,27 @@ fn refresh(
     watch_out(alloc, entries)
 }
 
-/// The reply to an operation but Watch.add.
-fn reply(
+/// The reply to an operation but Watch.add. Watch.pollChanges alone counts steps.
+fn reply<L: Ledger>(
     alloc: Global,
     plan: &Plan,
     contents: &Contents,
     watch: &Watch,
     call: &Call,
+    steps: &mut Steps<L>,
 ) -> Result<Obj, AllocError>
     requires complete { IsComplete (plan_of plan.now) contents.now }
     requires known { AreKnown (plan_of plan.now) contents.now watch.now.items }
     requires other { is_add (operation_of call.now.asks) ≡ false }
-    ensures { IfOk result (λ o. (numbers : List ℕ) → IsReply (plan_of plan.now) contents.now call.now.moment numbers call.now.number watch.now (operation_of call.now.asks) o) }
+    ensures reply { IfOk result (λ o. (numbers : List ℕ) → IsReply (plan_of plan.now) contents.now call.now.moment numbers call.now.number watch.now (operation_of call.now.asks) o) }
+    ensures steps { IfOk result (λ o. steps.new ≤ steps.old + steps_in contents.now.tree.root (object_entries o)) }
 {
     match &call.asks {
         Operation::Look(part) => watch_part(alloc, plan, call.number, watch.lease(), *part),
         Operation::Renew(input) => lease_told(alloc, plan, contents, call.number, input),
         Operation::Add(_) => unreachable!(),
         Operation::Remove(_) | Operation::Delete => nil(alloc),
-        Operation::PollChanges => poll(alloc, plan, contents, watch.items()),
+        Operation::PollChanges => poll(alloc, plan, contents, watch.items(), steps),
         Operation::PollRefresh => refresh(alloc, plan, contents, watch.items()),
         Operation::Refuse(fault) => refusal(alloc, *fault),
     }
@@ -131,12 +141,13 @@ fn leave(contents: &Contents, watches: &mut Watches, call: &Call) -> bool
 }
 
 /// What an operation but Watch.add makes of the watches, and the reply.
-fn on_other(
+fn on_other<L: Ledger>(
     alloc: Global,
     plan: &Plan,
     contents: &Contents,
     watches: &mut Watches,
     call: &Call,
+    steps: &mut Steps<L>,
 ) -> Result<Obj, AllocError>
     requires complete { IsComplete (plan_of plan.now) contents.now }
     requires past { AreStampsPast contents.now.tree }
@@ -145,27 +156,30 @@ fn on_other(
     ensures done { IfOk result (IsDone (plan_of plan.now) contents.now call.now.moment watches.old watches.new call.now.number (operation_of call.now.asks)) }
     ensures err { OnErr result (watches.new ≡ watches.old) }
     ensures known { AllKnown (plan_of plan.now) contents.now watches.new }
+    ensures steps { IfOk result (λ o. steps.new ≤ steps.old + steps_in contents.now.tree.root (object_entries o)) }
 {
     let _numbers = watches.numbers();
     let Some(watch) = watches.get(call.number, call.moment) else {
         return refusal(alloc, Fault::NoSuchObject);
     };
     let _lease = watch.lease();
-    let reply = reply(alloc, plan, contents, watch, call)?;
+    let reply = reply(alloc, plan, contents, watch, call, steps)?;
     leave(contents, watches, call);
     Ok(reply)
 }
 
 /// What an operation makes of the watches, and the reply. A request to a watch renews its lease, whatever the reply is.
-/// An error only for want of memory, and it leaves the watches as they were.
+/// Watch.pollChanges counts at most as many steps as the object entries of its reply have parts, and for each the objects
+/// round it; other operations count none. An error only for want of memory, and it leaves the watches as they were.
 ///
 /// Source: oBIX 1.1, chapter 12 (Watches).
-pub fn on_watch(
+pub fn on_watch<L: Ledger>(
     alloc: Global,
     plan: &Plan,
     contents: &Contents,
     watches: &mut Watches,
     call: &Call,
+    steps: &mut Steps<L>,
 ) -> Result<Obj, AllocError>
     requires complete { IsComplete (plan_of plan.now) contents.now }
     requires past { AreStampsPast contents.now.tree }
@@ -173,6 +187,7 @@ pub fn on_watch(
     ensures done { IfOk result (IsDone (plan_of plan.now) contents.now call.now.moment watches.old watches.new call.now.number (operation_of call.now.asks)) }
     ensures err { OnErr result (watches.new ≡ watches.old) }
     ensures known { AllKnown (plan_of plan.now) contents.now watches.new }
+    ensures steps { IfOk result (λ o. steps.new ≤ steps.old + steps_in contents.now.tree.root (object_entries o)) }
 {
     match &call.asks {
         Operation::Add(asked) => {
@@ -189,6 +204,6 @@ pub fn on_watch(
         | Operation::PollChanges
         | Operation::PollRefresh
         | Operation::Delete
-        | Operation::Refuse(_) => on_other(alloc, plan, contents, watches, call),
+        | Operation::Refuse(_) => on_other(alloc, plan, contents, watches, call, steps),
     }
 }

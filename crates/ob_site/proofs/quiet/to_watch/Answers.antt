@@ -1,4 +1,8 @@
+use Rattle.std.proofs.Common.{◌≡◌, ◌+◌, ◌≤◌, ap, subst}
+use Rattle.ob_object.specs.Object.{Object}
 use Rattle.ob_answers.specs.Plans.{plan as plan_of}
+use Rattle.ob_site_rules.specs.State.{State}
+use Rattle.ob_site_watched.specs.Polls.{object_entries, steps_in}
 use Rattle.ob_watching.specs.Asked.{OneWatch}
 use Rattle.ob_watch_calls.specs.Targets.{operation_of}
 use Rattle.ob_site.proofs.Asked.{asked_so, tree_is}
@@ -7,15 +11,15 @@ use Rattle.ob_site.proofs.Unchanged.{quietly}
 use Rattle.ob_site.proofs.quiet.to_watch.Goals as goal
 
 pub on_watch-requires-clause-known : goal.on_watch-requires-clause-known
-on_watch-requires-clause-known c =
+on_watch-requires-clause-known g c =
     known_in c.args.state.now (plan_of c.plan.result.now) c.contents.result.now c.args.watches.now c.plan.ensures c.contents.ensures.value c.contents.ensures.stamps c.contents.ensures.steps c.requires.kept
 
 pub on_watch-requires-clause-past : goal.on_watch-requires-clause-past
-on_watch-requires-clause-past c =
+on_watch-requires-clause-past g c =
     past_in c.args.state.now c.contents.result.now c.args.watches.now c.contents.ensures.value c.contents.ensures.stamps c.contents.ensures.steps c.requires.kept
 
 pub returns-clause-done : goal.returns-clause-done
-returns-clause-done c = λ r.
+returns-clause-done g c = λ r.
     let k = c.args.state.now in
     let t = c.args.watches.now in
     let u = c.on_watch.new.watches in
@@ -26,3 +30,8 @@ returns-clause-done c = λ r.
     (tree_is k cs c.contents.ensures.value c.contents.ensures.stamps c.contents.ensures.steps) c.in_ok-reply.ensures.done r)
     (kept_through k (plan_of c.plan.result.now) cs t u c.plan.ensures c.contents.ensures.value c.contents.ensures.stamps c.contents.ensures.steps c.requires.kept (λ known. c.on_watch.ensures.known))
     c.end_quietly.ensures.state c.end_quietly.ensures.watches
+
+pub returns-clause-steps : goal.returns-clause-steps
+returns-clause-steps g c =
+    subst (λ (root : Object). c.on_watch.new.steps ≤ c.args.steps.now + steps_in root (object_entries c.in_ok-reply.reply))
+    (ap (λ (s : State). s.tree) c.contents.ensures.value) c.in_ok-reply.ensures.steps

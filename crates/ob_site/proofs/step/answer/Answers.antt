@@ -5,11 +5,12 @@ use Rattle.ob_site_rules.specs.Sites.{site}
 use Rattle.ob_site_rules.specs.Watched.{SiteTarget}
 use Rattle.ob_watch_calls.specs.declared.target.Target.{Target}
 use Rattle.ob_watch_calls.specs.Targets.{IsTarget}
+use Rattle.ob_site_watched.proofs.Polled.{unmoved}
 use Rattle.ob_site.specs.Steps.{IsAnswered}
 use Rattle.ob_site.proofs.step.answer.Goals as goal
 
 pub returns-in-Itself-clause-done : goal.returns-in-Itself-clause-done
-returns-in-Itself-clause-done c =
+returns-in-Itself-clause-done g c =
     let k = c.args.state.now in
     let r = c.args.request.now in
     let meant = subst (λ (g : Target). IsTarget g ((site locate k.plan).target r)) c.in-Itself.is c.in_ok-target.ensures in
@@ -17,7 +18,7 @@ returns-in-Itself-clause-done c =
     (λ o done. subst (λ (g : SiteTarget). IsAnswered k c.on_itself.new.state c.args.watches.now c.on_itself.new.watches r g o) (sym meant) done) c.on_itself.ensures.done
 
 pub returns-in-Nowhere-clause-done : goal.returns-in-Nowhere-clause-done
-returns-in-Nowhere-clause-done c =
+returns-in-Nowhere-clause-done g c =
     let k = c.args.state.now in
     let r = c.args.request.now in
     let meant = subst (λ (g : Target). IsTarget g ((site locate k.plan).target r)) c.in-Nowhere.is c.in_ok-target.ensures in
@@ -25,7 +26,7 @@ returns-in-Nowhere-clause-done c =
     (λ o done. subst (λ (g : SiteTarget). IsAnswered k c.to_nobody.new.state c.args.watches.now c.to_nobody.new.watches r g o) (sym meant) (done r)) c.to_nobody.ensures.done
 
 pub returns-in-Beyond-clause-done : goal.returns-in-Beyond-clause-done
-returns-in-Beyond-clause-done c =
+returns-in-Beyond-clause-done g c =
     let k = c.args.state.now in
     let r = c.args.request.now in
     let meant = subst (λ (g : Target). IsTarget g ((site locate k.plan).target r)) c.in-Beyond.is c.in_ok-target.ensures in
@@ -33,7 +34,7 @@ returns-in-Beyond-clause-done c =
     (λ o done. subst (λ (g : SiteTarget). IsAnswered k c.to_no_watch.new.state c.args.watches.now c.to_no_watch.new.watches r g o) (sym meant.3) (done r meant.0 meant.1 meant.2)) c.to_no_watch.ensures.done
 
 pub returns-in-NewWatch-clause-done : goal.returns-in-NewWatch-clause-done
-returns-in-NewWatch-clause-done c =
+returns-in-NewWatch-clause-done g c =
     let k = c.args.state.now in
     let r = c.args.request.now in
     let meant = subst (λ (g : Target). IsTarget g ((site locate k.plan).target r)) c.in-NewWatch.is c.in_ok-target.ensures in
@@ -41,9 +42,21 @@ returns-in-NewWatch-clause-done c =
     (λ o done. subst (λ (g : SiteTarget). IsAnswered k c.to_service.new.state c.args.watches.now c.to_service.new.watches r g o) (sym meant) (done r)) c.to_service.ensures.done
 
 pub returns-in-OneWatch-clause-done : goal.returns-in-OneWatch-clause-done
-returns-in-OneWatch-clause-done c =
+returns-in-OneWatch-clause-done g c =
     let k = c.args.state.now in
     let r = c.args.request.now in
     let meant = subst (λ (g : Target). IsTarget g ((site locate k.plan).target r)) c.in-OneWatch.is c.in_ok-target.ensures in
     IfOk-weaker c.to_watch.result _ _
     (λ o done. subst (λ (g : SiteTarget). IsAnswered k c.to_watch.new.state c.args.watches.now c.to_watch.new.watches r g o) (sym meant) (done r)) c.to_watch.ensures.done
+
+pub returns-in-Itself-clause-steps : goal.returns-in-Itself-clause-steps
+returns-in-Itself-clause-steps g c = unmoved c.args.state.now.now.tree c.args.steps.now c.on_itself.result
+
+pub returns-in-Nowhere-clause-steps : goal.returns-in-Nowhere-clause-steps
+returns-in-Nowhere-clause-steps g c = unmoved c.args.state.now.now.tree c.args.steps.now c.to_nobody.result
+
+pub returns-in-Beyond-clause-steps : goal.returns-in-Beyond-clause-steps
+returns-in-Beyond-clause-steps g c = unmoved c.args.state.now.now.tree c.args.steps.now c.to_no_watch.result
+
+pub returns-in-NewWatch-clause-steps : goal.returns-in-NewWatch-clause-steps
+returns-in-NewWatch-clause-steps g c = unmoved c.args.state.now.now.tree c.args.steps.now c.to_service.result

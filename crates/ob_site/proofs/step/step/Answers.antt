@@ -1,27 +1,37 @@
-use Rattle.std.proofs.Common.{sym, ◌∙◌}
+use Rattle.std.proofs.Common.{◌≡◌, ◌+◌, ◌≤◌, sym, ap, ◌∙◌, subst}
+use Rattle.ob_object.specs.Object.{Object}
+use Rattle.ob_site_rules.specs.Sites.{SiteState}
+use Rattle.ob_site_state.specs.Kept.{Kept}
+use Rattle.ob_site_watched.specs.Polls.{object_entries, steps_in}
 use Rattle.ob_site.specs.Views.{site_of}
 use Rattle.ob_site.proofs.Stepped.{begun_so, stepped, site_after, undone, same_again, site_again}
 use Rattle.ob_site.proofs.step.step.Goals as goal
 
 pub answer-requires : goal.answer-requires
-answer-requires c = begun_so c.make_room.new.state c.begin.new.self c.make_room.new.watches c.args.moment c.make_room.ensures.kept c.make_room.ensures.room c.begin.ensures
+answer-requires g c = begun_so c.make_room.new.state c.begin.new.self c.make_room.new.watches c.args.moment c.make_room.ensures.kept c.make_room.ensures.room c.begin.ensures
 
 pub returns-in-Ok-clause-done : goal.returns-in-Ok-clause-done
-returns-in-Ok-clause-done c =
+returns-in-Ok-clause-done g c =
     stepped (site_of c.args.state.now c.args.watches.now) c.make_room.new.state c.begin.new.self c.answer.new.state c.make_room.new.watches c.answer.new.watches c.args.request.now c.args.moment c.in-Ok.reply
     c.make_room.ensures.same c.begin.ensures c.in-Ok.ensures.done
 
 pub returns-in-Ok-clause-kept : goal.returns-in-Ok-clause-kept
-returns-in-Ok-clause-kept c =
+returns-in-Ok-clause-kept g c =
     site_after c.make_room.new.state c.begin.new.self c.answer.new.state c.make_room.new.watches c.answer.new.watches c.args.request.now c.args.moment c.in-Ok.reply
     c.make_room.ensures.kept c.begin.ensures c.in-Ok.ensures.done
 
 pub returns-in-Err-clause-refused : goal.returns-in-Err-clause-refused
-returns-in-Err-clause-refused c =
+returns-in-Err-clause-refused g c =
     let back = undone c.make_room.new.state c.begin.new.self c.answer.new.state c.undo.new.self c.make_room.new.watches c.answer.new.watches c.args.moment c.make_room.ensures.kept c.begin.ensures c.in-Err.ensures.err c.undo.ensures in
     same_again c.make_room.new.state c.undo.new.self c.make_room.new.watches c.answer.new.watches back c.in-Err.ensures.err.watches ∙ c.make_room.ensures.same
 
 pub returns-in-Err-clause-kept : goal.returns-in-Err-clause-kept
-returns-in-Err-clause-kept c =
+returns-in-Err-clause-kept g c =
     let back = undone c.make_room.new.state c.begin.new.self c.answer.new.state c.undo.new.self c.make_room.new.watches c.answer.new.watches c.args.moment c.make_room.ensures.kept c.begin.ensures c.in-Err.ensures.err c.undo.ensures in
     site_again c.make_room.new.state c.undo.new.self c.make_room.new.watches c.answer.new.watches c.make_room.ensures.kept back c.in-Err.ensures.err.watches
+
+pub returns-in-Ok-clause-steps : goal.returns-in-Ok-clause-steps
+returns-in-Ok-clause-steps g c =
+    let same : c.begin.new.self.now.tree ≡ c.args.state.now.now.tree =
+    ap (λ (k : Kept). k.now.tree) c.begin.ensures ∙ ap (λ (st : SiteState). st.world.site.tree) c.make_room.ensures.same in
+    subst (λ (root : Object). c.answer.new.steps ≤ c.args.steps.now + steps_in root (object_entries c.in-Ok.reply)) same c.in-Ok.ensures.steps

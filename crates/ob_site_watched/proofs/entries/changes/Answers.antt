@@ -1,4 +1,4 @@
-use Rattle.std.proofs.Common.{List, map, ◌++◌, sym, ap, ◌∙◌}
+use Rattle.std.proofs.Common.{List, map, ◌++◌, sym, ap, ◌∙◌, arith}
 use Rattle.ob_object.specs.Object.{Object}
 use Rattle.ob_answers.specs.Plans.{plan as plan_of}
 use Rattle.ob_site_rules.specs.Replies.{entry}
@@ -7,7 +7,10 @@ use Rattle.ob_site_watched.proofs.Due.{changes_more}
 use Rattle.ob_site_watched.proofs.entries.changes.Goals as goal
 
 pub loop-item-preserved : goal.loop-item-preserved
-loop-item-preserved c =
-    c.in_ok-push_change.ensures
-    ∙ ap (λ (es : List Object). es ++ map entry (changes_in (plan_of c.args.plan.now) c.args.contents.now c.item-item.result)) c.loop-item.invariant
-    ∙ sym (changes_more (plan_of c.args.plan.now) c.args.contents.now c.args.items.now c.loop-item.item-index c.item-item.result c.loop-item-test.true c.item-item.is)
+loop-item-preserved g c = record {
+  entries =
+      c.in_ok-push_change.ensures.entries
+      ∙ ap (λ (es : List Object). es ++ map entry (changes_in (plan_of c.args.plan.now) c.args.contents.now c.item-item.result)) c.loop-item.invariant.entries
+      ∙ sym (changes_more (plan_of c.args.plan.now) c.args.contents.now c.args.items.now c.loop-item.item-index c.item-item.result c.loop-item-test.true c.item-item.is);
+  steps = omega (arith, c.loop-item.invariant.steps, c.in_ok-push_change.ensures.steps);
+}

@@ -9,19 +9,20 @@ use Rattle.ob_site_watched.specs.Answers.{AllKnown}
 use Rattle.ob_site_watched.specs.Leaving.{marks_after}
 use Rattle.ob_site_watched.proofs.Knowing.{left_known}
 use Rattle.ob_site_watched.proofs.Answering.{agrees, known_there, live_there, marks_last, none_stands, one_stands}
+use Rattle.ob_site_watched.proofs.Polled.{unmoved}
 use Rattle.ob_site_watched.proofs.operations.on_other.Goals as goal
 
 pub returns-in_default-clause-done : goal.returns-in_default-clause-done
-returns-in_default-clause-done c =
+returns-in_default-clause-done g c =
     IfOk-weaker c.refusal.result _ _
     (λ o e. none_stands (plan_of c.args.plan.now) c.args.contents.now c.args.call.now.moment c.args.call.now.number c.args.watches.now (operation_of c.args.call.now.asks) o (sym c.in_default.ensures) e) c.refusal.ensures
 
 pub reply-requires-clause-known : goal.reply-requires-clause-known
-reply-requires-clause-known c =
+reply-requires-clause-known g c =
     known_there (plan_of c.args.plan.now) c.args.contents.now c.args.call.now.moment c.args.call.now.number c.args.watches.now c.in-Some.watch.now c.requires.known (sym c.in-Some.ensures)
 
 pub returns-clause-done : goal.returns-clause-done
-returns-clause-done c =
+returns-clause-done g c =
     let plan = plan_of c.args.plan.now in
     let contents = c.args.contents.now in
     let now = c.args.call.now.moment in
@@ -35,9 +36,12 @@ returns-clause-done c =
     (c.leave.ensures ∙ ap (λ (v : Option Leased). holding (replace n (option_and_then (marks_after contents now op) v) old.watches) old) (live_there now n old.watches w differ (sym c.in-Some.ensures)))
     (marks_last plan contents now op w (subst IsLease c.lease-lease.ensures.value c.lease-lease.ensures.bounded))
     (agrees plan contents now ns op w c.requires.past (known_there plan contents now n old w c.requires.known (sym c.in-Some.ensures)) c.requires.other)
-    (c.in_ok-reply.ensures ns)
+    (c.in_ok-reply.ensures.reply ns)
 
 pub returns-clause-known : goal.returns-clause-known
-returns-clause-known c =
+returns-clause-known g c =
     subst (AllKnown (plan_of c.args.plan.now) c.args.contents.now) (sym c.leave.ensures)
     (left_known (plan_of c.args.plan.now) c.args.contents.now c.args.call.now.moment c.args.call.now.number (operation_of c.args.call.now.asks) c.args.watches.now c.requires.known)
+
+pub returns-in_default-clause-steps : goal.returns-in_default-clause-steps
+returns-in_default-clause-steps g c = unmoved c.args.contents.now.tree.root c.args.steps.now c.refusal.result
