@@ -4,11 +4,11 @@
 # so it does where all growths behind that one are refused too. By `serve` the link on which the growth was refused ends, and
 # over a second link a Get of the root and a poll of a watch show the state as it was before the request that lost its answer,
 # or as that request leaves it, and the rest is answered as ever. Prints the number of growths, and where the runs ended.
-# usage: bench/growths.sh [--each N]      (1; with 10 each tenth growth)
+# usage: bench/growths.sh [--each N]      (1; with 10 each tenth growth; OBIX names another program than out/bin/obix)
 set -euo pipefail
 top=$(cd "$(dirname "$0")/.." && pwd)
 work=$(mktemp -d)
 trap 'rm -rf "$work"' EXIT
-"$top/obix" stdio "$top/examples/point.xml" </dev/null   # builds it where needed
+[ -n "${OBIX:-}" ] || "$top/obix" stdio "$top/examples/point.xml" </dev/null   # builds it where needed
 gcc -O2 -shared -fPIC -o "$work/refuse.so" "$top/bench/growths_refuse.c"
 python3 "$top/bench/growths.py" "${OBIX:-$top/out/bin/obix}" "$work/refuse.so" "$@"
