@@ -1,10 +1,12 @@
 //! Threads that share one machine: sums and minutes that a desk which answered from another state would tell otherwise,
-//! and the site of a plant, served to links of which one waits for the other.
+//! and the site of a plant, served to links of which one waits for the other. And a site of 5,000 points, alone.
 #![tactic(auto)]
 
 mod counter;
 #[cfg(test)]
 mod joined;
+#[cfg(test)]
+mod large;
 #[cfg(test)]
 mod links;
 #[cfg(test)]

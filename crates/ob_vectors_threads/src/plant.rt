@@ -32,17 +32,22 @@ const DOCUMENT: &str = "<obj href='http://h/obix/' is='obix:Lobby'>
 /// 2026-01-05T08:00:00Z, at which the plant is opened.
 pub(crate) const BOOT: u64 = 1_767_600_000_000;
 
-fn files(alloc: Global) -> Result<MemFiles, AllocError> {
-    let name = String::from_str(alloc, "plant")?;
-    let bytes = DOCUMENT.as_bytes().to_vec(alloc)?;
+fn files(alloc: Global, document: &str) -> Result<MemFiles, AllocError> {
+    let name = String::from_str(alloc, "site")?;
+    let bytes = document.as_bytes().to_vec(alloc)?;
     let mut files = Vec::new(alloc);
     files.push(NamedFile { name, bytes })?;
     Ok(MemFiles::new(files, Vec::new(alloc)))
 }
 
+/// What a document opens. None only where it opens nothing.
+pub(crate) fn open_document(alloc: Global, document: &str) -> Option<Loaded> {
+    let boot = Moment::new(BOOT)?;
+    let mut files = files(alloc, document).ok()?;
+    load(alloc, &mut files, "site", boot).ok()
+}
+
 /// The plant as it is opened. None only where it isn't.
 pub(crate) fn open_plant(alloc: Global) -> Option<Loaded> {
-    let boot = Moment::new(BOOT)?;
-    let mut files = files(alloc).ok()?;
-    load(alloc, &mut files, "plant", boot).ok()
+    open_document(alloc, DOCUMENT)
 }
