@@ -1,5 +1,6 @@
 """The runs of bench/audit.sh."""
 import os
+import subprocess
 import sys
 import tempfile
 
@@ -13,14 +14,15 @@ def asked(number):
 
 
 def run(words, given, written):
-    """Processor seconds of a run, the most memory that it had in MB, and its status."""
-    child = os.fork()
-    if child == 0:
-        os.dup2(os.open(given, os.O_RDONLY), 0)
-        os.dup2(os.open(written, os.O_WRONLY | os.O_CREAT | os.O_TRUNC), 1)
-        os.execv(program, [program, *words])
-    _, status, used = os.wait4(child, 0)
-    return used.ru_utime + used.ru_stime, used.ru_maxrss / 1024, os.waitstatus_to_exitcode(status)
+    """Processor seconds of a run, the most memory that it had in MB, and its status.
+
+    By `time`, as a child of this process would begin with the memory that Python has.
+    """
+    with open(given) as asked_of, open(written, "w") as told_by, tempfile.NamedTemporaryFile("r") as used:
+        timed = ["/usr/bin/time", "-q", "-f", "%U %S %M", "-o", used.name, program, *words]
+        status = subprocess.run(timed, stdin=asked_of, stdout=told_by).returncode
+        user, system, most = map(float, used.read().split())
+    return user + system, most / 1024, status
 
 
 def bodies(answers):

@@ -233,7 +233,10 @@ def follow(service, told):
     """Asks all, goes on over a second link where the first one ends, and gives the name of the request that lost it, if one did.
     Each answer has to be the one that comes with nothing refused."""
     lost = taken = None
-    service.connect()
+    try:
+        service.connect()
+    except ConnectionRefusedError:
+        return "opening"   # it listened, and had no memory to begin
     for place, (name, request) in enumerate(told.asked):
         allowed = {NOTHING if place == taken else told.answers[place]}
         try:

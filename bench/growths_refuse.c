@@ -8,6 +8,8 @@
 #include <stdint.h>
 #include <stdio.h>
 #include <stdlib.h>
+#include <sys/syscall.h>
+#include <unistd.h>
 
 extern void *__libc_malloc(size_t);
 extern void *__libc_realloc(void *, size_t);
@@ -47,6 +49,12 @@ __attribute__((destructor)) static void end(void) {
     fprintf(file, "%lu\n", atomic_load(&asked));
     fclose(file);
   }
+}
+
+/* The program ends by this, which calls no destructor. */
+void _exit(int status) {
+  end();
+  for (;;) syscall(SYS_exit_group, status);
 }
 
 static int is_refused(const void *caller) {

@@ -1,5 +1,6 @@
 """The runs of bench/site.sh."""
 import os
+import subprocess
 import sys
 import tempfile
 
@@ -24,15 +25,16 @@ def run(site, parts):
             file.write(requests * (count % block))
     with open(f"{folder.name}/site", "w", encoding="utf-8") as file:
         file.write(site)
-    child = os.fork()
-    if child == 0:
-        os.dup2(os.open(f"{folder.name}/in", os.O_RDONLY), 0)
-        os.dup2(os.open(f"{folder.name}/out", os.O_WRONLY | os.O_CREAT | os.O_TRUNC), 1)
-        os.execv(program, [program, "stdio", f"{folder.name}/site", "--at", "1767600000000", "--tick", "0"])
-    _, status, used = os.wait4(child, 0)
-    if os.waitstatus_to_exitcode(status) != 0:
-        sys.exit(f"status {os.waitstatus_to_exitcode(status)}")
-    return used.ru_utime + used.ru_stime, used.ru_maxrss / 1024, os.path.getsize(f"{folder.name}/out")
+    words = ["stdio", f"{folder.name}/site", "--at", "1767600000000", "--tick", "0"]
+    # by `time`, as a child of this process would begin with the memory that Python has
+    timed = ["/usr/bin/time", "-q", "-f", "%U %S %M", "-o", f"{folder.name}/used", program, *words]
+    with open(f"{folder.name}/in", "rb") as given, open(f"{folder.name}/out", "wb") as written:
+        status = subprocess.run(timed, stdin=given, stdout=written).returncode
+    if status != 0:
+        sys.exit(f"status {status}")
+    with open(f"{folder.name}/used") as file:
+        user, system, most = map(float, file.read().split())
+    return user + system, most / 1024, os.path.getsize(f"{folder.name}/out")
 
 
 def told(what, count, more, less, unit=1, name="request"):

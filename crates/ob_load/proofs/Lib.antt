@@ -1,2 +1,3 @@
 pub mod Contents
 pub mod LawLemmas
+pub mod Crossing

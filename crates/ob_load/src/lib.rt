@@ -6,5 +6,6 @@ mod reading;
 mod site;
 
 pub use laws::opened_is_not_refused;
+pub use ob_site::Site;
 pub use ob_site_file::LoadFault;
 pub use site::{Loaded, load};

@@ -12,7 +12,7 @@ use Rattle.ob_server.specs.Port.{HasPortCause, PortRose, ServesDoors}
 use Rattle.ob_server.specs.Working.{is_fault}
 use Rattle.ob_server.specs.declared.worker.WorkerEnd.{WorkerEnd}
 use Rattle.ob_server.specs.declared.worker.WorkerEnd.TheVariants as workers
-use Rattle.ob_site_desk.proofs.Seen.{keeps_watches}
+use Rattle.ob_seen_laws.proofs.Seen.{keeps_watches}
 use Rattle.ob_site_file.specs.declared.fault.LoadFault.{LoadFault}
 use Rattle.ob_site_laws.specs.SiteLaws.{acts, IsSoundSite}
 use Rattle.ob_site_rules.specs.Sites.{SiteState}

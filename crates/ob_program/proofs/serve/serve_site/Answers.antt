@@ -1,6 +1,6 @@
 use Rattle.std.proofs.Common.{option_copied, sym, ◌∙◌}
 use denote.Param.Send.{sendable}
-use Rattle.ob_site.proofs.Crossing.{site_send}
+use Rattle.ob_load.proofs.Crossing.{site_send}
 use Rattle.ob_program.proofs.ServingLemmas.{unlistened, unannounced, served_there, on_err}
 use Rattle.ob_program.proofs.serve.serve_site.Goals as goal
 

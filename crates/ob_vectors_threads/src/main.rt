@@ -14,4 +14,4 @@ mod plant;
 #[cfg(test)]
 mod turns;
 
-pub use counter::{Add, Counter, counted};
+fn main(_rt: HostRuntime) {}
