@@ -1,5 +1,5 @@
 -- Whether a node is in a contract, by the object in which the contracts stand.
-use Rattle.std.proofs.Common.{ℕ, ◌≡◌, ◌<◌, Bool, true, false, ◌||◌, [], Option, Some, None, option_map, refl, sym, ap, ap₂, ◌∙◌}
+use Rattle.std.proofs.Common.{ℕ, ◌≡◌, ◌<◌, Bool, true, false, ◌||◌, [], Option, Some, None, option_map, refl, sym, ap, ap₂, ◌∙◌, arith}
 use Rattle.std.specs.Prelude.{is_some, codes, unwrap_or}
 use Rattle.std.specs.List.{cons_option, list_any}
 use Rattle.ob_object.specs.Object.{Objects, none, node, Object, parts, listed, children}
@@ -14,6 +14,7 @@ use Rattle.ob_tree.specs.Laid.{paths}
 use Rattle.ob_tree.specs.Paths.{place_of, first_twice}
 use Rattle.ob_tree.specs.Shown.{row, part_at}
 use Rattle.ob_tree.proofs.Growing.{grows}
+use Rattle.ob_tree.proofs.Named.{child_within}
 use Rattle.ob_tree_bridges.specs.Contracted.{is_within, is_inside}
 use Rattle.ob_tree_bridges.proofs.Bridging.{nodes_numbered}
 use Rattle.ob_site_written.specs.Parts.{contracts_in}
@@ -86,3 +87,12 @@ not_inside o k n p at within out differ place = let g = grows o k within in outs
 pub no_contracts : (o : Object) (p : Path) → None ≡ child_at 0 (codes "contracts") o → is_in_contract p o ≡ false
 no_contracts o p at =
     ap (λ (cs : Contracts). list_any (λ c. is_some (node_of p c.1)) cs) (contracts_none o (child_not o (codes "contracts") at))
+
+-- where a node isn't in the root's own child of that name, if there is one, it is in no contract
+pub none_round : (o : Object) (n : ℕ) (p : Path) → ((k : ℕ) → Some k ≡ child_at 0 (codes "contracts") o → is_inside n k o ≡ false)
+    → first_twice [] (paths o) ≡ None → place_of p (paths o) ≡ Some n → is_in_contract p o ≡ false
+none_round o n p out differ place = go (child_at 0 (codes "contracts") o) refl
+  where
+    go : (c : Option ℕ) → c ≡ child_at 0 (codes "contracts") o → is_in_contract p o ≡ false
+    go None e = no_contracts o p e
+    go (Some k) e = not_inside o k n p e (child_within o 0 (codes "contracts") k (omega arith) (sym e)) (out k e) differ place

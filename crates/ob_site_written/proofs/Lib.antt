@@ -5,6 +5,7 @@ pub mod Passed
 pub mod Refused
 pub mod Otherwise
 pub mod Contracted
+pub mod Climbed
 pub mod Counting
 pub mod Taking
 pub mod Steps

@@ -10,14 +10,14 @@ use Rattle.ob_tree.specs.Shown.{part_in, part_at}
 use Rattle.ob_tree.proofs.Growing.{Grows, grows_for}
 
 -- the objects of a row are those of a tree from a number on
-abbrev Lies : Object → ℕ → Objects → Type 0
+abbrev pub Lies : Object → ℕ → Objects → Type 0
 Lies o from r = (i : ℕ) → i < count r → part_at (from + i) o ≡ part_in i r
 
-lies_first : (o : Object) (from : ℕ) (h : Head) (inner rest : Objects) → Lies o from (node h inner rest) → part_at from o ≡ Some (record { head = h; inner = inner })
+pub lies_first : (o : Object) (from : ℕ) (h : Head) (inner rest : Objects) → Lies o from (node h inner rest) → part_at from o ≡ Some (record { head = h; inner = inner })
 lies_first o from h inner rest lies =
     let here : from ≡ from + 0 = omega arith in ap (λ (m : ℕ). part_at m o) here ∙ lies 0 (omega arith)
 
-lies_rest : (o : Object) (from : ℕ) (h : Head) (inner rest : Objects) → Lies o from (node h inner rest) → Lies o (from + (count inner + 1)) rest
+pub lies_rest : (o : Object) (from : ℕ) (h : Head) (inner rest : Objects) → Lies o from (node h inner rest) → Lies o (from + (count inner + 1)) rest
 lies_rest o from h inner rest lies i lt =
     let one : from + (count inner + 1) + i ≡ from + suc (count inner + i) = omega arith in
     let past : count inner ≤ count inner + i = omega arith in
@@ -43,10 +43,13 @@ named_in o name from (node h inner rest) lies = go (has_name name h.name) (named
     go true later = lies_first o from h inner rest lies
     go false later = later
 
+-- the objects in the root are those from the first number on
+pub lies_in : (o : Object) → Lies o 1 o.inner
+lies_in o =
+    let g : Grows o 0 o = grows_for o o 0 (omega arith) refl in λ i lt. g.inside i (1 + i) (omega arith) lt
+
 child_named : (o : Object) (name : Text) → Named o (child_at 0 name o) (child name o)
-child_named o name =
-    let g : Grows o 0 o = grows_for o o 0 (omega arith) refl in
-    named_in o name 1 o.inner (λ i lt. g.inside i (1 + i) (omega arith) lt)
+child_named o name = named_in o name 1 o.inner (lies_in o)
 
 -- the child is the object of its number
 pub child_is : (o x : Object) (name : Text) (k : ℕ) → Some k ≡ child_at 0 name o → part_at k o ≡ Some x → child name o ≡ Some x

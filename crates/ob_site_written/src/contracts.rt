@@ -1,10 +1,11 @@
 //! The contracts of a site, and the library that they make.
-ghost use Rattle.std.specs.Prelude.{◌≡◌, ◌<◌, ◌∷◌, [], None, Some, false, codes, is_some, unwrap_or, Ok, IfOk, OnOk, OnErr, IfSome};
+ghost use Rattle.std.specs.Prelude.{◌≡◌, ◌<◌, ◌∷◌, [], ℕ, List, None, Some, false, true, codes, option_map, is_some, unwrap_or, Ok, IfOk, OnOk, OnErr, IfSome};
 ghost use Rattle.std.specs.List.{list_any};
 ghost use Rattle.ob_object.specs.Object.{parts};
 ghost use Rattle.ob_contracts.specs.Adding.{added};
 ghost use Rattle.ob_contracts.specs.Inherit.{Contracts};
 ghost use Rattle.ob_contracts.specs.Standard.{with_added, standard};
+ghost use Rattle.ob_tree.specs.Children.{child_at};
 ghost use Rattle.ob_tree.specs.Laid.{paths};
 ghost use Rattle.ob_tree.specs.Paths.{place_of, first_twice};
 ghost use Rattle.ob_tree_bridges.specs.Contracted.{is_inside};
@@ -88,13 +89,47 @@ fn may_be_inside(tree: &Tree, node: NodeId, round: NodeId) -> bool
     tree.place(node, round).is_some() || tree.len() >= 4_294_967_296
 }
 
-/// A copy of the root's own child `contracts`, with all that is in it; none where a node isn't in it.
+/// The child of the root that an object is or is in, climbed to; none for the root.
+fn top_of(tree: &Tree, node: NodeId) -> Option<NodeId>
+    requires { node.number < parts tree.now.root }
+    ensures top { (name : List ℕ) (k : ℕ) → Some k ≡ child_at 0 name tree.now.root → is_inside node.number k tree.now.root ≡ true → option_map (λ id. id.number) result ≡ Some k }
+    ensures within { IfSome result (λ top. top.number < parts tree.now.root) }
+{
+    match tree.parent(node) {
+        Some(round) => {
+            if round.number == 0 {
+                Some(node)
+            } else {
+                top_of(tree, round)
+            }
+        }
+        None => None,
+    }
+}
+
+/// Whether the child of the root that an object is or is in has a name: where the answer is no, the object isn't in the
+/// root's own child of that name.
+fn may_be_below(tree: &Tree, node: NodeId, name: &str) -> bool
+    requires { node.number < parts tree.now.root }
+    ensures { result ≡ false → (k : ℕ) → Some k ≡ child_at 0 name.now tree.now.root → is_inside node.number k tree.now.root ≡ false }
+{
+    match top_of(tree, node) {
+        Some(top) => tree.own(top).is_named(name),
+        None => false,
+    }
+}
+
+/// A copy of the root's own child `contracts`, with all that is in it; none where a node isn't in it. The children of the
+/// root are looked at only where the node is in one of that name.
 fn contracts_round(alloc: Global, tree: &Tree, node: NodeId) -> Result<Option<Obj>, AllocError>
     requires within { node.number < parts tree.now.root }
     requires differ { first_twice [] (paths tree.now.root) ≡ None }
     ensures some { IfOk result (λ found. IfSome found (λ o. child (codes "contracts") tree.now.root ≡ Some o)) }
     ensures none { IfOk result (λ found. found ≡ None → (p : Path) → place_of p (paths tree.now.root) ≡ Some node.number → is_in_contract p tree.now.root ≡ false) }
 {
+    if !may_be_below(tree, node, "contracts") {
+        return Ok(None);
+    }
     let root = NodeId { number: 0 };
     let Some(contracts) = tree.child(root, "contracts") else {
         return Ok(None);

@@ -1,8 +1,12 @@
 use Rattle.std.proofs.Common.{sym}
 use Rattle.std.specs.Prelude.{codes}
 use Rattle.ob_site_written.proofs.Named.{child_is}
-use Rattle.ob_site_written.proofs.Contracted.{not_inside, no_contracts}
+use Rattle.ob_site_written.proofs.Contracted.{not_inside, no_contracts, none_round}
 use Rattle.ob_site_written.proofs.contracts.contracts_round.Goals as goal
+
+pub returns-then-not-may_be_below-clause-none : goal.returns-then-not-may_be_below-clause-none
+returns-then-not-may_be_below-clause-none c = λ none p at.
+    none_round c.args.tree.now.root c.args.node.number p (c.may_be_below.ensures c.if-not-may_be_below.true) c.requires.differ at
 
 pub returns-in_default-clause-none : goal.returns-in_default-clause-none
 returns-in_default-clause-none c = λ none p at. no_contracts c.args.tree.now.root p c.in_default.ensures.child
