@@ -1,11 +1,11 @@
--- Places from the last one to the first.
-use Rattle.std.proofs.Common.{◌≡◌, ℕ, zero, suc, ◌+◌, ◌-◌, ◌<◌, ◌≤◌, Bool, true, false, ◌||◌, cond, List, [], ◌∷◌, map, length, drop, get_or, Option, Some, None, option_map, refl, sym, ap, ◌∙◌, arith, add-one}
+-- Places of elements in lists.
+use Rattle.std.proofs.Common.{◌≡◌, ℕ, zero, suc, ◌+◌, ◌-◌, ◌<◌, ◌≤◌, Bool, true, false, ◌||◌, cond, List, [], ◌∷◌, map, ◌++◌, length, take, drop, get_or, Option, Some, None, option_map, refl, sym, ap, ◌∙◌, arith, add-one}
 use Rattle.std.specs.Prelude.{is_some}
 use Rattle.std.specs.List.{list_any}
 use Rattle.std.proofs.Math.Seq.{drop-cons}
-use Rattle.std.proofs.lemmas.List.{drop_all}
+use Rattle.std.proofs.lemmas.List.{drop_all, length-take, map-append, take_more}
 use Rattle.ob_alarms.specs.Lists.{first_place}
-use Rattle.ob_site_roles.specs.Roles.{place_from}
+use Rattle.ob_site_roles.specs.Roles.{place_from, all_places}
 
 none_more : (o : Option ℕ) → option_map (λ n. n + 0) o ≡ o
 none_more None = refl
@@ -61,3 +61,33 @@ some_first f (x ∷ xs) = go (f x) (first_place f xs) (some_first f xs)
     go true o e = refl
     go false None e = e
     go false (Some n) e = e
+
+-- the places of elements and of one more behind them
+add_place : (b c : Bool) (n : ℕ) (ps qs : List ℕ) → qs ≡ cond b (ps ++ n ∷ []) ps
+    → cond c (0 ∷ map (λ k. k + 1) qs) (map (λ k. k + 1) qs) ≡ cond b (cond c (0 ∷ map (λ k. k + 1) ps) (map (λ k. k + 1) ps) ++ suc n ∷ []) (cond c (0 ∷ map (λ k. k + 1) ps) (map (λ k. k + 1) ps))
+add_place b c n ps qs e = ap (λ (rs : List ℕ). cond c (0 ∷ map (λ k. k + 1) rs) (map (λ k. k + 1) rs)) e ∙ go b c
+  where
+    one : map (λ k. k + 1) (ps ++ n ∷ []) ≡ map (λ k. k + 1) ps ++ suc n ∷ []
+    one = map-append (λ k. k + 1) ps (n ∷ []) ∙ ap (λ (m : ℕ). map (λ k. k + 1) ps ++ m ∷ []) (add-one n)
+
+    go : (b c : Bool) → cond c (0 ∷ map (λ k. k + 1) (cond b (ps ++ n ∷ []) ps)) (map (λ k. k + 1) (cond b (ps ++ n ∷ []) ps))
+        ≡ cond b (cond c (0 ∷ map (λ k. k + 1) ps) (map (λ k. k + 1) ps) ++ suc n ∷ []) (cond c (0 ∷ map (λ k. k + 1) ps) (map (λ k. k + 1) ps))
+    go true true = ap (λ (l : List ℕ). 0 ∷ l) one
+    go true false = one
+    go false c = refl
+
+places_last : {A : Type 0} (f : A → Bool) (xs : List A) (x : A) → all_places f (xs ++ x ∷ []) ≡ cond (f x) (all_places f xs ++ length xs ∷ []) (all_places f xs)
+places_last f [] x = refl
+places_last f (y ∷ xs) x = add_place (f x) (f y) (length xs) (all_places f xs) (all_places f (xs ++ x ∷ [])) (places_last f xs x)
+
+-- the places of one element more
+pub places_next : {A : Type 0} (f : A → Bool) (xs : List A) (n : ℕ) (x : A) (old new : List ℕ) → n < length xs → x ≡ get_or xs n x
+    → new ≡ cond (f x) (old ++ n ∷ []) old → old ≡ all_places f (take n xs) → new ≡ all_places f (take (n + 1) xs)
+places_next f xs n x old new lt is put so_far =
+    let len : length (take n xs) ≡ n = omega (arith, length-take n xs) in
+    let all : all_places f (take (n + 1) xs) ≡ all_places f (take n xs ++ x ∷ []) = ap (all_places f) (take_more xs n x lt ∙ ap (λ y. take n xs ++ y ∷ []) (sym is)) in
+    put
+    ∙ ap (λ (ps : List ℕ). cond (f x) (ps ++ n ∷ []) ps) so_far
+    ∙ ap (λ (m : ℕ). cond (f x) (all_places f (take n xs) ++ m ∷ []) (all_places f (take n xs))) (sym len)
+    ∙ sym (places_last f (take n xs) x)
+    ∙ sym all

@@ -4,20 +4,22 @@ ghost use Rattle.ob_alarms.specs.Lists.{first_place};
 ghost use Rattle.ob_answers.specs.Plans.{plan as plan_of};
 ghost use Rattle.ob_site_rules.specs.State.{Plan as SitePlan, is_among};
 ghost use Rattle.ob_site_rules.specs.Shown.{rule_of};
-ghost use Rattle.ob_site_roles.specs.Roles.{stands_at, AreRoles};
+ghost use Rattle.ob_site_roles.specs.Roles.{stands_at, recorders_of, AreRoles};
 
 use crate::places::{histories_by_path, leads, paths_by_path, rules_by_source};
+use crate::recorders::{places_at, recorders_by_source};
 use ob_answers::Plan;
 use ob_values::Text;
 use std::alloc::{AllocError, Global};
 use std::collections::BTreeMap;
 
 /// What a plan says of each path, for look-ups: the place of the rule of each source, of each point, and of the history
-/// at each path.
+/// at each path; and the places of the histories of each source.
 pub struct Roles {
     rules: BTreeMap<String, usize>,
     points: BTreeMap<String, usize>,
     histories: BTreeMap<String, usize>,
+    recorders: BTreeMap<String, Vec<usize>>,
 }
 
 impl Drop for Roles {
@@ -27,10 +29,12 @@ impl Drop for Roles {
             rules,
             points,
             histories,
+            recorders,
         } = self;
         drop(rules);
         drop(points);
         drop(histories);
+        drop(recorders);
     }
 }
 
@@ -42,10 +46,12 @@ impl Roles {
         let rules = rules_by_source(alloc, plan.rules.as_slice())?;
         let points = paths_by_path(alloc, plan.points.as_slice())?;
         let histories = histories_by_path(alloc, plan.histories.as_slice())?;
+        let recorders = recorders_by_source(alloc, plan.histories.as_slice())?;
         Ok(Roles {
             rules,
             points,
             histories,
+            recorders,
         })
     }
 
@@ -68,5 +74,12 @@ impl Roles {
         ensures { (plan : SitePlan) → AreRoles self.now plan → result ≡ first_place (stands_at path.now) plan.histories }
     {
         self.histories.get(path.as_str()).copied()
+    }
+
+    /// The places of the histories that record a node, in order.
+    pub fn recorders(&self, source: &Text) -> &[usize]
+        ensures { (plan : SitePlan) → AreRoles self.now plan → result.now ≡ recorders_of plan source.now }
+    {
+        places_at(&self.recorders, source)
     }
 }
