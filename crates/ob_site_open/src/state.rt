@@ -20,6 +20,7 @@ use crate::time::opening_time;
 use ob_history::Log;
 use ob_object::Obj;
 use ob_site_file::{LoadFault, Opened, opening};
+use ob_site_roles::Roles;
 use ob_site_state::{Contents, State};
 use ob_times::Moment;
 use ob_tree::{Tree, TreeFault};
@@ -81,6 +82,7 @@ pub fn state_of(
     let logs = logs_in(alloc, &opened)?;
     let board = board_of(alloc, &opened.plan)?;
     let capacities = capacities_in(alloc, &opened)?;
+    let roles = Roles::of(alloc, &opened.plan)?;
     let Opened {
         plan,
         library,
@@ -94,6 +96,7 @@ pub fn state_of(
         tree,
         logs,
         board,
+        roles,
     };
     Ok(State::new(alloc, plan, time, contents, capacities))
 }

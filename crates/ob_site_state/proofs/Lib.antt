@@ -12,5 +12,4 @@ pub mod Rests
 pub mod Storing
 pub mod Recording
 pub mod Aligned
-pub mod Rules
 pub mod Stepping

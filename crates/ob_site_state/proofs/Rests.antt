@@ -1,5 +1,8 @@
 -- What stays the same of the contents.
-use Rattle.std.proofs.Common.{◌∙◌}
+use Rattle.std.proofs.Common.{◌≡◌, ◌∙◌, sym, subst}
+use Rattle.ob_site_rules.specs.State.{Plan}
+use Rattle.ob_site_roles.specs.Roles.{AreRoles}
+use Rattle.ob_site_roles.specs.declared.roles.Roles.{Roles}
 use Rattle.ob_site_state.specs.declared.contents.Contents.{Contents}
 use Rattle.ob_site_state.specs.Contents.{SameRest}
 
@@ -9,4 +12,9 @@ rest_then a b c f g = record {
   steps = g.steps ∙ f.steps;
   root = g.root ∙ f.root;
   rules = g.rules ∙ f.rules;
+  roles = g.roles ∙ f.roles;
 }
+
+-- the same roles are those of the same plan
+pub roles_stay : (plan : Plan) (a b : Contents) → b.roles ≡ a.roles → AreRoles a.roles plan → AreRoles b.roles plan
+roles_stay plan a b same are = subst (λ (r : Roles). AreRoles r plan) (sym same) are

@@ -46,7 +46,7 @@ differ_of : (a b : ℕ) → nat_eq a b ≡ false → a ≡ b → ⊥
 differ_of a b e same = grind (arith, nat_tests)
 
 -- the history of another place has its log
-other_log : (f : Log → Log) (place i : ℕ) (ls : List (Path × Log)) → (i ≡ place → ⊥) → slice_get (with_log f place ls) i ≡ slice_get ls i
+pub other_log : (f : Log → Log) (place i : ℕ) (ls : List (Path × Log)) → (i ≡ place → ⊥) → slice_get (with_log f place ls) i ≡ slice_get ls i
 other_log f place i [] h = refl
 other_log f zero zero (l ∷ ls) h = absurd (h refl)
 other_log f zero (suc i) (l ∷ ls) h = refl

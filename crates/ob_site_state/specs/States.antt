@@ -1,5 +1,6 @@
 -- A `State` as contracts see it.
 use Rattle.ob_answers.specs.Plans.{plan as plan_of}
+use Rattle.ob_site_roles.specs.Roles.{AreRoles}
 use Rattle.ob_site_state.specs.declared.state.State.TheInside.{Inside}
 use Rattle.ob_site_state.specs.Changes.{rewound}
 use Rattle.ob_site_state.specs.Contents.{state_in}
@@ -17,7 +18,8 @@ kept a = record {
   steps = a.contents.tree.steps;
 }
 
--- Its parts owe one another what `IsKept` says, and its tally is that of its logs.
+-- Its parts owe one another what `IsKept` says, its tally is that of its logs, and its roles are those of its plan.
 pub record IsState (a : Inside) : Type 0 where
   pub kept : IsKept (plan_of a.plan) a.time (state_in a.contents) a.contents.board a.since a.found.items
   pub tallied : IsTallied a.tally (state_in a.contents).logs (rewound a.found.items (state_in a.contents)).logs
+  pub roles : AreRoles a.contents.roles (plan_of a.plan)

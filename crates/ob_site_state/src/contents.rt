@@ -1,4 +1,5 @@
-//! What changes of a site: its library, its own objects, the logs of its histories and its alarms.
+//! What changes of a site: its library, its own objects, the logs of its histories and its alarms; and the roles of its
+//! plan, by which it is looked up.
 ghost use Rattle.std.specs.Prelude.{◌≡◌, ℕ, All, ◌-◌, List, Option, ◌<◌, ◌≤◌, ◌+◌, ◌^◌, [], Bool, true, false, map, length, replicate, slice_get, Some, option_map, IsTrue, IfOk, OnOk, OnErr};
 ghost use Rattle.ob_object.specs.declared.head.Head.{Head};
 ghost use Rattle.ob_object.specs.Fits.{fits_slot};
@@ -22,17 +23,20 @@ use ob_alarms::{AckResult, Alarms, Num, Turned};
 use ob_contracts::Library;
 use ob_history::{Log, Record};
 use ob_object::Slot;
+use ob_site_roles::Roles;
 use ob_times::Moment;
 use ob_tree::{NodeId, Tree};
 use ob_values::Text;
 use std::alloc::AllocError;
 
-/// What changes of a site: the library, the own objects, the log of each history under its path, and the alarms.
+/// What changes of a site: the library, the own objects, the log of each history under its path, and the alarms. The roles
+/// are those of its plan, for look-ups; they never change.
 pub struct Contents {
     pub library: Library,
     pub tree: Tree,
     pub logs: Vec<(Text, Log)>,
     pub board: Alarms,
+    pub roles: Roles,
 }
 
 impl Drop for Contents {
@@ -43,11 +47,13 @@ impl Drop for Contents {
             tree,
             logs,
             board,
+            roles,
         } = self;
         drop(library);
         drop(tree);
         drop(logs);
         drop(board);
+        drop(roles);
     }
 }
 
@@ -239,6 +245,7 @@ impl Contents {
         ensures tree { self.new.tree ≡ after_step (map (λ node. node.number) changed.now) self.old.tree }
         ensures root { self.new.board.root ≡ self.old.board.root }
         ensures rules { self.new.board.rules ≡ self.old.board.rules }
+        ensures roles { self.new.roles ≡ self.old.roles }
     {
         end_step(&mut self.tree, changed);
     }
@@ -249,6 +256,7 @@ impl Contents {
         ensures tree { self.new.tree ≡ record self.old.tree { stamps = replicate (parts self.old.tree.root) 1; steps = 1 } }
         ensures root { self.new.board.root ≡ self.old.board.root }
         ensures rules { self.new.board.rules ≡ self.old.board.rules }
+        ensures roles { self.new.roles ≡ self.old.roles }
     {
         self.tree.renumber();
     }

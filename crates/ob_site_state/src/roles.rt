@@ -1,28 +1,13 @@
-//! What the plan says of a node: the rule that it has, and which histories record it.
-ghost use Rattle.std.specs.Prelude.{◌≡◌, ◌<◌, length, map, slice_get, Some};
-ghost use Rattle.ob_answers.specs.Plans.{point_rule};
+//! What a rule looks at, and which history records a node.
+ghost use Rattle.std.specs.Prelude.{◌≡◌, ◌<◌, length, slice_get, Some};
 ghost use Rattle.ob_site_rules.specs.Build.{Path};
 ghost use Rattle.ob_site_rules.specs.State.{is_path};
-ghost use Rattle.ob_site_rules.specs.Shown.{rule_of};
 ghost use Rattle.ob_site_rules.specs.Writes.{number_in};
-ghost use Rattle.ob_site_state.specs.Recorded.{rule_in, HasSource};
+ghost use Rattle.ob_site_state.specs.Recorded.{HasSource};
 
 use ob_alarms::Num;
-use ob_answers::PointRule;
 use ob_object::Slot;
 use ob_values::{Text, Value};
-
-/// The place of the rule that has this source.
-pub(crate) fn rule_of(rules: &[PointRule], source: &Text) -> Option<u64>
-    ensures { result ≡ rule_in (map point_rule rules.now) source.now }
-{
-    for (place, rule) in rules.iter().enumerate() {
-        if rule.source.as_str() == source.as_str() {
-            return Some(place as u64);
-        }
-    }
-    None
-}
 
 /// The number that a rule looks at.
 pub(crate) fn number_in(slot: &Slot) -> Option<Num>

@@ -18,7 +18,8 @@ ghost use Rattle.ob_answers.specs.Plans.{plan as plan_of};
 ghost use Rattle.ob_opened.specs.Laws.{Apart};
 ghost use Rattle.ob_site_rules.specs.Shown.{rule_of};
 ghost use Rattle.ob_state.specs.Fitting.{TakesIfRule};
-ghost use Rattle.ob_site_state.specs.Recorded.{recorded_at, TakesRecord};
+ghost use Rattle.ob_site_roles.specs.Roles.{recorders_of, AreRoles};
+ghost use Rattle.ob_site_state.specs.Recorded.{TakesRecord};
 ghost use Rattle.ob_site_state.specs.Changes.{with_log, rewound, CanRewind, AreTold, IsNode, HasEvents};
 ghost use Rattle.ob_site_state.specs.Stamping.{stamped_by};
 ghost use Rattle.ob_site_state.specs.Kept.{keys, log_of, LogsAreBy, IsSoundFor};
@@ -27,7 +28,7 @@ ghost use Rattle.ob_site_state.specs.Tallies.{capacities_of};
 
 use crate::change::Change;
 use crate::contents::Contents;
-use crate::roles::{has_source, number_in, rule_of};
+use crate::roles::{has_source, number_in};
 use crate::tally::Tally;
 use ob_alarms::{Alarms, Num};
 use ob_answers::Plan;
@@ -120,6 +121,7 @@ impl State {
         requires in_time { LogsAreBy time (state_in contents).logs }
         requires rolled { roll (state_in contents) ≡ state_in contents }
         requires sound { IsSoundFor (plan_of plan) (state_in contents) }
+        requires roles { AreRoles contents.roles (plan_of plan) }
         requires capacities { capacities_of (state_in contents).logs ≡ capacities.items }
         ensures { result ≡ record { plan = plan_of plan; time = time; now = state_in contents; since = time; before = state_in contents; stamps = contents.tree.stamps; steps = contents.tree.steps } }
     {
@@ -143,13 +145,14 @@ impl State {
     }
 
     /// What changes, as it is now: the library, the own objects, the logs and the alarms. Its alarms are those of the
-    /// plan's rules and root, and no two of its nodes have one path.
+    /// plan's rules and root, its roles are those of the plan, and no two of its nodes have one path.
     pub fn contents(&self) -> &Contents
         ensures value { state_in result.now ≡ self.now.now }
         ensures root { result.now.board.root ≡ self.now.plan.root }
         ensures rules { result.now.board.rules ≡ numbered_from 0 self.now.plan.rules }
         ensures stamps { result.now.tree.stamps ≡ self.now.stamps }
         ensures steps { result.now.tree.steps ≡ self.now.steps }
+        ensures roles { AreRoles result.now.roles self.now.plan }
         ensures differ { first_twice [] (paths result.now.tree.root) ≡ None }
     {
         &self.contents
@@ -357,25 +360,23 @@ impl State {
         has_source(&self.plan.histories, place, source)
     }
 
-    /// Puts a record of a value last in the log of a place, if the history records the node. Want of memory leaves all
-    /// as it was.
-    fn record_if(
-        &mut self,
-        place: usize,
-        source: &Text,
-        kind: Kind,
-        slot: &Slot,
-    ) -> Result<(), AllocError>
+    /// Puts a record of a copy of a value last in the log of a place. Want of memory leaves all as it was.
+    fn record_copy(&mut self, place: usize, kind: Kind, slot: &Slot) -> Result<(), AllocError>
         requires there { place < length self.old.now.logs }
-        requires takes { TakesRecord self.old.plan (record { time = moment_instant self.old.time; kind = kind; slot = slot.now }) source.now self.old.now.logs place }
-        ensures ok { OnOk result (self.new ≡ record self.old { now = record self.old.now { logs = recorded_at self.old.plan (record { time = moment_instant self.old.time; kind = kind; slot = slot.now }) source.now place self.old.now.logs } }) }
+        requires counted { (l : Path × SiteLog) → slice_get self.old.now.logs place ≡ Some l → events_ever l.1 + 1 < 2 ^ 63 }
+        requires is_record { IsRecord (record { time = moment_instant self.old.time; kind = kind; slot = slot.now }) }
+        ensures ok { OnOk result (self.new ≡ record self.old { now = record self.old.now { logs = with_log (with_record (record { time = moment_instant self.old.time; kind = kind; slot = slot.now })) place self.old.now.logs } }) }
         ensures err { OnErr result (self.new ≡ self.old) }
     {
-        if !self.records(place, source) {
-            return Ok(());
-        }
         let copy = slot.copy()?;
         self.record(place, kind, copy)
+    }
+
+    /// The places of the histories that record a node, in order.
+    pub fn recorders(&self, source: &Text) -> &[usize]
+        ensures { result.now ≡ recorders_of self.now.plan source.now }
+    {
+        self.contents.roles.recorders(source)
     }
 
     /// The number of histories.
@@ -391,11 +392,23 @@ impl State {
         ensures ok { OnOk result (self.new ≡ record self.old { now = record self.old.now { logs = recorded self.old.plan self.old.time source.now kind slot.now self.old.now.logs } }) }
         ensures err { OnErr result (self.new ≡ record self.old { now = self.new.now }) }
     {
-        let count = self.histories();
-        for place in 0..count {
-            self.record_if(place, source, kind, slot)?;
+        self.is_sound();
+        let count = self.recorders(source).len();
+        for next in 0..count {
+            let place = self.recorders(source)[next];
+            self.record_copy(place, kind, slot)?;
         }
         Ok(())
+    }
+
+    /// The place of the rule of a node, if it has one.
+    fn rule_of(&self, source: &Text) -> Option<u64>
+        ensures { result ≡ rule_of self.now.plan source.now }
+    {
+        match self.contents.roles.rule_of(source) {
+            Some(place) => Some(place as u64),
+            None => None,
+        }
     }
 
     /// Lets the rule of a node act on a value of it. Want of memory leaves all as it was.
@@ -404,7 +417,7 @@ impl State {
         ensures ok { OnOk result (self.new ≡ record self.old { now = with_board self.old.now (board_after self.old.plan self.old.now self.old.time source.now slot.now) }) }
         ensures err { OnErr result (self.new ≡ self.old) }
     {
-        match rule_of(&self.plan.rules, source) {
+        match self.rule_of(source) {
             Some(rule) => self.take_value(rule, number_in(slot)),
             None => Ok(()),
         }
@@ -416,7 +429,7 @@ impl State {
         ensures same { self.new ≡ self.old }
         ensures event { IfOk result (λ is. HasEvents is self.old.now (board_after self.old.plan self.old.now self.old.time source.now slot.now)) }
     {
-        match rule_of(&self.plan.rules, source) {
+        match self.rule_of(source) {
             Some(rule) => self.would_turn(rule, number_in(slot)),
             None => Ok(false),
         }

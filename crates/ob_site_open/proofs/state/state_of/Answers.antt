@@ -14,7 +14,7 @@ tree_of-requires c = tree_differ c.args.root.now c.args.boot c.args.opened c.hea
 
 pub new-requires-clause-histories : goal.new-requires-clause-histories
 new-requires-clause-histories c =
-    let made : Contents = record { library = c.args.opened.library; tree = c.in_ok-tree.tree; logs = c.in_ok-logs.logs; board = c.in_ok-board.board } in
+    let made : Contents = record { library = c.args.opened.library; tree = c.in_ok-tree.tree; logs = c.in_ok-logs.logs; board = c.in_ok-board.board; roles = c.in_ok-roles.roles } in
     histories c.args.root.now c.args.boot c.args.opened c.head-head.ensures.well_formed c.requires.counted c.requires.opens made
     (record { library = refl; tree = c.in_ok-tree.ensures.tree; logs = c.in_ok-logs.ensures.logs; nanos = c.in_ok-logs.ensures.nanos; board = c.in_ok-board.ensures })
 
@@ -23,26 +23,26 @@ new-requires-clause-apart c = apart c.args.root.now c.args.boot c.args.opened c.
 
 pub new-requires-clause-in_time : goal.new-requires-clause-in_time
 new-requires-clause-in_time c =
-    let made : Contents = record { library = c.args.opened.library; tree = c.in_ok-tree.tree; logs = c.in_ok-logs.logs; board = c.in_ok-board.board } in
+    let made : Contents = record { library = c.args.opened.library; tree = c.in_ok-tree.tree; logs = c.in_ok-logs.logs; board = c.in_ok-board.board; roles = c.in_ok-roles.roles } in
     in_time c.args.root.now c.args.boot c.args.opened c.head-head.ensures.well_formed c.requires.counted c.requires.opens made
     (record { library = refl; tree = c.in_ok-tree.ensures.tree; logs = c.in_ok-logs.ensures.logs; nanos = c.in_ok-logs.ensures.nanos; board = c.in_ok-board.ensures })
     c.time_of-time.result c.time_of-time.ensures
 
 pub new-requires-clause-rolled : goal.new-requires-clause-rolled
 new-requires-clause-rolled c =
-    let made : Contents = record { library = c.args.opened.library; tree = c.in_ok-tree.tree; logs = c.in_ok-logs.logs; board = c.in_ok-board.board } in
+    let made : Contents = record { library = c.args.opened.library; tree = c.in_ok-tree.tree; logs = c.in_ok-logs.logs; board = c.in_ok-board.board; roles = c.in_ok-roles.roles } in
     rolled c.args.root.now c.args.boot c.args.opened c.head-head.ensures.well_formed c.requires.counted c.requires.opens made
     (record { library = refl; tree = c.in_ok-tree.ensures.tree; logs = c.in_ok-logs.ensures.logs; nanos = c.in_ok-logs.ensures.nanos; board = c.in_ok-board.ensures })
 
 pub new-requires-clause-sound : goal.new-requires-clause-sound
 new-requires-clause-sound c =
-    let made : Contents = record { library = c.args.opened.library; tree = c.in_ok-tree.tree; logs = c.in_ok-logs.logs; board = c.in_ok-board.board } in
+    let made : Contents = record { library = c.args.opened.library; tree = c.in_ok-tree.tree; logs = c.in_ok-logs.logs; board = c.in_ok-board.board; roles = c.in_ok-roles.roles } in
     sound c.args.root.now c.args.boot c.args.opened c.head-head.ensures.well_formed c.requires.counted c.requires.opens made
     (record { library = refl; tree = c.in_ok-tree.ensures.tree; logs = c.in_ok-logs.ensures.logs; nanos = c.in_ok-logs.ensures.nanos; board = c.in_ok-board.ensures })
 
 pub new-requires-clause-capacities : goal.new-requires-clause-capacities
 new-requires-clause-capacities c =
-    let made : Contents = record { library = c.args.opened.library; tree = c.in_ok-tree.tree; logs = c.in_ok-logs.logs; board = c.in_ok-board.board } in
+    let made : Contents = record { library = c.args.opened.library; tree = c.in_ok-tree.tree; logs = c.in_ok-logs.logs; board = c.in_ok-board.board; roles = c.in_ok-roles.roles } in
     capacities c.args.root.now c.args.boot c.args.opened c.head-head.ensures.well_formed c.requires.counted c.requires.opens made
     (record { library = refl; tree = c.in_ok-tree.ensures.tree; logs = c.in_ok-logs.ensures.logs; nanos = c.in_ok-logs.ensures.nanos; board = c.in_ok-board.ensures })
     ∙ sym c.in_ok-capacities.ensures

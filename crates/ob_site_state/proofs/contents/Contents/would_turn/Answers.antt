@@ -25,4 +25,5 @@ returns-then-is_event-clause-rest c =
       steps = refl;
       root = ap (λ (x : Board). x.root) back ∙ ap (λ (x : Board). x.root) is ∙ kept.0 ∙ ap (λ (x : Board). x.root) c.reserve.ensures.stays;
       rules = ap (λ (x : Board). x.rules) back ∙ ap (λ (x : Board). x.rules) is ∙ kept.1 ∙ ap (λ (x : Board). x.rules) c.reserve.ensures.stays;
+      roles = refl;
     }

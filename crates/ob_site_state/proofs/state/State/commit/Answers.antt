@@ -10,6 +10,7 @@ use Rattle.ob_site_state.specs.States.{kept}
 use Rattle.ob_site_state.specs.Tallies.{IsTallied}
 use Rattle.ob_site_state.proofs.Settling.{settles, committed, ended_as}
 use Rattle.ob_site_state.proofs.Storing.{tallied_on}
+use Rattle.ob_site_state.proofs.Rests.{roles_stay}
 use Rattle.ob_site_state.proofs.state.State.commit.Goals as goal
 
 pub invariant_of-self : goal.invariant_of-self
@@ -28,6 +29,7 @@ invariant_of-self c =
       tallied =
           subst (λ (l : List Change). IsTallied (record a.tally { total_before = a.tally.total }) t.logs (rewound l t).logs) (sym c.clear.ensures.items)
           (tallied_on a.tally s.logs (rewound a.found.items s).logs t.logs (ap (λ (x : State). x.logs) is) c.self.invariant.tallied);
+      roles = roles_stay (plan_of a.plan) a.contents c.settle.new.self rest.roles c.self.invariant.roles;
     }
 
 pub returns : goal.returns

@@ -15,6 +15,7 @@ use Rattle.ob_site_state.specs.States.{kept}
 use Rattle.ob_site_state.proofs.Places.{follows_at}
 use Rattle.ob_site_state.proofs.Noting.{got_there, record_noted, record_back, before_as, seen_as}
 use Rattle.ob_site_state.proofs.Storing.{length-capacities, tallied_more}
+use Rattle.ob_site_state.proofs.Rests.{roles_stay}
 use Rattle.ob_site_state.proofs.state.State.record.Goals as goal
 
 pub record-requires-clause-in_order : goal.record-requires-clause-in_order
@@ -45,6 +46,7 @@ invariant_of-self-2 c =
           (before_as s t a.found.items items ch (record_back s t r c.args.place c.in_ok-len.len c.in_ok-len.ensures.len c.in_ok-len.ensures.ok)
           (c.push_reserved.ensures.items ∙ ap (λ (l : List Change). l ++ ch ∷ []) c.reserve.ensures.items)))
           c.self.invariant.tallied;
+      roles = roles_stay (plan_of a.plan) a.contents c.record.new.self rest.roles c.self.invariant.roles;
     }
 
 pub add-requires : goal.add-requires

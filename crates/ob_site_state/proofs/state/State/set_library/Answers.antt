@@ -25,6 +25,7 @@ invariant_of-self-2 c =
           tallied_as a.tally s.logs (rewound a.found.items s).logs t.logs (rewound items t).logs refl
           (ap (λ (x : State). x.logs) (before_as s t a.found.items items ch (library_back s t c.replace-library.result c.args.library c.replace-library.ensures.value is) all))
           c.self.invariant.tallied;
+      roles = c.self.invariant.roles;
     }
 
 pub returns-clause-ok : goal.returns-clause-ok

@@ -14,6 +14,7 @@ use Rattle.ob_site_state.specs.Changes.{rewound, IsNode}
 use Rattle.ob_site_state.proofs.Rewinding.{set_to}
 use Rattle.ob_site_state.proofs.Noting.{slot_noted, slot_back, before_as, seen_as}
 use Rattle.ob_site_state.proofs.Storing.{tallied_as}
+use Rattle.ob_site_state.proofs.Rests.{roles_stay}
 use Rattle.ob_site_state.proofs.state.State.set_slot.Goals as goal
 
 pub invariant_of-self-2 : goal.invariant_of-self-2
@@ -39,6 +40,7 @@ invariant_of-self-2 c =
           (before_as s t a.found.items items ch (slot_back s t c.args.node c.set-old.result c.args.slot within c.set-old.ensures.old c.set-old.ensures.new)
           (c.push_reserved.ensures.items ∙ ap (λ (l : List Change). l ++ ch ∷ []) c.reserve.ensures.items)))
           c.self.invariant.tallied;
+      roles = roles_stay (plan_of a.plan) a.contents c.set-old.new.self rest.roles c.self.invariant.roles;
     }
 
 pub returns-clause-ok : goal.returns-clause-ok

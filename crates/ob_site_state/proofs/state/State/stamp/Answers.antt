@@ -7,6 +7,7 @@ use Rattle.ob_site_state.specs.States.{kept}
 use Rattle.ob_site_state.specs.Tallies.{IsTallied}
 use Rattle.ob_site_state.proofs.Noting.{kept_same}
 use Rattle.ob_site_state.proofs.Stepping.{stamped_as}
+use Rattle.ob_site_state.proofs.Rests.{roles_stay}
 use Rattle.ob_site_state.proofs.state.State.stamp.Goals as goal
 
 pub invariant_of-self : goal.invariant_of-self
@@ -17,6 +18,7 @@ invariant_of-self c =
     let stays = c.stamp.ensures in record {
       kept = kept_same (plan_of a.plan) a.time s t a.contents.board c.stamp.new.self.board a.since a.found.items c.self.invariant.kept stays.root stays.rules stays.same;
       tallied = subst (λ (x : State). IsTallied a.tally x.logs (rewound a.found.items x).logs) (sym stays.same) c.self.invariant.tallied;
+      roles = roles_stay (plan_of a.plan) a.contents c.stamp.new.self stays.roles c.self.invariant.roles;
     }
 
 pub returns : goal.returns

@@ -16,6 +16,7 @@ use Rattle.ob_site_state.proofs.Noting.{event_noted, before_as, seen_as}
 use Rattle.ob_site_state.proofs.Newest.{value_newest}
 use Rattle.ob_site_state.proofs.Statuses.{value_told}
 use Rattle.ob_site_state.proofs.Storing.{tallied_as}
+use Rattle.ob_site_state.proofs.Rests.{roles_stay}
 use Rattle.ob_site_state.proofs.state.State.take_value.Goals as goal
 
 pub invariant_of-self-then-is_event : goal.invariant_of-self-then-is_event
@@ -42,6 +43,7 @@ invariant_of-self-then-is_event c =
           (ap (λ (x : State). x.logs)
           (before_as s t a.found.items items ch adds.1 (c.push_reserved.ensures.items ∙ ap (λ (l : List Change). l ++ ch ∷ []) c.reserve.ensures.items)))
           c.self.invariant.tallied;
+      roles = roles_stay (plan_of a.plan) a.contents c.take_value.new.self rest.roles c.self.invariant.roles;
     }
 
 pub returns-then-is_event-clause-ok : goal.returns-then-is_event-clause-ok
