@@ -1,5 +1,5 @@
 -- What one more value stores, and whether it can be counted.
-use Rattle.std.proofs.Common.{◌≡◌, ℕ, zero, suc, ◌+◌, ◌-◌, ◌<◌, ◌≤◌, ◌^◌, min, Bool, true, false, not, ◌&&◌, ◌||◌, cond, List, [], ◌∷◌, length, take, drop, Some, refl, sym, ap, ap₂, ◌∙◌, arith, length-append, add-one}
+use Rattle.std.proofs.Common.{◌≡◌, ℕ, zero, suc, ◌+◌, ◌-◌, ◌<◌, ◌≤◌, ◌^◌, min, Bool, true, false, not, ◌&&◌, ◌||◌, cond, List, [], ◌∷◌, length, Some, refl, sym, ap, ap₂, ◌∙◌, arith, length-append}
 use Rattle.std.specs.Prelude.{slice_get, is_none, nat_le, nat_lt}
 use Rattle.std.specs.List.{list_any}
 use Rattle.std.proofs.lemmas.Bool.{lt-ltb, ltb-true, ltb-false}
@@ -18,28 +18,6 @@ use Rattle.ob_state.specs.States.{AreCounted}
 use Rattle.ob_site_state.specs.Changes.{HasEvents}
 use Rattle.ob_site_state.proofs.Storing.{stored_one}
 use Rattle.ob_site_written.specs.Limits.{grows, growing, is_counted_out, any_counted_out}
-
--- the histories that keep all their records, as far as they were looked at
-pub growing_more : (plan : Plan) (source : Path) (ls : List (Path × Log)) (i : ℕ) (l : Path × Log) → slice_get ls i ≡ Some l
-    → growing plan source (take (i + 1) ls) ≡ growing plan source (take i ls) + cond (grows plan source l) 1 0
-growing_more plan source ls i l e = ap (λ (n : ℕ). growing plan source (take n ls)) (add-one i) ∙ go ls i e
-  where
-    go : (ls : List (Path × Log)) (i : ℕ) → slice_get ls i ≡ Some l → growing plan source (take (suc i) ls) ≡ growing plan source (take i ls) + cond (grows plan source l) 1 0
-    go [] i e = absurd cc
-    go (x ∷ ls) zero e =
-        let same : x ≡ l = cc in
-        let one : cond {A = ℕ} (grows plan source x) 1 0 ≡ cond {A = ℕ} (grows plan source l) 1 0 = ap (λ (y : Path × Log). cond {A = ℕ} (grows plan source y) 1 0) same in
-        omega arith
-    go (x ∷ ls) (suc i) e = omega (arith, go ls i e)
-
--- a test of the histories, from a place on
-pub any_next : {A : Type 0} (f : A → Bool) (xs : List A) (i : ℕ) (x : A) → slice_get xs i ≡ Some x → list_any f (drop i xs) ≡ (f x || list_any f (drop (i + 1) xs))
-any_next f xs i x e = go xs i e ∙ ap (λ (n : ℕ). f x || list_any f (drop n xs)) (sym (add-one i))
-  where
-    go : (xs : List _) (i : ℕ) → slice_get xs i ≡ Some x → list_any f (drop i xs) ≡ (f x || list_any f (drop (suc i) xs))
-    go [] i e = absurd cc
-    go (y ∷ xs) zero e = let same : y ≡ x = cc in ap (λ z. f z || list_any f xs) same
-    go (y ∷ xs) (suc i) e = go xs i e
 
 neither : (a b : Bool) → (a || b) ≡ false → (a ≡ false) × (b ≡ false)
 neither true b h = absurd cc

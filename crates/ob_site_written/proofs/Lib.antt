@@ -7,5 +7,6 @@ pub mod Otherwise
 pub mod Contracted
 pub mod Climbed
 pub mod Counting
+pub mod Selected
 pub mod Taking
 pub mod Steps

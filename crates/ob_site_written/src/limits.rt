@@ -1,12 +1,11 @@
 //! Whether what a write or an acknowledgement stores would be too much.
-ghost use Rattle.std.specs.Prelude.{◌≡◌, ◌<◌, ◌≤◌, cond, length, slice_get, Some, Option, List, ℕ, IfOk};
-ghost use Rattle.ob_site_rules.specs.Build.{Path};
-ghost use Rattle.ob_site_rules.specs.State.{Log as SiteLog, numbered_from, board};
+ghost use Rattle.std.specs.Prelude.{◌≡◌, ◌≤◌, cond, length, Option, List, ℕ, IfOk};
+ghost use Rattle.ob_site_rules.specs.State.{numbered_from, board};
 ghost use Rattle.ob_site_rules.specs.Shown.{rule_of};
 ghost use Rattle.ob_site_rules.specs.Writes.{is_over, overfills};
 ghost use Rattle.ob_site_rules.specs.Posts.{acked};
 ghost use Rattle.ob_state.specs.Fitting.{TakesIfRule};
-ghost use Rattle.ob_site_written.specs.Limits.{grows, growing, is_counted_out, any_counted_out};
+ghost use Rattle.ob_site_written.specs.Limits.{growing, any_counted_out};
 
 use crate::slots::same_slot;
 use ob_object::{Head, Slot};
@@ -21,42 +20,28 @@ fn one_if(is_so: bool) -> u64
     if is_so { 1 } else { 0 }
 }
 
-/// Whether the history of a place records a node and keeps all its records.
-fn grows(state: &State, source: &Text, place: usize) -> bool
-    requires { place < length state.now.now.logs }
-    ensures { (l : Path × SiteLog) → slice_get state.now.now.logs place ≡ Some l → result ≡ grows state.now.plan source.now l }
-{
-    state.records(place, source) && state.keeps_all(place)
-}
-
 /// How many histories of a node keep all their records: so many more records a value of it stores.
 fn growing(state: &State, source: &Text) -> u64
     ensures value { result ≡ growing state.now.plan source.now state.now.now.logs }
     ensures few { result ≤ length state.now.now.logs }
 {
+    state.is_sound();
     let mut count: u64 = 0;
-    let histories = state.histories();
-    for place in 0..histories {
-        count += one_if(grows(state, source, place));
+    let recorders = state.recorders(source);
+    for place in recorders {
+        count += one_if(state.keeps_all(*place));
     }
     count
-}
-
-/// Whether the history of a place records a node and has had as many events as can be counted.
-fn is_counted_out(state: &State, source: &Text, place: usize) -> bool
-    requires { place < length state.now.now.logs }
-    ensures { (l : Path × SiteLog) → slice_get state.now.now.logs place ≡ Some l → result ≡ is_counted_out state.now.plan source.now l }
-{
-    state.records(place, source) && state.events_ever(place) >= 9_223_372_036_854_775_807
 }
 
 /// Whether a history of a node has had as many events as can be counted.
 fn any_counted_out(state: &State, source: &Text) -> bool
     ensures { result ≡ any_counted_out state.now.plan source.now state.now.now.logs }
 {
-    let histories = state.histories();
-    for place in 0..histories {
-        if is_counted_out(state, source, place) {
+    state.is_sound();
+    let recorders = state.recorders(source);
+    for place in recorders {
+        if state.events_ever(*place) >= 9_223_372_036_854_775_807 {
             return true;
         }
     }
