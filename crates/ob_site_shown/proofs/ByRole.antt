@@ -1,9 +1,8 @@
--- What is shown by the roles of some nodes, one after another.
-use Rattle.std.proofs.Common.{◌≡◌, ℕ, zero, suc, ◌+◌, ◌<◌, ◌≤◌, true, false, List, [], ◌∷◌, map, length, drop, get_or, Option, Some, None, option_map, refl, sym, ap, ◌∙◌, subst, arith, add-one, drop-cons}
+-- What is shown by the roles of a node, or else by those of others.
+use Rattle.std.proofs.Common.{◌≡◌, ℕ, true, false, List, [], ◌∷◌, ◌++◌, Option, Some, None, option_map, refl, sym, ap, ◌∙◌, subst, ◌⊎◌, inl, inr}
 use Rattle.std.specs.Prelude.{is_some, option_and_then, slice_get}
 use Rattle.ob_object.specs.declared.head.Head.{Head}
 use Rattle.ob_object.specs.Object.{Object, in_row}
-use Rattle.ob_history.specs.Logs.{History}
 use Rattle.ob_site_rules.specs.Build.{Path}
 use Rattle.ob_site_rules.specs.State.{Plan, State}
 use Rattle.ob_site_rules.specs.Shown.{dressed, derived_at, shown}
@@ -16,8 +15,9 @@ use Rattle.ob_tree.specs.Paths.{place_of}
 use Rattle.ob_tree.specs.Shown.{standing_at}
 use Rattle.ob_tree_bridges.specs.OwnTree.{own_shown_at}
 use Rattle.ob_tree_bridges.proofs.Owned.{own_trees_tell}
-use Rattle.ob_site_state.specs.Kept.{entry_of, keys}
-use Rattle.ob_site_shown.specs.Deriving.{IsOff, AreOff, IsAmong, ShownOr}
+use Rattle.ob_site_shown.specs.Deriving.{IsOff, IsOffBelow, IsAmong, ShownOr}
+use Rattle.ob_site_shown.specs.Parents.{IsParent}
+use Rattle.ob_site_shown.proofs.Slashes.{at_parent, no_parent}
 
 -- no own node is there
 pub not_there : (plan : Plan) (s : State) (p q : Path) → None ≡ place_of q (paths s.tree) → IsOff plan s p q
@@ -59,41 +59,16 @@ pub or_else_that : (plan : Plan) (s : State) (p : Path) (a b : Type 0) (o : Opti
 or_else_that plan s p a b None f is = f is
 or_else_that plan s p a b (Some x) f is = is
 
--- of paths one after another
-pub one_more : (plan : Plan) (s : State) (p : Path) (qs : List Path) (i : ℕ) (q : Path) → i < length qs → q ≡ get_or qs i q → IsOff plan s p q
-    → (AreOff plan s p (drop i qs) → AreOff plan s p qs) → AreOff plan s p (drop (i + 1) qs) → AreOff plan s p qs
-one_more plan s p qs i q lt is off so_far rest =
-    so_far
-    (subst (AreOff plan s p) (sym (drop-cons qs i q lt ∙ ap (λ y. y ∷ drop (suc i) qs) (sym is)))
-    (off, subst (λ (n : ℕ). AreOff plan s p (drop n qs)) (add-one i) rest))
-
-pub no_more : (plan : Plan) (s : State) (p : Path) (qs : List Path) (i : ℕ) → length qs ≤ i → (AreOff plan s p (drop i qs) → AreOff plan s p qs) → AreOff plan s p qs
-no_more plan s p qs i le so_far = so_far (ended qs i le)
+-- the node that a path can be derived in has another path's front, with a slash behind it or without
+pub off_parent : (plan : Plan) (s : State) (p front : Path) → IsParent p (Some front) → IsOff plan s p front → IsOff plan s p (front ++ 47 ∷ []) → IsOffBelow plan s p
+off_parent plan s p front is plain slashed q name free e = go (at_parent p q name front is free e)
   where
-    ended : (qs : List Path) (i : ℕ) → length qs ≤ i → AreOff plan s p (drop i qs)
-    ended [] zero h = tt
-    ended [] (suc i) h = tt
-    ended (q ∷ qs) zero h = absurd (omega arith)
-    ended (q ∷ qs) (suc i) h = ended qs i (omega arith)
+    go : (q ≡ front) ⊎ (q ≡ front ++ 47 ∷ []) → IsOff plan s p q
+    go (inl same) = subst (IsOff plan s p) (sym same) plain
+    go (inr same) = subst (IsOff plan s p) (sym same) slashed
 
-abbrev pub keys_of : List (Path × History) → List Path
-keys_of ls = keys (map entry_of ls)
-
-pub one_log_more : (plan : Plan) (s : State) (p : Path) (ls : List (Path × History)) (i : ℕ) (l : Path × History) → i < length ls → l ≡ get_or ls i l → IsOff plan s p l.0
-    → (AreOff plan s p (keys_of (drop i ls)) → AreOff plan s p (keys_of ls)) → AreOff plan s p (keys_of (drop (i + 1) ls)) → AreOff plan s p (keys_of ls)
-one_log_more plan s p ls i l lt is off so_far rest =
-    so_far
-    (subst (λ (k : List (Path × History)). AreOff plan s p (keys_of k)) (sym (drop-cons ls i l lt ∙ ap (λ y. y ∷ drop (suc i) ls) (sym is)))
-    (off, subst (λ (n : ℕ). AreOff plan s p (keys_of (drop n ls))) (add-one i) rest))
-
-pub no_log_more : (plan : Plan) (s : State) (p : Path) (ls : List (Path × History)) (i : ℕ) → length ls ≤ i → (AreOff plan s p (keys_of (drop i ls)) → AreOff plan s p (keys_of ls)) → AreOff plan s p (keys_of ls)
-no_log_more plan s p ls i le so_far = so_far (ended ls i le)
-  where
-    ended : (ls : List (Path × History)) (i : ℕ) → length ls ≤ i → AreOff plan s p (keys_of (drop i ls))
-    ended [] zero h = tt
-    ended [] (suc i) h = tt
-    ended (l ∷ ls) zero h = absurd (omega arith)
-    ended (l ∷ ls) (suc i) h = ended ls i (omega arith)
+pub off_no_parent : (plan : Plan) (s : State) (p : Path) → IsParent p None → IsOffBelow plan s p
+off_no_parent plan s p none q name free e = absurd (no_parent p q name none e)
 
 -- where neither an own node nor a role has a path, nothing is shown
 pub nothing : (plan : Plan) (s : State) (p : Path) (o : Option Object) → None ≡ place_of p (paths s.tree) → ShownOr plan s p (IsNotDerived plan s p (row s.tree)) o → o ≡ shown plan s p

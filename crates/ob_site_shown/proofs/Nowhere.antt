@@ -1,6 +1,6 @@
--- Where the roles of no node that has one derive a path, no role does.
-use Rattle.std.proofs.Common.{◌≡◌, ℕ, Bool, true, false, cond, ◌&&◌, ◌||◌, List, [], ◌∷◌, ◌++◌, length, Option, Some, None, option_map, refl, sym, ap, ap₂, ◌∙◌, subst, append_assoc, arith}
-use Rattle.std.specs.Prelude.{is_some, codes, nat_eq, find, option_to_list}
+-- Where neither the root derives a path nor a node in front of it, no role does.
+use Rattle.std.proofs.Common.{◌≡◌, ℕ, Bool, true, false, cond, ◌&&◌, ◌||◌, List, [], ◌∷◌, ◌++◌, length, Option, Some, None, refl, sym, ap, ap₂, ◌∙◌, subst, append_assoc, arith}
+use Rattle.std.specs.Prelude.{is_some, codes, nat_eq}
 use Rattle.std.specs.List.{starts_with}
 use Rattle.std.specs.Str.{bytes_eq}
 use Rattle.std.proofs.lemmas.Bool.Decides.{nat_tests}
@@ -16,8 +16,8 @@ use Rattle.ob_shown_laws.proofs.Touches.{bytes_itself, or_left, or_right}
 use Rattle.ob_shown_laws.proofs.Looking.{at_path}
 use Rattle.ob_shown_laws.proofs.Numbering.{number_there}
 use Rattle.ob_tree_bridges.proofs.Places.{place_at}
-use Rattle.ob_site_state.specs.Kept.{keys}
-use Rattle.ob_site_shown.specs.Deriving.{IsOff, AreOff}
+use Rattle.ob_site_shown.specs.Deriving.{IsOff, IsOffBelow}
+use Rattle.ob_site_shown.specs.Parents.{has_slash}
 
 some_same : {a b : Path} → Some a ≡ Some b → a ≡ b
 some_same e = cc
@@ -73,78 +73,50 @@ lobby_off plan p q e f =
     let off : starts_with nat_eq p plan.root ≡ false = subst (λ (r : Path). starts_with nat_eq p r ≡ false) root e in
     ap (λ (b : Bool). b || false) (not_at plan.root (codes "batch") p off)
 
-history_off : (p q : Path) (o : Option Log) → starts_with nat_eq p q ≡ false → is_in p (in_row (history_part q o)) ≡ false
-history_off p q None e = refl
-history_off p q (Some l) e = ap₂ (λ (a b : Bool). a || (b || false)) (below_off q (codes "query") p e) (below_off q (codes "feed") p e)
+history_off : (p q : Path) (o : Option Log) → bytes_eq (below q (codes "query")) p ≡ false → bytes_eq (below q (codes "feed")) p ≡ false → is_in p (in_row (history_part q o)) ≡ false
+history_off p q None e f = refl
+history_off p q (Some l) e f = ap₂ (λ (a b : Bool). a || (b || false)) e f
 
--- a path that doesn't begin with that of a node is none that its roles derive
-pub starts_off : (plan : Plan) (s : State) (p q : Path) → starts_with nat_eq p q ≡ false → is_in p (in_row (derived_at plan s q)) ≡ false
-starts_off plan s p q e =
+-- a node derives no path but those of its children by each role
+children_off : (plan : Plan) (s : State) (p q : Path) → ((plan.lobby && bytes_eq q plan.root) ≡ true → is_in p (in_row (lobby_children plan)) ≡ false)
+    → bytes_eq (below q (codes "writePoint")) p ≡ false → bytes_eq (below q (codes "query")) p ≡ false → bytes_eq (below q (codes "feed")) p ≡ false → is_in p (in_row (derived_at plan s q)) ≡ false
+children_off plan s p q no_lobby no_point no_query no_feed =
     let subject : List Object = cond (is_path q plan.subject) (subject_children q (length s.alarms)) [] in
     let history : List Object = history_part q (at q s.logs) in
     let point : List Object = cond (is_among q plan.points) (write_point_op q ∷ []) [] in
     let lobby : List Object = cond (plan.lobby && bytes_eq q plan.root) (lobby_children plan) [] in
-    off_both p lobby (point ++ (history ++ subject))
-    (off_if p (plan.lobby && bytes_eq q plan.root) (lobby_children plan) (λ f. lobby_off plan p q e f))
-    (off_both p point (history ++ subject)
-    (off_if p (is_among q plan.points) (write_point_op q ∷ []) (λ f. ap (λ (b : Bool). b || false) (below_off q (codes "writePoint") p e)))
-    (off_both p history subject (history_off p q (at q s.logs) e)
-    (off_if p (is_path q plan.subject) (subject_children q (length s.alarms)) (λ f.
-    ap₂ (λ (a b : Bool). a || (b || false)) (below_off q (codes "query") p e) (below_off q (codes "feed") p e)))))
+    off_both p lobby (point ++ (history ++ subject)) (off_if p (plan.lobby && bytes_eq q plan.root) (lobby_children plan) no_lobby)
+    (off_both p point (history ++ subject) (off_if p (is_among q plan.points) (write_point_op q ∷ []) (λ f. ap (λ (b : Bool). b || false) no_point))
+    (off_both p history subject (history_off p q (at q s.logs) no_query no_feed)
+    (off_if p (is_path q plan.subject) (subject_children q (length s.alarms)) (λ f. ap₂ (λ (a b : Bool). a || (b || false)) no_query no_feed))))
 
--- where a path is one of these
-among : (plan : Plan) (s : State) (p q : Path) (qs : List Path) → AreOff plan s p qs → is_among q qs ≡ true → IsOff plan s p q
-among plan s p q [] off e = absurd cc
-among plan s p q (r ∷ qs) off e = go (bytes_eq r q) refl e (λ f. among plan s p q qs off.1 f)
+-- a path that doesn't begin with that of a node is none that its roles derive
+pub starts_off : (plan : Plan) (s : State) (p q : Path) → starts_with nat_eq p q ≡ false → is_in p (in_row (derived_at plan s q)) ≡ false
+starts_off plan s p q e =
+    children_off plan s p q (λ f. lobby_off plan p q e f) (below_off q (codes "writePoint") p e) (below_off q (codes "query") p e) (below_off q (codes "feed") p e)
+
+is_below : (plan : Plan) (s : State) (p q name : Path) → IsOffBelow plan s p → has_slash name ≡ false → bytes_eq (below q name) p ≡ true → IsOff plan s p q
+is_below plan s p q name off free e = off q name free (same (below q name) p e)
+
+-- the root derives children as a lobby, and each other node such ones alone as have its path and a name
+off_any : (plan : Plan) (s : State) (p q : Path) → IsOff plan s p plan.root → IsOffBelow plan s p → IsOff plan s p q
+off_any plan s p q root off = by_root (plan.lobby && bytes_eq q plan.root) refl
   where
-    go : (b : Bool) → bytes_eq r q ≡ b → (b || is_among q qs) ≡ true → (is_among q qs ≡ true → IsOff plan s p q) → IsOff plan s p q
-    go true f e later = subst (IsOff plan s p) (same r q f) off.0
-    go false f e later = later e
+    by_feed : (b : Bool) → bytes_eq (below q (codes "feed")) p ≡ b → (plan.lobby && bytes_eq q plan.root) ≡ false → bytes_eq (below q (codes "writePoint")) p ≡ false → bytes_eq (below q (codes "query")) p ≡ false → IsOff plan s p q
+    by_feed true h e f g = is_below plan s p q (codes "feed") off refl h
+    by_feed false h e f g = λ here. children_off plan s p q (λ t. absurd cc) f g h
 
-in_logs : (plan : Plan) (s : State) (p q : Path) (ls : List (Path × Log)) (l : Log) → AreOff plan s p (keys ls) → at q ls ≡ Some l → IsOff plan s p q
-in_logs plan s p q [] l off e = absurd cc
-in_logs plan s p q (k ∷ ls) l off e = go (bytes_eq k.0 q) refl e (λ f. in_logs plan s p q ls l off.1 f)
-  where
-    go : (b : Bool) → bytes_eq k.0 q ≡ b → option_map (λ (x : Path × Log). x.1) (cond b (Some k) (find (λ x. bytes_eq x.0 q) ls)) ≡ Some l → (at q ls ≡ Some l → IsOff plan s p q) → IsOff plan s p q
-    go true f e later = subst (IsOff plan s p) (same k.0 q f) off.0
-    go false f e later = later e
+    by_query : (b : Bool) → bytes_eq (below q (codes "query")) p ≡ b → (plan.lobby && bytes_eq q plan.root) ≡ false → bytes_eq (below q (codes "writePoint")) p ≡ false → IsOff plan s p q
+    by_query true g e f = is_below plan s p q (codes "query") off refl g
+    by_query false g e f = by_feed (bytes_eq (below q (codes "feed")) p) refl e f g
 
-of_subject : (plan : Plan) (s : State) (p q : Path) (o : Option Path) → AreOff plan s p (option_to_list o) → is_path q o ≡ true → IsOff plan s p q
-of_subject plan s p q None off e = absurd cc
-of_subject plan s p q (Some r) off e = subst (IsOff plan s p) (same r q e) off.0
-
--- a node without a role derives nothing
-no_roles : (plan : Plan) (s : State) (p q : Path) → (plan.lobby && bytes_eq q plan.root) ≡ false → is_among q plan.points ≡ false → at q s.logs ≡ None → is_path q plan.subject ≡ false
-    → is_in p (in_row (derived_at plan s q)) ≡ false
-no_roles plan s p q e f g h =
-    let subject : List Object = cond (is_path q plan.subject) (subject_children q (length s.alarms)) [] in
-    let history : List Object = history_part q (at q s.logs) in
-    let point : List Object = cond (is_among q plan.points) (write_point_op q ∷ []) [] in
-    ap (λ (b : Bool). is_in p (in_row (cond b (lobby_children plan) [] ++ (point ++ (history ++ subject))))) e
-    ∙ ap (λ (b : Bool). is_in p (in_row (cond b (write_point_op q ∷ []) [] ++ (history ++ subject)))) f
-    ∙ ap (λ (o : Option Log). is_in p (in_row (history_part q o ++ subject))) g
-    ∙ ap (λ (b : Bool). is_in p (in_row (cond b (subject_children q (length s.alarms)) []))) h
-
--- the root, the points, the histories and the alarm subject have roles, and no other node has
-off_any : (plan : Plan) (s : State) (p q : Path) → IsOff plan s p plan.root → AreOff plan s p plan.points → AreOff plan s p (keys s.logs) → AreOff plan s p (option_to_list plan.subject)
-    → IsOff plan s p q
-off_any plan s p q root points logs subject = by_root (plan.lobby && bytes_eq q plan.root) refl
-  where
-    by_subject : (b : Bool) → is_path q plan.subject ≡ b → (plan.lobby && bytes_eq q plan.root) ≡ false → is_among q plan.points ≡ false → at q s.logs ≡ None → IsOff plan s p q
-    by_subject true h e f g = of_subject plan s p q plan.subject subject h
-    by_subject false h e f g = λ here. no_roles plan s p q e f g h
-
-    by_log : (o : Option Log) → at q s.logs ≡ o → (plan.lobby && bytes_eq q plan.root) ≡ false → is_among q plan.points ≡ false → IsOff plan s p q
-    by_log (Some l) g e f = in_logs plan s p q s.logs l logs g
-    by_log None g e f = by_subject (is_path q plan.subject) refl e f g
-
-    by_point : (b : Bool) → is_among q plan.points ≡ b → (plan.lobby && bytes_eq q plan.root) ≡ false → IsOff plan s p q
-    by_point true f e = among plan s p q plan.points points f
-    by_point false f e = by_log (at q s.logs) refl e f
+    by_point : (b : Bool) → bytes_eq (below q (codes "writePoint")) p ≡ b → (plan.lobby && bytes_eq q plan.root) ≡ false → IsOff plan s p q
+    by_point true f e = is_below plan s p q (codes "writePoint") off refl f
+    by_point false f e = by_query (bytes_eq (below q (codes "query")) p) refl e f
 
     by_root : (b : Bool) → (plan.lobby && bytes_eq q plan.root) ≡ b → IsOff plan s p q
     by_root true e = subst (IsOff plan s p) (sym (same q plan.root (and_second plan.lobby (bytes_eq q plan.root) e))) root
-    by_root false e = by_point (is_among q plan.points) refl e
+    by_root false e = by_point (bytes_eq (below q (codes "writePoint")) p) refl e
 
 in_rows : (plan : Plan) (s : State) (p : Path) → ((q : Path) → IsOff plan s p q) → (os : Objects) → ((q : Path) → is_in q os ≡ true → is_in q (row s.tree) ≡ true) → IsNotDerived plan s p os
 in_rows plan s p off none within = tt
@@ -162,7 +134,6 @@ in_rows plan s p off (node h inner rest) within = (
         ∙ number_there q (row s.tree)
         ∙ within q (or_left (is_path q (node_path h)) (is_in q inner || is_in q rest) (ap (is_path q) e ∙ bytes_itself q)))
 
--- so no role derives a path that the roles of none of those derive
-pub nowhere : (plan : Plan) (s : State) (p : Path) → IsOff plan s p plan.root → AreOff plan s p plan.points → AreOff plan s p (keys s.logs) → AreOff plan s p (option_to_list plan.subject)
-    → IsNotDerived plan s p (row s.tree)
-nowhere plan s p root points logs subject = in_rows plan s p (λ q. off_any plan s p q root points logs subject) (row s.tree) (λ q e. e)
+-- so no role derives a path that neither the root derives nor a node in front of it
+pub nowhere : (plan : Plan) (s : State) (p : Path) → IsOff plan s p plan.root → IsOffBelow plan s p → IsNotDerived plan s p (row s.tree)
+nowhere plan s p root off = in_rows plan s p (λ q. off_any plan s p q root off) (row s.tree) (λ q e. e)

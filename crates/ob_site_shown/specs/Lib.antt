@@ -1,2 +1,3 @@
 pub mod Deriving
+pub mod Parents
 pub mod Readable

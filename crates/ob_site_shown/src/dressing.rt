@@ -1,30 +1,32 @@
 //! Own objects with the children that roles derive, and the status of each rule's source.
-ghost use Rattle.std.specs.Prelude.{◌≡◌, ◌++◌, IfOk};
+ghost use Rattle.std.specs.Prelude.{◌≡◌, ◌++◌, map, IfOk};
 ghost use Rattle.ob_object.specs.Object.{node, none};
 ghost use Rattle.ob_answers.specs.Plans.{plan as plan_of};
-ghost use Rattle.ob_site_rules.specs.State.{numbered_from};
+ghost use Rattle.ob_site_rules.specs.State.{Plan as SitePlan, numbered_from};
 ghost use Rattle.ob_site_rules.specs.Shown.{with_status};
 ghost use Rattle.ob_shown_laws.specs.Own.{dressed_own};
 ghost use Rattle.ob_state.specs.States.{NamesAreFree};
+ghost use Rattle.ob_site_roles.specs.Roles.{AreRoles};
 ghost use Rattle.ob_site_state.specs.Contents.{state_in};
+ghost use Rattle.ob_site_state.specs.Kept.{keys};
 
 use crate::roles::derived;
 use ob_answers::Plan;
 use ob_answers::build::whole;
 use ob_object::{Head, Obj};
-use ob_shown::{node_path, rule_of};
+use ob_shown::node_path;
 use ob_site_state::Contents;
 use std::alloc::{AllocError, Global};
 
 /// A copy of a head, with the status of the alarms of its rule if it has one.
-fn dressed_head(plan: &Plan, contents: &Contents, head: &Head) -> Result<Head, AllocError>
-    requires { contents.now.board.rules ≡ numbered_from 0 (plan_of plan.now).rules }
-    ensures { IfOk result (λ h. h ≡ with_status (plan_of plan.now) (state_in contents.now) head.now) }
+fn dressed_head(contents: &Contents, head: &Head) -> Result<Head, AllocError>
+    ensures { (plan : SitePlan) → AreRoles contents.now.roles plan → contents.now.board.rules ≡ numbered_from 0 plan.rules
+        → IfOk result (λ h. h ≡ with_status plan (state_in contents.now) head.now) }
 {
     let mut dressed = head.copy()?;
     if let Some(path) = node_path(head) {
-        if let Some(rule) = rule_of(plan, path) {
-            dressed.facets.status = Some(contents.board.status_of(rule));
+        if let Some(rule) = contents.roles.rule_of(path) {
+            dressed.facets.status = Some(contents.board.status_of(rule as u64));
         }
     }
     Ok(dressed)
@@ -47,10 +49,12 @@ pub fn dress(
     object: &Obj,
 ) -> Result<Obj, AllocError>
     requires rules { contents.now.board.rules ≡ numbered_from 0 (plan_of plan.now).rules }
+    requires roles { AreRoles contents.now.roles (plan_of plan.now) }
+    requires histories { keys (state_in contents.now).logs ≡ map (λ h. h.0) (plan_of plan.now).histories }
     requires free { NamesAreFree (plan_of plan.now) (state_in contents.now) (node object.now.head object.now.inner none) }
     ensures { IfOk result (λ o. o ≡ dressed_own (plan_of plan.now) (state_in contents.now) object.now) }
 {
-    let head = dressed_head(plan, contents, object.head())?;
+    let head = dressed_head(contents, object.head())?;
     let mut own = Vec::new(alloc);
     for child in object.children() {
         own.push(dress(alloc, plan, contents, child)?)?;

@@ -5,11 +5,13 @@
 mod dressing;
 mod logs;
 mod owners;
+mod parents;
 mod roles;
 mod shown;
 
 pub use dressing::dress;
-pub use logs::log_at;
+pub use logs::{history_log, log_at};
 pub use owners::{begins_with, shown_derived};
+pub use parents::parent_path;
 pub use roles::derived;
 pub use shown::{dressed_part, shown_at, shown_own, shown_own_counted};

@@ -4,14 +4,17 @@ ghost use Rattle.std.specs.Option.{option_copied};
 ghost use Rattle.circular_buffer.specs.Buffer.{last_item};
 ghost use Rattle.ob_contracts.specs.Inherit.{or_else};
 ghost use Rattle.ob_entries.specs.Histories.{span_children, query_child, feed_child};
-ghost use Rattle.ob_site_rules.specs.State.{at};
+ghost use Rattle.ob_site_rules.specs.State.{Plan, at};
 ghost use Rattle.ob_site_rules.specs.Shown.{first_record, history_children};
-ghost use Rattle.ob_site_state.specs.Kept.{entry_of, log_of};
+ghost use Rattle.ob_site_roles.specs.Roles.{AreRoles};
+ghost use Rattle.ob_site_state.specs.Contents.{state_in};
+ghost use Rattle.ob_site_state.specs.Kept.{entry_of, keys, log_of};
 
 use ob_answers::build::{feed_at, op_at, put, timed};
 use ob_answers::{Contract, below, count_child};
 use ob_history::{Log, Record};
 use ob_object::Obj;
+use ob_site_state::Contents;
 use ob_times::Abstime;
 use ob_values::Text;
 use std::alloc::{AllocError, Global};
@@ -26,6 +29,21 @@ pub fn log_at<'a>(logs: &'a [(Text, Log)], path: &Text) -> Option<&'a Log>
         }
     }
     None
+}
+
+/// The log of the history at a path, by a look-up: of the contents of a plan whose histories have these logs, in their order,
+/// the log that stands first under the path.
+pub fn history_log<'a>(contents: &'a Contents, path: &Text) -> Option<&'a Log>
+    ensures { (plan : Plan) → AreRoles contents.now.roles plan → keys (state_in contents.now).logs ≡ map (λ h. h.0) plan.histories
+        → option_map log_of (option_copied result) ≡ at path.now (state_in contents.now).logs }
+{
+    let Some(place) = contents.roles.history_at(path) else {
+        return None;
+    };
+    match contents.logs.get(place) {
+        Some(entry) => Some(&entry.1),
+        None => None,
+    }
 }
 
 /// The time of a record, if it is one.

@@ -1,5 +1,5 @@
 //! What is shown at a path that a role derives.
-ghost use Rattle.std.specs.Prelude.{◌≡◌, ◌<◌, Some, nat_eq, option_map, option_and_then, option_to_list, IfOk};
+ghost use Rattle.std.specs.Prelude.{◌≡◌, ◌<◌, ◌++◌, [], ◌∷◌, Some, nat_eq, option_map, option_and_then, IfOk};
 ghost use Rattle.std.specs.Option.{option_copied};
 ghost use Rattle.std.specs.List.{starts_with};
 ghost use Rattle.ob_object.specs.Object.{parts};
@@ -9,11 +9,11 @@ ghost use Rattle.ob_tree.specs.Shown.{standing_at};
 ghost use Rattle.ob_answers.specs.Plans.{plan as plan_of};
 ghost use Rattle.ob_shown_laws.specs.Alike.{row};
 ghost use Rattle.ob_shown_laws.specs.OwnShown.{IsNotDerived};
-ghost use Rattle.ob_site_state.specs.Kept.{keys};
 ghost use Rattle.ob_site_state.specs.Contents.{state_in};
-ghost use Rattle.ob_site_shown.specs.Deriving.{IsOff, AreOff, IsAmong, ShownOr};
+ghost use Rattle.ob_site_shown.specs.Deriving.{IsOff, IsOffBelow, IsAmong, ShownOr};
 ghost use Rattle.ob_site_shown.specs.Readable.{IsReadable};
 
+use crate::parents::parent_path;
 use crate::roles::derived;
 use ob_answers::Plan;
 use ob_object::Obj;
@@ -87,96 +87,43 @@ fn shown_by(
     }
 }
 
-/// What is shown at a path that the roles of a writable point derive.
-fn shown_by_point(
+/// What is shown at a path that the roles of a node of this path derive, or of this path with a slash behind it.
+fn shown_by_parent(
     alloc: Global,
     plan: &Plan,
     contents: &Contents,
+    parent: &Text,
     path: &Text,
 ) -> Result<Option<Obj>, AllocError>
     requires { IsReadable (plan_of plan.now) contents.now }
-    ensures { IfOk result (ShownOr (plan_of plan.now) (state_in contents.now) path.now (AreOff (plan_of plan.now) (state_in contents.now) path.now (plan_of plan.now).points)) }
+    ensures { IfOk result (ShownOr (plan_of plan.now) (state_in contents.now) path.now (IsOff (plan_of plan.now) (state_in contents.now) path.now parent.now × IsOff (plan_of plan.now) (state_in contents.now) path.now (parent.now ++ 47 ∷ []))) }
 {
-    for point in &plan.points {
-        let shown = shown_by(alloc, plan, contents, point, path)?;
-        if shown.is_some() {
-            return Ok(shown);
-        }
+    let shown = shown_by(alloc, plan, contents, parent, path)?;
+    if shown.is_some() {
+        return Ok(shown);
     }
-    Ok(None)
+    let parent = parent.followed_by(alloc, "/")?;
+    shown_by(alloc, plan, contents, &parent, path)
 }
 
-/// What is shown at a path that the roles of a history derive.
-fn shown_by_history(
+/// What is shown at a path that the roles of the node in front of it derive.
+fn shown_below(
     alloc: Global,
     plan: &Plan,
     contents: &Contents,
     path: &Text,
 ) -> Result<Option<Obj>, AllocError>
     requires { IsReadable (plan_of plan.now) contents.now }
-    ensures { IfOk result (ShownOr (plan_of plan.now) (state_in contents.now) path.now (AreOff (plan_of plan.now) (state_in contents.now) path.now (keys (state_in contents.now).logs))) }
+    ensures { IfOk result (ShownOr (plan_of plan.now) (state_in contents.now) path.now (IsOffBelow (plan_of plan.now) (state_in contents.now) path.now)) }
 {
-    for entry in &contents.logs {
-        let shown = shown_by(alloc, plan, contents, &entry.0, path)?;
-        if shown.is_some() {
-            return Ok(shown);
-        }
-    }
-    Ok(None)
-}
-
-/// What is shown at a path that the roles of the alarm subject derive.
-fn shown_by_subject(
-    alloc: Global,
-    plan: &Plan,
-    contents: &Contents,
-    path: &Text,
-) -> Result<Option<Obj>, AllocError>
-    requires { IsReadable (plan_of plan.now) contents.now }
-    ensures { IfOk result (ShownOr (plan_of plan.now) (state_in contents.now) path.now (AreOff (plan_of plan.now) (state_in contents.now) path.now (option_to_list (plan_of plan.now).subject))) }
-{
-    match &plan.subject {
-        Some(subject) => shown_by(alloc, plan, contents, subject, path),
+    match parent_path(alloc, path)? {
+        Some(parent) => shown_by_parent(alloc, plan, contents, &parent, path),
         None => Ok(None),
     }
 }
 
-/// What is shown at a path that the roles of a history or of the alarm subject derive.
-fn shown_by_events(
-    alloc: Global,
-    plan: &Plan,
-    contents: &Contents,
-    path: &Text,
-) -> Result<Option<Obj>, AllocError>
-    requires { IsReadable (plan_of plan.now) contents.now }
-    ensures { IfOk result (ShownOr (plan_of plan.now) (state_in contents.now) path.now (AreOff (plan_of plan.now) (state_in contents.now) path.now (keys (state_in contents.now).logs) × AreOff (plan_of plan.now) (state_in contents.now) path.now (option_to_list (plan_of plan.now).subject))) }
-{
-    let shown = shown_by_history(alloc, plan, contents, path)?;
-    if shown.is_some() {
-        return Ok(shown);
-    }
-    shown_by_subject(alloc, plan, contents, path)
-}
-
-/// What is shown at a path that the roles of a point, a history or the alarm subject derive.
-fn shown_by_others(
-    alloc: Global,
-    plan: &Plan,
-    contents: &Contents,
-    path: &Text,
-) -> Result<Option<Obj>, AllocError>
-    requires { IsReadable (plan_of plan.now) contents.now }
-    ensures { IfOk result (ShownOr (plan_of plan.now) (state_in contents.now) path.now (AreOff (plan_of plan.now) (state_in contents.now) path.now (plan_of plan.now).points × (AreOff (plan_of plan.now) (state_in contents.now) path.now (keys (state_in contents.now).logs) × AreOff (plan_of plan.now) (state_in contents.now) path.now (option_to_list (plan_of plan.now).subject)))) }
-{
-    let shown = shown_by_point(alloc, plan, contents, path)?;
-    if shown.is_some() {
-        return Ok(shown);
-    }
-    shown_by_events(alloc, plan, contents, path)
-}
-
-/// What is shown at a path that a role derives, and `None` where none does. The nodes that have roles are looked
-/// at alone, and of them those whose path the path begins with. An error only for want of memory.
+/// What is shown at a path that a role derives, and `None` where none does. Two nodes alone are looked at: the root, and the
+/// one in front of the path's last slash. An error only for want of memory.
 ///
 /// Source: that roles derive children is this profile's own.
 pub fn shown_derived(
@@ -192,5 +139,5 @@ pub fn shown_derived(
     if shown.is_some() {
         return Ok(shown);
     }
-    shown_by_others(alloc, plan, contents, path)
+    shown_below(alloc, plan, contents, path)
 }

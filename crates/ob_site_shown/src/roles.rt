@@ -1,14 +1,17 @@
 //! What the roles of a node derive.
-ghost use Rattle.std.specs.Prelude.{◌≡◌, cond, ◌&&◌, [], ◌∷◌, length, IfOk};
+ghost use Rattle.std.specs.Prelude.{◌≡◌, cond, ◌&&◌, [], ◌∷◌, length, map, option_map, IfOk};
 ghost use Rattle.std.specs.Str.{bytes_eq};
 ghost use Rattle.std.specs.Option.{option_copied};
 ghost use Rattle.ob_answers.specs.Plans.{plan as plan_of};
-ghost use Rattle.ob_site_rules.specs.State.{at, is_among, is_path};
+ghost use Rattle.ob_site_rules.specs.State.{is_path};
 ghost use Rattle.ob_site_rules.specs.Shown.{lobby_children, write_point_op, subject_children, history_part, derived_at, derived};
+ghost use Rattle.ob_site_roles.specs.Roles.{AreRoles};
 ghost use Rattle.ob_site_state.specs.Contents.{state_in};
+ghost use Rattle.ob_site_state.specs.Kept.{keys, log_of};
 
-use crate::logs::{history_children, log_at};
+use crate::logs::{history_children, history_log};
 use ob_answers::{Plan, lobby_children, subject_children, write_point_op};
+use ob_history::Log;
 use ob_object::Obj;
 use ob_shown::is_path;
 use ob_site_state::Contents;
@@ -25,20 +28,11 @@ fn lobby_part(alloc: Global, plan: &Plan, path: &Text) -> Result<Vec<Obj>, Alloc
     Ok(Vec::new(alloc))
 }
 
-/// Whether a path is that of a writable point.
-fn is_point(plan: &Plan, path: &Text) -> bool
-    ensures { result ≡ is_among path.now plan.now.points.items }
-{
-    plan.points
-        .iter()
-        .any(|point| point.as_str() == path.as_str())
-}
-
 /// What a writable point has.
-fn point_part(alloc: Global, plan: &Plan, path: &Text) -> Result<Vec<Obj>, AllocError>
-    ensures { IfOk result (λ os. os.items ≡ cond (is_among path.now plan.now.points.items) (write_point_op path.now ∷ []) []) }
+fn point_part(alloc: Global, is_point: bool, path: &Text) -> Result<Vec<Obj>, AllocError>
+    ensures { IfOk result (λ os. os.items ≡ cond is_point (write_point_op path.now ∷ []) []) }
 {
-    if is_point(plan, path) {
+    if is_point {
         let op = write_point_op(alloc, path)?;
         return Ok(vec![in alloc; op]?);
     }
@@ -46,10 +40,10 @@ fn point_part(alloc: Global, plan: &Plan, path: &Text) -> Result<Vec<Obj>, Alloc
 }
 
 /// What a history has.
-fn history_part(alloc: Global, contents: &Contents, path: &Text) -> Result<Vec<Obj>, AllocError>
-    ensures { IfOk result (λ os. os.items ≡ history_part path.now (at path.now (state_in contents.now).logs)) }
+fn history_part(alloc: Global, path: &Text, log: Option<&Log>) -> Result<Vec<Obj>, AllocError>
+    ensures { IfOk result (λ os. os.items ≡ history_part path.now (option_map log_of (option_copied log.entry))) }
 {
-    match log_at(&contents.logs, path) {
+    match log {
         Some(log) => history_children(alloc, path, log),
         None => Ok(Vec::new(alloc)),
     }
@@ -77,11 +71,13 @@ fn derived_at(
     contents: &Contents,
     path: &Text,
 ) -> Result<Vec<Obj>, AllocError>
+    requires roles { AreRoles contents.now.roles (plan_of plan.now) }
+    requires histories { keys (state_in contents.now).logs ≡ map (λ h. h.0) (plan_of plan.now).histories }
     ensures { IfOk result (λ os. os.items ≡ derived_at (plan_of plan.now) (state_in contents.now) path.now) }
 {
     let mut children = lobby_part(alloc, plan, path)?;
-    let mut point = point_part(alloc, plan, path)?;
-    let mut history = history_part(alloc, contents, path)?;
+    let mut point = point_part(alloc, contents.roles.is_point(path), path)?;
+    let mut history = history_part(alloc, path, history_log(contents, path))?;
     let mut subject = subject_part(alloc, plan, contents, path)?;
     history.append(&mut subject)?;
     point.append(&mut history)?;
@@ -89,13 +85,16 @@ fn derived_at(
     Ok(children)
 }
 
-/// The children that the roles of a node derive, in the order of the roles; without a path none.
+/// The children that the roles of a node derive, in the order of the roles; without a path none. The roles of the node are
+/// looked up. An error only for want of memory.
 pub fn derived(
     alloc: Global,
     plan: &Plan,
     contents: &Contents,
     path: Option<&Text>,
 ) -> Result<Vec<Obj>, AllocError>
+    requires roles { AreRoles contents.now.roles (plan_of plan.now) }
+    requires histories { keys (state_in contents.now).logs ≡ map (λ h. h.0) (plan_of plan.now).histories }
     ensures { IfOk result (λ os. os.items ≡ derived (plan_of plan.now) (state_in contents.now) (option_copied path.entry)) }
 {
     match path {

@@ -25,13 +25,15 @@ dress-requires t c =
     let free : NamesAreFree (plan_of c.args.plan.now) (state_in c.args.contents.now) (node x.head x.inner none) =
     child_free (plan_of c.args.plan.now) (state_in c.args.contents.now) object c.children-child-items.result.now at x c.requires.free c.children-child-items.ensures.value c.loop-child-test.true c.child-item.is in
     let rules = c.requires.rules in
-    (subst (λ (n : ℕ). parts x < n) c.decreases (fewer_parts object at x here), assumption (rules, free))
+    let roles = c.requires.roles in
+    let histories = c.requires.histories in
+    (subst (λ (n : ℕ). parts x < n) c.decreases (fewer_parts object at x here), assumption (rules, roles, histories, free))
 
 pub whole-requires-clause-fits : goal.whole-requires-clause-fits
 whole-requires-clause-fits t c =
     let plan = plan_of c.args.plan.now in
     let s = state_in c.args.contents.now in
-    status_fits plan s c.args.object.now.head c.in_ok-head.head (c.in_ok-head.ensures ∙ ap (with_status plan s) c.head.ensures.value) c.head.ensures.fits
+    status_fits plan s c.args.object.now.head c.in_ok-head.head (c.in_ok-head.ensures plan c.requires.roles c.requires.rules ∙ ap (with_status plan s) c.head.ensures.value) c.head.ensures.fits
 
 pub whole-requires-clause-differ : goal.whole-requires-clause-differ
 whole-requires-clause-differ t c =
@@ -47,6 +49,6 @@ returns t c =
     let plan = plan_of c.args.plan.now in
     let s = state_in c.args.contents.now in
     IfOk-weaker c.whole.result (λ o. o ≡ whole c.in_ok-head.head c.in_ok-all.all.items) (λ o. o ≡ dressed_object plan s c.args.object.now)
-    (λ o is. dressed_from plan s c.args.object.now o c.in_ok-head.head c.in_ok-all.all.items is (c.in_ok-head.ensures ∙ ap (with_status plan s) c.head.ensures.value)
+    (λ o is. dressed_from plan s c.args.object.now o c.in_ok-head.head c.in_ok-all.all.items is (c.in_ok-head.ensures plan c.requires.roles c.requires.rules ∙ ap (with_status plan s) c.head.ensures.value)
     (dressed_children plan s c.args.object.now c.loop-child.own.items c.in_ok-derived.derived.items c.in_ok-all.all.items c.children-child-items.result.now c.loop-child.child-index (option_copied c.node_path.result) c.head-2.result.now c.in_ok-all.ensures c.loop-child.invariant
     c.loop-child-test.false c.children-child-items.ensures.value c.in_ok-derived.ensures c.node_path.ensures c.head-2.ensures.value)) c.whole.ensures
