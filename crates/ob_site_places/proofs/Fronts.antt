@@ -44,13 +44,18 @@ two_off q r x y true b e f = absurd cc
 two_off q r x y false true e f = absurd cc
 two_off q r x y false false e f = refl
 
+pub point_off : (p q : Path) → bytes_eq (below q (codes "writePoint")) p ≡ false → at p (point_parts q) ≡ None
+point_off p q e = one_off p (below q (codes "writePoint")) (WritePointOf q) (bytes_eq (below q (codes "writePoint")) p) e
+
+pub history_off : (p q : Path) → bytes_eq (below q (codes "query")) p ≡ false → bytes_eq (below q (codes "feed")) p ≡ false → at p (history_parts q) ≡ None
+history_off p q e f =
+    two_off (below q (codes "query")) (below q (codes "feed")) (QueryOf q) (FeedOf q) (bytes_eq (below q (codes "query")) p) (bytes_eq (below q (codes "feed")) p) e f
+
 pub no_point : (q p : Path) → starts_with nat_eq p q ≡ false → at p (point_parts q) ≡ None
-no_point q p e = one_off p (below q (codes "writePoint")) (WritePointOf q) (bytes_eq (below q (codes "writePoint")) p) (below_off q (codes "writePoint") p e)
+no_point q p e = point_off p q (below_off q (codes "writePoint") p e)
 
 pub no_history : (q p : Path) → starts_with nat_eq p q ≡ false → at p (history_parts q) ≡ None
-no_history q p e =
-    two_off (below q (codes "query")) (below q (codes "feed")) (QueryOf q) (FeedOf q) (bytes_eq (below q (codes "query")) p) (bytes_eq (below q (codes "feed")) p)
-    (below_off q (codes "query") p e) (below_off q (codes "feed") p e)
+no_history q p e = history_off p q (below_off q (codes "query") p e) (below_off q (codes "feed") p e)
 
 pub no_subject : (q p : Path) → starts_with nat_eq p q ≡ false → at p (subject_places (Some q)) ≡ None
 no_subject q p e =

@@ -1,11 +1,13 @@
 //! What a path names: the computed paths first, then the nodes.
-ghost use Rattle.std.specs.Prelude.{◌≡◌, ◌++◌, option_map, option_copied, slice_get, IfOk};
+ghost use Rattle.std.specs.Prelude.{◌≡◌, ◌++◌, Some, option_map, option_copied, slice_get, IfOk};
 ghost use Rattle.ob_alarms.specs.States.{needs_ack};
 ghost use Rattle.ob_alarms.specs.Changes.{alarm_of};
 ghost use Rattle.ob_answers.specs.Plans.{plan as plan_of};
 ghost use Rattle.ob_site_rules.specs.State.{at, numbered_from};
 ghost use Rattle.ob_site_rules.specs.Places.{fixed_places, point_places, history_places, subject_places, event_places, alarm_places, computed_places, place_at};
+ghost use Rattle.ob_site_roles.specs.Roles.{AreRoles};
 ghost use Rattle.ob_site_state.specs.Contents.{state_in};
+ghost use Rattle.ob_site_shown.specs.Parents.{IsParent};
 ghost use Rattle.ob_site_shown.specs.Readable.{IsReadable};
 ghost use Rattle.ob_shown.specs.Parts.{point_parts, history_parts, alarm_parts, parts_of_alarm};
 ghost use Rattle.ob_shown.specs.Named.{place as place_of};
@@ -14,7 +16,7 @@ use crate::paths::{alarm_number, is_followed};
 use ob_alarms::{Alarm, Alarms};
 use ob_answers::{Plan, PointRule, ack_path, alarm_path, below};
 use ob_shown::Place;
-use ob_site_shown::{begins_with, shown_at};
+use ob_site_shown::{begins_with, parent_path, shown_at};
 use ob_site_state::Contents;
 use ob_values::Text;
 use std::alloc::{AllocError, Global};
@@ -54,8 +56,8 @@ fn one_point(alloc: Global, point: &Text, path: &Text) -> Result<Option<Place>, 
     Ok(None)
 }
 
-/// The op of a writable point.
-fn point_place(alloc: Global, plan: &Plan, path: &Text) -> Result<Option<Place>, AllocError>
+/// The op of the first writable point of the plan that has it at the path.
+fn first_point(alloc: Global, plan: &Plan, path: &Text) -> Result<Option<Place>, AllocError>
     ensures { IfOk result (λ place. option_map place_of place ≡ at path.now (point_places (plan_of plan.now))) }
 {
     for point in &plan.points {
@@ -65,6 +67,50 @@ fn point_place(alloc: Global, plan: &Plan, path: &Text) -> Result<Option<Place>,
         }
     }
     Ok(None)
+}
+
+/// The op of a writable point whose path is what stands in front of the path's last slash, or that with a slash behind it.
+/// Where both are points, the first one of the plan counts.
+fn point_in(
+    alloc: Global,
+    plan: &Plan,
+    contents: &Contents,
+    parent: &Text,
+    path: &Text,
+) -> Result<Option<Place>, AllocError>
+    requires roles { AreRoles contents.now.roles (plan_of plan.now) }
+    requires parent { IsParent path.now (Some parent.now) }
+    ensures { IfOk result (λ place. option_map place_of place ≡ at path.now (point_places (plan_of plan.now))) }
+{
+    let slashed = parent.followed_by(alloc, "/")?;
+    let is_plain = contents.roles.is_point(parent);
+    let is_slashed = contents.roles.is_point(&slashed);
+    if is_slashed {
+        if is_plain {
+            return first_point(alloc, plan, path);
+        }
+        return one_point(alloc, &slashed, path);
+    }
+    if is_plain {
+        return one_point(alloc, parent, path);
+    }
+    Ok(None)
+}
+
+/// The op of a writable point, by look-ups.
+fn point_place(
+    alloc: Global,
+    plan: &Plan,
+    contents: &Contents,
+    path: &Text,
+) -> Result<Option<Place>, AllocError>
+    requires { AreRoles contents.now.roles (plan_of plan.now) }
+    ensures { IfOk result (λ place. option_map place_of place ≡ at path.now (point_places (plan_of plan.now))) }
+{
+    match parent_path(alloc, path)? {
+        Some(parent) => point_in(alloc, plan, contents, &parent, path),
+        None => Ok(None),
+    }
 }
 
 /// The op or the feed of a history, if the path is one of theirs.
@@ -88,8 +134,8 @@ fn one_history(alloc: Global, history: &Text, path: &Text) -> Result<Option<Plac
     Ok(None)
 }
 
-/// The op or the feed of a history.
-fn history_place(alloc: Global, plan: &Plan, path: &Text) -> Result<Option<Place>, AllocError>
+/// The op or the feed of the first history of the plan that has one at the path.
+fn first_history(alloc: Global, plan: &Plan, path: &Text) -> Result<Option<Place>, AllocError>
     ensures { IfOk result (λ place. option_map place_of place ≡ at path.now (history_places (plan_of plan.now))) }
 {
     for history in &plan.histories {
@@ -99,6 +145,50 @@ fn history_place(alloc: Global, plan: &Plan, path: &Text) -> Result<Option<Place
         }
     }
     Ok(None)
+}
+
+/// The op or the feed of a history whose path is what stands in front of the path's last slash, or that with a slash behind
+/// it. Where both are histories, the first one of the plan counts.
+fn history_in(
+    alloc: Global,
+    plan: &Plan,
+    contents: &Contents,
+    parent: &Text,
+    path: &Text,
+) -> Result<Option<Place>, AllocError>
+    requires roles { AreRoles contents.now.roles (plan_of plan.now) }
+    requires parent { IsParent path.now (Some parent.now) }
+    ensures { IfOk result (λ place. option_map place_of place ≡ at path.now (history_places (plan_of plan.now))) }
+{
+    let slashed = parent.followed_by(alloc, "/")?;
+    let is_plain = contents.roles.history_at(parent).is_some();
+    let is_slashed = contents.roles.history_at(&slashed).is_some();
+    if is_slashed {
+        if is_plain {
+            return first_history(alloc, plan, path);
+        }
+        return one_history(alloc, &slashed, path);
+    }
+    if is_plain {
+        return one_history(alloc, parent, path);
+    }
+    Ok(None)
+}
+
+/// The op or the feed of a history, by look-ups.
+fn history_place(
+    alloc: Global,
+    plan: &Plan,
+    contents: &Contents,
+    path: &Text,
+) -> Result<Option<Place>, AllocError>
+    requires { AreRoles contents.now.roles (plan_of plan.now) }
+    ensures { IfOk result (λ place. option_map place_of place ≡ at path.now (history_places (plan_of plan.now))) }
+{
+    match parent_path(alloc, path)? {
+        Some(parent) => history_in(alloc, plan, contents, &parent, path),
+        None => Ok(None),
+    }
 }
 
 /// The op or the feed of the alarm subject.
@@ -125,15 +215,22 @@ fn subject_place(alloc: Global, plan: &Plan, path: &Text) -> Result<Option<Place
 
 /// The op or the feed of a history or of the alarm subject, if a path is one of theirs. An error only for want of
 /// memory.
-pub fn event_place(alloc: Global, plan: &Plan, path: &Text) -> Result<Option<Place>, AllocError>
+pub fn event_place(
+    alloc: Global,
+    plan: &Plan,
+    contents: &Contents,
+    path: &Text,
+) -> Result<Option<Place>, AllocError>
+    requires { AreRoles contents.now.roles (plan_of plan.now) }
     ensures { IfOk result (λ place. option_map place_of place ≡ at path.now (event_places (plan_of plan.now))) }
 {
-    let found = history_place(alloc, plan, path)?;
+    let found = history_place(alloc, plan, contents, path)?;
     if found.is_some() {
         return Ok(found);
     }
     subject_place(alloc, plan, path)
 }
+
 /// The rule at a place.
 fn rule_at(rules: &[PointRule], place: u64) -> Option<&PointRule>
     ensures { option_copied result ≡ slice_get rules.now place }
@@ -213,9 +310,10 @@ fn event_or_alarm(
     contents: &Contents,
     path: &Text,
 ) -> Result<Option<Place>, AllocError>
+    requires { AreRoles contents.now.roles (plan_of plan.now) }
     ensures { IfOk result (λ place. option_map place_of place ≡ at path.now (event_places (plan_of plan.now) ++ alarm_places (plan_of plan.now) (numbered_from 0 (plan_of plan.now).rules) 1 (state_in contents.now).alarms)) }
 {
-    let found = event_place(alloc, plan, path)?;
+    let found = event_place(alloc, plan, contents, path)?;
     if found.is_some() {
         return Ok(found);
     }
@@ -229,9 +327,10 @@ fn role_place(
     contents: &Contents,
     path: &Text,
 ) -> Result<Option<Place>, AllocError>
+    requires { AreRoles contents.now.roles (plan_of plan.now) }
     ensures { IfOk result (λ place. option_map place_of place ≡ at path.now (point_places (plan_of plan.now) ++ (event_places (plan_of plan.now) ++ alarm_places (plan_of plan.now) (numbered_from 0 (plan_of plan.now).rules) 1 (state_in contents.now).alarms))) }
 {
-    let found = point_place(alloc, plan, path)?;
+    let found = point_place(alloc, plan, contents, path)?;
     if found.is_some() {
         return Ok(found);
     }
@@ -245,6 +344,7 @@ fn computed_place(
     contents: &Contents,
     path: &Text,
 ) -> Result<Option<Place>, AllocError>
+    requires { AreRoles contents.now.roles (plan_of plan.now) }
     ensures { IfOk result (λ place. option_map place_of place ≡ at path.now (computed_places (plan_of plan.now) (state_in contents.now))) }
 {
     let found = fixed_place(plan, path);

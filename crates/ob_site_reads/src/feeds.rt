@@ -109,7 +109,7 @@ pub fn count_at(
     requires { IsComplete (plan_of plan.now) contents.now }
     ensures { IfOk result (λ n. n ≡ count (site locate (plan_of plan.now)) (state_in contents.now) path.now) }
 {
-    let place = event_place(alloc, plan, path)?;
+    let place = event_place(alloc, plan, contents, path)?;
     Ok(events_ever(contents, &place))
 }
 
@@ -127,7 +127,7 @@ pub fn whole_feed(
     requires { IsComplete (plan_of plan.now) contents.now }
     ensures { IfOk result (λ o. (given : ℕ) → o ≡ content_object (content_now (site locate (plan_of plan.now)) (state_in contents.now) path.now (Feed filter.now given))) }
 {
-    let place = event_place(alloc, plan, path)?;
+    let place = event_place(alloc, plan, contents, path)?;
     let all = Since {
         filter: *filter,
         given: 0,
@@ -171,7 +171,7 @@ pub fn feed_since(
     requires { IsComplete (plan_of plan.now) contents.now }
     ensures { IfOk result (λ o. (text : Href) → option_to_list o ≡ map (λ r. content_object r.content) (changes_of (site locate (plan_of plan.now)) (state_in contents.now) text path.now (Feed since.now.filter since.now.given))) }
 {
-    let place = event_place(alloc, plan, path)?;
+    let place = event_place(alloc, plan, contents, path)?;
     let dropped = gone_at(contents, &place).saturating_sub(since.given);
     let events = events_since(alloc, contents, &place, since)?;
     feed_if_some(alloc, plan, path, dropped, events)

@@ -1,14 +1,8 @@
-use Rattle.std.proofs.Common.{◌≡◌, ◌<◌, List, Option, length, get_or, sym, ◌∙◌, subst}
-use Rattle.ob_site_rules.specs.Build.{Path}
-use Rattle.ob_shown.specs.Parts.{history_parts}
-use Rattle.ob_shown.proofs.Placed.{at_next, ended}
+use Rattle.std.proofs.Common.{sym, subst}
+use Rattle.ob_answers.specs.Plans.{plan as plan_of}
+use Rattle.ob_site_shown.specs.Parents.{IsParent}
+use Rattle.ob_site_places.proofs.Alone.{no_histories}
 use Rattle.ob_site_places.proofs.places.history_place.Goals as goal
 
-pub returns-then-is_some : goal.returns-then-is_some
-returns-then-is_some c =
-    let all = c.deref-history-items.ensures.value in
-    ended c.in_ok-found.found _ _ _ _ c.in_ok-found.ensures (sym c.is_some.ensures ∙ c.if-is_some.true)
-    (at_next (λ h. history_parts h.0) c.args.path.now c.args.plan.now.histories.items c.loop-history.history-index c.history-item.result
-    (subst (λ (l : List (Path × Option Path)). c.loop-history.history-index < length l) all c.loop-history-test.true)
-    (subst (λ (l : List (Path × Option Path)). c.history-item.result ≡ get_or l c.loop-history.history-index c.history-item.result) all c.history-item.is))
-    c.loop-history.invariant
+pub returns-in-None : goal.returns-in-None
+returns-in-None c = sym (no_histories c.args.path.now (plan_of c.args.plan.now).histories (subst (IsParent c.args.path.now) c.in-None.is c.in_ok-parent.ensures))

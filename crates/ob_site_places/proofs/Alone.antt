@@ -1,0 +1,190 @@
+-- Entries of one path, where other paths have none.
+use Rattle.std.proofs.Common.{◌≡◌, Bool, true, false, ◌||◌, cond, List, [], ◌∷◌, ◌++◌, map, Option, Some, None, option_map, refl, sym, ap, ◌∙◌, subst, ◌⊎◌, inl, inr}
+use Rattle.std.specs.Prelude.{codes, ℕ, ◌+◌, is_some}
+use Rattle.std.specs.List.{flat_map}
+use Rattle.std.specs.Str.{bytes_eq}
+use Rattle.std.proofs.lemmas.Slice.Eq.{bytes_eq-Decides}
+use Rattle.ob_alarms.specs.Lists.{first_place}
+use Rattle.ob_contracts.specs.Inherit.{or_else}
+use Rattle.ob_site_rules.specs.Build.{Path}
+use Rattle.ob_site_rules.specs.State.{at, is_among}
+use Rattle.ob_site_rules.specs.Paths.{below}
+use Rattle.ob_site_rules.specs.Places.{Place}
+use Rattle.ob_shown.specs.Parts.{point_parts, history_parts}
+use Rattle.ob_shown.proofs.Placed.{at-append}
+use Rattle.ob_site_roles.specs.Roles.{stands_at}
+use Rattle.ob_site_shown.specs.Parents.{has_slash, IsParent}
+use Rattle.ob_site_shown.proofs.Slashes.{at_parent, no_parent}
+use Rattle.ob_site_places.proofs.Fronts.{point_off, history_off}
+
+abbrev Entries : Type 0
+Entries = List (Path × Place)
+
+is_same : (q a : Path) → bytes_eq q a ≡ true → q ≡ a
+is_same q a e = (bytes_eq-Decides q a).0 e
+
+bytes_itself : (q : Path) → bytes_eq q q ≡ true
+bytes_itself q = (bytes_eq-Decides q q).1 refl
+
+or_left : (a b : Bool) → a ≡ true → (a || b) ≡ true
+or_left true b e = refl
+or_left false b e = absurd cc
+
+or_right : (a b : Bool) → b ≡ true → (a || b) ≡ true
+or_right true b e = refl
+or_right false b e = e
+
+in_front : (q : Path) (qs : List Path) → is_among q (q ∷ qs) ≡ true
+in_front q qs = or_left (bytes_eq q q) (is_among q qs) (bytes_itself q)
+
+behind : (r q : Path) (qs : List Path) → is_among r qs ≡ true → is_among r (q ∷ qs) ≡ true
+behind r q qs e = or_right (bytes_eq q r) (is_among r qs) e
+
+-- where none of them has an entry
+none_at : (f : Path → Entries) (p : Path) (qs : List Path) → ((q : Path) → is_among q qs ≡ true → at p (f q) ≡ None) → at p (flat_map f qs) ≡ None
+none_at f p [] off = refl
+none_at f p (q ∷ qs) off =
+    at-append p (f q) (flat_map f qs)
+    ∙ ap (λ (o : Option Place). or_else o (at p (flat_map f qs))) (off q (in_front q qs))
+    ∙ none_at f p qs (λ r e. off r (behind r q qs e))
+
+-- where one alone has
+found_at : (f : Path → Entries) (p a : Path) (x : Place) (qs : List Path) → is_among a qs ≡ true → at p (f a) ≡ Some x
+    → ((q : Path) → is_among q qs ≡ true → bytes_eq q a ≡ false → at p (f q) ≡ None) → at p (flat_map f qs) ≡ Some x
+found_at f p a x [] there e off = absurd cc
+found_at f p a x (q ∷ qs) there e off = at-append p (f q) (flat_map f qs) ∙ go (bytes_eq q a) refl there (λ h. found_at f p a x qs h e (λ r i n. off r (behind r q qs i) n))
+  where
+    go : (b : Bool) → bytes_eq q a ≡ b → (b || is_among a qs) ≡ true → (is_among a qs ≡ true → at p (flat_map f qs) ≡ Some x) → or_else (at p (f q)) (at p (flat_map f qs)) ≡ Some x
+    go true g h later = ap (λ (o : Option Place). or_else o (at p (flat_map f qs))) (ap (λ (r : Path). at p (f r)) (is_same q a g) ∙ e)
+    go false g h later = ap (λ (o : Option Place). or_else o (at p (flat_map f qs))) (off q (in_front q qs) g) ∙ later h
+
+only_at : (f : Path → Entries) (p a : Path) (qs : List Path) → is_among a qs ≡ true → ((q : Path) → is_among q qs ≡ true → bytes_eq q a ≡ false → at p (f q) ≡ None)
+    → at p (flat_map f qs) ≡ at p (f a)
+only_at f p a qs there off = go (at p (f a)) refl
+  where
+    by : (q : Path) (b : Bool) → bytes_eq q a ≡ b → is_among q qs ≡ true → at p (f a) ≡ None → at p (f q) ≡ None
+    by q true g i e = ap (λ (r : Path). at p (f r)) (is_same q a g) ∙ e
+    by q false g i e = off q i g
+
+    go : (o : Option Place) → at p (f a) ≡ o → at p (flat_map f qs) ≡ o
+    go None e = none_at f p qs (λ q i. by q (bytes_eq q a) refl i e)
+    go (Some x) e = found_at f p a x qs there e off
+
+-- one that is among some isn't one that isn't
+differ : (q a : Path) (qs : List Path) → is_among q qs ≡ true → is_among a qs ≡ false → bytes_eq q a ≡ false
+differ q a qs i other = go (bytes_eq q a) refl
+  where
+    go : (b : Bool) → bytes_eq q a ≡ b → b ≡ false
+    go true g =
+        let there : is_among a qs ≡ true = ap (λ (r : Path). is_among r qs) (sym (is_same q a g)) ∙ i in
+        absurd cc
+    go false g = refl
+
+-- Entries at a path are those of its parent alone, with a slash behind it or without.
+abbrev pub AreAtParent : (Path → Entries) → Path → Path → Type 0
+AreAtParent f p front = (q : Path) → bytes_eq q front ≡ false → bytes_eq q (front ++ 47 ∷ []) ≡ false → at p (f q) ≡ None
+
+pub neither_at : (f : Path → Entries) (p front : Path) (qs : List Path) → AreAtParent f p front → is_among front qs ≡ false → is_among (front ++ 47 ∷ []) qs ≡ false → at p (flat_map f qs) ≡ None
+neither_at f p front qs off a b = none_at f p qs (λ q i. off q (differ q front qs i a) (differ q (front ++ 47 ∷ []) qs i b))
+
+pub plain_at : (f : Path → Entries) (p front : Path) (qs : List Path) → AreAtParent f p front → is_among front qs ≡ true → is_among (front ++ 47 ∷ []) qs ≡ false → at p (flat_map f qs) ≡ at p (f front)
+plain_at f p front qs off a b = only_at f p front qs a (λ q i n. off q n (differ q (front ++ 47 ∷ []) qs i b))
+
+pub slashed_at : (f : Path → Entries) (p front : Path) (qs : List Path) → AreAtParent f p front → is_among front qs ≡ false → is_among (front ++ 47 ∷ []) qs ≡ true → at p (flat_map f qs) ≡ at p (f (front ++ 47 ∷ []))
+slashed_at f p front qs off a b = only_at f p (front ++ 47 ∷ []) qs b (λ q i n. off q (differ q front qs i a) n)
+
+-- the children of no other node have this path
+not_below : (p q name front : Path) → IsParent p (Some front) → has_slash name ≡ false → bytes_eq q front ≡ false → bytes_eq q (front ++ 47 ∷ []) ≡ false → bytes_eq (below q name) p ≡ false
+not_below p q name front is free a b = go (bytes_eq (below q name) p) refl
+  where
+    clash : (r : Path) → bytes_eq q r ≡ false → q ≡ r → ⊥
+    clash r n e =
+        let there : bytes_eq q r ≡ true = ap (bytes_eq q) (sym e) ∙ bytes_itself q in
+        absurd cc
+
+    either : (q ≡ front) ⊎ (q ≡ front ++ 47 ∷ []) → ⊥
+    either (inl e) = clash front a e
+    either (inr e) = clash (front ++ 47 ∷ []) b e
+
+    go : (t : Bool) → bytes_eq (below q name) p ≡ t → t ≡ false
+    go true e = absurd (either (at_parent p q name front is free (is_same (below q name) p e)))
+    go false e = refl
+
+never_below : (p q name : Path) → IsParent p None → bytes_eq (below q name) p ≡ false
+never_below p q name none = go (bytes_eq (below q name) p) refl
+  where
+    go : (t : Bool) → bytes_eq (below q name) p ≡ t → t ≡ false
+    go true e = absurd (no_parent p q name none (is_same (below q name) p e))
+    go false e = refl
+
+-- so of points
+pub points_at : (p front : Path) → IsParent p (Some front) → AreAtParent point_parts p front
+points_at p front is q a b = point_off p q (not_below p q (codes "writePoint") front is refl a b)
+
+pub slashed_point : (p front slashed : Path) (qs : List Path) (r : Option Place) → IsParent p (Some front) → slashed ≡ front ++ 47 ∷ [] → is_among front qs ≡ false → is_among slashed qs ≡ true
+    → r ≡ at p (point_parts slashed) → r ≡ at p (flat_map point_parts qs)
+slashed_point p front slashed qs r is e a b here =
+    here
+    ∙ ap (λ (q : Path). at p (point_parts q)) e
+    ∙ sym (slashed_at point_parts p front qs (points_at p front is) a (ap (λ (q : Path). is_among q qs) (sym e) ∙ b))
+
+pub plain_point : (p front slashed : Path) (qs : List Path) (r : Option Place) → IsParent p (Some front) → slashed ≡ front ++ 47 ∷ [] → is_among front qs ≡ true → is_among slashed qs ≡ false
+    → r ≡ at p (point_parts front) → r ≡ at p (flat_map point_parts qs)
+plain_point p front slashed qs r is e a b here = here ∙ sym (plain_at point_parts p front qs (points_at p front is) a (ap (λ (q : Path). is_among q qs) (sym e) ∙ b))
+
+pub neither_point : (p front slashed : Path) (qs : List Path) → IsParent p (Some front) → slashed ≡ front ++ 47 ∷ [] → is_among front qs ≡ false → is_among slashed qs ≡ false
+    → None ≡ at p (flat_map point_parts qs)
+neither_point p front slashed qs is e a b = sym (neither_at point_parts p front qs (points_at p front is) a (ap (λ (q : Path). is_among q qs) (sym e) ∙ b))
+
+pub no_points : (p : Path) (qs : List Path) → IsParent p None → at p (flat_map point_parts qs) ≡ None
+no_points p qs none = none_at point_parts p qs (λ q i. point_off p q (never_below p q (codes "writePoint") none))
+
+-- and of histories
+pub histories_at : (p front : Path) → IsParent p (Some front) → AreAtParent history_parts p front
+histories_at p front is q a b = history_off p q (not_below p q (codes "query") front is refl a b) (not_below p q (codes "feed") front is refl a b)
+
+pub by_paths : (hs : List (Path × Option Path)) → flat_map (λ h. history_parts h.0) hs ≡ flat_map history_parts (map (λ h. h.0) hs)
+by_paths [] = refl
+by_paths (h ∷ hs) = ap (λ (es : Entries). history_parts h.0 ++ es) (by_paths hs)
+
+pub no_histories : (p : Path) (hs : List (Path × Option Path)) → IsParent p None → at p (flat_map (λ h. history_parts h.0) hs) ≡ None
+no_histories p hs none =
+    ap (at p) (by_paths hs)
+    ∙ none_at history_parts p (map (λ h. h.0) hs) (λ q i. history_off p q (never_below p q (codes "query") none) (never_below p q (codes "feed") none))
+
+-- there is a history at a path where a place of one is found
+pub has_history : (p : Path) (hs : List (Path × Option Path)) → is_some (first_place (stands_at p) hs) ≡ is_among p (map (λ h. h.0) hs)
+has_history p [] = refl
+has_history p (h ∷ hs) = go (bytes_eq h.0 p) (first_place (stands_at p) hs) (has_history p hs)
+  where
+    go : (b : Bool) (o : Option ℕ) → is_some o ≡ is_among p (map (λ h. h.0) hs) → is_some (cond b (Some 0) (option_map (λ n. n + 1) o)) ≡ (b || is_among p (map (λ h. h.0) hs))
+    go true o e = refl
+    go false None e = e
+    go false (Some n) e = e
+
+abbrev paths_of : List (Path × Option Path) → List Path
+paths_of hs = map (λ h. h.0) hs
+
+is_there : (q : Path) (hs : List (Path × Option Path)) (b : Bool) → is_some (first_place (stands_at q) hs) ≡ b → is_among q (paths_of hs) ≡ b
+is_there q hs b e = sym (has_history q hs) ∙ e
+
+pub slashed_history : (p front slashed : Path) (hs : List (Path × Option Path)) (r : Option Place) → IsParent p (Some front) → slashed ≡ front ++ 47 ∷ []
+    → is_some (first_place (stands_at front) hs) ≡ false → is_some (first_place (stands_at slashed) hs) ≡ true → r ≡ at p (history_parts slashed) → r ≡ at p (flat_map (λ h. history_parts h.0) hs)
+slashed_history p front slashed hs r is e a b here =
+    here
+    ∙ ap (λ (q : Path). at p (history_parts q)) e
+    ∙ sym (slashed_at history_parts p front (paths_of hs) (histories_at p front is) (is_there front hs false a) (ap (λ (q : Path). is_among q (paths_of hs)) (sym e) ∙ is_there slashed hs true b))
+    ∙ ap (at p) (sym (by_paths hs))
+
+pub plain_history : (p front slashed : Path) (hs : List (Path × Option Path)) (r : Option Place) → IsParent p (Some front) → slashed ≡ front ++ 47 ∷ []
+    → is_some (first_place (stands_at front) hs) ≡ true → is_some (first_place (stands_at slashed) hs) ≡ false → r ≡ at p (history_parts front) → r ≡ at p (flat_map (λ h. history_parts h.0) hs)
+plain_history p front slashed hs r is e a b here =
+    here
+    ∙ sym (plain_at history_parts p front (paths_of hs) (histories_at p front is) (is_there front hs true a) (ap (λ (q : Path). is_among q (paths_of hs)) (sym e) ∙ is_there slashed hs false b))
+    ∙ ap (at p) (sym (by_paths hs))
+
+pub neither_history : (p front slashed : Path) (hs : List (Path × Option Path)) → IsParent p (Some front) → slashed ≡ front ++ 47 ∷ []
+    → is_some (first_place (stands_at front) hs) ≡ false → is_some (first_place (stands_at slashed) hs) ≡ false → None ≡ at p (flat_map (λ h. history_parts h.0) hs)
+neither_history p front slashed hs is e a b =
+    sym (neither_at history_parts p front (paths_of hs) (histories_at p front is) (is_there front hs false a) (ap (λ (q : Path). is_among q (paths_of hs)) (sym e) ∙ is_there slashed hs false b))
+    ∙ ap (at p) (sym (by_paths hs))
