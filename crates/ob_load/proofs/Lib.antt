@@ -1,3 +1,4 @@
 pub mod Contents
 pub mod LawLemmas
 pub mod Crossing
+pub mod Levels

@@ -1,10 +1,11 @@
 //! The document that a file holds.
 ghost use Rattle.std.specs.Prelude.{◌≡◌, ℕ, List, take, IfOk, IfErr, IfSome};
 ghost use Rattle.ob_grammar.specs.Spelling.{Spells};
+ghost use Rattle.ob_site.specs.Between.{IsShallow};
 ghost use Rattle.ob_load.specs.Causes.{HasLoadCause};
 ghost use Rattle.ob_load.specs.Loads.{IsOutside, IsUnspelled};
 
-use ob_documents::read;
+use ob_documents::{carried, read};
 use ob_io::{FileFault, Files};
 use ob_site_file::LoadFault;
 use ob_xml::{Doc, Why};
@@ -31,11 +32,13 @@ pub(crate) fn read_bytes<F: Files>(
     }
 }
 
-/// The document that bytes spell.
+/// The document that bytes spell. It has at most 32 levels.
 pub(crate) fn document(alloc: Global, bytes: &[u8]) -> Result<Doc, LoadFault>
     ensures spelled { IfOk result (λ doc. Spells bytes.now doc.ns doc.root) }
+    ensures shallow { IfOk result (λ doc. IsShallow doc.root) }
     ensures unspelled { IfErr result (IsUnspelled bytes.now) }
 {
+    carried();
     match read(alloc, bytes) {
         Ok(doc) => Ok(doc),
         Err(refused) => match refused.why {

@@ -2,6 +2,7 @@
 ghost use Rattle.std.specs.Prelude.{◌≡◌, ◌⊎◌, ℕ, List, Ok, map, take, IfOk, IfErr, IfSome};
 ghost use Rattle.ob_opening.specs.Opening.{opening};
 ghost use Rattle.ob_state.specs.States.{entry_of, AreCounted};
+ghost use Rattle.ob_site.specs.Between.{IsShallow};
 ghost use Rattle.ob_site_file.specs.Opened.{site_of};
 ghost use Rattle.ob_site_file.specs.Passes.{Refuses};
 ghost use Rattle.ob_load.specs.Causes.{HasLoadCause};
@@ -26,6 +27,7 @@ pub struct Loaded {
 
 // The site of what a document's root opened at a moment.
 fn site_of(alloc: Global, root: &Obj, boot: Moment, opened: Opened) -> Result<Site, AllocError>
+    requires shallow { IsShallow root.now }
     requires opens { opening root.now boot ≡ Ok (site_of opened) }
     requires counted { AreCounted (map entry_of opened.logs.items) }
     ensures { IfOk result (λ site. site ≡ site_of opened) }
@@ -37,6 +39,7 @@ fn site_of(alloc: Global, root: &Obj, boot: Moment, opened: Opened) -> Result<Si
 
 // The site that a document's root opens at a moment.
 fn site_at(alloc: Global, root: &Obj, boot: Moment) -> Result<Site, LoadFault>
+    requires { IsShallow root.now }
     ensures site { IfOk result (λ site. opening root.now boot ≡ Ok site) }
     ensures refused { IfErr result (Refuses root.now boot) }
 {

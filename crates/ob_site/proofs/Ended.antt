@@ -1,5 +1,5 @@
 -- The end of a step that may have changed the state.
-use Rattle.std.proofs.Common.{◌≡◌, ℕ, List, length, refl, sym, ap, ap₂, ◌∙◌, subst}
+use Rattle.std.proofs.Common.{◌≡◌, ℕ, ◌≤◌, List, length, refl, sym, ap, ap₂, ◌∙◌, subst}
 use Rattle.ob_object.specs.Object.{Object as Node, parts}
 use Rattle.ob_history.specs.declared.records.Filter.{Filter}
 use Rattle.ob_tree.specs.LastTouch.{Begins, done}
@@ -72,6 +72,7 @@ module _ (k : Kept) (ns : List ℕ) (t u : Table) (kept : AreKept k.plan k.befor
     kept = record {
       made = left.made;
       points = left.points;
+      shallow = subst (λ (n : ℕ). n ≤ 32) (sym stay.nested) kept.shallow;
       long = long_after ns (tree_of k) long_now;
       past = subst AreStampsPast (sym (tree_closed ns k)) (stamps_are_past.steps ns (tree_of k) past_now);
       own = all_weaker (IsOwn k.before.tree) (IsOwn k.now.tree) (λ i own. stay.own i.path i.tracked own) u.watches (told.own k.before.tree own_swept);

@@ -44,6 +44,7 @@ module _ (plan : Plan) (c : Contents) where
   kept_of t u kept known = record {
     made = kept.made;
     points = kept.points;
+    shallow = kept.shallow;
     long = kept.long;
     past = kept.past;
     own = all_weaker (IsKnown plan c) (IsOwn c.tree.root) (λ i k. placed_own c.tree.root i.path i.tracked k.placed) u.watches known;

@@ -1,3 +1,4 @@
+pub mod Levels
 pub mod Unchanged
 pub mod Known
 pub mod Asked

@@ -5,9 +5,11 @@ use Rattle.ob_object.specs.declared.head.Head.{Head}
 use Rattle.ob_object.specs.declared.head.Slot.{Slot}
 use Rattle.ob_object.specs.Object.{Object, parts}
 use Rattle.ob_shown_laws.specs.Changed.{is_watchable}
+use Rattle.ob_tree.specs.Depths.{levels}
 use Rattle.ob_tree.specs.Laid.{head_at, changed, paths}
 use Rattle.ob_tree.specs.Paths.{place_of}
 use Rattle.ob_tree.specs.Paths as tree
+use Rattle.ob_tree.specs.Shown.{row}
 use Rattle.ob_tree.proofs.Changing.{parts-changed}
 use Rattle.ob_tree.proofs.Leaves.{others_stay}
 use Rattle.ob_site_rules.specs.Build.{Path}
@@ -21,6 +23,7 @@ use Rattle.ob_site_state.proofs.Rewinding.{set_to}
 use Rattle.ob_watch.specs.declared.item.Tracked.{Tracked}
 use Rattle.ob_watch.specs.declared.item.Tracked.TheVariants as tracked
 use Rattle.ob_site.specs.Ending.{NodesStay}
+use Rattle.ob_site.proofs.Levels.{levels_changed}
 
 equal_of : (a b : ℕ) → nat_eq a b ≡ true → a ≡ b
 equal_of a b e = grind (arith, nat_tests)
@@ -62,8 +65,17 @@ count_rewound : (cs : List Change) (s : State) → parts (rewound cs s).tree ≡
 count_rewound [] s = refl
 count_rewound (c ∷ cs) s = count_undone c (rewound cs s) ∙ count_rewound cs s
 
+levels_undone : (c : Change) (s : State) → levels (row (undone c s).tree) ≡ levels (row s.tree)
+levels_undone (change.Slot node slot) s = levels_changed (set_to slot) node.number s.tree
+levels_undone _ s = refl
+
+levels_rewound : (cs : List Change) (s : State) → levels (row (rewound cs s).tree) ≡ levels (row s.tree)
+levels_rewound [] s = refl
+levels_rewound (c ∷ cs) s = levels_undone c (rewound cs s) ∙ levels_rewound cs s
+
 pub nodes_stay : (cs : List Change) (before now : State) → CanRewind cs now → rewound cs now ≡ before → NodesStay before now
 nodes_stay cs before now can is = record {
   count = sym (count_rewound cs now) ∙ ap (λ (s : State). parts s.tree) is;
+  nested = sym (levels_rewound cs now) ∙ ap (λ (s : State). levels (row s.tree)) is;
   own = λ path k own. own_rewound cs now path k can (subst (λ (s : State). IsOwnBy s.tree path k) (sym is) own);
 }

@@ -45,6 +45,7 @@ module _ (k : Kept) (t : Table) where
     kept = record {
       made = is.kept.made;
       points = is.kept.points;
+      shallow = is.kept.shallow;
       long = long_same (parts k.now.tree) 1;
       past = anew_is.stamps;
       own = (table_keeps (IsOwn k.now.tree)).changes (marked_anew (tree_of k)) (λ i own. (nodes_stay (IsOwnNode k.now.tree)).renumbers (tree_of k) i own) t.watches is.kept.own;

@@ -16,6 +16,7 @@ use Rattle.ob_site_rules.specs.State.{State, roll}
 use Rattle.ob_site_state.specs.Kept.{Kept, IsSoundFor}
 use Rattle.ob_watch.specs.Tables.{Table, no_watches}
 use Rattle.ob_site.specs.Between.{AreKept, IsOpened, IsSite}
+use Rattle.ob_site.proofs.Levels.{opened_shallow}
 use Rattle.ob_site.proofs.Marks.{long_same}
 
 -- what a step leaves of a sound site is sound
@@ -33,6 +34,7 @@ opened_site k o sound rolled =
       kept = record {
         made = (opens_consistent o.root o.boot st o.well_formed sound.consistent.counted o.opens.opens).library;
         points = λ p among. (sound.consistent.points p among, λ node is. opens_points o.root o.boot st o.opens.opens p node among is);
+        shallow = opened_shallow o.root o.boot st o.opens.opens o.shallow;
         long = long_same (parts s.tree) 0;
         past = stamps_are_past.begins s.tree;
         own = tt;

@@ -89,6 +89,7 @@ lapsed_kept : (plan : Plan) (s : State) (xs : List ℕ) (m now : ℕ) (u : Table
 lapsed_kept plan s xs m now u kept = record {
   made = kept.made;
   points = kept.points;
+  shallow = kept.shallow;
   long = kept.long;
   past = kept.past;
   own = (table_keeps (IsOwn s.tree)).lapses now u kept.own;

@@ -1,6 +1,8 @@
 -- The end of a step: what it has changed is told to the watches, and the state rolls.
 use Rattle.std.specs.Prelude.{◌≡◌, ℕ}
 use Rattle.ob_object.specs.Object.{Object, parts}
+use Rattle.ob_tree.specs.Depths.{levels}
+use Rattle.ob_tree.specs.Shown.{row}
 use Rattle.ob_tree.specs.Trees.{Stamped}
 use Rattle.ob_watching.specs.Watches.{ended}
 use Rattle.ob_marks_laws.specs.Tables.{AllItems}
@@ -28,6 +30,7 @@ pub record AreTold (plan : Plan) (before after : State) (old new : Table) : Type
 -- A step moves no own node, and what could be watched before it can be after it.
 pub record NodesStay (before now : State) : Type 0 where
   pub count : parts now.tree ≡ parts before.tree
+  pub nested : levels (row now.tree) ≡ levels (row before.tree)
   pub own : (path : Path) (k : Tracked) → IsOwnBy before.tree path k → IsOwnBy now.tree path k
 
 -- The state and the watches at the end of a step, in the middle of which they were the first ones.

@@ -3,7 +3,7 @@ ghost use Rattle.std.specs.Prelude.{◌≡◌, ℕ, ◌+◌, ◌<◌, ◌≤◌,
 ghost use Rattle.ob_watching.specs.Asked.{OneWatch, PollChanges};
 ghost use Rattle.ob_site_rules.specs.Locating.{locate};
 ghost use Rattle.ob_site_rules.specs.Sites.{site, step};
-ghost use Rattle.ob_site_watched.specs.Polls.{object_entries, steps_in};
+ghost use Rattle.ob_site_watched.specs.Polls.{object_entries, steps_for};
 
 use crate::step::step;
 use ob_machine::Machine;
@@ -55,7 +55,7 @@ impl Site {
     ghost use Rattle.ob_site.specs.Views.{opened};
     ghost use Rattle.ob_site_laws.specs.SiteLaws.{IsSoundSite};
 
-    /// A site of a state that a document opened, without watches; the first will have number 1.
+    /// A site of a state that a document of at most 32 levels opened, without watches; the first will have number 1.
     pub fn open(state: State) -> Site
         requires { IsOpened state }
         ensures { result ≡ opened state }
@@ -73,8 +73,8 @@ impl Site {
     /// poll takes. A step is a view taken of what an object inherits, or one object of an effective object that is built.
     ///
     /// A pollChanges that is answered counts at most as many steps as the entries for objects that it reports have parts,
-    /// and for each of them the levels of the site's tree: a document nests at most 32 deep. So it counts none where it
-    /// reports no object. Other requests count none. Want of memory leaves the site as it was.
+    /// and for each of them 32, for the objects round it: a site has at most the 32 levels of its document. So it counts
+    /// none where it reports no object. Other requests count none. Want of memory leaves the site as it was.
     ///
     /// Source: oBIX 1.1, chapter 12 (Watch.pollChanges).
     pub fn step_counted<L: Ledger>(
@@ -86,7 +86,7 @@ impl Site {
         ensures done { IfOk result (λ reply. step locate self.old request.now moment ≡ (self.new, reply)) }
         ensures refused { OnErr result (self.new ≡ self.old) }
         ensures polls { IfOk result (λ reply. (number : ℕ) → (site locate self.old.plan).target request.now ≡ OneWatch number PollChanges
-            → steps.new ≤ steps.old + steps_in self.old.world.site.tree (object_entries reply)) }
+            → steps.new ≤ steps.old + steps_for 32 (object_entries reply)) }
     {
         step(&mut self.state, &mut self.watches, request, moment, steps)
     }

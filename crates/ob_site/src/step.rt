@@ -3,7 +3,7 @@ ghost use Rattle.std.specs.Prelude.{◌≡◌, ◌+◌, ◌≤◌, IfOk, OnErr};
 ghost use Rattle.ob_site_rules.specs.Locating.{locate};
 ghost use Rattle.ob_site_rules.specs.Sites.{site, step};
 ghost use Rattle.ob_watch_calls.specs.Targets.{IsTarget};
-ghost use Rattle.ob_site_watched.specs.Polls.{object_entries, steps_in};
+ghost use Rattle.ob_site_watched.specs.Polls.{object_entries, steps_for, steps_in};
 ghost use Rattle.ob_site.specs.Between.{IsBegun, IsSite};
 ghost use Rattle.ob_site.specs.Steps.{IsAnswered, IsUnanswered};
 ghost use Rattle.ob_site.specs.Views.{site_of};
@@ -66,7 +66,7 @@ pub(crate) fn step<L: Ledger>(
     ensures done { IfOk result (λ reply. (site_of state.new watches.new, reply) ≡ step locate (site_of state.old watches.old) request.now moment) }
     ensures refused { OnErr result (site_of state.new watches.new ≡ site_of state.old watches.old) }
     ensures kept { IsSite state.new watches.new }
-    ensures steps { IfOk result (λ o. steps.new ≤ steps.old + steps_in (site_of state.old watches.old).world.site.tree (object_entries o)) }
+    ensures steps { IfOk result (λ o. steps.new ≤ steps.old + steps_for 32 (object_entries o)) }
 {
     make_room(state, watches);
     state.begin(moment);

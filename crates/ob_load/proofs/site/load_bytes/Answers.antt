@@ -3,8 +3,12 @@ use Rattle.std.specs.Prelude.{Ok}
 use Rattle.ob_object.specs.Object.{Object}
 use Rattle.ob_opening.specs.Opening.{opening}
 use Rattle.ob_site_file.specs.Passes.{Refuses}
+use Rattle.ob_site.specs.Between.{IsShallow}
 use Rattle.ob_load.specs.Loads.{IsSite, refused}
 use Rattle.ob_load.proofs.site.load_bytes.Goals as goal
+
+pub site_at-requires : goal.site_at-requires
+site_at-requires c = subst (λ (parts : Option (List ℕ) × Object). IsShallow parts.1) (sym c.into_parts-ns.ensures) c.in_ok-doc.ensures.shallow
 
 pub returns-in-Err-clause-refused : goal.returns-in-Err-clause-refused
 returns-in-Err-clause-refused c =

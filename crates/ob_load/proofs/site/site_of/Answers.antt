@@ -1,4 +1,4 @@
-use Rattle.std.proofs.Common.{◌≡◌, ap, ◌∙◌}
+use Rattle.std.proofs.Common.{ap, ◌∙◌}
 use Rattle.ob_site_file.specs.Opened.{site_of}
 use Rattle.ob_site.specs.Views.{opened}
 use Rattle.ob_load.proofs.site.site_of.Goals as goal
@@ -8,6 +8,7 @@ open-requires c = record {
   root = c.args.root.now;
   boot = c.args.boot;
   well_formed = c.head-head.ensures.well_formed;
+  shallow = c.requires.shallow;
   opens = record { site = site_of c.args.opened; opens = c.requires.opens; is = c.in_ok-state.ensures };
 }
 

@@ -4,6 +4,7 @@ use Rattle.ob_site_rules.specs.Sites.{SiteState}
 use Rattle.ob_site_state.specs.Kept.{Kept}
 use Rattle.ob_site_watched.specs.Polls.{object_entries, steps_in}
 use Rattle.ob_site.specs.Views.{site_of}
+use Rattle.ob_site.proofs.Levels.{steps_at_most}
 use Rattle.ob_site.proofs.Stepped.{begun_so, stepped, site_after, undone, same_again, site_again}
 use Rattle.ob_site.proofs.step.step.Goals as goal
 
@@ -34,4 +35,5 @@ pub returns-in-Ok-clause-steps : goal.returns-in-Ok-clause-steps
 returns-in-Ok-clause-steps g c =
     let same : c.begin.new.self.now.tree ≡ c.args.state.now.now.tree =
     ap (λ (k : Kept). k.now.tree) c.begin.ensures ∙ ap (λ (st : SiteState). st.world.site.tree) c.make_room.ensures.same in
-    subst (λ (root : Object). c.answer.new.steps ≤ c.args.steps.now + steps_in root (object_entries c.in-Ok.reply)) same c.in-Ok.ensures.steps
+    steps_at_most c.args.steps.now c.answer.new.steps c.args.state.now.now.tree (object_entries c.in-Ok.reply) c.requires.kept.shallow
+    (subst (λ (root : Object). c.answer.new.steps ≤ c.args.steps.now + steps_in root (object_entries c.in-Ok.reply)) same c.in-Ok.ensures.steps)

@@ -1,7 +1,5 @@
-use Rattle.std.proofs.Common.{◌+◌, ◌≤◌, ◌∙◌, subst}
+use Rattle.std.proofs.Common.{◌∙◌}
 use Rattle.std.proofs.lemmas.Result.{IfOk-weaker, on_err_weaker}
-use Rattle.ob_site_rules.specs.Sites.{SiteState}
-use Rattle.ob_site_watched.specs.Polls.{object_entries, steps_in}
 use Rattle.ob_site.specs.Views.{site_of}
 use Rattle.ob_site.proofs.Stepped.{left_so}
 use Rattle.ob_site.proofs.site.Site.step_counted.Goals as goal
@@ -20,5 +18,4 @@ returns-clause-refused g c = on_err_weaker c.step.result (λ e. e ∙ c.self.vie
 
 pub returns-clause-polls : goal.returns-clause-polls
 returns-clause-polls g c =
-    IfOk-weaker c.step.result _ _
-    (λ o h number is. subst (λ (st : SiteState). c.step.new.steps ≤ c.args.steps.now + steps_in st.world.site.tree (object_entries o)) c.self.view_is h) c.step.ensures.steps
+    IfOk-weaker c.step.result _ _ (λ o h number is. h) c.step.ensures.steps
