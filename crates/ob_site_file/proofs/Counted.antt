@@ -1,6 +1,6 @@
 -- Names that are put and parts that are added up, one object after another.
-use Rattle.std.proofs.Common.{◌≡◌, ℕ, ◌+◌, ◌-◌, ◌^◌, ◌<◌, ◌≤◌, Bool, true, false, cond, not, ◌&&◌, ◌||◌, List, [], ◌∷◌, ◌++◌, map, filter, length, take, drop, get_or, Option, Some, None, refl, sym, ap, ◌∙◌, subst, append_assoc, arith}
-use Rattle.std.specs.Prelude.{min, is_some, slice_get, bytes_eq, option_map, find}
+use Rattle.std.proofs.Common.{◌≡◌, ℕ, ◌+◌, ◌-◌, ◌<◌, ◌≤◌, Bool, true, false, cond, not, ◌&&◌, ◌||◌, List, [], ◌∷◌, ◌++◌, map, filter, length, take, drop, get_or, Option, Some, None, refl, sym, ap, ◌∙◌, subst, append_assoc, arith}
+use Rattle.std.specs.Prelude.{is_some, slice_get, bytes_eq, option_map, find}
 use Rattle.std.specs.Ordering.{nat_cmp}
 use Rattle.std.specs.Cmp.Lexicographic.{slice_cmp}
 use Rattle.std.specs.BTreeSet.{Updates, contains_by}
@@ -18,11 +18,8 @@ use Rattle.ob_roles.proofs.Named.{taken_first}
 use Rattle.ob_roles.proofs.Taken.{rest_more, rest_past}
 use Rattle.ob_site_rules.specs.State.{is_among, at}
 use Rattle.ob_site_file.specs.declared.derived.Derived.{Derived}
-use Rattle.ob_site_file.specs.Sizes.{Texts, has_text, HasNames, is_fresh, capped, row_count, stand_in, stood}
-use Rattle.ob_site_file.proofs.Sizes.{cap_step, cap_sum, cap_over, count_append, row_append, row_one, result_parts}
-
-pub big : 200_001 ≤ 2 ^ 64 - 1
-big = omega arith
+use Rattle.ob_site_file.specs.Sizes.{Texts, has_text, HasNames, is_fresh, row_count, stand_in, stood}
+use Rattle.ob_site_file.proofs.Sizes.{left_both, left_next, left_none, left_end, count_append, row_append, row_one, result_parts}
 
 or_cond : (b c : Bool) → cond b true c ≡ (c || b)
 or_cond true true = refl
@@ -82,20 +79,20 @@ fresh_at set before cs i x (Some n) e d h is names =
     let free : is_taken (Some n) (take i cs) ≡ false = subst (λ (m : Option (List ℕ)). is_taken m (take i cs) ≡ false) e (free_at cs i x d here) in
     ap not (names n ∙ taken-append n before (take i cs) ∙ ap (λ b. is_taken (Some n) before || b) free ∙ or_false (is_taken (Some n) before))
 
--- the children of a source up to a place
-pub record Up (before cs : List Object) (i total : ℕ) (set : Texts) : Type 0 where
-  pub counted : capped total ≡ capped (count (in_row (filter (is_new before) (take i cs))))
+-- the children of a source up to a place: what is left of the limit
+pub record Up (most : ℕ) (before cs : List Object) (i left : ℕ) (set : Texts) : Type 0 where
+  pub counted : left ≡ most - count (in_row (filter (is_new before) (take i cs)))
   pub names : HasNames set (before ++ take i cs)
 
-pub up_first : (before cs : List Object) (set : Texts) → HasNames set before → Up before cs 0 0 set
-up_first before cs set names = record {
-  counted = ap (λ l. capped (count (in_row (filter (is_new before) l)))) (sym (take_none cs));
+pub up_first : (most : ℕ) (before cs : List Object) (set : Texts) → HasNames set before → Up most before cs 0 most set
+up_first most before cs set names = record {
+  counted = let no_more : count (in_row (filter (is_new before) (take 0 cs))) ≡ 0 = ap (λ l. count (in_row (filter (is_new before) l))) (take_none cs) in omega (arith, no_more);
   names = λ n. names n ∙ ap (is_taken (Some n)) (sym (ap (λ l. before ++ l) (take_none cs) ∙ append-nil before));
 }
 
-pub up_more : (before cs : List Object) (i total next n : ℕ) (x : Object) (set new : Texts) → NamesDiffer cs → i < length cs → x ≡ get_or cs i x → capped n ≡ capped (cond (is_fresh set x.head.name) (parts x) 0)
-    → ((q : List ℕ) → has_text new q ≡ (has_text set q || has_name q x.head.name)) → next ≡ min (total + n) (2 ^ 64 - 1) → Up before cs i total set → Up before cs (i + 1) next new
-up_more before cs i total next n x set new d h is one put sum p =
+pub up_more : (most : ℕ) (before cs : List Object) (i left next : ℕ) (x : Object) (set new : Texts) → NamesDiffer cs → i < length cs → x ≡ get_or cs i x → next ≡ left - cond (is_fresh set x.head.name) (parts x) 0
+    → ((q : List ℕ) → has_text new q ≡ (has_text set q || has_name q x.head.name)) → Up most before cs i left set → Up most before cs (i + 1) next new
+up_more most before cs i left next x set new d h is one put p =
     let A = filter (is_new before) (take i cs) in
     let fresh : is_fresh set x.head.name ≡ is_new before x = fresh_at set before cs i x x.head.name refl d h is p.names in
     let all : filter (is_new before) (take (i + 1) cs) ≡ A ++ cond (is_new before x) (x ∷ []) [] =
@@ -103,29 +100,29 @@ up_more before cs i total next n x set new d h is one put sum p =
     let counts : count (in_row (filter (is_new before) (take (i + 1) cs))) ≡ count (in_row A) + cond (is_new before x) (parts x) 0 =
     ap (λ l. count (in_row l)) all ∙ count_append A (cond (is_new before x) (x ∷ []) []) ∙ ap (λ m. count (in_row A) + m) (count_if (is_new before x) x) in
     record {
-      counted = cap_sum 200_001 (2 ^ 64 - 1) total n (count (in_row A)) (cond (is_new before x) (parts x) 0) next big sum p.counted (one ∙ ap (λ b. capped (cond b (parts x) 0)) fresh) ∙ ap capped (sym counts);
+      counted = left_both most left next (count (in_row A)) (cond (is_new before x) (parts x) 0) p.counted (one ∙ ap (λ b. left - cond b (parts x) 0) fresh) ∙ ap (λ m. most - m) (sym counts);
       names = λ q. put q ∙ ap (λ b. b || has_name q x.head.name) (p.names q) ∙ sym (taken_next q before cs i x h is);
     }
 
-pub up_parts : (before cs : List Object) (i total : ℕ) (set : Texts) → length cs ≤ i → Up before cs i total set → capped total ≡ capped (count (in_row (filter (is_new before) cs)))
-up_parts before cs i total set h p = p.counted ∙ ap (λ l. capped (count (in_row (filter (is_new before) l)))) (take_all i cs h)
+pub up_parts : (most : ℕ) (before cs : List Object) (i left : ℕ) (set : Texts) → length cs ≤ i → Up most before cs i left set → left ≡ most - count (in_row (filter (is_new before) cs))
+up_parts most before cs i left set h p = p.counted ∙ ap (λ l. most - count (in_row (filter (is_new before) l))) (take_all i cs h)
 
-pub up_names : (before cs : List Object) (i total : ℕ) (set : Texts) → length cs ≤ i → Up before cs i total set → HasNames set (before ++ cs)
-up_names before cs i total set h p = λ n. p.names n ∙ ap (λ l. is_taken (Some n) (before ++ l)) (take_all i cs h)
+pub up_names : (most : ℕ) (before cs : List Object) (i left : ℕ) (set : Texts) → length cs ≤ i → Up most before cs i left set → HasNames set (before ++ cs)
+up_names most before cs i left set h p = λ n. p.names n ∙ ap (λ l. is_taken (Some n) (before ++ l)) (take_all i cs h)
 
 -- what is missing of the sources from a place on
-pub record Left (before : List Object) (from : List (Bor Object)) (i total : ℕ) (set : Texts) : Type 0 where
+pub record Left (most : ℕ) (before : List Object) (from : List (Bor Object)) (i left : ℕ) (set : Texts) : Type 0 where
   pub there : List Object
   pub names : HasNames set there
-  pub left : capped (total + count (in_row (missing there (lent (drop i from))))) ≡ capped (count (in_row (missing before (lent from))))
+  pub rest : left - count (in_row (missing there (lent (drop i from)))) ≡ most - count (in_row (missing before (lent from)))
 
-pub left_first : (before : List Object) (from : List (Bor Object)) (set : Texts) → HasNames set before → Left before from 0 0 set
-left_first before from set names = record { there = before; names = names; left = ap capped (omega arith) }
+pub left_first : (most : ℕ) (before : List Object) (from : List (Bor Object)) (set : Texts) → HasNames set before → Left most before from 0 most set
+left_first most before from set names = record { there = before; names = names; rest = refl }
 
-pub left_more : (before : List Object) (from : List (Bor Object)) (i total next n : ℕ) (x : Bor Object) (set new : Texts) → i < length from → x ≡ get_or from i x
-    → ((b : List Object) → HasNames set b → capped n ≡ capped (count (in_row (filter (is_new b) (children x.now))))) → ((b : List Object) → HasNames set b → HasNames new (b ++ children x.now))
-    → next ≡ min (total + n) (2 ^ 64 - 1) → Left before from i total set → Left before from (i + 1) next new
-left_more before from i total next n x set new h is one put sum p =
+pub left_more : (most : ℕ) (before : List Object) (from : List (Bor Object)) (i left next : ℕ) (x : Bor Object) (set new : Texts) → i < length from → x ≡ get_or from i x
+    → ((b : List Object) → HasNames set b → next ≡ left - count (in_row (filter (is_new b) (children x.now)))) → ((b : List Object) → HasNames set b → HasNames new (b ++ children x.now))
+    → Left most before from i left set → Left most before from (i + 1) next new
+left_more most before from i left next x set new h is one put p =
     let cs = children x.now in
     let R = missing (p.there ++ cs) (lent (drop (i + 1) from)) in
     let N = filter (is_new p.there) cs in
@@ -134,16 +131,16 @@ left_more before from i total next n x set new h is one put sum p =
     record {
       there = p.there ++ cs;
       names = put p.there p.names;
-      left = cap_step 200_001 (2 ^ 64 - 1) total n (count (in_row N)) (count (in_row R)) (capped (count (in_row (missing before (lent from))))) next big sum (one p.there p.names) (ap (λ m. capped (total + m)) (sym split) ∙ p.left);
+      rest = left_next left next (count (in_row N)) (count (in_row R)) (count (in_row (missing p.there (lent (drop i from))))) (most - count (in_row (missing before (lent from)))) split (one p.there p.names) p.rest;
     }
 
-pub left_all : (before : List Object) (from : List (Bor Object)) (i total : ℕ) (set : Texts) → length from ≤ i → Left before from i total set → capped total ≡ capped (count (in_row (missing before (lent from))))
-left_all before from i total set h p =
-    let none_left : count (in_row (missing p.there (lent (drop i from)))) ≡ 0 = ap (λ l. count (in_row (missing p.there (lent l)))) (rest_past from i h) in
-    ap capped (omega (arith, none_left)) ∙ p.left
+pub left_all : (most : ℕ) (before : List Object) (from : List (Bor Object)) (i left : ℕ) (set : Texts) → length from ≤ i → Left most before from i left set → left ≡ most - count (in_row (missing before (lent from)))
+left_all most before from i left set h p =
+    left_end left (count (in_row (missing p.there (lent (drop i from))))) (most - count (in_row (missing before (lent from)))) (ap (λ l. count (in_row (missing p.there (lent l)))) (rest_past from i h)) p.rest
 
-pub left_over : (before : List Object) (from : List (Bor Object)) (i total : ℕ) (set : Texts) → 200_000 < total → Left before from i total set → capped total ≡ capped (count (in_row (missing before (lent from))))
-left_over before from i total set h p = cap_over 200_001 total (count (in_row (missing p.there (lent (drop i from))))) (capped (count (in_row (missing before (lent from))))) (omega arith) p.left
+pub left_over : (most : ℕ) (before : List Object) (from : List (Bor Object)) (i left : ℕ) (set : Texts) → left ≡ 0 → Left most before from i left set → 0 ≡ most - count (in_row (missing before (lent from)))
+left_over most before from i left set h p =
+    left_none left (count (in_row (missing p.there (lent (drop i from))))) (most - count (in_row (missing before (lent from)))) h p.rest
 
 -- the parts of a child that roles derive
 pub ref_parts : (lib : Contracts) (g : Option Words) (over : Option Object) (n : List ℕ) → parts (result_of lib (stand_in true n) g over) ≡ 1
@@ -157,15 +154,15 @@ map_behind f [] x = refl
 map_behind f (y ∷ xs) x = ap (λ l. f y ∷ l) (map_behind f xs x)
 
 -- one derived child more
-pub derived_more : (lib : Contracts) (g : Option Words) (ss : List Object) (ds : List Derived) (i total next n : ℕ) (d x : Derived) → i < length ds → x ≡ get_or ds i d
-    → capped n ≡ capped (parts (result_of lib (stood x) g (overridden (Some x.name.now) ss))) → next ≡ min (total + n) (2 ^ 64 - 1)
-    → capped total ≡ capped (row_count lib g ss (in_row (map stood (take i ds)))) → capped next ≡ capped (row_count lib g ss (in_row (map stood (take (i + 1) ds))))
-derived_more lib g ss ds i total next n d x h is one sum p =
+pub derived_more : (most : ℕ) (lib : Contracts) (g : Option Words) (ss : List Object) (ds : List Derived) (i left next : ℕ) (d x : Derived) → i < length ds → x ≡ get_or ds i d
+    → next ≡ left - parts (result_of lib (stood x) g (overridden (Some x.name.now) ss))
+    → left ≡ most - row_count lib g ss (in_row (map stood (take i ds))) → next ≡ most - row_count lib g ss (in_row (map stood (take (i + 1) ds)))
+derived_more most lib g ss ds i left next d x h is one p =
     let A = map stood (take i ds) in
     let all : map stood (take (i + 1) ds) ≡ A ++ stood x ∷ [] = ap (map stood) (take_more ds i d h ∙ ap (λ y. take i ds ++ y ∷ []) (sym is)) ∙ map_behind stood (take i ds) x in
     let counts : row_count lib g ss (in_row (map stood (take (i + 1) ds))) ≡ row_count lib g ss (in_row A) + parts (result_of lib (stood x) g (overridden (Some x.name.now) ss)) =
     ap (λ l. row_count lib g ss (in_row l)) all ∙ row_append lib g ss A (stood x ∷ []) ∙ ap (λ m. row_count lib g ss (in_row A) + m) (omega (arith, row_one lib g ss (stood x).head (stood x).inner none)) in
-    cap_sum 200_001 (2 ^ 64 - 1) total n (row_count lib g ss (in_row A)) (parts (result_of lib (stood x) g (overridden (Some x.name.now) ss))) next big sum p one ∙ ap capped (sym counts)
+    left_both most left next (row_count lib g ss (in_row A)) (parts (result_of lib (stood x) g (overridden (Some x.name.now) ss))) p one ∙ ap (λ m. most - m) (sym counts)
 
 -- the names of own children and of derived ones
 pub own_more : (cs : List Object) (i : ℕ) (x : Object) (set new : Texts) → i < length cs → x ≡ get_or cs i x → ((q : List ℕ) → has_text new q ≡ (has_text set q || has_name q x.head.name)) → HasNames set (take i cs) → HasNames new (take (i + 1) cs)
@@ -213,8 +210,10 @@ own_first cs set e = λ n. names_none set e n ∙ ap (is_taken (Some n)) (sym (t
 pub names_first : (os : List Object) (ds : List Derived) (set : Texts) → HasNames set os → HasNames set (os ++ map stood (take 0 ds))
 names_first os ds set names = λ n. names n ∙ ap (is_taken (Some n)) (sym (ap (λ l. os ++ map stood l) (take_none ds) ∙ append-nil os))
 
-pub derived_first : (lib : Contracts) (g : Option Words) (ss : List Object) (ds : List Derived) → capped 0 ≡ capped (row_count lib g ss (in_row (map stood (take 0 ds))))
-derived_first lib g ss ds = ap (λ l. capped (row_count lib g ss (in_row (map stood l)))) (sym (take_none ds))
+pub derived_first : (most : ℕ) (lib : Contracts) (g : Option Words) (ss : List Object) (ds : List Derived) → most ≡ most - row_count lib g ss (in_row (map stood (take 0 ds)))
+derived_first most lib g ss ds =
+    let no_more : row_count lib g ss (in_row (map stood (take 0 ds))) ≡ 0 = ap (λ l. row_count lib g ss (in_row (map stood l))) (take_none ds) in
+    omega (arith, no_more)
 
 -- texts of which none is in a set yet
 pub among_first : (ts : List (List ℕ)) (set : Texts) → set.keys ≡ [] → (t : List ℕ) → has_text set t ≡ is_among t (take 0 ts)

@@ -1,5 +1,5 @@
 -- The parts of what is shown, counted object by object.
-use Rattle.std.proofs.Common.{◌≡◌, ℕ, ◌+◌, ◌≤◌, Bool, true, false, cond, ◌&&◌, ◌||◌, codes, List, [], ◌∷◌, ◌++◌, map, length, Option, Some, None, refl, sym, ap, ap₂, ◌∙◌, append_assoc, arith}
+use Rattle.std.proofs.Common.{◌≡◌, ℕ, ◌+◌, ◌-◌, Bool, true, false, cond, ◌&&◌, ◌||◌, codes, List, [], ◌∷◌, ◌++◌, map, length, Option, Some, None, refl, sym, ap, ap₂, ◌∙◌, append_assoc, arith}
 use Rattle.std.specs.Prelude.{min, is_some, nat_lt, bytes_eq}
 use Rattle.std.proofs.lemmas.Bool.Decides.{nat_tests}
 use Rattle.std.proofs.lemmas.List.{append-nil}
@@ -14,28 +14,34 @@ use Rattle.ob_site_rules.specs.State.{Plan, State, Log, is_among, is_path, at}
 use Rattle.ob_site_rules.specs.Shown.{node_path, derived, derived_at, lobby_children, write_point_op, history_part, subject_children, rule_of, with_status, with_status_at, with_status_by, with_roles, shown_root}
 use Rattle.ob_site_file.specs.Sizes.{dressed_at, row_count, plain, stand_in}
 
--- numbers up to a limit
+-- what is left of a limit
 
-pub cap_step : (K M t n N R W next : ℕ) → K ≤ M → next ≡ min (t + n) M → min n K ≡ min N K → min (t + (N + R)) K ≡ W → min (next + R) K ≡ W
-cap_step K M t n N R W next big is e h = omega arith
+pub left_both : (m k n a b : ℕ) → k ≡ m - a → n ≡ k - b → n ≡ m - (a + b)
+left_both m k n a b first second = omega (arith, first, second)
 
-pub cap_sum : (K M a b A B sum : ℕ) → K ≤ M → sum ≡ min (a + b) M → min a K ≡ min A K → min b K ≡ min B K → min sum K ≡ min (A + B) K
-cap_sum K M a b A B sum big is e f = omega arith
+pub left_next : (k n a b c w : ℕ) → c ≡ a + b → n ≡ k - a → k - c ≡ w → n - b ≡ w
+left_next k n a b c w split is h = omega (arith, split, is, h)
 
-pub cap_over : (K t R W : ℕ) → K ≤ t → min (t + R) K ≡ W → min t K ≡ W
-cap_over K t R W big h = omega arith
+pub left_none : (k c w : ℕ) → k ≡ 0 → k - c ≡ w → 0 ≡ w
+left_none k c w zero_left h = omega (arith, zero_left, h)
 
-pub cap_parts : (K M p n : ℕ) → K ≤ M → n ≡ min p M → min n K ≡ min p K
-cap_parts K M p n big is = omega arith
+pub left_end : (k c w : ℕ) → c ≡ 0 → k - c ≡ w → k ≡ w
+left_end k c w zero_more h = omega (arith, zero_more, h)
 
-pub cap_whole : (K t R A B C : ℕ) → K ≤ t → min (t + R) K ≡ min (1 + A) K → min t K ≡ min (A + B + C + 1) K
-cap_whole K t R A B C big h = omega arith
+pub left_one : (m k a : ℕ) → k ≡ m - 1 → k - a ≡ m - (1 + a)
+left_one m k a is = omega (arith, is)
 
-pub cap_end : (K M t a R A B C sum : ℕ) → K ≤ M → R ≡ 0 → sum ≡ min (t + a) M → min (t + R) K ≡ min (1 + A) K → min a K ≡ min (B + C) K → min sum K ≡ min (A + B + C + 1) K
-cap_end K M t a R A B C sum big zero_left is h e = omega arith
+pub none_left : (m k r a b c : ℕ) → k ≡ 0 → k - r ≡ m - (1 + a) → 0 ≡ m - (a + b + c + 1)
+none_left m k r a b c zero_left h = omega (arith, zero_left, h)
 
-pub cap_test : (K n N : ℕ) → min n (K + 1) ≡ min N (K + 1) → nat_lt K n ≡ nat_lt K N
-cap_test K n N h = grind (arith, nat_tests)
+pub all_left : (m k n r a b c : ℕ) → r ≡ 0 → n ≡ k - (b + c) → k - r ≡ m - (1 + a) → n ≡ m - (a + b + c + 1)
+all_left m k n r a b c zero_more is h = omega (arith, zero_more, is, h)
+
+pub counted_up : (limit left n parts : ℕ) → left ≡ limit - n → parts ≡ limit - left → parts ≡ min limit n
+counted_up limit left n parts is e = omega (arith, is, e)
+
+pub counted_test : (n parts : ℕ) → parts ≡ min 200_001 n → nat_lt 200_000 parts ≡ nat_lt 200_000 n
+counted_test n parts is = grind (arith, nat_tests, is)
 
 -- how many objects rows have
 

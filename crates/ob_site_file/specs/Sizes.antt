@@ -1,5 +1,5 @@
 -- How many parts a site shows, told without building them.
-use Rattle.std.specs.Prelude.{◌≡◌, ℕ, Bool, false, not, cond, List, ◌++◌, min, Option, Some, None, is_some}
+use Rattle.std.specs.Prelude.{◌≡◌, ℕ, Bool, false, not, cond, List, ◌++◌, Option, Some, None, is_some}
 use Rattle.std.specs.Ordering.{nat_cmp}
 use Rattle.std.specs.Cmp.Lexicographic.{slice_cmp}
 use Rattle.std.specs.BTreeSet.{BTreeSet, contains_by}
@@ -31,10 +31,6 @@ HasNames set os = (n : List ℕ) → has_text set n ≡ is_taken (Some n) os
 abbrev pub is_fresh : Texts → Option (List ℕ) → Bool
 is_fresh set None = false
 is_fresh set (Some n) = not (has_text set n)
-
--- a number, as far as the limit of 200,000 asks for it
-abbrev pub capped : ℕ → ℕ
-capped n = min n 200_001
 
 -- what the parts of the site of a plan and a state are counted by
 pub record IsCounting (c : Counting) (plan : Plan) (s : State) : Type 0 where

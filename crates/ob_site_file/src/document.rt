@@ -23,6 +23,8 @@ use ob_state::Log;
 use ob_times::Moment;
 use ob_values::Text;
 use std::alloc::{AllocError, Global};
+use std::marker::Brand;
+use std::sync::ledger::Blank;
 
 // Whether the parts of a root can be counted in 64 bits with one more.
 fn is_countable(root: &Obj) -> bool
@@ -93,8 +95,7 @@ fn is_large(alloc: Global, opened: &Opened) -> Result<bool, AllocError>
     ensures { IfOk result (λ large. large ≡ nat_lt 200_000 (parts (shown_root (site_of opened.now).plan (site_of opened.now).world.site))) }
 {
     let counting = Counting::of(alloc, &opened.library, &opened.plan, opened.logs.as_slice())?;
-    let large = is_too_large(alloc, &counting, &opened.tree)?;
-    Ok(large)
+    is_too_large::<Brand>(alloc, &counting, &opened.tree, Blank::new(1))
 }
 
 // What a root opens that has paths in place of texts that lead to the site, or the first refusal behind those of hrefs.

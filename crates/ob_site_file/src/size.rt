@@ -1,5 +1,5 @@
-//! How many parts the shown root has, counted without building it.
-ghost use Rattle.std.specs.Prelude.{◌≡◌, ◌+◌, ◌++◌, ◌∷◌, ◌||◌, [], List, ℕ, Some, cond, map, nat_lt, filter, IfOk};
+//! How many parts the shown root has, counted up to a limit without building it.
+ghost use Rattle.std.specs.Prelude.{◌≡◌, ◌+◌, ◌-◌, ◌<◌, ◌≤◌, ◌++◌, ◌∷◌, ◌||◌, [], List, ℕ, Some, cond, map, min, nat_lt, filter, IfOk, OnErr};
 ghost use Rattle.std.specs.Option.{option_copied};
 ghost use Rattle.ob_object.specs.Object.{Object, children, count, in_row, listed, parts};
 ghost use Rattle.ob_object.specs.WellFormed.{has_name};
@@ -7,57 +7,69 @@ ghost use Rattle.ob_contracts.specs.Found.{found, lent};
 ghost use Rattle.ob_contracts.specs.Inherit.{contract_of, present, sources, overridden, missing, is_new, or_else, words_in, result_of};
 ghost use Rattle.ob_site_rules.specs.State.{Plan as SitePlan, State as SiteState};
 ghost use Rattle.ob_site_rules.specs.Shown.{node_path, derived, with_roles, shown_root};
-ghost use Rattle.ob_site_file.specs.Sizes.{has_text, HasNames, is_fresh, capped, IsCounting, dressed_at, stood, row_count};
+ghost use Rattle.ob_site_file.specs.Sizes.{has_text, HasNames, is_fresh, IsCounting, dressed_at, stood, row_count};
 
 use crate::derived::{Counting, Derived, Texts, derived_children};
 use ob_contracts::Library;
 use ob_object::{Head, Obj, Words};
 use ob_roles::{Names, find_over, implied_by, names_in};
+use ob_steps::Steps;
 use ob_values::Text;
 use std::alloc::{AllocError, Global};
 use std::collections::BTreeSet;
+use std::sync::ledger::{Blank, Ledger};
 
 /// The most parts that a shown root has.
 const MOST: u64 = 200_000;
 
-// The number of parts of an object, if it has a name that isn't there yet. The name is then there.
-fn parts_if_new<'a>(there: &mut Texts<'a>, object: &'a Obj) -> Result<u64, AllocError>
-    ensures parts { IfOk result (λ n. capped n ≡ capped (cond (is_fresh there.old object.now.head.name) (parts object.now) 0)) }
+// What is left of a limit behind the parts of an object, if it has a name that isn't there yet. The name is then there.
+fn left_after_new<'a>(there: &mut Texts<'a>, object: &'a Obj, left: u64) -> Result<u64, AllocError>
+    ensures left { IfOk result (λ n. n ≡ left - cond (is_fresh there.old object.now.head.name) (parts object.now) 0) }
     ensures there { IfOk result (λ _. (n : List ℕ) → has_text there.new n ≡ (has_text there.old n || has_name n object.now.head.name)) }
 {
     let Some(name) = object.name() else {
-        return Ok(0);
+        return Ok(left);
     };
     let fresh = there.insert(name.as_str())?;
-    if fresh { Ok(object.parts()) } else { Ok(0) }
+    if fresh {
+        Ok(left.saturating_sub(object.parts()))
+    } else {
+        Ok(left)
+    }
 }
 
-// The number of parts in the named children of a source whose names aren't there. They are then there.
-fn new_parts<'a>(there: &mut Texts<'a>, source: &'a Obj) -> Result<u64, AllocError>
-    ensures parts { IfOk result (λ n. (before : List Object) → HasNames there.old before → capped n ≡ capped (count (in_row (filter (is_new before) (children source.now))))) }
+// What is left of a limit behind the named children of a source whose names aren't there. They are then there.
+fn left_after_source<'a>(
+    there: &mut Texts<'a>,
+    source: &'a Obj,
+    most: u64,
+) -> Result<u64, AllocError>
+    ensures left { IfOk result (λ n. (before : List Object) → HasNames there.old before → n ≡ most - count (in_row (filter (is_new before) (children source.now)))) }
     ensures there { IfOk result (λ _. (before : List Object) → HasNames there.old before → HasNames there.new (before ++ children source.now)) }
 {
-    let mut total: u64 = 0;
+    let mut left = most;
     for child in source.children() {
-        let parts = parts_if_new(there, child)?;
-        total = total.saturating_add(parts);
+        left = left_after_new(there, child, left)?;
     }
-    Ok(total)
+    Ok(left)
 }
 
-// The number of parts in the children that are inherited, counted until they are too many.
-fn missing_parts<'a>(there: &mut Texts<'a>, from: &[&'a Obj]) -> Result<u64, AllocError>
-    ensures { IfOk result (λ n. (before : List Object) → HasNames there.old before → capped n ≡ capped (count (in_row (missing before (lent from.now))))) }
+// What is left of a limit behind the children that are inherited.
+fn left_after_missing<'a>(
+    there: &mut Texts<'a>,
+    from: &[&'a Obj],
+    most: u64,
+) -> Result<u64, AllocError>
+    ensures { IfOk result (λ n. (before : List Object) → HasNames there.old before → n ≡ most - count (in_row (missing before (lent from.now)))) }
 {
-    let mut total: u64 = 0;
+    let mut left = most;
     for source in from {
-        let parts = new_parts(there, source)?;
-        total = total.saturating_add(parts);
-        if total > MOST {
-            return Ok(total);
+        left = left_after_source(there, source, left)?;
+        if left == 0 {
+            return Ok(0);
         }
     }
-    Ok(total)
+    Ok(left)
 }
 
 // Puts the contract of a word last, if it names one.
@@ -159,36 +171,41 @@ fn over_of<'a>(names: &Names<'a>, name: &'a str) -> Option<&'a Obj>
     names.get(&name).copied()
 }
 
-// The number of parts of a child that roles derive.
-fn derived_one<'a>(alloc: Global, above: &Above<'a, '_>, child: &Derived) -> Result<u64, AllocError>
+// What is left of a limit behind a child that roles derive.
+fn left_after_one<'a>(
+    alloc: Global,
+    above: &Above<'a, '_>,
+    child: &Derived,
+    left: u64,
+) -> Result<u64, AllocError>
     ensures { IfOk result (λ n. (ss : List Object) → ((k : List ℕ) → found above.now.names.now k ≡ overridden (Some k) ss)
-        → capped n ≡ capped (parts (result_of above.now.library.now (stood child.now) (option_copied above.now.gives) (overridden (Some child.now.name.now) ss)))) }
+        → n ≡ left - parts (result_of above.now.library.now (stood child.now) (option_copied above.now.gives) (overridden (Some child.now.name.now) ss))) }
 {
     if child.is_ref {
-        return Ok(1);
+        return Ok(left.saturating_sub(1));
     }
     let over = over_of(above.names, child.name);
     let from = contracts_for(alloc, above.library, words_in(above.gives), over)?;
     let mut there = BTreeSet::new(alloc);
-    let more = missing_parts(&mut there, from.as_slice())?;
-    Ok(more.saturating_add(1))
+    let behind = left_after_missing(&mut there, from.as_slice(), left)?;
+    Ok(behind.saturating_sub(1))
 }
 
-// The number of parts of the children that roles derive.
-fn derived_parts<'a>(
+// What is left of a limit behind the children that roles derive.
+fn left_after_derived<'a>(
     alloc: Global,
     above: &Above<'a, '_>,
     derived: &[Derived],
+    most: u64,
 ) -> Result<u64, AllocError>
     ensures { IfOk result (λ n. (ss : List Object) → ((k : List ℕ) → found above.now.names.now k ≡ overridden (Some k) ss)
-        → capped n ≡ capped (row_count above.now.library.now (option_copied above.now.gives) ss (in_row (map stood derived.now)))) }
+        → n ≡ most - row_count above.now.library.now (option_copied above.now.gives) ss (in_row (map stood derived.now))) }
 {
-    let mut total: u64 = 0;
+    let mut left = most;
     for child in derived {
-        let parts = derived_one(alloc, above, child)?;
-        total = total.saturating_add(parts);
+        left = left_after_one(alloc, above, child, left)?;
     }
-    Ok(total)
+    Ok(left)
 }
 
 // Puts the name of an object, if it has one.
@@ -230,48 +247,48 @@ fn names_there<'a>(
     Ok(there)
 }
 
-// The number of parts that the roles of an object derive, and that it inherits.
-fn added_parts<'a>(
+// What is left of a limit behind the parts that the roles of an object derive, and that it inherits.
+fn left_after_added<'a>(
     alloc: Global,
     counting: &Counting,
     object: &'a Obj,
     above: &Above<'a, '_>,
     from: &[&'a Obj],
+    most: u64,
 ) -> Result<u64, AllocError>
     ensures { IfOk result (λ n. (plan : SitePlan) (s : SiteState) (ss : List Object) → IsCounting counting.now plan s → ((k : List ℕ) → found above.now.names.now k ≡ overridden (Some k) ss)
-        → capped n ≡ capped (row_count above.now.library.now (option_copied above.now.gives) ss (in_row (derived plan s (node_path object.now.head)))
+        → n ≡ most - (row_count above.now.library.now (option_copied above.now.gives) ss (in_row (derived plan s (node_path object.now.head)))
         + count (in_row (missing (listed (with_roles plan s object.now.inner) ++ derived plan s (node_path object.now.head)) (lent from.now))))) }
 {
     let derived = derived_children(alloc, counting, object.head())?;
-    let more = derived_parts(alloc, above, derived.as_slice())?;
+    let left = left_after_derived(alloc, above, derived.as_slice(), most)?;
     let mut there = names_there(alloc, object, derived.as_slice())?;
-    let missing = missing_parts(&mut there, from)?;
-    Ok(more.saturating_add(missing))
+    left_after_missing(&mut there, from, left)
 }
 
-// The number of parts that an own object shows, where a list or a feed round it gives words, and where it overrides a child
-// of a source. They are counted until they are too many.
-fn shown_parts<'a>(
+// What is left of a limit behind the parts that an own object shows, where a list or a feed round it gives words, and where
+// it overrides a child of a source. Nothing is looked at behind the child with which nothing is left.
+fn left_after_shown<'a>(
     alloc: Global,
     counting: &Counting<'a>,
     object: &'a Obj,
     implied: Option<&'a Words>,
     over: Option<&'a Obj>,
+    most: u64,
 ) -> Result<u64, AllocError>
     ensures { IfOk result (λ n. (plan : SitePlan) (s : SiteState) → IsCounting counting.now plan s
-        → capped n ≡ capped (parts (result_of s.library (dressed_at plan s object.now) (option_copied implied.entry) (option_copied over.entry)))) }
+        → n ≡ most - parts (result_of s.library (dressed_at plan s object.now) (option_copied implied.entry) (option_copied over.entry))) }
 {
     let head = object.head();
     let from = sources(alloc, counting.library, head, implied, over)?;
     let gives = implied_by(head, from.as_slice());
     let names = names_in(alloc, from.as_slice())?;
-    let mut total: u64 = 1;
+    let mut left = most.saturating_sub(1);
     for child in object.children() {
         let below = find_over(&names, child.head());
-        let parts = shown_parts(alloc, counting, child, gives, below)?;
-        total = total.saturating_add(parts);
-        if total > MOST {
-            return Ok(total);
+        left = left_after_shown(alloc, counting, child, gives, below, left)?;
+        if left == 0 {
+            return Ok(0);
         }
     }
     let above = Above {
@@ -279,18 +296,42 @@ fn shown_parts<'a>(
         gives,
         names: &names,
     };
-    let added = added_parts(alloc, counting, object, &above, from.as_slice())?;
-    Ok(total.saturating_add(added))
+    left_after_added(alloc, counting, object, &above, from.as_slice(), left)
 }
 
-/// Whether a root shows more than 200,000 parts.
-pub(crate) fn is_too_large<'a>(
+/// The number of parts that a root shows, or the limit where there are more. Each part that is counted is a step, so there
+/// are no more steps than the limit; want of memory counts none.
+pub(crate) fn parts_up_to<'a, L: Ledger>(
     alloc: Global,
     counting: &Counting<'a>,
     root: &'a Obj,
+    limit: u64,
+    steps: &mut Steps<L>,
+) -> Result<u64, AllocError>
+    ensures parts { IfOk result (λ n. (plan : SitePlan) (s : SiteState) → IsCounting counting.now plan s → s.tree ≡ root.now → n ≡ min limit (parts (shown_root plan s))) }
+    ensures most { IfOk result (λ n. n ≤ limit) }
+    ensures steps { IfOk result (λ n. steps.new ≡ steps.old + n) }
+    ensures none { OnErr result (steps.new ≡ steps.old) }
+{
+    let left = left_after_shown(alloc, counting, root, None, None, limit)?;
+    let parts = limit.saturating_sub(left);
+    steps.add(parts);
+    Ok(parts)
+}
+
+/// Whether a root shows more than 200,000 parts, by a counter of its own.
+pub(crate) fn is_too_large<'a, L: Ledger>(
+    alloc: Global,
+    counting: &Counting<'a>,
+    root: &'a Obj,
+    blank: Blank,
 ) -> Result<bool, AllocError>
+    requires name { blank.name ≡ L.name }
+    requires parts { blank.parts ≡ L.parts }
+    requires cut { 0 < blank.parts }
     ensures { IfOk result (λ large. (plan : SitePlan) (s : SiteState) → IsCounting counting.now plan s → s.tree ≡ root.now → large ≡ nat_lt 200_000 (parts (shown_root plan s))) }
 {
-    let parts = shown_parts(alloc, counting, root, None, None)?;
+    let mut steps = Steps::<L>::begin(blank);
+    let parts = parts_up_to(alloc, counting, root, MOST + 1, &mut steps)?;
     Ok(parts > MOST)
 }

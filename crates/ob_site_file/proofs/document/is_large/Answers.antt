@@ -1,4 +1,5 @@
 use Rattle.std.proofs.Common.{ℕ, List, map, refl, ap, ◌∙◌, is_some}
+use Rattle.std.proofs.lemmas.Result.{IfOk-weaker}
 use Rattle.ob_answers.specs.Plans.{plan as plan_of}
 use Rattle.ob_site_rules.specs.State.{at}
 use Rattle.ob_state.specs.States.{entry_of}
@@ -18,4 +19,4 @@ returns c =
       points = c.in_ok-counting.ensures.points;
       histories = λ t. c.in_ok-counting.ensures.histories t ∙ ap (λ (ls : List (List ℕ × Log)). is_some (at t (map entry_of ls))) c.as_slice.ensures.value ∙ rolled_there t (map entry_of o.logs.items);
     } in
-    c.in_ok-large.ensures st.plan st.world.site counts refl
+    IfOk-weaker c.is_too_large.result _ _ (λ large is. is st.plan st.world.site counts refl) c.is_too_large.ensures

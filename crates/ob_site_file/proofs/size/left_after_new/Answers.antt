@@ -2,7 +2,7 @@ use Rattle.std.proofs.Common.{◌||◌, Some, ap, ◌∙◌, List, ℕ, Option}
 use Rattle.ob_object.specs.WellFormed.{has_name}
 use Rattle.ob_site_file.specs.Sizes.{has_text}
 use Rattle.ob_site_file.proofs.Counted.{text_more}
-use Rattle.ob_site_file.proofs.size.parts_if_new.Goals as goal
+use Rattle.ob_site_file.proofs.size.left_after_new.Goals as goal
 
 pub returns-then-fresh-clause-there : goal.returns-then-fresh-clause-there
 returns-then-fresh-clause-there c = λ n.
