@@ -1,10 +1,10 @@
 //! Dialogues over connections: each request as bytes, and the bytes that answer it.
-use crate::moments::Moments;
+use crate::dialogue::Dialogue;
 use crate::requests::numbered;
-use crate::sites::{Opening, load_site, opening_of};
+use crate::sites::{Opening, load_site};
 use ob_io::MemLink;
 use ob_load::Loaded;
-use ob_rows::{Asked, Table, push_bytes, split_word, text_of};
+use ob_rows::{Asked, Table, push_bytes, text_of};
 use ob_server::serve_alone;
 use ob_times::Moment;
 use std::alloc::{AllocError, Global};
@@ -19,31 +19,8 @@ pub(crate) struct Dialogues<'a, R: Wait> {
     rt: &'a R,
     documents: &'a str,
     piece: usize,
-    opening: Option<Opening<'a>>,
-    requests: Vec<u8>,
-    moments: Vec<Moment>,
-    next: u64,
+    dialogue: Dialogue<'a>,
     answered: usize,
-}
-
-// Puts the bytes of a request behind those that are there: `VERB TARGET` or `VERB TARGET BODY`.
-fn push_request(alloc: Global, requests: &mut Vec<u8>, row: &str) -> Result<(), AllocError> {
-    let (verb, rest) = split_word(row);
-    let (target, body) = split_word(rest);
-    requests.extend_from_slice(verb.as_bytes())?;
-    requests.extend_from_slice(b" ")?;
-    requests.extend_from_slice(target.as_bytes())?;
-    requests.extend_from_slice(b" HTTP/1.1\r\n")?;
-    if !body.is_empty() {
-        push_length(alloc, requests, body.len())?;
-    }
-    requests.extend_from_slice(b"\r\n")?;
-    requests.extend_from_slice(body.as_bytes())
-}
-
-fn push_length(alloc: Global, bytes: &mut Vec<u8>, length: usize) -> Result<(), AllocError> {
-    let field = format!(in alloc; "Content-Length: {length}\r\n")?;
-    bytes.extend_from_slice(field.as_bytes())
 }
 
 // The head of the answer with a body of so many bytes.
@@ -99,37 +76,15 @@ impl<'a, R: Wait> Dialogues<'a, R> {
             rt,
             documents,
             piece,
-            opening: None,
-            requests: Vec::new(alloc),
-            moments: Vec::new(alloc),
-            next: 0,
+            dialogue: Dialogue::new(alloc),
             answered: 0,
         }
     }
 
     // Begins with the site of a name, and with no request.
     fn open(&mut self, name: &str) -> &'static str {
-        self.requests.clear();
-        self.moments.clear();
         self.answered = 0;
-        self.opening = opening_of(self.documents, name);
-        match self.opening {
-            Some(opening) => {
-                self.next = opening.boot;
-                "opened"
-            }
-            None => "no site",
-        }
-    }
-
-    // Puts a row behind those that are asked. The moment of it is the one before it, or a second after the last one.
-    fn push(&mut self, alloc: Global, row: &str) -> Result<(), AllocError> {
-        let (moment, row) = numbered(row).unwrap_or((self.next, row));
-        self.next = moment.saturating_add(1000);
-        if let Some(moment) = Moment::new(moment) {
-            self.moments.push(moment)?;
-        }
-        push_request(alloc, &mut self.requests, row)
+        self.dialogue.open(self.documents, name)
     }
 }
 
@@ -142,21 +97,16 @@ impl<R: Wait> Dialogues<'_, R> {
         let Ok(Loaded { ns, site }) = load_site(alloc, opening.document.as_bytes(), boot) else {
             return;
         };
-        let mut clock = Moments {
-            moments: self.moments.as_slice(),
-            place: 0,
-            last: boot,
-        };
+        let mut clock = self.dialogue.clock(boot);
         let _end = serve_alone(self.rt, alloc, site, ns.as_ref(), link, &mut clock);
     }
 
     // Asks all requests, and tells the answer to the last one.
     fn ask(&mut self, alloc: Global, told: &mut String) -> Result<(), AllocError> {
-        let Some(opening) = self.opening else {
+        let Some(opening) = self.dialogue.opening() else {
             return told.push_str("no site");
         };
-        let requests = self.requests.to_vec(alloc)?;
-        let mut link = MemLink::new(alloc, requests, self.piece.max(1), Vec::new(alloc));
+        let mut link = self.dialogue.link(alloc, self.piece)?;
         self.serve(alloc, opening, &mut link);
         let written = link.written().unwrap_or(&[]);
         let answer = written.get(self.answered..).unwrap_or(&[]);
@@ -172,7 +122,7 @@ impl<R: Wait> Dialogues<'_, R> {
         told: &mut String,
     ) -> Result<(), AllocError> {
         let mut answer = String::new(alloc);
-        self.push(alloc, row)?;
+        self.dialogue.push(alloc, row)?;
         self.ask(alloc, &mut answer)?;
         tell_last(answer.as_str(), last, told)
     }

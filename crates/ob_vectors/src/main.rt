@@ -3,11 +3,13 @@
 #![tactic(auto)]
 
 mod alarms;
+mod audits;
 mod bases;
 mod calendar;
 mod calls;
 mod contracts;
 mod desks;
+mod dialogue;
 mod dialogues;
 mod documents;
 mod filters;
@@ -20,6 +22,7 @@ mod moments;
 mod objects;
 mod outside;
 mod pieces;
+mod records;
 mod requests;
 mod sites;
 mod spelled;
@@ -46,6 +49,7 @@ use ob_rows::run;
 use objects::Objects;
 use outside::Outside;
 use pieces::Pieces;
+use records::Records;
 use requests::Requests;
 use std::rt::Files;
 use std::sync::Wait;
@@ -109,7 +113,15 @@ fn run_sites<R: Print + Files + AllocGlobal + Wait>(rt: &R) -> io::Result<()> {
     let lines = fs::read_to_string(rt, "sites.txt")?;
     run(rt, "requests.rows", &mut Requests::new(lines.as_str()))?;
     run(rt, "desks.rows", &mut Desks::new(rt, lines.as_str()))?;
-    run_connections(rt, lines.as_str())
+    run_connections(rt, lines.as_str())?;
+    run_records(rt, lines.as_str())
+}
+
+// The records of the dialogues that the requests are.
+fn run_records<R: Print + Files + AllocGlobal>(rt: &R, documents: &str) -> io::Result<()> {
+    let dialogues = fs::read_to_string(rt, "requests.rows")?;
+    let mut records = Records::new(dialogues.as_str(), documents);
+    run(rt, "audits.rows", &mut records)
 }
 
 // The requests on sites again, as bytes over connections: whole, and byte by byte.

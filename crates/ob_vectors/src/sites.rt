@@ -37,11 +37,16 @@ pub(crate) fn load_site(alloc: Global, bytes: &[u8], boot: Moment) -> Result<Loa
     load(alloc, &mut files, "site", boot)
 }
 
-/// The site of a name, among the documents of a file.
-pub(crate) fn open(alloc: Global, documents: &str, name: &str) -> Option<Site> {
-    let opening = opening_of(documents, name)?;
+/// The site that a document opens, if it opens one.
+pub(crate) fn site_of(alloc: Global, opening: Opening) -> Option<Site> {
     let boot = Moment::new(opening.boot)?;
     let Loaded { ns, site } = load_site(alloc, opening.document.as_bytes(), boot).ok()?;
     drop(ns);
     Some(site)
+}
+
+/// The site of a name, among the documents of a file.
+pub(crate) fn open(alloc: Global, documents: &str, name: &str) -> Option<Site> {
+    let opening = opening_of(documents, name)?;
+    site_of(alloc, opening)
 }

@@ -1,0 +1,214 @@
+//! What audits find of a record, as it is and with another byte in a reply.
+use crate::sites::{Opening, site_of};
+use ob_record::{Entry, Run, Told, Verdict, audit, read_record, write_boot, write_entry};
+use ob_site::Site;
+use std::alloc::{AllocError, Global};
+
+/// So many first bytes of a reply are altered, each of them.
+const EACH: usize = 2_048;
+
+/// Behind these a byte is altered at each place that is a multiple of this.
+const STEP: usize = 1_000;
+
+/// An entry of a record, as the record of a run of its own that begins when the whole one does; and the reply in it, which
+/// stands in front of the last line feed.
+pub(crate) struct Alone {
+    record: Vec<u8>,
+    reply: Vec<u8>,
+    /// How many bytes the entries in front of it have in the whole record.
+    front: usize,
+}
+
+impl Drop for Alone {
+    // By one call for each part.
+    fn drop(self) {
+        let Alone {
+            record,
+            reply,
+            front: _,
+        } = self;
+        drop(record);
+        drop(reply);
+    }
+}
+
+// The bytes of the reply of an entry.
+fn reply_of(alloc: Global, entry: &Entry) -> Result<Vec<u8>, AllocError> {
+    match &entry.reply {
+        Told::Reply(bytes) => bytes.as_slice().to_vec(alloc),
+        Told::NoMemory => Ok(Vec::new(alloc)),
+    }
+}
+
+// The record of a run that begins with another one and has this entry alone.
+fn record_of(alloc: Global, run: &Run, entry: &Entry) -> Result<Vec<u8>, AllocError> {
+    let text = write_entry(alloc, entry)?;
+    let mut record = write_boot(alloc, run.boot())?;
+    record.extend_from_slice(&text)?;
+    Ok(record)
+}
+
+fn entry_alone(alloc: Global, run: &Run, entry: &Entry, front: usize) -> Result<Alone, AllocError> {
+    let record = record_of(alloc, run, entry)?;
+    let reply = reply_of(alloc, entry)?;
+    Ok(Alone {
+        record,
+        reply,
+        front,
+    })
+}
+
+// The entry at a place, in front of which entries have so many bytes.
+fn alone_at(
+    alloc: Global,
+    run: &Run,
+    place: u64,
+    front: usize,
+) -> Result<Option<Alone>, AllocError> {
+    match run.entry(alloc, place)? {
+        Some(entry) => Ok(Some(entry_alone(alloc, run, &entry, front)?)),
+        None => Ok(None),
+    }
+}
+
+/// The entries of a run.
+pub(crate) fn entries_of(alloc: Global, run: &Run) -> Result<Vec<Alone>, AllocError> {
+    let head = write_boot(alloc, run.boot())?.len();
+    let mut entries = Vec::new(alloc);
+    let mut front = 0usize;
+    for place in 0..run.len() {
+        if let Some(entry) = alone_at(alloc, run, place, front)? {
+            front = front.saturating_add(entry.record.len().saturating_sub(head));
+            entries.push(entry)?;
+        }
+    }
+    Ok(entries)
+}
+
+/// What the audit of these bytes finds from the state of a site on; None where they are no record, or for want of memory.
+fn audited(alloc: Global, site: &mut Site, record: Vec<u8>) -> Option<Verdict> {
+    let run = read_record(alloc, record).ok()?;
+    audit(alloc, site, &run).ok()
+}
+
+// How many entries a record has that is legal from the state of a site on.
+fn legal_entries(alloc: Global, site: &mut Site, record: &[u8]) -> Option<u64> {
+    let record = record.to_vec(alloc).ok()?;
+    match audited(alloc, site, record)? {
+        Verdict::Legal { entries } => Some(entries),
+        Verdict::Illegal { .. } => None,
+    }
+}
+
+// The bytes, of which the last bit of the one at a place is the other one.
+fn altered(alloc: Global, bytes: &[u8], place: usize) -> Option<Vec<u8>> {
+    let mut bytes = bytes.to_vec(alloc).ok()?;
+    let byte = bytes.get_mut(place)?;
+    *byte ^= 1;
+    Some(bytes)
+}
+
+// The entry at which a record that is altered at a place is illegal, where it should have told this reply.
+fn illegal_entry(
+    alloc: Global,
+    site: &mut Site,
+    record: &[u8],
+    place: usize,
+    reply: &[u8],
+) -> Option<u64> {
+    let record = altered(alloc, record, place)?;
+    match audited(alloc, site, record)? {
+        Verdict::Illegal { entry, expected } if expected.as_slice() == reply => Some(entry),
+        _ => None,
+    }
+}
+
+impl Alone {
+    // Where its reply begins in its own record.
+    fn begin(&self) -> usize {
+        self.record
+            .len()
+            .saturating_sub(self.reply.len())
+            .saturating_sub(1)
+    }
+
+    // How often it is altered at a place of its reply, which is never where the reply is shorter; None where the audit finds
+    // otherwise than it is to.
+    fn count(&self, alloc: Global, site: &mut Site, place: usize) -> Option<u64> {
+        if place < self.reply.len() {
+            let place = self.begin().saturating_add(place);
+            let entry = illegal_entry(alloc, site, &self.record, place, &self.reply)?;
+            if entry == 0 { Some(1) } else { None }
+        } else {
+            let entries = legal_entries(alloc, site, &self.record)?;
+            if entries == 1 { Some(0) } else { None }
+        }
+    }
+}
+
+// How many entries are altered at a place of their replies, one after the other on the site; None where the audit of one
+// finds otherwise than it is to.
+fn count_at(alloc: Global, site: &mut Site, entries: &[Alone], place: usize) -> Option<u64> {
+    let mut count = 0u64;
+    for entry in entries {
+        count = count.saturating_add(entry.count(alloc, site, place)?);
+    }
+    Some(count)
+}
+
+/// How many entries a record has, if it is legal for the site that is opened so.
+pub(crate) fn legal(alloc: Global, opening: Opening, record: &[u8]) -> Option<u64> {
+    let mut site = site_of(alloc, opening)?;
+    legal_entries(alloc, &mut site, record)
+}
+
+// The entry at which a record is illegal where it is altered at the first byte of the reply of this one.
+fn whole_entry(alloc: Global, opening: Opening, record: &[u8], entry: &Alone) -> Option<u64> {
+    let mut site = site_of(alloc, opening)?;
+    let place = entry.front.saturating_add(entry.begin());
+    illegal_entry(alloc, &mut site, record, place, &entry.reply)
+}
+
+/// Whether a record with these entries, altered at the first byte of any reply, is illegal at that entry.
+pub(crate) fn is_illegal_at_each(
+    alloc: Global,
+    opening: Opening,
+    record: &[u8],
+    entries: &[Alone],
+) -> bool {
+    let mut number = 0u64;
+    for entry in entries {
+        if whole_entry(alloc, opening, record, entry) != Some(number) {
+            return false;
+        }
+        number = number.saturating_add(1);
+    }
+    true
+}
+
+// How many bytes the longest reply has.
+fn longest(entries: &[Alone]) -> usize {
+    let mut longest = 0;
+    for entry in entries {
+        longest = entry.reply.len().max(longest);
+    }
+    longest
+}
+
+// How many replies are altered at a place, on one site.
+fn count_on_site(alloc: Global, opening: Opening, entries: &[Alone], place: usize) -> Option<u64> {
+    let mut site = site_of(alloc, opening)?;
+    count_at(alloc, &mut site, entries, place)
+}
+
+/// How many bytes of replies are altered, each in a record of its own; None where the audit of one finds otherwise than it is
+/// to. Those behind the 2,048th of a reply are altered at each thousandth place alone.
+pub(crate) fn illegal(alloc: Global, opening: Opening, entries: &[Alone]) -> Option<u64> {
+    let mut count = 0u64;
+    for place in 0..longest(entries) {
+        if place < EACH || place % STEP == 0 {
+            count = count.saturating_add(count_on_site(alloc, opening, entries, place)?);
+        }
+    }
+    Some(count)
+}
