@@ -37,7 +37,7 @@ use Rattle.ob_site_rules.specs.Actions.{is_post, put_at, act_at, is_left_out, it
 use Rattle.ob_site_rules.specs.Sites.{SiteState}
 use Rattle.ob_site_laws.specs.SiteLaws.{acts, of_plan}
 use Rattle.ob_opened.specs.Opens as opens
-use Rattle.ob_state.specs.States as plain
+use Rattle.ob_plain_state.specs.States as plain
 use Rattle.ob_client.specs.Mirrors.{most_missed}
 use Rattle.ob_client_laws.specs.Counting.{AreCounted, CountsStay, OpensCounted}
 

@@ -7,7 +7,7 @@ use Rattle.ob_site_rules.specs.Build.{Path}
 use Rattle.ob_site_rules.specs.State.{Plan, State, is_path, with_board, roll}
 use Rattle.ob_site_rules.specs.Shown.{node_path, dressed}
 use Rattle.ob_site_rules.specs.Writes.{with_slot, with_slot_in}
-use Rattle.ob_state.proofs.Keeping.{keys-rolled}
+use Rattle.ob_plain_state.proofs.Keeping.{keys-rolled}
 use Rattle.ob_shown_laws.specs.Alike.{row, without_slot, DifferInSlots}
 use Rattle.ob_shown_laws.specs.Changed.{PathsDiffer}
 use Rattle.ob_shown_laws.proofs.Touches.{differ_alike}

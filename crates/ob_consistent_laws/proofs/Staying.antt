@@ -11,10 +11,10 @@ use Rattle.ob_site_rules.specs.Build.{Path}
 use Rattle.ob_site_rules.specs.State.{Plan, State, is_path, roll}
 use Rattle.ob_site_rules.specs.Shown.{node_path, node_of, derived}
 use Rattle.ob_site_rules.specs.Writes.{with_slot, with_slot_in}
-use Rattle.ob_state.specs.States.{NamesAreFree, NodesAre, IsOfKindAt}
-use Rattle.ob_state.proofs.Keeping.{names_of, NamesDiffer-same, NamesAreFree-same, rolled_counted, keys-rolled}
-use Rattle.ob_state.proofs.Slots.{taken_whatever}
-use Rattle.ob_state.proofs.Kept.{unslotted-with_slot, is_in, in_row_there}
+use Rattle.ob_plain_state.specs.States.{NamesAreFree, NodesAre, IsOfKindAt}
+use Rattle.ob_plain_state.proofs.Keeping.{names_of, NamesDiffer-same, NamesAreFree-same, rolled_counted, keys-rolled}
+use Rattle.ob_plain_state.proofs.Slots.{taken_whatever}
+use Rattle.ob_plain_state.proofs.Kept.{unslotted-with_slot, is_in, in_row_there}
 use Rattle.ob_opened.specs.Consistent.{IsConsistent}
 use Rattle.ob_consistent_laws.specs.Consistent.{StepsStayConsistent}
 

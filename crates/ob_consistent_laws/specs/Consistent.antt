@@ -9,7 +9,7 @@ use Rattle.ob_site_rules.specs.Shown.{dressed}
 use Rattle.ob_site_rules.specs.Writes.{with_slot}
 use Rattle.ob_shown_laws.specs.Alike.{row}
 use Rattle.ob_shown_laws.specs.Changed.{PathsDiffer}
-use Rattle.ob_state.specs.States.{AreCounted}
+use Rattle.ob_plain_state.specs.States.{AreCounted}
 use Rattle.ob_opened.specs.Consistent.{IsConsistent}
 
 -- the paths of histories

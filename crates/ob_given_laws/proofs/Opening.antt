@@ -16,7 +16,7 @@ use Rattle.ob_site_rules.specs.Build.{Path}
 use Rattle.ob_site_rules.specs.State.{is_among}
 use Rattle.ob_site_rules.specs.Shown.{node_path, node_in, node_of}
 use Rattle.ob_site_rules.specs.Sites.{SiteState}
-use Rattle.ob_state.specs.States.{IsOfKindAt, NodesAre}
+use Rattle.ob_plain_state.specs.States.{IsOfKindAt, NodesAre}
 use Rattle.ob_opening.specs.declared.roles.Roles.{Roles}
 use Rattle.ob_opening.specs.Roles.{no_roles, roles_there, holds_contracts, row_roles, all_roles, role_at}
 use Rattle.ob_opening.specs.Opening.{standard_words}

@@ -40,8 +40,8 @@ use Rattle.ob_default_laws.specs.Defaults.{StayGiven, DifferInDefaults, defaults
 use Rattle.ob_default_laws.proofs.Unslotted.{defaults_differ}
 use Rattle.ob_default_laws.proofs.Either.{given_itself}
 use Rattle.ob_standing.specs.Contexts.{HandedDown, handed_down, under}
-use Rattle.ob_shown.specs.declared.place.Place.TheVariants as named
-use Rattle.ob_calls.proofs.Places.{point_there}
+use Rattle.ob_plain_state.specs.declared.place.Place.TheVariants as named
+use Rattle.ob_requests.proofs.Places.{point_there}
 use Rattle.ob_given_laws.specs.Given.{IsMade, PointsHaveValues, TakesNoneAway, StepsTakeNoneAway}
 use Rattle.ob_given_laws.proofs.Slotted.{given_slotted, differ_slotted, unslotted_object, contracts_stay, value_given, kind_given}
 

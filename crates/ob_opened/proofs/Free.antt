@@ -9,8 +9,8 @@ use Rattle.ob_contracts.proofs.Missing.{taken-append}
 use Rattle.ob_site_rules.specs.Build.{Text}
 use Rattle.ob_site_rules.specs.State.{Plan, State, is_among}
 use Rattle.ob_site_rules.specs.Shown.{node_path, derived}
-use Rattle.ob_state.specs.States.{NamesAreFree}
-use Rattle.ob_state.proofs.Keeping.{names_of, taken_among, taken-among}
+use Rattle.ob_plain_state.specs.States.{NamesAreFree}
+use Rattle.ob_plain_state.proofs.Keeping.{names_of, taken_among, taken-among}
 use Rattle.ob_opening.specs.declared.roles.Roles.{Roles}
 use Rattle.ob_opening.specs.Roles.{derived_names, name_among, is_dropped, holds_contracts, role_at}
 use Rattle.ob_opening.specs.Loading.{Part, parts_of, kept_row}

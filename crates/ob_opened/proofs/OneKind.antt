@@ -10,7 +10,7 @@ use Rattle.ob_site_rules.specs.Build.{Path}
 use Rattle.ob_site_rules.specs.State.{is_among, is_path}
 use Rattle.ob_site_rules.specs.Shown.{node_path, node_in}
 use Rattle.ob_opening.specs.Loading.{listed_path}
-use Rattle.ob_state.specs.States.{IsOfKindAt, NodesAre}
+use Rattle.ob_plain_state.specs.States.{IsOfKindAt, NodesAre}
 use Rattle.ob_opened.specs.Laws.{Apart, row_paths, kind_or_obj, ApartAreOfOneKind}
 use Rattle.ob_opened.proofs.Once.{or_first, or_second, or_none}
 

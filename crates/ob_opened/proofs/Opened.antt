@@ -14,7 +14,7 @@ use Rattle.ob_site_rules.specs.State.{is_among, rolled}
 use Rattle.ob_site_rules.specs.Shown.{node_path, node_in, node_of}
 use Rattle.ob_site_rules.specs.Writes.{site_contracts}
 use Rattle.ob_site_rules.specs.Sites.{SiteState}
-use Rattle.ob_state.specs.States.{AreCounted, NamesAreFree, NodesAre, AreTaken}
+use Rattle.ob_plain_state.specs.States.{AreCounted, NamesAreFree, NodesAre, AreTaken}
 use Rattle.ob_opening.specs.declared.roles.Roles.{Roles}
 use Rattle.ob_opening.specs.Roles.{no_roles, all_roles, role_at, worded_contracts}
 use Rattle.ob_opening.specs.Opening.{standard_words}

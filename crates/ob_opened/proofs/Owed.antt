@@ -1,9 +1,9 @@
 -- A `State` owes its plan what it should exactly where it is consistent, and so where a document opens it.
 use Rattle.std.proofs.Common.{◌≡◌, sym, subst}
 use Rattle.ob_site_rules.specs.State.{Plan, State as SiteState, board}
-use Rattle.ob_state.specs.States.{AreCounted, state_of, unspared, IsOf}
-use Rattle.ob_state.proofs.Keeping.{rolled_counted}
-use Rattle.ob_state.specs.declared.state.State.{State}
+use Rattle.ob_plain_state.specs.States.{AreCounted, state_of, unspared, IsOf}
+use Rattle.ob_plain_state.proofs.Keeping.{rolled_counted}
+use Rattle.ob_plain_state.specs.declared.state.State.{State}
 use Rattle.ob_opened.specs.Consistent.{IsConsistent, ConsistentIsOwed}
 use Rattle.ob_opened.specs.Opens.{OpenedIsOwed}
 use Rattle.ob_opened.proofs.Opened.{opens_consistent}

@@ -5,7 +5,7 @@ use Rattle.ob_object.specs.Fits.{fits_name, fits_lists, fits_slot, fits_facets, 
 use Rattle.ob_object.specs.Object.{Objects, none, node, count, listed}
 use Rattle.ob_object.specs.WellFormed.{NamesDiffer, RowIsWellFormed}
 use Rattle.ob_hrefs.specs.Hrefs.{row_with_paths}
-use Rattle.ob_state.proofs.Keeping.{names_of, NamesDiffer-same}
+use Rattle.ob_plain_state.proofs.Keeping.{names_of, NamesDiffer-same}
 use Rattle.ob_site_rules.specs.Build.{Text, Path}
 
 -- each slot fits its kind, and the names of children differ

@@ -4,8 +4,8 @@ use Rattle.ob_object.specs.Object.{node, none}
 use Rattle.ob_site_rules.specs.Build.{Path}
 use Rattle.ob_site_rules.specs.State.{Log, rolled, rolled_logs, roll}
 use Rattle.ob_site_rules.specs.Writes.{events_ever}
-use Rattle.ob_state.specs.States.{AreCounted}
-use Rattle.ob_state.proofs.Keeping.{NamesAreFree-same, keys-rolled}
+use Rattle.ob_plain_state.specs.States.{AreCounted}
+use Rattle.ob_plain_state.proofs.Keeping.{NamesAreFree-same, keys-rolled}
 use Rattle.ob_opened.specs.Ordered.{UnrolledIsConsistent}
 
 -- a log has had as many events once it has rolled

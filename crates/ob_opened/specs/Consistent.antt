@@ -7,8 +7,8 @@ use Rattle.ob_site_rules.specs.Build.{Path}
 use Rattle.ob_site_rules.specs.State.{Plan, State, is_among, board}
 use Rattle.ob_site_rules.specs.Shown.{node_of}
 use Rattle.ob_site_rules.specs.Writes.{site_contracts}
-use Rattle.ob_state.specs.States.{NamesAreFree, NodesAre, AreTaken, AreCounted, limits_fit, rule_at, state_of, unspared, IsOf}
-use Rattle.ob_state.specs.declared.state.State as value
+use Rattle.ob_plain_state.specs.States.{NamesAreFree, NodesAre, AreTaken, AreCounted, limits_fit, rule_at, state_of, unspared, IsOf}
+use Rattle.ob_plain_state.specs.declared.state.State as value
 
 -- What the roles of a node derive finds its names free; nodes at one path are of one kind, and numbers of it are held against
 -- limits of it; each point is a node; the built-in library takes the site's contracts; and the events of each history can be

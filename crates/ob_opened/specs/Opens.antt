@@ -8,8 +8,8 @@ use Rattle.ob_site_rules.specs.State.{numbered_from, board, roll}
 use Rattle.ob_site_rules.specs.Writes.{site_contracts}
 use Rattle.ob_site_rules.specs.Sites.{SiteState}
 use Rattle.ob_opening.specs.Opening.{opening}
-use Rattle.ob_state.specs.States.{AreCounted, state_of, unspared, IsOf}
-use Rattle.ob_state.specs.declared.state.State as value
+use Rattle.ob_plain_state.specs.States.{AreCounted, state_of, unspared, IsOf}
+use Rattle.ob_plain_state.specs.declared.state.State as value
 use Rattle.ob_opened.specs.Consistent.{IsConsistent}
 
 -- The state is consistent; the limits of each rule are of one kind; the library is the built-in one with the contracts of the

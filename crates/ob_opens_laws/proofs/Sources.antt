@@ -13,7 +13,7 @@ use Rattle.ob_site_rules.specs.Build.{Path}
 use Rattle.ob_site_rules.specs.State.{at, is_path, source_of}
 use Rattle.ob_site_rules.specs.Shown.{node_path, node_in, node_of}
 use Rattle.ob_site_rules.specs.Sites.{SiteState}
-use Rattle.ob_state.specs.States.{IsOfKindAt, NodesAre}
+use Rattle.ob_plain_state.specs.States.{IsOfKindAt, NodesAre}
 use Rattle.ob_opening.specs.declared.roles.Roles.{Roles}
 use Rattle.ob_opening.specs.Roles.{no_roles, all_roles}
 use Rattle.ob_opening.specs.Opening.{standard_words}

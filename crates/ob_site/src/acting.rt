@@ -10,9 +10,9 @@ ghost use Rattle.ob_site.specs.Between.{IsBegun};
 ghost use Rattle.ob_site.specs.Steps.{IsAnswered, IsUnanswered};
 
 use crate::ending::end_step;
-use ob_answers::refusal;
 use ob_given_laws::steps_take_none_away;
 use ob_object::Obj;
+use ob_replies::refusal;
 use ob_site_calls::act_itself;
 use ob_site_rules::Request;
 use ob_site_state::State;

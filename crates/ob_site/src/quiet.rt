@@ -5,18 +5,18 @@ ghost use Rattle.ob_site_rules.specs.declared.request.Request.{Request};
 ghost use Rattle.ob_site_rules.specs.State.{roll};
 ghost use Rattle.ob_site_rules.specs.Watched.{WatchOperation};
 ghost use Rattle.ob_watch.specs.Tables.{lapsed_at};
-ghost use Rattle.ob_watch_calls.specs.Targets.{operation_of};
+ghost use Rattle.ob_requests.specs.Targets.{operation_of};
 ghost use Rattle.ob_site_watched.specs.Polls.{object_entries, steps_in};
 ghost use Rattle.ob_site.specs.Between.{IsBegun};
 ghost use Rattle.ob_site.specs.Steps.{IsAnswered, IsUnanswered};
 
-use ob_answers::{Fault, refusal};
 use ob_object::Obj;
+use ob_replies::{Fault, refusal};
+use ob_requests::Operation;
 use ob_site_state::State;
 use ob_site_watched::{Call, make, on_watch};
 use ob_steps::Steps;
 use ob_watch::Watches;
-use ob_watch_calls::Operation;
 use std::alloc::AllocError;
 use std::sync::ledger::Ledger;
 

@@ -2,7 +2,7 @@
 ghost use Rattle.std.specs.Prelude.{◌≡◌, ◌+◌, ◌≤◌, IfOk, OnErr};
 ghost use Rattle.ob_site_rules.specs.Locating.{locate};
 ghost use Rattle.ob_site_rules.specs.Sites.{site, step};
-ghost use Rattle.ob_watch_calls.specs.Targets.{IsTarget};
+ghost use Rattle.ob_requests.specs.Targets.{IsTarget};
 ghost use Rattle.ob_site_watched.specs.Polls.{object_entries, steps_for, steps_in};
 ghost use Rattle.ob_site.specs.Between.{IsBegun, IsSite};
 ghost use Rattle.ob_site.specs.Steps.{IsAnswered, IsUnanswered};
@@ -11,14 +11,13 @@ ghost use Rattle.ob_site.specs.Views.{site_of};
 use crate::acting::on_itself;
 use crate::quiet::{to_no_watch, to_nobody, to_service, to_watch};
 use crate::room::make_room;
-use ob_calls::located;
 use ob_object::Obj;
+use ob_requests::{Target, located, target_at};
 use ob_site_rules::Request;
 use ob_site_state::State;
 use ob_steps::Steps;
 use ob_times::Moment;
 use ob_watch::Watches;
-use ob_watch_calls::{Target, target_at};
 use std::alloc::AllocError;
 use std::sync::ledger::Ledger;
 

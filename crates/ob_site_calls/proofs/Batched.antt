@@ -1,7 +1,7 @@
 -- The state after each item of a batch.
 use Rattle.std.proofs.Common.{◌≡◌, sym, ap, ◌∙◌}
 use Rattle.ob_site_rules.specs.State.{State}
-use Rattle.ob_calls.proofs.Requests.{item_out, item_done, item_nowhere, batch_done, act_done, act_nowhere}
+use Rattle.ob_requests.proofs.Requests.{item_out, item_done, item_nowhere, batch_done, act_done, act_nowhere}
 use Rattle.ob_site_state.specs.Kept.{Kept}
 
 abbrev pub with_now : Kept → State → Kept

@@ -7,7 +7,7 @@ use Rattle.ob_site_rules.specs.State.{Plan, State, is_among}
 use Rattle.ob_site_rules.specs.Shown.{shown}
 use Rattle.ob_site_rules.specs.Writes.{write_by}
 use Rattle.ob_site_rules.specs.Posts.{write_point}
-use Rattle.ob_state.proofs.Points.{node_shown}
+use Rattle.ob_plain_state.proofs.Points.{node_shown}
 use Rattle.ob_opened.specs.Consistent.{IsConsistent}
 
 pub not_hidden : (plan : Plan) (s : State) (p : Path) (r : Option Object) → IsConsistent plan s → is_among p plan.points ≡ true → r ≡ shown plan s p → r ≡ None → ⊥

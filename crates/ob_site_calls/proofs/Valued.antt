@@ -14,8 +14,8 @@ use Rattle.ob_shown_laws.proofs.Looking.{at_path}
 use Rattle.ob_site_rules.specs.Build.{Path}
 use Rattle.ob_site_rules.specs.State.{Plan, State, is_path, source_of}
 use Rattle.ob_site_rules.specs.Shown.{node_path, node_of, rule_of, with_status_at, with_status_by}
-use Rattle.ob_state.specs.States.{NodesAre, IsOfKindAt}
-use Rattle.ob_state.proofs.ShownKinds.{good_nodes, found_kind}
+use Rattle.ob_plain_state.specs.States.{NodesAre, IsOfKindAt}
+use Rattle.ob_plain_state.proofs.ShownKinds.{good_nodes, found_kind}
 use Rattle.ob_tree.specs.Laid.{heads, heads_of, head_at, paths}
 use Rattle.ob_tree.specs.Paths.{place_of}
 use Rattle.ob_tree.specs.Shown.{part_at, standing_at}

@@ -1,19 +1,18 @@
 //! Acknowledgements.
 ghost use Rattle.std.specs.Prelude.{◌≡◌, option_map, IfOk, IfErr};
 ghost use Rattle.std.specs.Option.{option_copied};
-ghost use Rattle.ob_answers.specs.Told as told;
+ghost use Rattle.ob_replies.specs.Told as told;
 ghost use Rattle.ob_alarms.specs.Changes.{State as Board, alarm_of};
 ghost use Rattle.ob_site_rules.specs.State.{board, with_board};
 ghost use Rattle.ob_site_rules.specs.Computed.{ack_out};
 ghost use Rattle.ob_site_rules.specs.Entries.{alarm_object};
 ghost use Rattle.ob_site_rules.specs.Posts.{user_in, is_long_text, is_unacked, acked, ack_fault, acknowledge};
-ghost use Rattle.ob_calls.specs.Calls.{is_ack_in};
+ghost use Rattle.ob_requests.specs.BatchCalls.{is_ack_in};
 ghost use Rattle.ob_site_writes.specs.Stops.{IsDone, Stops};
 
 use ob_alarms::Alarms;
-use ob_answers::{Fault, ack_out};
-use ob_entries::alarm_object;
 use ob_object::{Kind, Obj, Slot};
+use ob_replies::{Fault, ack_out, alarm_object};
 use ob_site_state::State;
 use ob_site_writes::Stop;
 use ob_site_written::ack_overfills;

@@ -3,13 +3,13 @@ ghost use Rattle.std.specs.Prelude.{◌≡◌, Some, IfOk, IfErr};
 ghost use Rattle.std.specs.Option.{option_copied};
 ghost use Rattle.ob_site_rules.specs.Places.{place_at, object_at};
 ghost use Rattle.ob_site_rules.specs.Actions.{put_at, act_at};
-ghost use Rattle.ob_shown.specs.Named.{place as place_of};
+ghost use Rattle.ob_plain_state.specs.Named.{place as place_of};
 ghost use Rattle.ob_site_writes.specs.Stops.{IsDone, Stops};
 
 use crate::calls::call;
-use ob_answers::Fault;
 use ob_object::Obj;
-use ob_shown::Place;
+use ob_plain_state::Place;
+use ob_replies::Fault;
 use ob_site_places::object_at;
 use ob_site_state::State;
 use ob_site_writes::{Stop, put};

@@ -2,28 +2,27 @@
 ghost use Rattle.std.specs.Prelude.{◌≡◌, Some, true, cond, is_none, option_map, IfOk, IfErr};
 ghost use Rattle.std.specs.List.{list_all};
 ghost use Rattle.std.specs.Option.{option_copied};
-ghost use Rattle.ob_answers.specs.Told as told;
+ghost use Rattle.ob_replies.specs.Told as told;
 ghost use Rattle.ob_site_rules.specs.Faults.{first_fault, NotInBatch, NoSuchObject};
 ghost use Rattle.ob_site_rules.specs.Locating.{locate};
 ghost use Rattle.ob_site_rules.specs.Places.{place_at};
 ghost use Rattle.ob_site_rules.specs.Actions.{is_of_watch, is_post, is_left_out, item_on, act_item, act_all, item_request};
 ghost use Rattle.ob_site_rules.specs.Actions.{batch, batch_rows, act_located, act_itself};
-ghost use Rattle.ob_shown.specs.Named.{place as place_of};
-ghost use Rattle.ob_calls.specs.Calls.{is_batch_call};
+ghost use Rattle.ob_plain_state.specs.Named.{place as place_of};
+ghost use Rattle.ob_requests.specs.BatchCalls.{is_batch_call};
 ghost use Rattle.ob_site_writes.specs.Stops.{IsDone, Stops};
 
 use crate::actions::act_at;
-use ob_answers::build::put;
-use ob_answers::{Fault, batch_out, refusal};
-use ob_calls::{item_request, located};
 use ob_object::{Kind, Obj};
-use ob_shown::Place;
+use ob_plain_state::Place;
+use ob_replies::build::put;
+use ob_replies::{Fault, batch_out, refusal};
+use ob_requests::{is_of_watch, item_request, located};
 use ob_site_places::place_at;
 use ob_site_rules::Request;
 use ob_site_state::State;
 use ob_site_writes::Stop;
 use ob_values::{Text, Verb};
-use ob_watch_calls::is_of_watch;
 use std::alloc::AllocError;
 
 /// Whether a batch leaves a place out.

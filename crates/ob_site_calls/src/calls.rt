@@ -5,13 +5,13 @@ ghost use Rattle.ob_site_rules.specs.State.{board, is_among};
 ghost use Rattle.ob_site_rules.specs.Places.{place_at};
 ghost use Rattle.ob_site_rules.specs.Entries.{records_out, alarms_out};
 ghost use Rattle.ob_site_rules.specs.Posts.{child_of_obj, query, records_of, write_point, call, acknowledge, or_nil};
-ghost use Rattle.ob_shown.specs.Named.{place as place_of};
+ghost use Rattle.ob_plain_state.specs.Named.{place as place_of};
 ghost use Rattle.ob_site_writes.specs.Stops.{IsDone, Stops};
 
 use crate::acks::acknowledge;
-use ob_answers::{Fault, nil};
 use ob_object::{Kind, Obj};
-use ob_shown::Place;
+use ob_plain_state::Place;
+use ob_replies::{Fault, nil};
 use ob_site_places::{query_alarms, query_records};
 use ob_site_state::State;
 use ob_site_writes::{Stop, shown, write_by};

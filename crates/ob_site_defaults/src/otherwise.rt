@@ -5,16 +5,16 @@ ghost use Rattle.ob_standing.specs.Contexts.{comes_to};
 ghost use Rattle.ob_standing.specs.Standings.{context};
 ghost use Rattle.ob_tree.specs.Laid.{head_at, paths};
 ghost use Rattle.ob_tree.specs.Paths.{first_twice};
-ghost use Rattle.ob_answers.specs.Plans.{plan as plan_of};
+ghost use Rattle.ob_replies.specs.Plans.{plan as plan_of};
 ghost use Rattle.ob_default_laws.specs.Defaults.{with_library};
 ghost use Rattle.ob_site_state.specs.Contents.{state_in};
 ghost use Rattle.ob_site_shown.specs.Readable.{IsReadable};
 ghost use Rattle.ob_site_defaults.specs.Otherwise.{IsOtherwise, AreOtherwise};
 ghost use Rattle.ob_site_defaults.specs.Watched.{can_be_watched, is_inside};
 
-use ob_answers::Plan;
 use ob_contracts::Library;
 use ob_object::{Kind, Obj};
+use ob_replies::Plan;
 use ob_site_settled::library_before;
 use ob_site_shown::dressed_part;
 use ob_site_state::{Contents, State};

@@ -9,8 +9,8 @@ ghost use Rattle.ob_site_feeds.specs.Noted.{feed_of, log_events, note_events, lo
 
 use crate::feeds::{FeedEvent, FeedRoll, News};
 use ob_alarms::{Alarms, Event};
-use ob_answers::below;
 use ob_history::{Log, Record};
+use ob_replies::below;
 use ob_site_state::{Change, State};
 use ob_values::Text;
 use std::alloc::{AllocError, Global};

@@ -8,7 +8,7 @@ use Rattle.ob_roles.specs.Told.{part as site_part}
 use Rattle.ob_roles.specs.declared.part.Part.{Part as OwnPart}
 use Rattle.ob_site_rules.specs.Build.{Path, Text}
 use Rattle.ob_site_rules.specs.State.{Log}
-use Rattle.ob_state.specs.States.{AreCounted}
+use Rattle.ob_plain_state.specs.States.{AreCounted}
 use Rattle.ob_site_rules.specs.Writes.{events_ever}
 use Rattle.ob_site_file.specs.Abouts.{texts_in}
 use Rattle.ob_site_file.proofs.Rests.{rest_more, rest_past}

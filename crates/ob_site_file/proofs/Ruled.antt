@@ -8,8 +8,8 @@ use Rattle.std.specs.BTreeSet.{BTreeSet, contains_by}
 use Rattle.std.proofs.lemmas.List.{append-nil}
 use Rattle.std.proofs.lemmas.Map.Text.{is_eq-slice_cmp}
 use denote.Ref.{Bor}
-use Rattle.ob_answers.specs.Plans.{point_rule}
-use Rattle.ob_answers.specs.declared.plan.PointRule.{PointRule as OwnRule}
+use Rattle.ob_replies.specs.Plans.{point_rule}
+use Rattle.ob_replies.specs.declared.plan.PointRule.{PointRule as OwnRule}
 use Rattle.ob_object.specs.declared.kind.Kind.{Kind}
 use Rattle.ob_object.specs.Object.{Object, parts}
 use Rattle.ob_site_rules.specs.Build.{Path}

@@ -5,7 +5,7 @@ use Rattle.url.specs.Parts.{Parts}
 use Rattle.ob_object.specs.Object.{Object}
 use Rattle.ob_contracts.specs.Inherit.{Contracts}
 use Rattle.ob_contracts.specs.Standard.{standard}
-use Rattle.ob_answers.specs.Plans.{plan as plan_of}
+use Rattle.ob_replies.specs.Plans.{plan as plan_of}
 use Rattle.ob_site_rules.specs.Build.{Path}
 use Rattle.ob_site_rules.specs.State.{PointRule, Plan, Log, State, roll}
 use Rattle.ob_site_rules.specs.Sites.{SiteState}
@@ -13,7 +13,7 @@ use Rattle.ob_site_rules.specs.Writes.{site_contracts}
 use Rattle.ob_opening.specs.Opening.{standard_words}
 use Rattle.ob_opening.specs.Loading.{Part, path_of, capacity_of, records_of, histories_in, source_ref, items_of, rule_in, about_texts, root_lobby, kept_root, add_contracts, opened_by, LoadFault}
 use Rattle.ob_opened.specs.Ordered.{opening_time}
-use Rattle.ob_state.specs.States.{entry_of, AreCounted}
+use Rattle.ob_plain_state.specs.States.{entry_of, AreCounted}
 use Rattle.ob_site_file.specs.Passes.{site_roles, site_parts}
 use Rattle.ob_site_file.specs.declared.document.Opened.{Opened}
 

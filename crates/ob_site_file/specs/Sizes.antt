@@ -9,7 +9,7 @@ use Rattle.ob_object.specs.Kinds.{is_ref}
 use Rattle.ob_object.specs.Object.{Object, Objects, empty_head, listed, in_row, count}
 use Rattle.ob_object.specs.WellFormed.{is_taken}
 use Rattle.ob_contracts.specs.Inherit.{Contracts, Words, row_results}
-use Rattle.ob_answers.specs.Plans.{plan as plan_of}
+use Rattle.ob_replies.specs.Plans.{plan as plan_of}
 use Rattle.ob_site_rules.specs.Build.{leaf}
 use Rattle.ob_site_rules.specs.State.{Plan, State, is_among, at}
 use Rattle.ob_site_rules.specs.Shown.{node_path, derived, with_status, with_roles}

@@ -2,14 +2,14 @@
 ghost use Rattle.std.specs.Prelude.{◌≡◌, ◌++◌, ◌∷◌, [], ◌&&◌, true, false, is_some, bytes_eq, cond, codes, map, List, ℕ, IfOk};
 ghost use Rattle.ob_site_rules.specs.State.{Plan as SitePlan, State as SiteState, is_among, at, is_path};
 ghost use Rattle.ob_site_rules.specs.Shown.{node_path, derived, derived_at};
-ghost use Rattle.ob_state.specs.States.{entry_of};
+ghost use Rattle.ob_plain_state.specs.States.{entry_of};
 ghost use Rattle.ob_site_file.specs.Sizes.{has_text, IsCounting, stand_in, stood, plain};
 
-use ob_answers::Plan;
 use ob_contracts::Library;
 use ob_object::Head;
+use ob_plain_state::Log;
+use ob_replies::Plan;
 use ob_roles::node_path;
-use ob_state::Log;
 use ob_values::Text;
 use std::alloc::{AllocError, Global};
 use std::collections::BTreeSet;

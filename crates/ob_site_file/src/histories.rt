@@ -3,15 +3,15 @@ ghost use Rattle.std.specs.Prelude.{◌≡◌, ◌<◌, ◌^◌, codes, length, 
 ghost use Rattle.ob_site_rules.specs.Build.{child};
 ghost use Rattle.ob_opening.specs.Loading.{capacity_by, source_ref};
 ghost use Rattle.ob_roles.specs.Told.{part as site_part};
-ghost use Rattle.ob_state.specs.States.{log_of};
+ghost use Rattle.ob_plain_state.specs.States.{log_of};
 ghost use Rattle.ob_site_file.specs.Opened.{whole_log};
 
 use crate::items::{child_of, items_of};
 use crate::records::records_in;
 use crate::rules::source_of;
 use ob_object::{Kind, Obj, Slot};
+use ob_plain_state::Log;
 use ob_roles::Part;
-use ob_state::Log;
 use ob_values::{Text, Value};
 use std::alloc::{AllocError, Global};
 

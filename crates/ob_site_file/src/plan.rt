@@ -1,10 +1,10 @@
 //! What is fixed when a site is opened, and the logs of its histories.
 ghost use Rattle.std.specs.Prelude.{◌≡◌, ◌++◌, ◌∷◌, [], false, map, filter, None, option_map, IfOk};
-ghost use Rattle.ob_answers.specs.Plans.{point_rule, plan as plan_of};
+ghost use Rattle.ob_replies.specs.Plans.{point_rule, plan as plan_of};
 ghost use Rattle.ob_opening.specs.Loading.{path_of, histories_in, root_lobby};
 ghost use Rattle.ob_roles.specs.Told.{part as site_part};
 ghost use Rattle.ob_site_rules.specs.State.{Plan as SitePlan};
-ghost use Rattle.ob_state.specs.States.{entry_of, AreCounted};
+ghost use Rattle.ob_plain_state.specs.States.{entry_of, AreCounted};
 ghost use Rattle.ob_site_file.specs.Opened.{history_entry, whole_log, rules_at, subject_of, plan_with};
 
 use crate::about::put_about;
@@ -13,11 +13,11 @@ use crate::histories::{log_of, source_path};
 use crate::items::items_of;
 use crate::nodes::nodes_of;
 use crate::rules::put_rules;
-use ob_answers::{Plan, PointRule};
 use ob_href::Base;
 use ob_object::Obj;
+use ob_plain_state::Log;
+use ob_replies::{Plan, PointRule};
 use ob_roles::{Part, node_path};
-use ob_state::Log;
 use ob_times::Moment;
 use ob_values::Text;
 use std::alloc::{AllocError, Global};

@@ -3,7 +3,7 @@ ghost use Rattle.std.specs.Prelude.{◌≡◌, ◌+◌, ◌<◌, ◌^◌, ◌++�
 ghost use Rattle.std.specs.List.{filter_map};
 ghost use Rattle.std.specs.Option.{option_copied};
 ghost use Rattle.ob_alarms.specs.Limits.{is_below};
-ghost use Rattle.ob_answers.specs.Plans.{point_rule};
+ghost use Rattle.ob_replies.specs.Plans.{point_rule};
 ghost use Rattle.ob_object.specs.Object.{in_row, count};
 ghost use Rattle.ob_object.specs.declared.kind.Kind.TheVariants as kinds;
 ghost use Rattle.ob_site_rules.specs.Build.{Path};
@@ -15,8 +15,8 @@ ghost use Rattle.ob_site_file.specs.Told.{rule_by, rule_at, num_kind, Has, IsNex
 use crate::items::{Items, child_of};
 use crate::nodes::Nodes;
 use ob_alarms::Num;
-use ob_answers::PointRule;
 use ob_object::{Kind, Obj, Slot};
+use ob_replies::PointRule;
 use ob_values::{Text, Value};
 use std::alloc::{AllocError, Global};
 use std::collections::BTreeSet;

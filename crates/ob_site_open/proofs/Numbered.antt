@@ -3,8 +3,8 @@ use Rattle.std.proofs.Common.{◌≡◌, ℕ, zero, suc, ◌+◌, ◌<◌, ◌�
 use Rattle.std.specs.Prelude.{slice_get}
 use Rattle.ob_alarms.specs.Soundness.{SourcesDiffer}
 use Rattle.ob_alarms.specs.declared.rule.Rule.{Rule}
-use Rattle.ob_answers.specs.declared.plan.PointRule.{PointRule}
-use Rattle.ob_answers.specs.Plans.{point_rule}
+use Rattle.ob_replies.specs.declared.plan.PointRule.{PointRule}
+use Rattle.ob_replies.specs.Plans.{point_rule}
 use Rattle.ob_site_rules.specs.Build.{Path}
 use Rattle.ob_site_rules.specs.State.{PointRule as SiteRule, numbered_from}
 use Rattle.ob_site_file.proofs.Rests.{rest_more, rest_past as rest_end}

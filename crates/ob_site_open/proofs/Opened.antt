@@ -8,7 +8,7 @@ use Rattle.ob_alarms.specs.Changes.{State as Board}
 use Rattle.ob_tree.specs.Trees.{Stamped}
 use Rattle.ob_object.specs.WellFormed.{IsWellFormed}
 use Rattle.ob_alarms.specs.Limits.{IsRule}
-use Rattle.ob_answers.specs.Plans.{plan as plan_of}
+use Rattle.ob_replies.specs.Plans.{plan as plan_of}
 use Rattle.ob_tree.specs.Laid.{paths}
 use Rattle.ob_tree.specs.Paths.{first_twice}
 use Rattle.ob_site_rules.specs.Build.{Path}
@@ -17,8 +17,8 @@ use Rattle.ob_site_rules.specs.Shown.{dressed}
 use Rattle.ob_site_rules.specs.Sites.{SiteState}
 use Rattle.ob_site_laws.proofs.Rolling.{rolls_once}
 use Rattle.ob_opening.specs.Opening.{opening}
-use Rattle.ob_state.specs.States.{AreCounted, entry_of}
-use Rattle.ob_state.proofs.Keeping.{rolled_counted}
+use Rattle.ob_plain_state.specs.States.{AreCounted, entry_of}
+use Rattle.ob_plain_state.proofs.Keeping.{rolled_counted}
 use Rattle.ob_opened.specs.Consistent.{IsConsistent}
 use Rattle.ob_opened.specs.Laws.{Apart}
 use Rattle.ob_opened.specs.Opens.{IsOpened}

@@ -2,11 +2,11 @@
 ghost use Rattle.std.specs.Prelude.{◌≡◌, [], map, IfOk};
 ghost use Rattle.std.specs.List.{All};
 ghost use Rattle.ob_alarms.specs.Limits.{IsRule};
-ghost use Rattle.ob_answers.specs.Plans.{point_rule, plan as plan_of};
+ghost use Rattle.ob_replies.specs.Plans.{point_rule, plan as plan_of};
 ghost use Rattle.ob_site_rules.specs.State.{numbered_from};
 
 use ob_alarms::{Alarms, Rule};
-use ob_answers::{Plan, PointRule};
+use ob_replies::{Plan, PointRule};
 use std::alloc::{AllocError, Global};
 
 // The rules, each with its place as the number of its source.

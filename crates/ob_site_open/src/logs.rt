@@ -7,13 +7,13 @@ ghost use Rattle.ob_site_rules.specs.State.{rolled, rolled_logs};
 ghost use Rattle.ob_site_rules.specs.Writes.{events_ever, with_record};
 ghost use Rattle.ob_site_state.specs.Kept.{entry_of, log_of};
 ghost use Rattle.ob_site_state.specs.Tallies.{capacities_of};
-ghost use Rattle.ob_state.specs.States.{AreCounted, entry_of as opened_entry, log_of as opened_log};
+ghost use Rattle.ob_plain_state.specs.States.{AreCounted, entry_of as opened_entry, log_of as opened_log};
 ghost use Rattle.ob_opens_laws.specs.Records.{EachLog};
 ghost use Rattle.ob_site_open.specs.Logs.{CanStand, HasNanos, HaveNanos, stand_in};
 
 use ob_history::{Log, Record};
 use ob_object::{Kind, Slot};
-use ob_state::Log as OpenedLog;
+use ob_plain_state::Log as OpenedLog;
 use ob_times::Moment;
 use ob_values::{Abstime, Text};
 use std::alloc::{AllocError, Global};

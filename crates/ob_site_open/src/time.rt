@@ -2,10 +2,10 @@
 ghost use Rattle.std.specs.Prelude.{◌≡◌, map, max};
 ghost use Rattle.ob_opening.specs.Loading.{greatest};
 ghost use Rattle.ob_opened.specs.Ordered.{moment_from, opening_time};
-ghost use Rattle.ob_state.specs.States.{entry_of};
+ghost use Rattle.ob_plain_state.specs.States.{entry_of};
 
 use ob_history::Record;
-use ob_state::Log;
+use ob_plain_state::Log;
 use ob_times::Moment;
 use ob_values::{Abstime, Text};
 

@@ -10,8 +10,8 @@ use Rattle.ob_site_rules.specs.Build.{Path}
 use Rattle.ob_site_rules.specs.State.{at, is_among}
 use Rattle.ob_site_rules.specs.Paths.{below}
 use Rattle.ob_site_rules.specs.Places.{Place}
-use Rattle.ob_shown.specs.Parts.{point_parts, history_parts}
-use Rattle.ob_shown.proofs.Placed.{at-append}
+use Rattle.ob_plain_state.specs.Parts.{point_parts, history_parts}
+use Rattle.ob_plain_state.proofs.Placed.{at-append}
 use Rattle.ob_site_roles.specs.Roles.{stands_at}
 use Rattle.ob_site_shown.specs.Parents.{has_slash, IsParent}
 use Rattle.ob_site_shown.proofs.Slashes.{at_parent, no_parent}

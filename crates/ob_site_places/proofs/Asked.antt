@@ -13,7 +13,7 @@ use Rattle.ob_object.specs.Object.{Object}
 use Rattle.ob_history.specs.declared.records.Record.{Record}
 use Rattle.ob_history.specs.declared.records.Filter.{Filter}
 use Rattle.ob_history.specs.Records.{passes, asked, holds_value, is_value_kind, IsRecord}
-use Rattle.ob_entries.specs.Queries.{values_fit}
+use Rattle.ob_replies.specs.Queries.{values_fit}
 use Rattle.ob_site_rules.specs.Entries.{record_object, query_out, records_out}
 
 second : (a b : Bool) → (a && b) ≡ true → b ≡ true

@@ -9,7 +9,7 @@ use Rattle.ob_site_rules.specs.Build.{Path}
 use Rattle.ob_site_rules.specs.State.{at}
 use Rattle.ob_site_rules.specs.Paths.{below}
 use Rattle.ob_site_rules.specs.Places.{Place, WritePointOf, QueryOf, FeedOf, AlarmQuery, AlarmFeed, subject_places}
-use Rattle.ob_shown.specs.Parts.{point_parts, history_parts}
+use Rattle.ob_plain_state.specs.Parts.{point_parts, history_parts}
 use Rattle.ob_site_shown.proofs.Nowhere.{below_off}
 
 -- what is behind a beginning is the same where the whole is

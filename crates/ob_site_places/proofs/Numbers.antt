@@ -20,8 +20,8 @@ use Rattle.ob_site_rules.specs.Build.{Path}
 use Rattle.ob_site_rules.specs.State.{Plan, at}
 use Rattle.ob_site_rules.specs.Paths.{ack_path}
 use Rattle.ob_site_rules.specs.Places.{Place, AlarmAt, AckOf, alarm_places}
-use Rattle.ob_shown.specs.Parts.{alarm_parts, parts_of_alarm}
-use Rattle.ob_shown.proofs.Placed.{at-append}
+use Rattle.ob_plain_state.specs.Parts.{alarm_parts, parts_of_alarm}
+use Rattle.ob_plain_state.proofs.Placed.{at-append}
 
 -- what stands behind the root in the path of an alarm, and behind the word
 pub behind_root : (root below p t : Path) (n : ℕ) → p ≡ root ++ below → p ≡ alarm_path root n ++ t → below ≡ codes "alarm/" ++ (decimal n ++ 47 ∷ t)

@@ -1,17 +1,16 @@
 //! The answer to a Get.
 ghost use Rattle.std.specs.Prelude.{◌≡◌, IfOk};
-ghost use Rattle.ob_answers.specs.Plans.{plan as plan_of};
+ghost use Rattle.ob_replies.specs.Plans.{plan as plan_of};
 ghost use Rattle.ob_site_rules.specs.Places.{object_at, reply_at};
 ghost use Rattle.ob_site_state.specs.Contents.{state_in};
 ghost use Rattle.ob_site_shown.specs.Readable.{IsReadable};
 ghost use Rattle.ob_site_places.specs.Complete.{IsComplete};
-ghost use Rattle.ob_shown.specs.Named.{place as place_of};
+ghost use Rattle.ob_plain_state.specs.Named.{place as place_of};
 
-use ob_answers::build::nameless;
-use ob_answers::{Fault, Plan, about, ack_op, batch_op, make_op, refusal, service};
-use ob_entries::alarm_object;
 use ob_object::Obj;
-use ob_shown::Place;
+use ob_plain_state::Place;
+use ob_replies::build::nameless;
+use ob_replies::{Fault, Plan, about, ack_op, alarm_object, batch_op, make_op, refusal, service};
 use ob_site_shown::shown_at;
 use ob_site_state::Contents;
 use ob_values::{Moment, Text};

@@ -1,9 +1,9 @@
 //! Paths compared with others without making any.
 ghost use Rattle.std.specs.Prelude.{◌≡◌, ◌<◌, ◌^◌, ◌++◌, ℕ, List, Some, bytes_eq};
 ghost use Rattle.ob_alarms.specs.AlarmObjects.{alarm_path};
-ghost use Rattle.ob_answers.specs.Plans.{plan as plan_of};
+ghost use Rattle.ob_replies.specs.Plans.{plan as plan_of};
 
-use ob_answers::Plan;
+use ob_replies::Plan;
 use ob_values::Text;
 
 /// Whether a path is another with this behind it.

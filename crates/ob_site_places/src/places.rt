@@ -2,20 +2,20 @@
 ghost use Rattle.std.specs.Prelude.{◌≡◌, ◌++◌, Some, option_map, option_copied, slice_get, IfOk};
 ghost use Rattle.ob_alarms.specs.States.{needs_ack};
 ghost use Rattle.ob_alarms.specs.Changes.{alarm_of};
-ghost use Rattle.ob_answers.specs.Plans.{plan as plan_of};
+ghost use Rattle.ob_replies.specs.Plans.{plan as plan_of};
 ghost use Rattle.ob_site_rules.specs.State.{at, numbered_from};
 ghost use Rattle.ob_site_rules.specs.Places.{fixed_places, point_places, history_places, subject_places, event_places, alarm_places, computed_places, place_at};
 ghost use Rattle.ob_site_roles.specs.Roles.{AreRoles};
 ghost use Rattle.ob_site_state.specs.Contents.{state_in};
 ghost use Rattle.ob_site_shown.specs.Parents.{IsParent};
 ghost use Rattle.ob_site_shown.specs.Readable.{IsReadable};
-ghost use Rattle.ob_shown.specs.Parts.{point_parts, history_parts, alarm_parts, parts_of_alarm};
-ghost use Rattle.ob_shown.specs.Named.{place as place_of};
+ghost use Rattle.ob_plain_state.specs.Parts.{point_parts, history_parts, alarm_parts, parts_of_alarm};
+ghost use Rattle.ob_plain_state.specs.Named.{place as place_of};
 
 use crate::paths::{alarm_number, is_followed};
 use ob_alarms::{Alarm, Alarms};
-use ob_answers::{Plan, PointRule, ack_path, alarm_path, below};
-use ob_shown::Place;
+use ob_plain_state::Place;
+use ob_replies::{Plan, PointRule, ack_path, alarm_path, below};
 use ob_site_shown::{begins_with, parent_path, shown_at};
 use ob_site_state::Contents;
 use ob_values::Text;

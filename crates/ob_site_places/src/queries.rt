@@ -2,17 +2,16 @@
 ghost use Rattle.std.specs.Prelude.{◌≡◌, ◌++◌, All, IfOk};
 ghost use Rattle.std.specs.Option.{option_copied};
 ghost use Rattle.ob_history.specs.Records.{asked, IsRecord};
-ghost use Rattle.ob_answers.specs.Plans.{plan as plan_of};
+ghost use Rattle.ob_replies.specs.Plans.{plan as plan_of};
 ghost use Rattle.ob_site_rules.specs.State.{board};
 ghost use Rattle.ob_site_rules.specs.Entries.{records_out, alarms_out};
 ghost use Rattle.ob_site_rules.specs.Posts.{query, records_of};
 ghost use Rattle.ob_site_state.specs.Contents.{state_in};
 ghost use Rattle.ob_site_places.specs.Complete.{IsComplete};
 
-use ob_answers::{Fault, Plan, refusal};
-use ob_entries::{alarms_out, records_out};
 use ob_history::{Filter, Log, Record, read_filter};
 use ob_object::Obj;
+use ob_replies::{Fault, Plan, alarms_out, records_out, refusal};
 use ob_site_shown::log_at;
 use ob_site_state::Contents;
 use ob_values::Text;

@@ -1,14 +1,14 @@
 //! Events of feeds as objects, those alone that are asked for.
 ghost use Rattle.std.specs.Prelude.{◌≡◌, ◌-◌, [], ◌∷◌, ◌++◌, drop, map, IsTrue, IfOk};
 ghost use Rattle.std.specs.List.{filter};
-ghost use Rattle.ob_entries.specs.Queries.{values_fit};
+ghost use Rattle.ob_replies.specs.Queries.{values_fit};
 ghost use Rattle.ob_site_rules.specs.Entries.{record_object, event_object, event_objects};
 ghost use Rattle.ob_site_rules.specs.Watched.{passes as passes_event};
 
 use ob_alarms::Alarms;
-use ob_entries::{passes, record_object};
 use ob_history::{Filter, Log, Record};
 use ob_object::{Kind, Obj, Slot};
+use ob_replies::{passes, record_object};
 use ob_values::Value;
 use std::alloc::{AllocError, Global};
 

@@ -3,20 +3,19 @@ ghost use Rattle.std.specs.Prelude.{◌≡◌, IfOk};
 ghost use Rattle.ob_site_rules.specs.Locating.{locate};
 ghost use Rattle.ob_site_rules.specs.Sites.{found};
 ghost use Rattle.ob_site_rules.specs.Watched.{found_place};
-ghost use Rattle.ob_answers.specs.Plans.{plan as plan_of};
-ghost use Rattle.ob_shown.specs.Named.{place as place_of};
+ghost use Rattle.ob_replies.specs.Plans.{plan as plan_of};
+ghost use Rattle.ob_plain_state.specs.Named.{place as place_of};
 ghost use Rattle.ob_site_state.specs.Contents.{state_in};
 ghost use Rattle.ob_site_shown.specs.Readable.{IsReadable};
-ghost use Rattle.ob_watch_calls.specs.Calls.{found as found_of};
+ghost use Rattle.ob_requests.specs.Calls.{found as found_of};
 
-use ob_answers::{Fault, Plan};
-use ob_calls::located;
 use ob_object::{Kind, Obj};
-use ob_shown::Place;
+use ob_plain_state::Place;
+use ob_replies::{Fault, Plan};
+use ob_requests::{Asked, Found, feed_with, is_of_watch, located};
 use ob_site_places::place_at;
 use ob_site_state::Contents;
 use ob_values::Text;
-use ob_watch_calls::{Asked, Found, feed_with, is_of_watch};
 use std::alloc::{AllocError, Global};
 
 /// What a place is to watches: nodes but ops and feeds are watched, and the feeds of histories and of the

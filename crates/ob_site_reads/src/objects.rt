@@ -4,15 +4,15 @@ ghost use Rattle.ob_object.specs.Object.{parts};
 ghost use Rattle.ob_tree.specs.Depths.{depth_at};
 ghost use Rattle.ob_tree.specs.Laid.{paths};
 ghost use Rattle.ob_tree.specs.Paths.{place_of};
-ghost use Rattle.ob_answers.specs.Plans.{plan as plan_of};
+ghost use Rattle.ob_replies.specs.Plans.{plan as plan_of};
 ghost use Rattle.ob_site_rules.specs.Build.{Path, nameless, under_href};
 ghost use Rattle.ob_site_rules.specs.Sites.{plain_or_empty, watched_object};
 ghost use Rattle.ob_site_state.specs.Contents.{state_in};
 ghost use Rattle.ob_site_shown.specs.Readable.{IsReadable};
 ghost use Rattle.ob_site_reads.specs.Watchable.{IsWatchableAt};
 
-use ob_answers::Plan;
 use ob_object::{Kind, Obj};
+use ob_replies::Plan;
 use ob_site_shown::{shown_at, shown_own, shown_own_counted};
 use ob_site_state::Contents;
 use ob_steps::Steps;

@@ -3,11 +3,11 @@ ghost use Rattle.std.specs.Prelude.{◌≡◌, cond, map, is_some, Some, OnOk, I
 ghost use Rattle.std.specs.Str.{bytes_eq};
 ghost use Rattle.std.specs.BTreeMap.{get_by_text};
 ghost use Rattle.ob_alarms.specs.Lists.{first_place};
-ghost use Rattle.ob_answers.specs.Plans.{point_rule};
+ghost use Rattle.ob_replies.specs.Plans.{point_rule};
 ghost use Rattle.ob_site_rules.specs.Build.{Path};
 ghost use Rattle.ob_site_roles.specs.Roles.{has_source, stands_at};
 
-use ob_answers::PointRule;
+use ob_replies::PointRule;
 use ob_values::Text;
 use std::alloc::{AllocError, Global};
 use std::collections::BTreeMap;

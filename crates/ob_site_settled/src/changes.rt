@@ -22,7 +22,7 @@ use crate::values::{same_status, shows_other_values};
 use ob_contracts::Library;
 use ob_history::Log;
 use ob_object::{Slot, Status};
-use ob_shown::rule_of;
+use ob_plain_state::rule_of;
 use ob_site_state::{Change, State};
 use ob_tree::NodeId;
 use ob_values::Text;

@@ -4,7 +4,7 @@ use Rattle.std.specs.Prelude.{nat_lt}
 use Rattle.ob_object.specs.Object.{Object, Objects, none, node, count}
 use Rattle.ob_tree.specs.Shown.{part_in}
 use Rattle.ob_site_rules.specs.State.{Plan, State}
-use Rattle.ob_state.specs.States.{NamesAreFree}
+use Rattle.ob_plain_state.specs.States.{NamesAreFree}
 
 some_same : {a b : Object} → Some a ≡ Some b → a ≡ b
 some_same e = cc

@@ -2,7 +2,7 @@
 use Rattle.std.specs.Prelude.{◌≡◌, map}
 use Rattle.ob_site_rules.specs.State.{Plan, numbered_from}
 use Rattle.ob_site_rules.specs.Shown.{dressed}
-use Rattle.ob_state.specs.States.{NamesAreFree}
+use Rattle.ob_plain_state.specs.States.{NamesAreFree}
 use Rattle.ob_shown_laws.specs.Alike.{row}
 use Rattle.ob_shown_laws.specs.Changed.{PathsDiffer}
 use Rattle.ob_site_roles.specs.Roles.{AreRoles}

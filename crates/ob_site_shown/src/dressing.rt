@@ -1,20 +1,20 @@
 //! Own objects with the children that roles derive, and the status of each rule's source.
 ghost use Rattle.std.specs.Prelude.{◌≡◌, ◌++◌, map, IfOk};
 ghost use Rattle.ob_object.specs.Object.{node, none};
-ghost use Rattle.ob_answers.specs.Plans.{plan as plan_of};
+ghost use Rattle.ob_replies.specs.Plans.{plan as plan_of};
 ghost use Rattle.ob_site_rules.specs.State.{Plan as SitePlan, numbered_from};
 ghost use Rattle.ob_site_rules.specs.Shown.{with_status};
 ghost use Rattle.ob_shown_laws.specs.Own.{dressed_own};
-ghost use Rattle.ob_state.specs.States.{NamesAreFree};
+ghost use Rattle.ob_plain_state.specs.States.{NamesAreFree};
 ghost use Rattle.ob_site_roles.specs.Roles.{AreRoles};
 ghost use Rattle.ob_site_state.specs.Contents.{state_in};
 ghost use Rattle.ob_site_state.specs.Kept.{keys};
 
 use crate::roles::derived;
-use ob_answers::Plan;
-use ob_answers::build::whole;
 use ob_object::{Head, Obj};
-use ob_shown::node_path;
+use ob_plain_state::node_path;
+use ob_replies::Plan;
+use ob_replies::build::whole;
 use ob_site_state::Contents;
 use std::alloc::{AllocError, Global};
 

@@ -2,7 +2,7 @@
 ghost use Rattle.std.specs.Prelude.{◌≡◌, cond, ◌&&◌, [], ◌∷◌, length, map, option_map, IfOk};
 ghost use Rattle.std.specs.Str.{bytes_eq};
 ghost use Rattle.std.specs.Option.{option_copied};
-ghost use Rattle.ob_answers.specs.Plans.{plan as plan_of};
+ghost use Rattle.ob_replies.specs.Plans.{plan as plan_of};
 ghost use Rattle.ob_site_rules.specs.State.{is_path};
 ghost use Rattle.ob_site_rules.specs.Shown.{lobby_children, write_point_op, subject_children, history_part, derived_at, derived};
 ghost use Rattle.ob_site_roles.specs.Roles.{AreRoles};
@@ -10,10 +10,10 @@ ghost use Rattle.ob_site_state.specs.Contents.{state_in};
 ghost use Rattle.ob_site_state.specs.Kept.{keys, log_of};
 
 use crate::logs::{history_children, history_log};
-use ob_answers::{Plan, lobby_children, subject_children, write_point_op};
 use ob_history::Log;
 use ob_object::Obj;
-use ob_shown::is_path;
+use ob_plain_state::is_path;
+use ob_replies::{Plan, lobby_children, subject_children, write_point_op};
 use ob_site_state::Contents;
 use ob_values::Text;
 use std::alloc::{AllocError, Global};

@@ -5,7 +5,7 @@ ghost use Rattle.ob_tree.specs.Depths.{depth_at};
 ghost use Rattle.ob_tree.specs.Shown.{part_at};
 ghost use Rattle.ob_tree.specs.Laid.{paths};
 ghost use Rattle.ob_tree.specs.Paths.{place_of};
-ghost use Rattle.ob_answers.specs.Plans.{plan as plan_of};
+ghost use Rattle.ob_replies.specs.Plans.{plan as plan_of};
 ghost use Rattle.ob_site_rules.specs.Build.{Path};
 ghost use Rattle.ob_site_rules.specs.Shown.{shown};
 ghost use Rattle.ob_shown_laws.specs.Own.{dressed_own};
@@ -15,8 +15,8 @@ ghost use Rattle.ob_site_shown.specs.Readable.{IsReadable};
 
 use crate::dressing::dress;
 use crate::owners::shown_derived;
-use ob_answers::Plan;
 use ob_object::Obj;
+use ob_replies::Plan;
 use ob_site_state::Contents;
 use ob_steps::Steps;
 use ob_tree::NodeId;

@@ -1,5 +1,5 @@
 -- A `State` as contracts see it.
-use Rattle.ob_answers.specs.Plans.{plan as plan_of}
+use Rattle.ob_replies.specs.Plans.{plan as plan_of}
 use Rattle.ob_site_roles.specs.Roles.{AreRoles}
 use Rattle.ob_site_state.specs.declared.state.State.TheInside.{Inside}
 use Rattle.ob_site_state.specs.Changes.{rewound}

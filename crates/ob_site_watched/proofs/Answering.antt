@@ -13,7 +13,7 @@ use Rattle.ob_history.specs.declared.records.Filter.{Filter}
 use Rattle.ob_site_rules.specs.Build.{Text}
 use Rattle.ob_site_rules.specs.Faults.{Fault, NoSuchObject, err}
 use Rattle.ob_site_rules.specs.State.{Plan, State}
-use Rattle.ob_watch_calls.specs.Calls.{lease_in}
+use Rattle.ob_requests.specs.Calls.{lease_in}
 use Rattle.ob_watch.proofs.TableLemmas.{elsewhere}
 use Rattle.ob_site_watched.proofs.Leased.{asked_fits}
 use Rattle.ob_site_rules.specs.Replies.{sent}

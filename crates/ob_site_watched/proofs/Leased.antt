@@ -12,7 +12,7 @@ use Rattle.ob_values.specs.declared.value.Value.TheVariants as value
 use Rattle.ob_contracts.specs.Inherit.{Contracts, effective_of}
 use Rattle.ob_site_rules.specs.Faults.{Fault, LeaseOutOfRange, OtherKind}
 use Rattle.ob_site_rules.specs.Watched.{lease_of, lease_within}
-use Rattle.ob_watch_calls.specs.Calls.{lease_in}
+use Rattle.ob_requests.specs.Calls.{lease_in}
 use Rattle.ob_watch.specs.Tables.{IsLease}
 
 ok_same : (a b : ℕ) → (let r : Result ℕ Fault = Ok a in r) ≡ Ok b → a ≡ b

@@ -7,9 +7,9 @@ use Rattle.ob_site_rules.specs.Faults.{Fault}
 use Rattle.ob_site_rules.specs.Watched.{WatchOperation}
 use Rattle.ob_site_state.specs.declared.contents.Contents.{Contents}
 use Rattle.ob_watching.specs.Asked.{PollChanges}
-use Rattle.ob_watch_calls.specs.declared.target.Operation.{Operation}
-use Rattle.ob_watch_calls.specs.declared.target.Operation.TheVariants as asks
-use Rattle.ob_watch_calls.specs.Targets.{operation_of}
+use Rattle.ob_requests.specs.declared.target.Operation.{Operation}
+use Rattle.ob_requests.specs.declared.target.Operation.TheVariants as asks
+use Rattle.ob_requests.specs.Targets.{operation_of}
 use Rattle.ob_site_watched.specs.Leaving.{Renews, leased_if, leaving}
 use Rattle.ob_watch.proofs.LawLemmas.{lapses_commute}
 use Rattle.ob_watch.proofs.TableLemmas.{none_replaced}

@@ -27,8 +27,8 @@ use Rattle.ob_watch.specs.Flags.{flagged, flags}
 use Rattle.ob_watch.specs.Items.{put_item}
 use Rattle.ob_watch.specs.Tables.{IsLease, Leased, Table, at_number, holding, is_over, live, touched_at, watching}
 use Rattle.ob_watch.proofs.LawLemmas.{items_agree}
-use Rattle.ob_watch_calls.specs.AsRules.{IsAsRules}
-use Rattle.ob_watch_calls.specs.Calls.{firsts}
+use Rattle.ob_requests.specs.AsRules.{IsAsRules}
+use Rattle.ob_requests.specs.Calls.{firsts}
 use Rattle.ob_site_watched.specs.declared.offering.Offer.{Offer}
 use Rattle.ob_site_watched.specs.declared.offering.Offer.TheVariants as offer
 use Rattle.ob_site_watched.specs.Answers.{AllKnown, IsDone}

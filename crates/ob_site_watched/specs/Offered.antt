@@ -11,8 +11,8 @@ use Rattle.ob_site_rules.specs.Replies.{Reading, entry}
 use Rattle.ob_site_rules.specs.Sites.{found}
 use Rattle.ob_site_rules.specs.State.{Plan}
 use Rattle.ob_site_rules.specs.Watched.{Asked, SiteFound}
-use Rattle.ob_answers.specs.declared.fault.Fault.{Fault}
-use Rattle.ob_answers.specs.Told as told
+use Rattle.ob_replies.specs.declared.fault.Fault.{Fault}
+use Rattle.ob_replies.specs.Told as told
 use Rattle.ob_site_state.specs.declared.contents.Contents.{Contents}
 use Rattle.ob_site_state.specs.Contents.{state_in}
 use Rattle.ob_watch.specs.declared.item.Item.{Item}

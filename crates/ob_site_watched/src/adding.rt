@@ -1,14 +1,14 @@
 //! What is offered to a watch is put into it, or taken back.
 ghost use Rattle.std.specs.Prelude.{◌≡◌, true, IfOk, OnErr, is_none, is_some};
 ghost use Rattle.std.specs.List.{list_all};
-ghost use Rattle.ob_answers.specs.Plans.{plan as plan_of};
+ghost use Rattle.ob_replies.specs.Plans.{plan as plan_of};
 ghost use Rattle.ob_site_places.specs.Complete.{IsComplete};
 ghost use Rattle.ob_site_rules.specs.Build.{under_href};
 ghost use Rattle.ob_site_rules.specs.Faults.{TooManyItems, err};
 ghost use Rattle.ob_watch.specs.Marks.{AreStampsPast};
 ghost use Rattle.ob_watch.specs.Tables.{lapsed_at};
 ghost use Rattle.ob_watch.specs.Undo.{Undoes};
-ghost use Rattle.ob_watch_calls.specs.Calls.{firsts as firsts_of};
+ghost use Rattle.ob_requests.specs.Calls.{firsts as firsts_of};
 ghost use Rattle.ob_watching.specs.Asked.{Add};
 ghost use Rattle.ob_watching.specs.Tables.{lookup, numbers_of};
 ghost use Rattle.ob_site_watched.specs.Answers.{AllKnown, IsDone};
@@ -16,12 +16,12 @@ ghost use Rattle.ob_site_watched.specs.Offered.{AreOffered};
 ghost use Rattle.ob_site_watched.specs.Putting.{ArePut, HasPut, IsPut, OfHeld, entries_put};
 
 use crate::offering::{Offer, offers};
-use ob_answers::{Fault, Plan, refusal, watch_out};
 use ob_object::{Obj, copy_text};
+use ob_replies::{Fault, Plan, refusal, watch_out};
+use ob_requests::{Asked, as_the_site_says};
 use ob_site_state::Contents;
 use ob_values::Moment;
 use ob_watch::{Additions, WatchFault, Watches};
-use ob_watch_calls::{Asked, as_the_site_says};
 use std::alloc::{AllocError, Global};
 
 /// What is asked to be added to the watch of a number, and when.

@@ -1,15 +1,15 @@
 //! The entries of WatchOut.
 ghost use Rattle.std.specs.Prelude.{◌≡◌, ◌+◌, ◌≤◌, ◌++◌, map, option_to_list, true, IfOk};
 ghost use Rattle.ob_watch.specs.Items.{is_due};
-ghost use Rattle.ob_answers.specs.Plans.{plan as plan_of};
+ghost use Rattle.ob_replies.specs.Plans.{plan as plan_of};
 ghost use Rattle.ob_site_rules.specs.Replies.{content_object, entry};
 ghost use Rattle.ob_site_places.specs.Complete.{IsComplete};
 ghost use Rattle.ob_site_watched.specs.Entries.{all_changes, all_readings, changes_in, object_now, reading_entry};
 ghost use Rattle.ob_site_watched.specs.Known.{AreKnown, IsKnown, IsPlacedBy};
 ghost use Rattle.ob_site_watched.specs.Polls.{of_objects, steps_in};
 
-use ob_answers::{Plan, entry};
 use ob_object::Obj;
+use ob_replies::{Plan, entry};
 use ob_site_reads::{Since, feed_since, watched_node, watched_node_counted, whole_feed};
 use ob_site_state::Contents;
 use ob_steps::Steps;

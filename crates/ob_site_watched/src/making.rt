@@ -1,11 +1,11 @@
 //! What is asked of the watch service.
 ghost use Rattle.std.specs.Prelude.{◌≡◌, IfOk, OnErr};
-ghost use Rattle.ob_answers.specs.Plans.{plan as plan_of};
+ghost use Rattle.ob_replies.specs.Plans.{plan as plan_of};
 ghost use Rattle.ob_site_state.specs.declared.contents.Contents.{Contents};
 ghost use Rattle.ob_site_watched.specs.Answers.{AllKnown, IsMade};
 
-use ob_answers::{Fault, Plan, WatchPart, refusal, watch_part};
 use ob_object::Obj;
+use ob_replies::{Fault, Plan, WatchPart, refusal, watch_part};
 use ob_values::Moment;
 use ob_watch::{FIRST_LEASE, Watches};
 use std::alloc::{AllocError, Global};

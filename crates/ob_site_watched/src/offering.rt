@@ -1,23 +1,23 @@
 //! What is asked for of a watch, before it is added.
 ghost use Rattle.std.specs.Prelude.{◌≡◌, IfOk};
-ghost use Rattle.ob_answers.specs.Plans.{plan as plan_of};
-ghost use Rattle.ob_answers.specs.Told as told;
+ghost use Rattle.ob_replies.specs.Plans.{plan as plan_of};
+ghost use Rattle.ob_replies.specs.Told as told;
 ghost use Rattle.ob_own_laws.specs.Watched.{IsOwnFound};
 ghost use Rattle.ob_site_places.specs.Complete.{IsComplete};
 ghost use Rattle.ob_site_state.specs.Contents.{state_in};
 ghost use Rattle.ob_watch.specs.Marks.{AreStampsPast};
-ghost use Rattle.ob_watch_calls.specs.Calls.{firsts as firsts_of, found as found_of};
+ghost use Rattle.ob_requests.specs.Calls.{firsts as firsts_of, found as found_of};
 ghost use Rattle.ob_site_watched.specs.Offered.{AreOffered, IsFor, IsOffered, refused_entry};
 
 use crate::entries::reading;
-use ob_answers::{Fault, Plan, entry, refusal};
 use ob_object::Obj;
 use ob_own_laws::watched_are_own;
+use ob_replies::{Fault, Plan, entry, refusal};
+use ob_requests::{Asked, Found, firsts};
 use ob_site_reads::{count_at, found};
 use ob_site_state::Contents;
 use ob_values::Text;
 use ob_watch::Item;
-use ob_watch_calls::{Asked, Found, firsts};
 use std::alloc::{AllocError, Global};
 
 /// An href that is asked for: the item that it is to be added as, and its entry, or the entry of its refusal.

@@ -1,14 +1,14 @@
 //! What is asked of a watch.
 ghost use Rattle.std.specs.Prelude.{◌≡◌, ◌+◌, ◌≤◌, List, ℕ, false, IfOk, OnErr};
-ghost use Rattle.ob_answers.specs.Plans.{plan as plan_of};
-ghost use Rattle.ob_watch_calls.specs.Targets.{operation_of};
+ghost use Rattle.ob_replies.specs.Plans.{plan as plan_of};
+ghost use Rattle.ob_requests.specs.Targets.{operation_of};
 ghost use Rattle.ob_site_places.specs.Complete.{IsComplete};
 ghost use Rattle.ob_site_state.specs.Contents.{state_in};
 ghost use Rattle.ob_watching.specs.Watches.{told_lease};
 ghost use Rattle.ob_site_rules.specs.Computed.{watch_out};
 ghost use Rattle.ob_site_rules.specs.Replies.{sent};
 ghost use Rattle.ob_watch.specs.Counted.{of_plan};
-ghost use Rattle.ob_watch_calls.specs.Calls.{lease_in};
+ghost use Rattle.ob_requests.specs.Calls.{lease_in};
 ghost use Rattle.ob_watch.specs.Marks.{AreStampsPast};
 ghost use Rattle.ob_site_rules.specs.Watched.{lease_asked};
 ghost use Rattle.ob_site_watched.specs.Entries.{all_changes, all_readings};
@@ -19,14 +19,14 @@ ghost use Rattle.ob_site_watched.specs.Polls.{object_entries, steps_in};
 
 use crate::adding::{Adding, add};
 use crate::entries::{changes, readings};
-use ob_answers::{Fault, Plan, WatchPart, nil, refusal, watch_out, watch_part};
 use ob_contracts::Library;
 use ob_object::Obj;
+use ob_replies::{Fault, Plan, WatchPart, nil, refusal, watch_out, watch_part};
+use ob_requests::{Operation, lease_asked};
 use ob_site_state::Contents;
 use ob_steps::Steps;
 use ob_values::Moment;
 use ob_watch::{Item, Watch, Watches};
-use ob_watch_calls::{Operation, lease_asked};
 use std::alloc::{AllocError, Global};
 use std::sync::ledger::Ledger;
 

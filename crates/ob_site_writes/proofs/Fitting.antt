@@ -25,9 +25,9 @@ use Rattle.ob_site_rules.specs.Build.{Path}
 use Rattle.ob_site_rules.specs.State.{Plan, PointRule, State, is_path, numbered_from}
 use Rattle.ob_site_rules.specs.Shown.{node_path, rule_of, shown}
 use Rattle.ob_site_rules.specs.Writes.{number_in, records_from}
-use Rattle.ob_state.specs.States.{NodesAre, IsOfKindAt, limits_fit, rule_in, is_int}
-use Rattle.ob_state.specs.Fitting.{NodesTake, TakesIfRule}
-use Rattle.ob_state.proofs.ShownKinds.{shown_kind}
+use Rattle.ob_plain_state.specs.States.{NodesAre, IsOfKindAt, limits_fit, rule_in, is_int}
+use Rattle.ob_plain_state.specs.Fitting.{NodesTake, TakesIfRule}
+use Rattle.ob_plain_state.proofs.ShownKinds.{shown_kind}
 use Rattle.ob_opened.specs.Consistent.{IsConsistent}
 use Rattle.ob_site_written.specs.Fitting.{CanBeWritten}
 

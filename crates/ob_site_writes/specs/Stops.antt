@@ -1,7 +1,7 @@
 -- What a request leaves of a state, and what it is answered.
 use Rattle.std.specs.Prelude.{◌≡◌}
 use Rattle.ob_object.specs.Object.{Object}
-use Rattle.ob_answers.specs.Told as told
+use Rattle.ob_replies.specs.Told as told
 use Rattle.ob_site_rules.specs.Faults.{err}
 use Rattle.ob_site_rules.specs.State.{State}
 use Rattle.ob_site_state.specs.Kept.{Kept}

@@ -1,5 +1,5 @@
 //! Why a request did nothing.
-use ob_answers::Fault;
+use ob_replies::Fault;
 use std::alloc::AllocError;
 
 /// Why a request did nothing.

@@ -2,13 +2,13 @@
 ghost use Rattle.std.specs.Prelude.{◌≡◌, Some, is_some, option_map, option_and_then, option_copied, IfOk};
 ghost use Rattle.ob_object.specs.Write.{verdict};
 ghost use Rattle.ob_history.specs.Records.{is_value_kind};
-ghost use Rattle.ob_answers.specs.Told as told;
+ghost use Rattle.ob_replies.specs.Told as told;
 ghost use Rattle.ob_site_rules.specs.Shown.{shown, node_of};
 ghost use Rattle.ob_site_rules.specs.Writes.{ranged, has_child, is_listed, fault_of, verdict_fault, slot_fault, value_fault, target_fault};
 
 use crate::reading::shown;
-use ob_answers::Fault;
 use ob_object::{Head, Kind, Obj, Slot, WriteFault, check_write};
+use ob_replies::Fault;
 use ob_site_state::State;
 use ob_site_written::overfills;
 use ob_values::{Text, Value};

@@ -14,7 +14,7 @@ use Rattle.ob_site_rules.specs.Build.{Path}
 use Rattle.ob_site_rules.specs.State.{Plan, Log, State, board}
 use Rattle.ob_site_rules.specs.Sameness.{same_slot}
 use Rattle.ob_site_rules.specs.Writes.{events_ever, records_from, with_record, recorded, board_after, stored_in, stored_logs, stored, is_over, overfills}
-use Rattle.ob_state.specs.States.{AreCounted}
+use Rattle.ob_plain_state.specs.States.{AreCounted}
 use Rattle.ob_site_state.specs.Changes.{HasEvents}
 use Rattle.ob_site_state.proofs.Storing.{stored_one}
 use Rattle.ob_site_written.specs.Limits.{grows, growing, is_counted_out, any_counted_out}

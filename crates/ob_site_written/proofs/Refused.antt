@@ -4,8 +4,8 @@ use Rattle.std.specs.Prelude.{is_some}
 use Rattle.std.specs.Option.{option_or}
 use Rattle.ob_site_rules.specs.Faults as faults
 use Rattle.ob_site_rules.specs.Faults.{Fault as SiteFault}
-use Rattle.ob_answers.specs.declared.fault.Fault.{Fault}
-use Rattle.ob_answers.specs.Told as told
+use Rattle.ob_replies.specs.declared.fault.Fault.{Fault}
+use Rattle.ob_replies.specs.Told as told
 
 pub none_told : (o : Option Fault) → is_some o ≡ false → None ≡ option_map told.fault o
 none_told None h = refl

@@ -9,7 +9,7 @@ use Rattle.ob_object.specs.Object.{Objects, none, node, Object, count, parts}
 use Rattle.ob_site_rules.specs.Build.{Path}
 use Rattle.ob_site_rules.specs.State.{is_path}
 use Rattle.ob_site_rules.specs.Shown.{node_path}
-use Rattle.ob_state.specs.Fitting.{NodesTake}
+use Rattle.ob_plain_state.specs.Fitting.{NodesTake}
 use Rattle.ob_tree.specs.Laid.{heads, heads_of, head_at, paths}
 use Rattle.ob_tree.specs.Paths.{place_of}
 use Rattle.ob_tree.proofs.Changing.{length-heads, got_left, got_right}

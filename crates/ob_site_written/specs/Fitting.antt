@@ -9,7 +9,7 @@ use Rattle.ob_site_rules.specs.Build.{Path}
 use Rattle.ob_site_rules.specs.State.{Plan, State, numbered_from}
 use Rattle.ob_site_rules.specs.Shown.{rule_of}
 use Rattle.ob_site_rules.specs.Writes.{records_from}
-use Rattle.ob_state.specs.Fitting.{NodesTake, TakesIfRule}
+use Rattle.ob_plain_state.specs.Fitting.{NodesTake, TakesIfRule}
 
 -- The node at a path takes a slot, and so does its rule; and where a history records the node, the slot is a record of the kind.
 pub record CanBeWritten (plan : Plan) (s : State) (p : Path) (k : Kind) (slot : Slot) : Type 0 where

@@ -12,12 +12,12 @@ ghost use Rattle.ob_tree_bridges.specs.Contracted.{is_inside};
 ghost use Rattle.ob_site_rules.specs.Build.{Path, child};
 ghost use Rattle.ob_site_rules.specs.Shown.{node_of};
 ghost use Rattle.ob_site_rules.specs.Writes.{site_contracts, is_in_contract, library_after};
-ghost use Rattle.ob_state.specs.States.{AreTaken};
+ghost use Rattle.ob_plain_state.specs.States.{AreTaken};
 ghost use Rattle.ob_site_written.specs.Parts.{contracts_in};
 
 use ob_contracts::{LibFault, Library};
 use ob_object::Obj;
-use ob_shown::{node_of, node_path};
+use ob_plain_state::{node_of, node_path};
 use ob_site_state::State;
 use ob_tree::{NodeId, Tree};
 use ob_values::Text;

@@ -4,7 +4,7 @@ ghost use Rattle.ob_site_rules.specs.State.{numbered_from, board};
 ghost use Rattle.ob_site_rules.specs.Shown.{rule_of};
 ghost use Rattle.ob_site_rules.specs.Writes.{is_over, overfills};
 ghost use Rattle.ob_site_rules.specs.Posts.{acked};
-ghost use Rattle.ob_state.specs.Fitting.{TakesIfRule};
+ghost use Rattle.ob_plain_state.specs.Fitting.{TakesIfRule};
 ghost use Rattle.ob_site_written.specs.Limits.{growing, any_counted_out};
 
 use crate::slots::same_slot;

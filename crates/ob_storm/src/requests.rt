@@ -7,15 +7,15 @@ ghost use Rattle.ob_storm.specs.Requests.{point, op_of_watch, op_of_alarm, get, 
 ghost use Rattle.ob_object.specs.Object.{empty_head};
 ghost use Rattle.ob_site_rules.specs.Build.{whole};
 
-use ob_answers::Contract;
-use ob_answers::build::{obj_head, one_child, put, whole};
 use ob_object::{Head, Kind, Obj, Slot};
+use ob_replies::Contract;
+use ob_replies::build::{obj_head, one_child, put, whole};
 use ob_site_rules::Request;
 use ob_values::{Text, Value, Verb};
 use std::alloc::{AllocError, Global};
 
 // A text with a number behind it.
-#[tactic(auto, using(ob_answers::proofs::Printable::decimal_printable))]
+#[tactic(auto, using(ob_replies::proofs::Printable::decimal_printable))]
 fn numbered(alloc: Global, head: &str, number: u64) -> Result<Text, AllocError>
     requires { IsTrue (is_printable head.now) }
     ensures { IfOk result (λ text. text ≡ head.now ++ decimal number) }
@@ -162,7 +162,7 @@ fn watched_by(alloc: Global, client: u32) -> Result<Vec<Obj>, AllocError>
 }
 
 // The list `hrefs` of these uris, which have no names.
-#[tactic(auto, using(ob_answers::proofs::New::nameless_new))]
+#[tactic(auto, using(ob_replies::proofs::New::nameless_new))]
 fn hrefs(alloc: Global, uris: Vec<Obj>) -> Result<Obj, AllocError>
     requires { list_all (λ o. is_none o.head.name) uris.items ≡ true }
     ensures { IfOk result (λ o. o ≡ whole (record (empty_head kind.List) { name = Some (codes "hrefs") }) uris.items) }

@@ -2,7 +2,7 @@
 ghost use Rattle.std.specs.Prelude.{◌≡◌};
 
 use crate::item::{Tracked, stamp_of};
-use ob_entries::passes;
+use ob_replies::passes;
 use ob_tree::Tree;
 use ob_values::{Abstime, Text};
 

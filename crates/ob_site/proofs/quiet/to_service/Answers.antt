@@ -1,5 +1,5 @@
 use Rattle.std.proofs.Common.{◌∙◌, refl, sym}
-use Rattle.ob_answers.specs.Plans.{plan as plan_of}
+use Rattle.ob_replies.specs.Plans.{plan as plan_of}
 use Rattle.ob_watching.specs.Asked.{NewWatch}
 use Rattle.ob_site.proofs.Asked.{made_so}
 use Rattle.ob_site.proofs.Known.{kept_through}

@@ -1,10 +1,10 @@
 use Rattle.std.proofs.Common.{◌≡◌, ◌+◌, ◌≤◌, ap, subst}
 use Rattle.ob_object.specs.Object.{Object}
-use Rattle.ob_answers.specs.Plans.{plan as plan_of}
+use Rattle.ob_replies.specs.Plans.{plan as plan_of}
 use Rattle.ob_site_rules.specs.State.{State}
 use Rattle.ob_site_watched.specs.Polls.{object_entries, steps_in}
 use Rattle.ob_watching.specs.Asked.{OneWatch}
-use Rattle.ob_watch_calls.specs.Targets.{operation_of}
+use Rattle.ob_requests.specs.Targets.{operation_of}
 use Rattle.ob_site.proofs.Asked.{asked_so, tree_is}
 use Rattle.ob_site.proofs.Known.{known_in, kept_through, past_in}
 use Rattle.ob_site.proofs.Unchanged.{quietly}

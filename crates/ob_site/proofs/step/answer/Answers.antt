@@ -3,8 +3,8 @@ use Rattle.std.proofs.lemmas.Result.{IfOk-weaker}
 use Rattle.ob_site_rules.specs.Locating.{locate}
 use Rattle.ob_site_rules.specs.Sites.{site}
 use Rattle.ob_site_rules.specs.Watched.{SiteTarget}
-use Rattle.ob_watch_calls.specs.declared.target.Target.{Target}
-use Rattle.ob_watch_calls.specs.Targets.{IsTarget}
+use Rattle.ob_requests.specs.declared.target.Target.{Target}
+use Rattle.ob_requests.specs.Targets.{IsTarget}
 use Rattle.ob_site_watched.proofs.Polled.{unmoved}
 use Rattle.ob_site.specs.Steps.{IsAnswered}
 use Rattle.ob_site.proofs.step.answer.Goals as goal

@@ -5,8 +5,8 @@ use Rattle.ob_site_rules.specs.Locating.{locate}
 use Rattle.ob_site_rules.specs.Sites.{site}
 use Rattle.ob_site_rules.specs.State.{Plan}
 use Rattle.ob_site_rules.specs.Watched.{target_at}
-use Rattle.ob_answers.specs.Plans.{plan as plan_of}
-use Rattle.ob_watch_calls.specs.Targets.{IsTarget}
+use Rattle.ob_replies.specs.Plans.{plan as plan_of}
+use Rattle.ob_requests.specs.Targets.{IsTarget}
 use Rattle.ob_site.proofs.step.target.Goals as goal
 
 pub returns : goal.returns

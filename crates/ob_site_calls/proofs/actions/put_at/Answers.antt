@@ -1,4 +1,4 @@
-use Rattle.ob_calls.proofs.Places.{node_there}
+use Rattle.ob_requests.proofs.Places.{node_there}
 use Rattle.ob_site_calls.proofs.actions.put_at.Goals as goal
 
 pub put-requires : goal.put-requires

@@ -5,8 +5,8 @@ use Rattle.ob_object.specs.Object.{Object}
 use Rattle.ob_site_rules.specs.State.{State}
 use Rattle.ob_site_rules.specs.Actions.{item_request, act_item}
 use Rattle.ob_site_rules.specs.Locating.{locate}
-use Rattle.ob_calls.proofs.Batches.{with_rest, with_more, with_none, one_more}
-use Rattle.ob_calls.proofs.Replies.{item_plain}
+use Rattle.ob_requests.proofs.Batches.{with_rest, with_more, with_none, one_more}
+use Rattle.ob_requests.proofs.Replies.{item_plain}
 use Rattle.ob_site_state.specs.Kept.{Kept}
 use Rattle.ob_site_calls.proofs.Batched.{stays_on}
 use Rattle.ob_site_calls.proofs.batch.act_all.Goals as goal

@@ -3,7 +3,7 @@ use Rattle.std.specs.Prelude.{is_none}
 use Rattle.std.specs.List.{list_all}
 use Rattle.ob_site_rules.specs.Actions.{act_all}
 use Rattle.ob_site_rules.specs.Locating.{locate}
-use Rattle.ob_calls.proofs.Batches.{with_rest}
+use Rattle.ob_requests.proofs.Batches.{with_rest}
 use Rattle.ob_site_calls.proofs.batch.act_all.Given as goal
 
 abbrev pub invariant-loop-item : goal.invariant-loop-item

@@ -1,4 +1,4 @@
-use Rattle.ob_calls.proofs.Places.{point_there}
+use Rattle.ob_requests.proofs.Places.{point_there}
 use Rattle.ob_site_calls.proofs.calls.call.Goals as goal
 
 pub write_point-requires : goal.write_point-requires

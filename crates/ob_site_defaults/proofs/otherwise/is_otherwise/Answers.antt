@@ -1,4 +1,4 @@
-use Rattle.ob_answers.specs.Plans.{plan as plan_of}
+use Rattle.ob_replies.specs.Plans.{plan as plan_of}
 use Rattle.ob_site_state.specs.Contents.{state_in}
 use Rattle.ob_standing.specs.Standings.{context}
 use Rattle.ob_site_defaults.proofs.Compared.{told_otherwise}

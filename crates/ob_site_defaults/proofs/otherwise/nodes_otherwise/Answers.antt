@@ -1,6 +1,6 @@
 use Rattle.std.proofs.Common.{◌≡◌, ◌∙◌, ◌++◌, ◌∷◌, ◌<◌, [], List, true, false, Vec, Global, sym, ap, arith, true≢false}
 use Rattle.ob_object.specs.Object.{parts}
-use Rattle.ob_answers.specs.Plans.{plan as plan_of}
+use Rattle.ob_replies.specs.Plans.{plan as plan_of}
 use Rattle.ob_default_laws.specs.Defaults.{with_library}
 use Rattle.ob_site_state.specs.Contents.{state_in}
 use Rattle.ob_tree.specs.declared.node.NodeId.{NodeId}

@@ -1,5 +1,5 @@
 use Rattle.std.proofs.Common.{◌≤◌}
-use Rattle.ob_answers.specs.Plans.{plan as plan_of}
+use Rattle.ob_replies.specs.Plans.{plan as plan_of}
 use Rattle.ob_default_laws.specs.Defaults.{with_library}
 use Rattle.ob_site_state.specs.Contents.{state_in}
 use Rattle.ob_site_defaults.proofs.Found.{AreFound}

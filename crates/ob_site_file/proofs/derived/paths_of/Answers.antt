@@ -2,8 +2,8 @@ use Rattle.std.proofs.Common.{ℕ, List, ap, sym, refl, ◌∙◌, ◌||◌, map
 use Rattle.std.specs.Prelude.{bytes_eq}
 use Rattle.std.proofs.lemmas.List.{take_all}
 use Rattle.ob_site_rules.specs.State.{at}
-use Rattle.ob_state.specs.States.{entry_of}
-use Rattle.ob_state.specs.declared.log.Log.{Log}
+use Rattle.ob_plain_state.specs.States.{entry_of}
+use Rattle.ob_plain_state.specs.declared.log.Log.{Log}
 use Rattle.ob_site_file.specs.Sizes.{has_text}
 use Rattle.ob_site_file.proofs.Counted.{there_none, there_more, text_more}
 use Rattle.ob_site_file.proofs.derived.paths_of.Goals as goal

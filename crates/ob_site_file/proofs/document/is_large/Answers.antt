@@ -1,9 +1,9 @@
 use Rattle.std.proofs.Common.{ℕ, List, map, refl, ap, ◌∙◌, is_some}
 use Rattle.std.proofs.lemmas.Result.{IfOk-weaker}
-use Rattle.ob_answers.specs.Plans.{plan as plan_of}
+use Rattle.ob_replies.specs.Plans.{plan as plan_of}
 use Rattle.ob_site_rules.specs.State.{at}
-use Rattle.ob_state.specs.States.{entry_of}
-use Rattle.ob_state.specs.declared.log.Log.{Log}
+use Rattle.ob_plain_state.specs.States.{entry_of}
+use Rattle.ob_plain_state.specs.declared.log.Log.{Log}
 use Rattle.ob_site_file.specs.Opened.{site_of}
 use Rattle.ob_site_file.specs.Sizes.{IsCounting}
 use Rattle.ob_site_file.proofs.Opens.{rolled_there}

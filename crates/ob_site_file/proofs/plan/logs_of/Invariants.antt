@@ -1,5 +1,5 @@
 use Rattle.std.proofs.Common.{map, []}
-use Rattle.ob_state.specs.States.{entry_of, AreCounted}
+use Rattle.ob_plain_state.specs.States.{entry_of, AreCounted}
 use Rattle.ob_site_file.specs.Opened.{whole_log}
 use Rattle.ob_site_file.proofs.Planned.{Gives}
 use Rattle.ob_site_file.proofs.plan.logs_of.Given as goal

@@ -1,7 +1,7 @@
 use Rattle.std.proofs.Common.{map, ap, sym, subst, arith}
 use Rattle.ob_roles.proofs.PartRows.{map_push}
 use Rattle.ob_site_rules.specs.State.{Log}
-use Rattle.ob_state.specs.States.{entry_of, AreCounted}
+use Rattle.ob_plain_state.specs.States.{entry_of, AreCounted}
 use Rattle.ob_site_file.proofs.Planned.{counted_more}
 use Rattle.ob_site_file.proofs.plan.put_log.Goals as goal
 

@@ -1,8 +1,8 @@
 use Rattle.std.proofs.Common.{map, sym, ap, ◌∙◌, subst, List}
 use Rattle.std.specs.List.{All}
 use Rattle.ob_alarms.specs.Limits.{IsRule}
-use Rattle.ob_answers.specs.Plans.{point_rule}
-use Rattle.ob_answers.specs.declared.plan.PointRule.{PointRule}
+use Rattle.ob_replies.specs.Plans.{point_rule}
+use Rattle.ob_replies.specs.declared.plan.PointRule.{PointRule}
 use Rattle.ob_site_rules.specs.State.{numbered_from}
 use Rattle.ob_site_open.proofs.Numbered.{sources_differ}
 use Rattle.ob_site_open.proofs.board.board_of.Goals as goal

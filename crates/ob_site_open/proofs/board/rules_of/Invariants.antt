@@ -1,5 +1,5 @@
 use Rattle.std.proofs.Common.{◌≡◌, ◌++◌, map, drop}
-use Rattle.ob_answers.specs.Plans.{point_rule}
+use Rattle.ob_replies.specs.Plans.{point_rule}
 use Rattle.ob_site_rules.specs.State.{numbered_from}
 use Rattle.ob_site_open.proofs.board.rules_of.Given as goal
 

@@ -1,7 +1,7 @@
 use Rattle.std.proofs.Common.{◌∙◌}
 use Rattle.ob_site_state.specs.Kept.{entry_of}
-use Rattle.ob_state.proofs.Copies.{rolled_entry, rolled-all, whole}
-use Rattle.ob_state.proofs.Keeping.{counted_at}
+use Rattle.ob_plain_state.proofs.Copies.{rolled_entry, rolled-all, whole}
+use Rattle.ob_plain_state.proofs.Keeping.{counted_at}
 use Rattle.ob_site_open.specs.Logs.{CanStand}
 use Rattle.ob_site_open.proofs.Counting.{rolled_at}
 use Rattle.ob_site_open.proofs.logs.logs_of.Goals as goal

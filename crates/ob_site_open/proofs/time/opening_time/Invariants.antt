@@ -1,5 +1,5 @@
 use Rattle.std.proofs.Common.{◌≡◌, drop, map}
-use Rattle.ob_state.specs.States.{entry_of}
+use Rattle.ob_plain_state.specs.States.{entry_of}
 use Rattle.ob_opened.specs.Ordered.{opening_time}
 use Rattle.ob_site_open.proofs.time.opening_time.Given as goal
 

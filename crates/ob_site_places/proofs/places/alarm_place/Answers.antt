@@ -1,11 +1,11 @@
 use Rattle.std.proofs.Common.{◌≡◌, ◌≤◌, ◌+◌, ◌^◌, length, option_map, sym, ◌∙◌, arith}
 use Rattle.std.proofs.lemmas.Result.{IfOk-weaker}
 use Rattle.ob_alarms.specs.Changes.{alarm_of}
-use Rattle.ob_answers.specs.Plans.{plan as plan_of}
+use Rattle.ob_replies.specs.Plans.{plan as plan_of}
 use Rattle.ob_site_rules.specs.State.{at, numbered_from}
 use Rattle.ob_site_rules.specs.Places.{alarm_places}
-use Rattle.ob_shown.specs.Named.{place as place_of}
-use Rattle.ob_shown.specs.Parts.{parts_of_alarm}
+use Rattle.ob_plain_state.specs.Named.{place as place_of}
+use Rattle.ob_plain_state.specs.Parts.{parts_of_alarm}
 use Rattle.ob_site_places.proofs.Numbers.{by_number, elsewhere}
 use Rattle.ob_site_places.proofs.places.alarm_place.Goals as goal
 

@@ -1,11 +1,11 @@
 use Rattle.std.proofs.Common.{◌≡◌, ◌++◌, option_map, sym, ◌∙◌}
 use Rattle.std.proofs.lemmas.Result.{IfOk-weaker}
-use Rattle.ob_answers.specs.Plans.{plan as plan_of}
+use Rattle.ob_replies.specs.Plans.{plan as plan_of}
 use Rattle.ob_site_rules.specs.State.{at, numbered_from}
 use Rattle.ob_site_rules.specs.Places.{event_places, alarm_places}
 use Rattle.ob_site_state.specs.Contents.{state_in}
-use Rattle.ob_shown.specs.Named.{place as place_of}
-use Rattle.ob_shown.proofs.Placed.{first_of, later_of}
+use Rattle.ob_plain_state.specs.Named.{place as place_of}
+use Rattle.ob_plain_state.proofs.Placed.{first_of, later_of}
 use Rattle.ob_site_places.proofs.places.event_or_alarm.Goals as goal
 
 pub returns-then-is_some : goal.returns-then-is_some

@@ -1,7 +1,7 @@
 use Rattle.std.proofs.Common.{◌≡◌, ◌<◌, List, Option, length, get_or, sym, ◌∙◌, subst}
 use Rattle.ob_site_rules.specs.Build.{Path}
-use Rattle.ob_shown.specs.Parts.{history_parts}
-use Rattle.ob_shown.proofs.Placed.{at_next, ended}
+use Rattle.ob_plain_state.specs.Parts.{history_parts}
+use Rattle.ob_plain_state.proofs.Placed.{at_next, ended}
 use Rattle.ob_site_places.proofs.places.first_history.Goals as goal
 
 pub returns-then-is_some : goal.returns-then-is_some

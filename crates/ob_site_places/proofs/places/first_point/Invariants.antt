@@ -1,7 +1,7 @@
 use Rattle.std.proofs.Common.{◌≡◌, drop}
 use Rattle.std.specs.List.{flat_map}
 use Rattle.ob_site_rules.specs.State.{at}
-use Rattle.ob_shown.specs.Parts.{point_parts}
+use Rattle.ob_plain_state.specs.Parts.{point_parts}
 use Rattle.ob_site_places.proofs.places.first_point.Given as goal
 
 abbrev pub invariant-loop-point : goal.invariant-loop-point

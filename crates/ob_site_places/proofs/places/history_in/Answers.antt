@@ -1,11 +1,11 @@
 use Rattle.std.proofs.Common.{◌≡◌, option_map, sym, ap, ◌∙◌}
 use Rattle.std.specs.Prelude.{is_some}
 use Rattle.std.proofs.lemmas.Result.{IfOk-weaker}
-use Rattle.ob_answers.specs.Plans.{plan as plan_of}
+use Rattle.ob_replies.specs.Plans.{plan as plan_of}
 use Rattle.ob_site_rules.specs.State.{at}
 use Rattle.ob_site_rules.specs.Places.{history_places}
-use Rattle.ob_shown.specs.Named.{place as place_of}
-use Rattle.ob_shown.specs.Parts.{history_parts}
+use Rattle.ob_plain_state.specs.Named.{place as place_of}
+use Rattle.ob_plain_state.specs.Parts.{history_parts}
 use Rattle.ob_site_places.proofs.Alone.{slashed_history, plain_history, neither_history}
 use Rattle.ob_site_places.proofs.places.history_in.Goals as goal
 

@@ -1,5 +1,5 @@
 use Rattle.std.proofs.Common.{sym, subst}
-use Rattle.ob_answers.specs.Plans.{plan as plan_of}
+use Rattle.ob_replies.specs.Plans.{plan as plan_of}
 use Rattle.ob_site_shown.specs.Parents.{IsParent}
 use Rattle.ob_site_places.proofs.Alone.{no_histories}
 use Rattle.ob_site_places.proofs.places.history_place.Goals as goal

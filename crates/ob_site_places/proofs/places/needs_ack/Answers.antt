@@ -1,6 +1,6 @@
 use Rattle.std.proofs.Common.{sym, ap, ◌∙◌}
 use Rattle.std.specs.Prelude.{slice_get}
-use Rattle.ob_shown.proofs.Rules.{needs_of, needs-numbered}
+use Rattle.ob_plain_state.proofs.Rules.{needs_of, needs-numbered}
 use Rattle.ob_site_places.proofs.places.needs_ack.Goals as goal
 
 pub returns-in-Some : goal.returns-in-Some

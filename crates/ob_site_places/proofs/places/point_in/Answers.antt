@@ -1,10 +1,10 @@
 use Rattle.std.proofs.Common.{◌≡◌, option_map, sym, ◌∙◌}
 use Rattle.std.proofs.lemmas.Result.{IfOk-weaker}
-use Rattle.ob_answers.specs.Plans.{plan as plan_of}
+use Rattle.ob_replies.specs.Plans.{plan as plan_of}
 use Rattle.ob_site_rules.specs.State.{at}
 use Rattle.ob_site_rules.specs.Places.{point_places}
-use Rattle.ob_shown.specs.Named.{place as place_of}
-use Rattle.ob_shown.specs.Parts.{point_parts}
+use Rattle.ob_plain_state.specs.Named.{place as place_of}
+use Rattle.ob_plain_state.specs.Parts.{point_parts}
 use Rattle.ob_site_places.proofs.Alone.{slashed_point, plain_point, neither_point}
 use Rattle.ob_site_places.proofs.places.point_in.Goals as goal
 

@@ -5,8 +5,8 @@ use Rattle.ob_site_rules.specs.Build.{Path}
 use Rattle.ob_site_rules.specs.State.{at}
 use Rattle.ob_site_state.specs.Kept.{log_of, entry_of}
 use Rattle.ob_site_state.specs.Contents.{state_in}
-use Rattle.ob_shown.specs.declared.place.Place.{Place}
-use Rattle.ob_shown.specs.Named.{place as place_of}
+use Rattle.ob_plain_state.specs.declared.place.Place.{Place}
+use Rattle.ob_plain_state.specs.Named.{place as place_of}
 use Rattle.ob_site_reads.proofs.Eventful.{log_ever, alarms_ever}
 use Rattle.ob_site_reads.proofs.feeds.place_events_ever.Goals as goal
 

@@ -1,8 +1,8 @@
 use Rattle.std.proofs.Common.{◌-◌, option_map}
-use Rattle.ob_answers.specs.Plans.{plan as plan_of}
+use Rattle.ob_replies.specs.Plans.{plan as plan_of}
 use Rattle.ob_site_rules.specs.Watched.{passes, gone_at}
 use Rattle.ob_site_state.specs.Contents.{state_in}
-use Rattle.ob_shown.specs.Named.{place as place_of}
+use Rattle.ob_plain_state.specs.Named.{place as place_of}
 use Rattle.ob_site_reads.proofs.Nameless.{board_is, some_nameless}
 use Rattle.ob_site_reads.proofs.feeds.whole_feed.Goals as goal
 

@@ -1,7 +1,7 @@
 use Rattle.std.proofs.Common.{◌≡◌, ◌∙◌, ℕ, ◌+◌, ◌-◌, ◌^◌, sym, ap}
 use Rattle.std.specs.Prelude.{min}
 use Rattle.ob_object.specs.Object.{Object, parts}
-use Rattle.ob_answers.specs.Plans.{plan as plan_of}
+use Rattle.ob_replies.specs.Plans.{plan as plan_of}
 use Rattle.ob_site_state.specs.Contents.{state_in}
 use Rattle.ob_tree.specs.Depths.{depth_at}
 use Rattle.ob_site_reads.proofs.Plain.{told_whole}

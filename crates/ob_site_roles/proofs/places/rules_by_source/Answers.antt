@@ -1,8 +1,8 @@
 use Rattle.std.proofs.Common.{◌-◌, ◌<◌, length, map, get_or, refl, sym, ap, arith}
 use Rattle.std.specs.Str.{bytes_eq}
 use Rattle.std.specs.BTreeMap.{get_by_text}
-use Rattle.ob_answers.specs.Plans.{point_rule}
-use Rattle.ob_answers.specs.declared.plan.PointRule.{PointRule}
+use Rattle.ob_replies.specs.Plans.{point_rule}
+use Rattle.ob_replies.specs.declared.plan.PointRule.{PointRule}
 use Rattle.ob_site_roles.specs.Roles.{has_source}
 use Rattle.ob_site_roles.proofs.Placed.{placed_next, got_map, length-mapped}
 use Rattle.ob_site_roles.proofs.places.rules_by_source.Goals as goal

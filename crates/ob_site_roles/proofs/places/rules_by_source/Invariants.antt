@@ -1,6 +1,6 @@
 use Rattle.std.proofs.Common.{◌≡◌, ◌-◌, length, map}
 use Rattle.std.specs.BTreeMap.{get_by_text}
-use Rattle.ob_answers.specs.Plans.{point_rule}
+use Rattle.ob_replies.specs.Plans.{point_rule}
 use Rattle.ob_site_rules.specs.Build.{Path}
 use Rattle.ob_site_roles.specs.Roles.{has_source, place_from}
 use Rattle.ob_site_roles.proofs.places.rules_by_source.Given as goal

@@ -5,14 +5,14 @@ use Rattle.std.proofs.lemmas.Result.{IfOk-weaker}
 use Rattle.ob_object.specs.Object.{Object, node, none, children, parts}
 use Rattle.ob_contracts.proofs.At.{fewer_parts}
 use Rattle.ob_contracts.proofs.Names.{at_place}
-use Rattle.ob_answers.specs.Plans.{plan as plan_of}
+use Rattle.ob_replies.specs.Plans.{plan as plan_of}
 use Rattle.ob_site_rules.specs.Build.{whole}
 use Rattle.ob_site_rules.specs.Shown.{with_status}
-use Rattle.ob_state.specs.States.{NamesAreFree}
+use Rattle.ob_plain_state.specs.States.{NamesAreFree}
 use Rattle.ob_site_state.specs.Contents.{state_in}
-use Rattle.ob_shown.specs.Dressed.{dressed_object}
-use Rattle.ob_shown.proofs.Wholes.{all_new}
-use Rattle.ob_shown.proofs.Dresses.{dressed_children, dressed_differ, dressed_from, status_fits, child_free}
+use Rattle.ob_plain_state.specs.Dressed.{dressed_object}
+use Rattle.ob_plain_state.proofs.Wholes.{all_new}
+use Rattle.ob_plain_state.proofs.Dresses.{dressed_children, dressed_differ, dressed_from, status_fits, child_free}
 use Rattle.ob_site_shown.proofs.dressing.+dress.Goals as goal
 
 pub dress-requires : goal.dress-requires

@@ -1,8 +1,8 @@
 use Rattle.std.proofs.Common.{◌≡◌, map, take}
 use Rattle.ob_object.specs.Object.{parts}
-use Rattle.ob_answers.specs.Plans.{plan as plan_of}
+use Rattle.ob_replies.specs.Plans.{plan as plan_of}
 use Rattle.ob_site_state.specs.Contents.{state_in}
-use Rattle.ob_shown.specs.Dressed.{dressed_object}
+use Rattle.ob_plain_state.specs.Dressed.{dressed_object}
 use Rattle.ob_site_shown.proofs.dressing.+dress.Given as goal
 
 abbrev pub invariant-loop-child : goal.invariant-loop-child

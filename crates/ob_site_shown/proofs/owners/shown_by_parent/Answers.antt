@@ -1,6 +1,6 @@
 use Rattle.std.proofs.Common.{◌∷◌, [], ◌++◌, sym, ◌∙◌, subst}
 use Rattle.std.proofs.lemmas.Result.{IfOk-weaker}
-use Rattle.ob_answers.specs.Plans.{plan as plan_of}
+use Rattle.ob_replies.specs.Plans.{plan as plan_of}
 use Rattle.ob_site_state.specs.Contents.{state_in}
 use Rattle.ob_site_shown.specs.Deriving.{IsOff, ShownOr}
 use Rattle.ob_site_shown.proofs.ByRole.{off_there, or_else_that}

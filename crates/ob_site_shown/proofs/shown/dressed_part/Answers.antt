@@ -1,4 +1,4 @@
-use Rattle.ob_answers.specs.Plans.{plan as plan_of}
+use Rattle.ob_replies.specs.Plans.{plan as plan_of}
 use Rattle.ob_site_state.specs.Contents.{state_in}
 use Rattle.ob_shown_laws.specs.Alike.{row}
 use Rattle.ob_site_shown.proofs.Frees.{free_part}

@@ -1,12 +1,12 @@
 use Rattle.std.proofs.Common.{List, sym, ap, ◌∙◌, subst}
 use Rattle.std.proofs.lemmas.Result.{IfOk-weaker}
-use Rattle.ob_answers.specs.Plans.{plan as plan_of}
+use Rattle.ob_replies.specs.Plans.{plan as plan_of}
 use Rattle.ob_watching.specs.Asked.{Add}
 use Rattle.ob_watching.specs.Tables.{lookup, numbers_of}
 use Rattle.ob_watch.specs.declared.item.Item.{Item}
 use Rattle.ob_watch.specs.Tables.{IsLease, Leased, live}
 use Rattle.ob_watch.specs.Undo.{Undoes}
-use Rattle.ob_watch_calls.specs.Calls.{firsts as firsts_of}
+use Rattle.ob_requests.specs.Calls.{firsts as firsts_of}
 use Rattle.ob_site_watched.proofs.Answering.{known_there, live_there, none_stands}
 use Rattle.ob_site_watched.proofs.Grown.{held_there, one_held}
 use Rattle.ob_site_watched.proofs.Put.{added_known, added_stands, all_named}

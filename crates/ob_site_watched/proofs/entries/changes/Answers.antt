@@ -1,6 +1,6 @@
 use Rattle.std.proofs.Common.{List, map, ◌++◌, sym, ap, ◌∙◌, arith}
 use Rattle.ob_object.specs.Object.{Object}
-use Rattle.ob_answers.specs.Plans.{plan as plan_of}
+use Rattle.ob_replies.specs.Plans.{plan as plan_of}
 use Rattle.ob_site_rules.specs.Replies.{entry}
 use Rattle.ob_site_watched.specs.Entries.{changes_in}
 use Rattle.ob_site_watched.proofs.Due.{changes_more}

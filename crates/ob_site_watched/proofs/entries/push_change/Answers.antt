@@ -1,7 +1,7 @@
 use Rattle.std.proofs.Common.{List, ◌++◌, ◌+◌, ◌≤◌, Option, sym, ap, ◌∙◌, subst}
 use Rattle.std.proofs.lemmas.List.{append-nil}
 use Rattle.ob_object.specs.Object.{Object}
-use Rattle.ob_answers.specs.Plans.{plan as plan_of}
+use Rattle.ob_replies.specs.Plans.{plan as plan_of}
 use Rattle.ob_site_watched.proofs.Due.{nothing_due}
 use Rattle.std.specs.Prelude.{Some, option_to_list}
 use Rattle.ob_site_watched.specs.Polls.{of_objects, steps_in}

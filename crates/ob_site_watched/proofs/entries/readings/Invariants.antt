@@ -1,5 +1,5 @@
 use Rattle.std.proofs.Common.{◌≡◌, take}
-use Rattle.ob_answers.specs.Plans.{plan as plan_of}
+use Rattle.ob_replies.specs.Plans.{plan as plan_of}
 use Rattle.ob_site_watched.specs.Entries.{all_readings}
 use Rattle.ob_site_watched.proofs.entries.readings.Given as goal
 

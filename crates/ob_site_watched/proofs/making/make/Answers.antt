@@ -1,4 +1,4 @@
-use Rattle.ob_answers.specs.Plans.{plan as plan_of}
+use Rattle.ob_replies.specs.Plans.{plan as plan_of}
 use Rattle.ob_site_watched.proofs.Knowing.{made_known}
 use Rattle.ob_site_watched.proofs.making.make.Goals as goal
 

@@ -1,8 +1,8 @@
 use Rattle.std.proofs.Common.{sym, subst}
-use Rattle.ob_answers.specs.Plans.{plan as plan_of}
+use Rattle.ob_replies.specs.Plans.{plan as plan_of}
 use Rattle.ob_own_laws.specs.Watched.{IsOwnFound}
 use Rattle.ob_site_state.specs.Contents.{state_in}
-use Rattle.ob_watch_calls.specs.Calls.{found as found_of}
+use Rattle.ob_requests.specs.Calls.{found as found_of}
 use Rattle.ob_site_watched.specs.Offered.{IsFor}
 use Rattle.ob_site_watched.proofs.Found.{refusal_offered}
 use Rattle.ob_site_watched.proofs.offering.offered.Goals as goal

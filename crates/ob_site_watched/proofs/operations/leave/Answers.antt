@@ -6,8 +6,8 @@ use Rattle.ob_site_rules.specs.Build.{Text}
 use Rattle.ob_site_rules.specs.Faults.{Fault}
 use Rattle.ob_site_rules.specs.Watched.{WatchOperation}
 use Rattle.ob_site_state.specs.Contents.{state_in}
-use Rattle.ob_watch_calls.specs.Calls.{lease_in}
-use Rattle.ob_watch_calls.specs.Targets.{operation_of}
+use Rattle.ob_requests.specs.Calls.{lease_in}
+use Rattle.ob_requests.specs.Targets.{operation_of}
 use Rattle.ob_watch.specs.Reported.{all_reported}
 use Rattle.ob_watch.specs.Tables.{holding, touched_at, without}
 use Rattle.ob_site_watched.specs.Leaving.{leased_if, leaving}

@@ -2,8 +2,8 @@ use Rattle.std.proofs.Common.{Option, sym, ap, ◌∙◌, subst}
 use Rattle.std.specs.Prelude.{option_and_then}
 use Rattle.std.proofs.lemmas.Result.{IfOk-weaker}
 use Rattle.ob_watching.specs.Tables.{numbers_of, replace}
-use Rattle.ob_answers.specs.Plans.{plan as plan_of}
-use Rattle.ob_watch_calls.specs.Targets.{operation_of}
+use Rattle.ob_replies.specs.Plans.{plan as plan_of}
+use Rattle.ob_requests.specs.Targets.{operation_of}
 use Rattle.ob_watch.specs.Tables.{IsLease, Leased, holding, live}
 use Rattle.ob_site_watched.specs.Answers.{AllKnown}
 use Rattle.ob_site_watched.specs.Leaving.{marks_after}

@@ -2,7 +2,7 @@ use Rattle.std.proofs.Common.{◌≡◌, List, map, true, sym, subst}
 use Rattle.std.specs.Prelude.{is_none}
 use Rattle.std.specs.List.{list_all}
 use Rattle.ob_object.specs.Object.{Object}
-use Rattle.ob_answers.specs.Plans.{plan as plan_of}
+use Rattle.ob_replies.specs.Plans.{plan as plan_of}
 use Rattle.ob_site_state.specs.Contents.{state_in}
 use Rattle.ob_watch.specs.Flags.{flags}
 use Rattle.ob_site_watched.proofs.Named.{changes_named}

@@ -4,8 +4,8 @@ use Rattle.ob_object.specs.Fits.{fits_slot}
 use Rattle.ob_object.specs.Kinds.{same_kind}
 use Rattle.ob_contracts.proofs.Fitting.{one_kind}
 use Rattle.ob_history.specs.Records.{is_value_kind, holds_value}
-use Rattle.ob_answers.specs.declared.fault.Fault.{Fault}
-use Rattle.ob_answers.specs.Told as told
+use Rattle.ob_replies.specs.declared.fault.Fault.{Fault}
+use Rattle.ob_replies.specs.Told as told
 use Rattle.ob_site_rules.specs.Writes.{slot_fault, overfills, value_fault}
 use Rattle.ob_site_written.proofs.Passed.{slot_fits}
 use Rattle.ob_site_written.proofs.Refused.{nothing_of}

@@ -1,6 +1,6 @@
 use Rattle.std.proofs.Common.{◌≡◌, drop}
 use Rattle.ob_contracts.specs.Standard.{with_added, standard}
-use Rattle.ob_state.specs.States.{AreTaken}
+use Rattle.ob_plain_state.specs.States.{AreTaken}
 use Rattle.ob_site_written.specs.Parts.{contracts_in}
 use Rattle.ob_site_written.proofs.contracts.library_with.Given as goal
 

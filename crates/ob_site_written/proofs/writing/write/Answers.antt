@@ -9,7 +9,7 @@ use Rattle.ob_tree.specs.Paths.{place_of}
 use Rattle.ob_site_rules.specs.State.{numbered_from, with_board}
 use Rattle.ob_site_rules.specs.Shown.{rule_of}
 use Rattle.ob_site_rules.specs.Writes.{board_after, write}
-use Rattle.ob_state.specs.Fitting.{TakesIfRule}
+use Rattle.ob_plain_state.specs.Fitting.{TakesIfRule}
 use Rattle.ob_site_state.specs.Kept.{Kept}
 use Rattle.ob_site_state.specs.Recorded.{TakesRecord}
 use Rattle.ob_site_state.proofs.Noting.{paths_stay}

@@ -3,8 +3,8 @@ use Rattle.std.specs.Prelude.{is_some}
 use Rattle.std.specs.Str.{bytes_eq}
 use Rattle.std.specs.List.{list_any}
 use Rattle.ob_alarms.specs.Lists.{first_place}
-use Rattle.ob_answers.specs.Plans.{point_rule}
-use Rattle.ob_answers.specs.declared.plan.PointRule.{PointRule}
+use Rattle.ob_replies.specs.Plans.{point_rule}
+use Rattle.ob_replies.specs.declared.plan.PointRule.{PointRule}
 use Rattle.ob_site_rules.specs.Build.{Path}
 use Rattle.ob_site_roles.specs.Roles.{has_source, stands_at, all_places, is_of}
 use Rattle.ob_site_roles.proofs.Placed.{some_first}

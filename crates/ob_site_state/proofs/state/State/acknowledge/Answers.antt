@@ -2,7 +2,7 @@ use Rattle.std.proofs.Common.{Bool, true, List, ◌++◌, ◌∷◌, [], refl, a
 use Rattle.ob_alarms.specs.Changes.{State as Board, on_ack}
 use Rattle.ob_alarms.specs.States.{status_of}
 use Rattle.ob_alarms.specs.declared.rule.Rule.{Rule}
-use Rattle.ob_answers.specs.Plans.{plan as plan_of}
+use Rattle.ob_replies.specs.Plans.{plan as plan_of}
 use Rattle.ob_site_rules.specs.State.{State, board, with_board}
 use Rattle.ob_site_state.specs.declared.change.Change.{Change}
 use Rattle.ob_site_state.specs.declared.change.Change.TheVariants as change

@@ -1,7 +1,7 @@
 use Rattle.std.proofs.Common.{◌≡◌, ℕ, Option, arith, ◌+◌, ◌^◌, Some, ◌<◌, List, ◌++◌, ◌∷◌, [], length, sym, ap, ◌∙◌, subst}
 use Rattle.ob_times.specs.Times.{Instant, moment_instant}
 use Rattle.ob_history.specs.declared.records.Record.{Record}
-use Rattle.ob_answers.specs.Plans.{plan as plan_of}
+use Rattle.ob_replies.specs.Plans.{plan as plan_of}
 use Rattle.std.specs.Prelude.{slice_get}
 use Rattle.ob_site_rules.specs.Build.{Path}
 use Rattle.ob_site_rules.specs.State.{Log, State}

@@ -1,5 +1,5 @@
 use Rattle.std.proofs.Common.{sym, ap, ◌∙◌}
-use Rattle.ob_answers.specs.Plans.{plan as plan_of}
+use Rattle.ob_replies.specs.Plans.{plan as plan_of}
 use Rattle.ob_site_rules.specs.Shown.{rule_of}
 use Rattle.ob_site_state.specs.Kept.{Kept}
 use Rattle.ob_site_state.proofs.state.State.rule_of.Goals as goal

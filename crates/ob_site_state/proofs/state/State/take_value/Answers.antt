@@ -3,7 +3,7 @@ use Rattle.ob_alarms.specs.Changes.{State as Board, on_value}
 use Rattle.ob_alarms.specs.Limits.{Takes}
 use Rattle.ob_alarms.specs.States.{status_of}
 use Rattle.ob_alarms.specs.declared.rule.Rule.{Rule}
-use Rattle.ob_answers.specs.Plans.{plan as plan_of}
+use Rattle.ob_replies.specs.Plans.{plan as plan_of}
 use Rattle.ob_site_rules.specs.State.{State, numbered_from, board, with_board}
 use Rattle.ob_site_state.specs.declared.change.Change.{Change}
 use Rattle.ob_site_state.specs.declared.change.Change.TheVariants as change

@@ -1,7 +1,7 @@
 use Rattle.std.proofs.Common.{IfOk, refl, subst}
 use Rattle.std.proofs.lemmas.Result.{IfOk-weaker}
 use Rattle.ob_alarms.specs.Changes.{on_value}
-use Rattle.ob_answers.specs.Plans.{plan as plan_of}
+use Rattle.ob_replies.specs.Plans.{plan as plan_of}
 use Rattle.ob_site_rules.specs.State.{board}
 use Rattle.ob_site_state.specs.Changes.{HasEvents}
 use Rattle.ob_site_state.specs.Contents.{state_in}

@@ -1,4 +1,0 @@
-pub mod Printable
-pub mod Fits
-pub mod New
-pub mod Ends

@@ -1,5 +1,0 @@
-pub mod Told
-pub mod Names
-pub mod Plans
-pub mod Abouts
-pub mod WatchChildren

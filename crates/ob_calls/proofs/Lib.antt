@@ -1,6 +1,0 @@
-pub mod Verbs
-pub mod Leading
-pub mod Places
-pub mod Replies
-pub mod Requests
-pub mod Batches

@@ -1,4 +1,0 @@
-pub mod Asked
-pub mod Nameless
-pub mod Passing
-pub mod Numbered

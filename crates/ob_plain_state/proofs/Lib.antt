@@ -1,0 +1,11 @@
+pub mod Copies
+pub mod Keeping
+pub mod Slots
+pub mod ShownKinds
+pub mod Kept
+pub mod Points
+pub mod Wholes
+pub mod Dresses
+pub mod Finds
+pub mod Rules
+pub mod Placed

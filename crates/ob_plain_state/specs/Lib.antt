@@ -1,0 +1,5 @@
+pub mod States
+pub mod Fitting
+pub mod Dressed
+pub mod Named
+pub mod Parts

@@ -1,0 +1,99 @@
+-- What state of a site's definitions a `State` is, and what it owes its plan.
+use Rattle.std.specs.Prelude.{◌≡◌, ℕ, ◌<◌, ◌^◌, Bool, true, false, not, ◌++◌, IsTrue, map, List, [], ◌∷◌, Option, Some, None, is_some, slice_get, Ok}
+use Rattle.ob_object.specs.declared.kind.Kind.{Kind}
+use Rattle.ob_object.specs.declared.kind.Kind.TheVariants as kind
+use Rattle.ob_object.specs.Object.{Objects, none, node, listed}
+use Rattle.ob_object.specs.WellFormed.{NamesDiffer}
+use Rattle.ob_contracts.specs.Inherit.{Contracts, result_of}
+use Rattle.ob_contracts.specs.Standard.{standard}
+use Rattle.ob_contracts.specs.Adding.{added}
+use Rattle.ob_alarms.specs.Changes.{State as Board}
+use Rattle.ob_alarms.specs.declared.rule.Num.{Num}
+use Rattle.ob_alarms.specs.declared.rule.Num.TheVariants as num
+use Rattle.ob_alarms.specs.declared.rule.Rule.{Rule}
+use Rattle.ob_site_rules.specs.State.{Plan, State as SiteState, Log as SiteLog, board, numbered_from, is_among}
+use Rattle.ob_site_rules.specs.Build.{Path}
+use Rattle.ob_site_rules.specs.Shown.{derived, node_path, rule_of, node_of}
+use Rattle.ob_site_rules.specs.Writes.{events_ever, site_contracts}
+use Rattle.ob_plain_state.specs.declared.log.Log.{Log}
+use Rattle.ob_plain_state.specs.declared.state.State.{State}
+
+abbrev pub log_of : Log → SiteLog
+log_of l = record { capacity = l.capacity; gone = l.gone; kept = l.kept.items }
+
+-- a log under its path
+abbrev pub entry_of : Path × Log → Path × SiteLog
+entry_of e = (e.0, log_of e.1)
+
+abbrev pub state_of : State → SiteState
+state_of s = record {
+  library = s.library;
+  tree = s.tree;
+  logs = map entry_of s.logs.items;
+  alarms = s.board.alarms;
+  events = s.board.events;
+}
+
+-- alarms without the room that they have for more
+abbrev pub unspared : Board → Board
+unspared b = record b { spare = 0 }
+
+-- In each row the names of the own children differ, from one another and from those that the roles of their parent derive.
+abbrev pub NamesAreFree : Plan → SiteState → Objects → Type 0
+NamesAreFree plan s none = Unit {0}
+NamesAreFree plan s (node h inner rest) =
+    NamesDiffer (listed inner ++ derived plan s (node_path h)) × NamesAreFree plan s inner × NamesAreFree plan s rest
+
+-- the events of each history can be counted
+abbrev pub AreCounted : List (Path × SiteLog) → Type 0
+AreCounted [] = Unit {0}
+AreCounted (l ∷ ls) = (events_ever l.1 < 2 ^ 63) × AreCounted ls
+
+-- the rule of a node, by its path
+abbrev pub rule_in : Plan → Option ℕ → Option Rule
+rule_in plan None = None
+rule_in plan (Some place) = slice_get (numbered_from 0 plan.rules) place
+
+abbrev pub rule_at : Plan → Option Path → Option Rule
+rule_at plan None = None
+rule_at plan (Some p) = rule_in plan (rule_of plan p)
+
+abbrev pub is_int : Num → Bool
+is_int (num.Int i) = true
+is_int (num.Real r) = false
+
+-- numbers of a kind are held against limits of that kind
+abbrev pub limits_fit : Kind → Option Rule → Bool
+limits_fit k None = true
+limits_fit kind.Int (Some r) = is_int r.low
+limits_fit kind.Real (Some r) = not (is_int r.low)
+limits_fit _ (Some r) = true
+
+-- nodes at one path are of one kind
+abbrev pub IsOfKindAt : (Path → Kind) → Option Path → Kind → Type 0
+IsOfKindAt kind_at None k = Unit {0}
+IsOfKindAt kind_at (Some p) k = k ≡ kind_at p
+
+abbrev pub NodesAre : (Path → Kind) → Objects → Type 0
+NodesAre kind_at none = Unit {0}
+NodesAre kind_at (node h inner rest) =
+    IsOfKindAt kind_at (node_path h) h.kind × NodesAre kind_at inner × NodesAre kind_at rest
+
+-- contracts that a library takes one after another
+abbrev pub AreTaken : Contracts → Contracts → Type 0
+AreTaken lib [] = Unit {0}
+AreTaken lib (c ∷ cs) =
+    let more : Contracts = lib ++ (c.0, result_of lib c.1 None None) ∷ [] in (added lib c.0 c.1 ≡ Ok more) × AreTaken more cs
+
+-- What the state of a site owes its plan: the alarms are those of its rules and its root; what its roles derive finds its
+-- names free; nodes at one path are of one kind, and numbers of it are held against limits of it; each point is a node;
+-- the standard library takes the site's contracts; and the events of each history can be counted.
+pub record IsOf (plan : Plan) (s : State) : Type 0 where
+  pub board : unspared s.board ≡ board plan (state_of s)
+  pub names_free : NamesAreFree plan (state_of s) (node s.tree.head s.tree.inner none)
+  pub kind_at : Path → Kind
+  pub kinds : NodesAre kind_at (node s.tree.head s.tree.inner none)
+  pub limits : (p : Path) → IsTrue (limits_fit (kind_at p) (rule_at plan (Some p)))
+  pub points : (p : Path) → is_among p plan.points ≡ true → IsTrue (is_some (node_of p s.tree))
+  pub taken : AreTaken standard (site_contracts s.tree)
+  pub counted : AreCounted (state_of s).logs

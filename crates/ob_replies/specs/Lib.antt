@@ -1,0 +1,7 @@
+pub mod Told
+pub mod Names
+pub mod Plans
+pub mod Abouts
+pub mod WatchChildren
+pub mod Histories
+pub mod Queries

@@ -1,0 +1,85 @@
+//! Alarms and their events.
+ghost use Rattle.std.specs.Prelude.{◌≡◌, ◌<◌, Some, IfOk, length, slice_get};
+ghost use Rattle.ob_alarms.specs.declared.alarm.Alarm.{Alarm};
+ghost use Rattle.ob_site_rules.specs.Entries.{alarm_object, event_object, event_objects, alarms_out, raised_at};
+
+use crate::build::put;
+use crate::contract::Contract;
+use crate::query::{is_asked, query_out};
+use ob_alarms::Alarms;
+use ob_history::Filter;
+use ob_object::{Kind, Obj};
+use ob_times::Abstime;
+use std::alloc::{AllocError, Global};
+
+/// The alarm of a number as it is, or an empty obj where the number has none.
+///
+/// Source: oBIX 1.1, chapter 15 (Alarm).
+pub fn alarm_object(alloc: Global, alarms: &Alarms, number: u64) -> Result<Obj, AllocError>
+    ensures { IfOk result (λ o. o ≡ alarm_object alarms.now number) }
+{
+    match alarms.alarm_obj(number)? {
+        Some(object) => Ok(object),
+        None => Ok(Obj::new(alloc, Kind::Obj)),
+    }
+}
+
+/// The alarm of an event as it was just after it, or an empty obj where there is no such event.
+fn event_object(alloc: Global, alarms: &Alarms, event: u64) -> Result<Obj, AllocError>
+    ensures { IfOk result (λ o. o ≡ event_object alarms.now event) }
+{
+    match alarms.event_obj(event)? {
+        Some(object) => Ok(object),
+        None => Ok(Obj::new(alloc, Kind::Obj)),
+    }
+}
+
+/// All alarm events as objects, the oldest first.
+///
+/// Source: oBIX 1.1, chapter 15 (AlarmSubject: feed).
+pub fn event_objects(alloc: Global, alarms: &Alarms) -> Result<Vec<Obj>, AllocError>
+    ensures { IfOk result (λ os. os.items ≡ event_objects alarms.now) }
+{
+    let mut objects = Vec::new(alloc);
+    let count = alarms.events(0).len() as u64;
+    for event in 0..count {
+        put(&mut objects, event_object(alloc, alarms, event)?)?;
+    }
+    Ok(objects)
+}
+
+/// AlarmQueryOut: the first alarms that the filter passes by their timestamps, as many as it asks for.
+///
+/// Source: oBIX 1.1, chapter 15 (AlarmQueryOut).
+pub fn alarms_out(alloc: Global, filter: &Filter, alarms: &Alarms) -> Result<Obj, AllocError>
+    ensures { IfOk result (λ o. o ≡ alarms_out alarms.now filter.now) }
+{
+    let mut times = Vec::new(alloc);
+    let mut objects = Vec::new(alloc);
+    for place in 0..alarms.len() {
+        let time = raised_at(alarms, place);
+        if is_asked(filter, &objects, time) {
+            times.push(time)?;
+            put(&mut objects, alarm_object(alloc, alarms, place + 1)?)?;
+        }
+    }
+    query_out(
+        alloc,
+        Contract::AlarmQueryOut,
+        Contract::Alarm,
+        &times,
+        objects,
+    )
+}
+
+/// The timestamp of the alarm at a place, the first being 0.
+fn raised_at(alarms: &Alarms, place: u64) -> Abstime
+    requires { place < length alarms.now.alarms }
+    ensures { (a : Alarm) → slice_get alarms.now.alarms place ≡ Some a → result ≡ raised_at a }
+{
+    let _count = alarms.len();
+    match alarms.raised(place + 1) {
+        Some(moment) => moment.abstime(),
+        None => unreachable!(),
+    }
+}

@@ -1,0 +1,10 @@
+mod Spelling
+mod Slashes
+mod Parted
+mod Asking
+pub mod Verbs
+pub mod Leading
+pub mod Places
+pub mod Replies
+pub mod Requests
+pub mod Batches

@@ -1,0 +1,140 @@
+//! The hrefs that a WatchIn asks for.
+ghost use Rattle.std.specs.Prelude.{◌≡◌, map, IfOk, option_map};
+ghost use Rattle.std.specs.Option.{option_copied};
+ghost use Rattle.ob_site_rules.specs.Actions.{uri_of};
+ghost use Rattle.ob_site_rules.specs.Build.{child};
+ghost use Rattle.ob_site_rules.specs.Watched.{asked_by, asked_in, asked_items};
+ghost use Rattle.ob_requests.specs.Calls.{asked_of, firsts, holds_text};
+
+use ob_object::{Kind, Obj, Slot};
+use ob_values::{Text, Value};
+use std::alloc::{AllocError, Global};
+
+/// An href as it is asked, and the input that stands beside it.
+pub type Asked = (Text, Option<Obj>);
+
+/// The text of a uri that has one.
+pub fn uri_of(object: &Obj) -> Option<&Text>
+    ensures { option_copied result ≡ uri_of object.now }
+{
+    match (object.kind(), object.slot()) {
+        (Kind::Uri, Slot::Is(Value::Uri(text))) => Some(text),
+        _ => None,
+    }
+}
+
+// A copy of the child of a name.
+fn copy_child(object: &Obj, name: &str) -> Result<Option<Obj>, AllocError>
+    ensures { IfOk result (λ copy. copy ≡ child name.now object.now) }
+{
+    match object.child(name) {
+        Some(child) => {
+            let copy = child.copy()?;
+            Ok(Some(copy))
+        }
+        None => Ok(None),
+    }
+}
+
+// What a uri asks for.
+fn asked_of(object: &Obj) -> Result<Option<Asked>, AllocError>
+    ensures { IfOk result (λ asked. asked ≡ asked_of object.now) }
+{
+    let Some(text) = uri_of(object) else {
+        return Ok(None);
+    };
+    let text = text.copy()?;
+    let input = copy_child(object, "in")?;
+    Ok(Some((text, input)))
+}
+
+// The uris of a list, each with its child `in`, if all are uris with a value.
+fn asked_items(alloc: Global, objects: &[Obj]) -> Result<Option<Vec<Asked>>, AllocError>
+    ensures { IfOk result (λ asked. option_map (λ v. v.items) asked ≡ asked_items objects.now) }
+{
+    let mut all = Vec::new(alloc);
+    for object in objects {
+        match asked_of(object)? {
+            Some(asked) => all.push(asked)?,
+            None => return Ok(None),
+        }
+    }
+    Ok(Some(all))
+}
+
+// What a list of uris asks for.
+fn asked_in(alloc: Global, hrefs: Option<&Obj>) -> Result<Option<Vec<Asked>>, AllocError>
+    ensures { IfOk result (λ asked. option_map (λ v. v.items) asked ≡ asked_in (option_copied hrefs.entry)) }
+{
+    let Some(hrefs) = hrefs else {
+        return Ok(Some(Vec::new(alloc)));
+    };
+    if !hrefs.kind().same(Kind::List) {
+        return Ok(None);
+    }
+    asked_items(alloc, hrefs.children())
+}
+
+/// What a WatchIn asks for, or None where it has another shape; no input, or a null obj, asks for
+/// nothing. An error only for want of memory.
+///
+/// Source: oBIX 1.1, chapter 12 (WatchIn).
+pub fn asked_by(alloc: Global, input: &Option<Obj>) -> Result<Option<Vec<Asked>>, AllocError>
+    ensures { IfOk result (λ asked. option_map (λ v. v.items) asked ≡ asked_by input.now) }
+{
+    let Some(input) = input else {
+        return Ok(Some(Vec::new(alloc)));
+    };
+    if !input.kind().same(Kind::Obj) {
+        return Ok(None);
+    }
+    match input.slot() {
+        Slot::Null => Ok(Some(Vec::new(alloc))),
+        _ => asked_in(alloc, input.child("hrefs")),
+    }
+}
+
+// Whether a text is asked for.
+fn holds_text(asked: &[Asked], text: &Text) -> bool
+    ensures { result ≡ holds_text asked.now text.now }
+{
+    asked.iter().any(|a| text.as_str() == a.0.as_str())
+}
+
+// A copy of what is asked for.
+fn copy_asked(asked: &Asked) -> Result<Asked, AllocError>
+    ensures { IfOk result (λ copy. copy ≡ asked.now) }
+{
+    let text = asked.0.copy()?;
+    match &asked.1 {
+        Some(input) => {
+            let input = input.copy()?;
+            Ok((text, Some(input)))
+        }
+        None => Ok((text, None)),
+    }
+}
+
+/// What is asked for without what asks for an href again: of equal hrefs only the first counts.
+pub fn firsts(alloc: Global, asked: &[Asked]) -> Result<Vec<Asked>, AllocError>
+    ensures { IfOk result (λ kept. kept.items ≡ firsts asked.now) }
+{
+    let mut kept = Vec::new(alloc);
+    for a in asked {
+        if !holds_text(&kept, &a.0) {
+            kept.push(copy_asked(a)?)?;
+        }
+    }
+    Ok(kept)
+}
+
+/// The hrefs that are asked for.
+pub fn texts_of(alloc: Global, asked: &[Asked]) -> Result<Vec<Text>, AllocError>
+    ensures { IfOk result (λ texts. texts.items ≡ map (λ a. a.0) asked.now) }
+{
+    let mut texts = Vec::new(alloc);
+    for a in asked {
+        texts.push(a.0.copy()?)?;
+    }
+    Ok(texts)
+}

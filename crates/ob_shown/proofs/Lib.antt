@@ -1,5 +1,0 @@
-pub mod Wholes
-pub mod Dresses
-pub mod Finds
-pub mod Rules
-pub mod Placed

@@ -1,3 +1,0 @@
-pub mod Dressed
-pub mod Named
-pub mod Parts

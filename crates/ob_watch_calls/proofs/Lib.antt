@@ -1,4 +1,0 @@
-mod Spelling
-mod Slashes
-mod Parted
-mod Asking

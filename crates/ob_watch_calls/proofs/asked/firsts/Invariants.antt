@@ -1,6 +1,0 @@
-use Rattle.std.proofs.Common.{◌≡◌, drop}
-use Rattle.ob_watch_calls.specs.Calls.{firsts, firsts_behind}
-use Rattle.ob_watch_calls.proofs.asked.firsts.Given as goal
-
-abbrev pub invariant-loop-a : goal.invariant-loop-a
-invariant-loop-a l = firsts_behind l.kept.items (drop l.a-index l.asked) ≡ firsts l.asked

@@ -1,5 +1,0 @@
-pub mod Numbers
-pub mod Parts
-pub mod Calls
-pub mod Targets
-pub mod AsRules
