@@ -3,3 +3,4 @@ pub mod Views
 pub mod Between
 pub mod Steps
 pub mod Ending
+pub mod Worked

@@ -6,10 +6,12 @@
 
 mod acting;
 mod ending;
+mod laws;
 mod quiet;
 mod room;
 mod site;
 mod step;
 
+pub use laws::worked_polls;
 pub use ob_machine::Machine;
 pub use site::{Site, crosses_threads};
