@@ -10,4 +10,4 @@ mod queries;
 
 pub use objects::{object_at, reply_at};
 pub use places::{event_place, place_at};
-pub use queries::{query_alarms, query_records};
+pub use queries::{kept_log, query_alarms, query_records};

@@ -1,21 +1,30 @@
 //! What queries answer.
-ghost use Rattle.std.specs.Prelude.{◌≡◌, ◌++◌, All, IfOk};
+ghost use Rattle.std.specs.Prelude.{◌≡◌, ◌++◌, All, option_map, IfOk};
 ghost use Rattle.std.specs.Option.{option_copied};
 ghost use Rattle.ob_history.specs.Records.{asked, IsRecord};
 ghost use Rattle.ob_replies.specs.Plans.{plan as plan_of};
-ghost use Rattle.ob_site_rules.specs.State.{board};
+ghost use Rattle.ob_site_rules.specs.State.{at, board};
 ghost use Rattle.ob_site_rules.specs.Entries.{records_out, alarms_out};
 ghost use Rattle.ob_site_rules.specs.Posts.{query, records_of};
 ghost use Rattle.ob_site_state.specs.Contents.{state_in};
-ghost use Rattle.ob_site_places.specs.Complete.{IsComplete};
+ghost use Rattle.ob_site_state.specs.Kept.{log_of};
+ghost use Rattle.ob_site_places.specs.Complete.{AreOfPlan, IsComplete};
 
 use ob_history::{Filter, Log, Record, read_filter};
 use ob_object::Obj;
 use ob_replies::{Fault, Plan, alarms_out, records_out, refusal};
-use ob_site_shown::log_at;
+use ob_site_shown::history_log;
 use ob_site_state::Contents;
 use ob_values::Text;
 use std::alloc::{AllocError, Global};
+
+/// The log of the history at a path, if one is there, found by a look-up.
+pub fn kept_log<'a>(contents: &'a Contents, history: &Text) -> Option<&'a Log>
+    requires { AreOfPlan contents.now }
+    ensures { option_map log_of (option_copied result) ≡ at history.now (state_in contents.now).logs }
+{
+    history_log(contents, history)
+}
 
 /// Puts copies of records last.
 fn put_copies(records: &mut Vec<Record>, others: &[Record]) -> Result<(), AllocError>
@@ -61,12 +70,13 @@ pub fn query_records(
     history: &Text,
     input: Option<&Obj>,
 ) -> Result<Obj, AllocError>
+    requires { AreOfPlan contents.now }
     ensures { IfOk result (λ o. o ≡ query (λ f. records_out f (records_of (state_in contents.now) history.now)) (option_copied input.entry)) }
 {
     let Some(filter) = read_filter(input) else {
         return refusal(alloc, Fault::OtherShape);
     };
-    match log_at(&contents.logs, history) {
+    match kept_log(contents, history) {
         Some(log) => records_asked(alloc, &filter, log),
         None => records_out(alloc, &filter, &[]),
     }
