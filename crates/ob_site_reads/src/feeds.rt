@@ -9,7 +9,7 @@ ghost use Rattle.ob_site_rules.specs.Sites.{site};
 ghost use Rattle.ob_site_rules.specs.Watched.{passes, gone_at};
 ghost use Rattle.ob_replies.specs.Plans.{plan as plan_of};
 ghost use Rattle.ob_site_state.specs.Contents.{state_in};
-ghost use Rattle.ob_site_places.specs.Complete.{IsComplete};
+ghost use Rattle.ob_site_places.specs.Complete.{AreOfPlan, IsComplete};
 ghost use Rattle.ob_site_reads.specs.Events.{events_of, feed_of_some};
 ghost use Rattle.ob_plain_state.specs.Named.{place as place_of};
 
@@ -18,8 +18,7 @@ use ob_history::{Filter, Log};
 use ob_object::Obj;
 use ob_plain_state::Place;
 use ob_replies::{Plan, feed_entry, feed_there};
-use ob_site_places::event_place;
-use ob_site_shown::log_at;
+use ob_site_places::{event_place, kept_log};
 use ob_site_state::Contents;
 use ob_values::Text;
 use std::alloc::{AllocError, Global};
@@ -38,10 +37,11 @@ fn events_since(
     place: &Option<Place>,
     since: &Since,
 ) -> Result<Vec<Obj>, AllocError>
+    requires { AreOfPlan contents.now }
     ensures { IfOk result (λ events. events.items ≡ filter (passes since.now.filter) (drop (since.now.given - gone_at (state_in contents.now) (option_map place_of place.now)) (events_of (state_in contents.now) contents.now.board (option_map place_of place.now)))) }
 {
     match place {
-        Some(Place::FeedOf(history)) => match log_at(&contents.logs, history) {
+        Some(Place::FeedOf(history)) => match kept_log(contents, history) {
             Some(log) => log_events(alloc, log, &since.filter, since.given),
             None => Ok(Vec::new(alloc)),
         },
@@ -52,11 +52,12 @@ fn events_since(
 
 /// How many events of a feed rolled off; alarm events don't.
 fn gone_at(contents: &Contents, place: &Option<Place>) -> u64
+    requires { AreOfPlan contents.now }
     ensures value { result ≡ gone_at (state_in contents.now) (option_map place_of place.now) }
     ensures bounded { result < 2 ^ 63 }
 {
     match place {
-        Some(Place::FeedOf(history)) => match log_at(&contents.logs, history) {
+        Some(Place::FeedOf(history)) => match kept_log(contents, history) {
             Some(log) => {
                 let _counted = log.len();
                 log.gone()
@@ -76,10 +77,11 @@ fn records_ever(log: &Log) -> u64
 
 /// How many events the feed of a place has had; another place has none.
 fn place_events_ever(contents: &Contents, place: &Place) -> u64
+    requires { AreOfPlan contents.now }
     ensures { result ≡ gone_at (state_in contents.now) (Some (place_of place.now)) + length (events_of (state_in contents.now) contents.now.board (Some (place_of place.now))) }
 {
     match place {
-        Place::FeedOf(history) => match log_at(&contents.logs, history) {
+        Place::FeedOf(history) => match kept_log(contents, history) {
             Some(log) => records_ever(log),
             None => 0,
         },
@@ -90,6 +92,7 @@ fn place_events_ever(contents: &Contents, place: &Place) -> u64
 
 /// How many events a feed has had.
 fn events_ever(contents: &Contents, place: &Option<Place>) -> u64
+    requires { AreOfPlan contents.now }
     ensures { result ≡ gone_at (state_in contents.now) (option_map place_of place.now) + length (events_of (state_in contents.now) contents.now.board (option_map place_of place.now)) }
 {
     match place {

@@ -6,6 +6,12 @@ use Rattle.ob_plain_state.specs.Named.{place as place_of}
 use Rattle.ob_site_reads.proofs.Nameless.{board_is, some_nameless}
 use Rattle.ob_site_reads.proofs.feeds.feed_since.Goals as goal
 
+pub gone_at-requires : goal.gone_at-requires
+gone_at-requires c = (plan_of c.args.plan.now, c.requires.readable.roles, c.requires.readable.histories)
+
+pub events_since-requires : goal.events_since-requires
+events_since-requires c = (plan_of c.args.plan.now, c.requires.readable.roles, c.requires.readable.histories)
+
 pub feed_if_some-requires-clause-nameless : goal.feed_if_some-requires-clause-nameless
 feed_if_some-requires-clause-nameless c =
     let plan = plan_of c.args.plan.now in

@@ -1,9 +1,6 @@
-use Rattle.std.proofs.Common.{List, Some, map, length, ap, ◌∙◌}
-use Rattle.ob_history.specs.Logs.{History}
+use Rattle.std.proofs.Common.{List, Some, length, ap}
 use Rattle.ob_alarms.specs.declared.alarm.Event.{Event}
-use Rattle.ob_site_rules.specs.Build.{Path}
-use Rattle.ob_site_rules.specs.State.{at}
-use Rattle.ob_site_state.specs.Kept.{log_of, entry_of}
+use Rattle.ob_site_state.specs.Kept.{log_of}
 use Rattle.ob_site_state.specs.Contents.{state_in}
 use Rattle.ob_plain_state.specs.declared.place.Place.{Place}
 use Rattle.ob_plain_state.specs.Named.{place as place_of}
@@ -14,7 +11,7 @@ pub returns-in-Some : goal.returns-in-Some
 returns-in-Some c =
     log_ever (state_in c.args.contents.now) c.args.contents.now.board c.in-FeedOf.history (log_of c.in-Some.log.now) (Some (place_of c.args.place.now)) c.records_ever.result
     (ap (λ (x : Place). Some (place_of x)) c.in-FeedOf.is)
-    (c.in-Some.ensures ∙ ap (λ (ls : List (Path × History)). at c.in-FeedOf.history (map entry_of ls)) c.deref.ensures.value)
+    c.in-Some.ensures
     c.records_ever.ensures
 
 pub returns-in-AlarmFeed : goal.returns-in-AlarmFeed

@@ -6,6 +6,9 @@ use Rattle.ob_plain_state.specs.Named.{place as place_of}
 use Rattle.ob_site_reads.proofs.Nameless.{board_is, some_nameless}
 use Rattle.ob_site_reads.proofs.feeds.whole_feed.Goals as goal
 
+pub events_since-requires : goal.events_since-requires
+events_since-requires c = (plan_of c.args.plan.now, c.requires.readable.roles, c.requires.readable.histories)
+
 pub feed_entry-requires-clause-nameless : goal.feed_entry-requires-clause-nameless
 feed_entry-requires-clause-nameless c =
     let plan = plan_of c.args.plan.now in
