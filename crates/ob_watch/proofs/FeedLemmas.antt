@@ -9,9 +9,9 @@ use Rattle.ob_tree.specs.Trees.{Stamped}
 use Rattle.ob_watch.specs.declared.item.Tracked.{Tracked}
 use Rattle.ob_watch.specs.declared.item.Tracked.TheVariants.{Object, Feed}
 use Rattle.ob_watch.specs.declared.item.Item.{Item}
-use Rattle.ob_watch.specs.Feeds.{AreFeedPlaces, KeepsKinds, SparesObjects, feed_places, is_feed, is_on_feed}
+use Rattle.ob_watch.specs.Feeds.{AreFeedPlaces, KeepsKinds, ObjectsStay, SparesObjects, feed_places, is_feed, is_on_feed}
 use Rattle.ob_watch.specs.Held.{Entries, items_of}
-use Rattle.ob_watch.specs.Items.{Text, anew_by, at_path, changed_by, found_item, one_more_by, put_item, put_over, reported_by, rolled_by, tracking}
+use Rattle.ob_watch.specs.Items.{Text, anew_by, at_path, changed_by, found_item, one_more_by, put_item, put_over, reported_by, rolled_by}
 use Rattle.ob_watch.proofs.ItemLemmas.{found_has, put_differs}
 use Rattle.ob_watch.proofs.PlaceLemmas.{all_at, changed_at, changed_end, changed_places, length_changed, places_below, places_push, places_same}
 
@@ -94,9 +94,6 @@ module _ (f : Text → Tracked → Tracked) where
   pub changed_places_stay : (known : Option (Vec ℕ)) (items after : List Item) → KeepsKinds f → after ≡ map (changed_by f) items → AreFeedPlaces known items → AreFeedPlaces known after
   changed_places_stay known items after keeps is are = same_places known items after (ap (λ (os : List Item). map is_on_feed os) is ∙ changed_kinds keeps items) are
 
-  pub object_stays : SparesObjects f → (i : Item) → is_on_feed i ≡ false → changed_by f i ≡ i
-  object_stays spares i object = ap (λ k. tracking k i) (spares i.path i.tracked object)
-
 -- ---- items on feeds changed one after the other
 
 long_items : (es : Entries) → length (items_of es) ≡ length es
@@ -110,11 +107,11 @@ module _ (f : Text → Tracked → Tracked) (es : Entries) (ns : List ℕ) (are 
       below : n < length (items_of es)
       below = all_at (λ m. m < length (items_of es)) ns k n (subst (λ (ms : List ℕ). AllByRecursion (λ m. m < length (items_of es)) ms) (sym are) (places_below is_on_feed (items_of es))) lt at
 
-  pub all_changed : SparesObjects f → (ds : Entries) (k : ℕ) → length ns ≤ k → ds ≡ changed_at (changed_by f) (take k ns) es → ds ≡ map (λ e. (e.0, changed_by f e.1)) es
-  all_changed spares ds k end left =
+  pub all_changed : ObjectsStay f (items_of es) → (ds : Entries) (k : ℕ) → length ns ≤ k → ds ≡ changed_at (changed_by f) (take k ns) es → ds ≡ map (λ e. (e.0, changed_by f e.1)) es
+  all_changed stay ds k end left =
       changed_end (changed_by f) ns k es ds end left
       ∙ ap (λ (ms : List ℕ). changed_at (changed_by f) ms es) are
-      ∙ changed_places (changed_by f) is_on_feed (object_stays f spares) es
+      ∙ changed_places (changed_by f) is_on_feed es stay
 
 -- ---- an item put
 

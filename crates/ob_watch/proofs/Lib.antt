@@ -2,6 +2,7 @@ pub mod Lists
 pub mod ItemLemmas
 pub mod PlaceLemmas
 pub mod FeedLemmas
+pub mod MarkLemmas
 pub mod UndoLemmas
 pub mod TableLemmas
 pub mod NewsLemmas

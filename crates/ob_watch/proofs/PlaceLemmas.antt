@@ -153,14 +153,14 @@ module _ {K X : Type 0} (f : X → X) where
   past_first (n ∷ ns) e es = past_first ns e (at_place n es)
 
   -- where those that don't pass stay as they are, all are changed
-  pub changed_places : (test : X → Bool) → ((x : X) → test x ≡ false → f x ≡ x) → (es : List (K × X)) → changed_at (places_of test (values_of es)) es ≡ map (λ e. (e.0, f e.1)) es
-  changed_places test stays [] = refl
-  changed_places test stays (e ∷ es) = go (test e.1) refl (changed_places test stays es)
+  pub changed_places : (test : X → Bool) (es : List (K × X)) → AllByRecursion (λ x. test x ≡ false → f x ≡ x) (values_of es) → changed_at (places_of test (values_of es)) es ≡ map (λ e. (e.0, f e.1)) es
+  changed_places test [] stay = refl
+  changed_places test (e ∷ es) stay = go (test e.1) refl (changed_places test es stay.1)
     where
       go : (b : Bool) → test e.1 ≡ b → changed_at (places_of test (values_of es)) es ≡ map (λ e. (e.0, f e.1)) es
           → changed_at (cond b (zero ∷ map suc (places_of test (values_of es))) (map suc (places_of test (values_of es)))) (e ∷ es) ≡ (e.0, f e.1) ∷ map (λ e. (e.0, f e.1)) es
       go true is rest = past_first (places_of test (values_of es)) (e.0, f e.1) es ∙ ap (λ (xs : List (K × X)). (e.0, f e.1) ∷ xs) rest
-      go false is rest = past_first (places_of test (values_of es)) e es ∙ ap (λ (xs : List (K × X)). e ∷ xs) rest ∙ ap (λ (x : X). (e.0, x) ∷ map (λ e. (e.0, f e.1)) es) (sym (stays e.1 is))
+      go false is rest = past_first (places_of test (values_of es)) e es ∙ ap (λ (xs : List (K × X)). e ∷ xs) rest ∙ ap (λ (x : X). (e.0, x) ∷ map (λ e. (e.0, f e.1)) es) (sym (stay.0 is))
 
   -- after the last place
   pub changed_end : (ns : List ℕ) (k : ℕ) (es ds : List (K × X)) → length ns ≤ k → ds ≡ changed_at (take k ns) es → ds ≡ changed_at ns es

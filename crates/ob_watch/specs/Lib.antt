@@ -1,5 +1,6 @@
 pub mod Items
 pub mod Held
+pub mod Marked
 pub mod Feeds
 pub mod Tables
 pub mod Restoring

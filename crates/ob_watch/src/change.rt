@@ -8,9 +8,10 @@ use ob_values::{Abstime, Text};
 
 /// What happens to what is kept of an item, by the path that it names.
 pub(crate) trait Change {
-    ghost use Rattle.std.specs.Prelude.{List, ℕ, true};
+    ghost use Rattle.std.specs.Prelude.{IfSome, List, ℕ, true};
     ghost use Rattle.ob_watch.specs.declared.item.Tracked.{Tracked};
     ghost use Rattle.ob_watch.specs.Feeds.{KeepsKinds, SparesObjects};
+    ghost use Rattle.ob_watch.specs.Marked.{GivesMark};
 
     ghost made: { Self → List ℕ → Tracked → Tracked };
 
@@ -22,6 +23,10 @@ pub(crate) trait Change {
     fn spares_objects(&self) -> bool
         ensures spared { result ≡ true → SparesObjects (made self.now) }
         ensures kinds { KeepsKinds (made self.now) };
+
+    /// The mark that it gives each object, if it gives one and the same to all.
+    fn mark(&self) -> Option<u64>
+        ensures { IfSome result (λ m. GivesMark m (made self.now)) };
 }
 
 /// All is reported after a step.
@@ -52,6 +57,10 @@ impl Change for Report {
 
     fn spares_objects(&self) -> bool {
         false
+    }
+
+    fn mark(&self) -> Option<u64> {
+        Some(self.steps)
     }
 }
 
@@ -86,6 +95,10 @@ impl Change for Event<'_> {
     fn spares_objects(&self) -> bool {
         true
     }
+
+    fn mark(&self) -> Option<u64> {
+        None
+    }
 }
 
 /// So many events of the feed at a path rolled off.
@@ -118,6 +131,10 @@ impl Change for Roll<'_> {
     fn spares_objects(&self) -> bool {
         true
     }
+
+    fn mark(&self) -> Option<u64> {
+        None
+    }
 }
 
 /// Steps are counted from 1 again.
@@ -143,5 +160,9 @@ impl Change for Renumber<'_> {
 
     fn spares_objects(&self) -> bool {
         false
+    }
+
+    fn mark(&self) -> Option<u64> {
+        None
     }
 }

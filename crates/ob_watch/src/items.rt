@@ -1,14 +1,20 @@
 //! The items of a watch by their hrefs, in the order in which these were first added.
-ghost use Rattle.std.specs.Prelude.{◌≡◌, [], map, take, not, IfOk, OnErr, string_bytes, true};
-ghost use Rattle.std.specs.List.{filter};
-ghost use Rattle.ob_watch.specs.Feeds.{AreFeedPlaces, KeepsKinds, SparesObjects, feed_places, is_on_feed};
+ghost use Rattle.std.specs.Prelude.{◌≡◌, [], List, map, take, not, IfOk, OnErr, string_bytes, true};
+ghost use Rattle.std.specs.List.{filter, list_any};
+ghost use Rattle.ob_watch.specs.declared.item.Item.{Item as KeptItem};
+ghost use Rattle.ob_watch.specs.Feeds.{AreFeedPlaces, KeepsKinds, ObjectsStay, feed_places, is_on_feed};
 ghost use Rattle.ob_watch.specs.Held.{StandUnderOwn, items_of};
-ghost use Rattle.ob_watch.specs.Items.{Differ, among, changed_by, found_item, has_text, put_item, put_over};
+ghost use Rattle.ob_watch.specs.Items.{Differ, among, changed_by, found_item, has_text, is_due, put_item, put_over};
+ghost use Rattle.ob_watch.specs.Marked.{AreMarked};
+ghost use Rattle.ob_watch.specs.Marks.{AreStampsPast};
 
 use crate::change::Change;
+use crate::due::has_due;
 use crate::feeds::{Feeds, after_put, cut, found};
 use crate::item::Item;
+use crate::marks::{self, Mark};
 use indexmap::IndexMap;
+use ob_tree::Tree;
 use ob_values::Text;
 use std::alloc::{AllocError, Global};
 use std::marker::Model;
@@ -22,12 +28,17 @@ type Map = IndexMap<String, Item>;
 pub struct Items {
     map: Map,
     feeds: Feeds,
+    mark: Mark,
 }
 
 impl Drop for Items {
     // By one call for each part, so that to drop items is one call to whoever may have to.
     fn drop(self) {
-        let Items { map, feeds } = self;
+        let Items {
+            map,
+            feeds,
+            mark: _,
+        } = self;
         drop(map);
         drop(feeds);
     }
@@ -43,7 +54,7 @@ impl Model for Items {
 
     ghost view = { λ m. items_of m.map.entries };
 
-    ghost invariant = { λ m. AreKept m.map.entries m.feeds };
+    ghost invariant = { λ m. AreKept m.map.entries m.feeds m.mark };
 }
 
 // Whether a text is one of these.
@@ -73,7 +84,7 @@ fn change_each<C: Change>(held: &mut Map, change: &C)
 // Makes a change of the items on feeds, which stand at these places.
 fn change_at<C: Change>(held: &mut Map, places: &[usize], change: &C)
     requires places { places.now ≡ feed_places (items_of held.old.entries) }
-    requires spares { SparesObjects (C.made change.now) }
+    requires stay { ObjectsStay (C.made change.now) (items_of held.old.entries) }
     ensures { held.new.entries ≡ map (λ e. (e.0, changed_by (C.made change.now) e.1)) held.old.entries }
 {
     for place in places {
@@ -82,13 +93,25 @@ fn change_at<C: Change>(held: &mut Map, places: &[usize], change: &C)
     }
 }
 
-// Makes a change of each item: where it spares objects, and the places are known, of those on feeds alone.
-fn change_items<C: Change>(held: &mut Map, feeds: &Feeds, change: &C)
-    requires { AreFeedPlaces feeds.now (items_of held.old.entries) }
-    ensures changed { held.new.entries ≡ map (λ e. (e.0, changed_by (C.made change.now) e.1)) held.old.entries }
+// Whether a change leaves items on objects, which have this mark, as they are.
+fn spares_items<C: Change>(mark: Mark, change: &C) -> bool
+    ensures stay { result ≡ true → (items : List KeptItem) → AreMarked mark items → ObjectsStay (C.made change.now) items }
     ensures kinds { KeepsKinds (C.made change.now) }
 {
     if !change.spares_objects() {
+        return marks::is_given_again(mark, change);
+    }
+    true
+}
+
+// Makes a change of each item: where it spares those on objects, and the places are known, of those on feeds alone.
+fn change_items<C: Change>(held: &mut Map, feeds: &Feeds, mark: Mark, change: &C)
+    requires places { AreFeedPlaces feeds.now (items_of held.old.entries) }
+    requires marked { AreMarked mark (items_of held.old.entries) }
+    ensures changed { held.new.entries ≡ map (λ e. (e.0, changed_by (C.made change.now) e.1)) held.old.entries }
+    ensures kinds { KeepsKinds (C.made change.now) }
+{
+    if !spares_items(mark, change) {
         return change_each(held, change);
     }
     match feeds {
@@ -128,6 +151,7 @@ impl Items {
         Items {
             map: IndexMap::new(alloc),
             feeds: Some(Vec::new(alloc)),
+            mark: None,
         }
     }
 
@@ -146,6 +170,14 @@ impl Items {
         self.map.contains_key(text.as_str())
     }
 
+    /// Whether an item is to be reported, where no stamp of the tree is of a step to come.
+    pub(crate) fn has_due(&self, tree: &Tree) -> bool
+        requires { AreStampsPast tree.now }
+        ensures { result ≡ list_any (is_due tree.now) self.now }
+    {
+        has_due(as_items(&self.map), &self.feeds, self.mark, tree)
+    }
+
     /// Puts an item in the place of the one of its href, which comes back, or last. Want of memory leaves all as
     /// it was.
     pub(crate) fn put(&mut self, alloc: Global, item: Item) -> Result<Option<Item>, AllocError>
@@ -155,7 +187,9 @@ impl Items {
     {
         let text = String::from_str(alloc, item.text().as_str())?;
         let on_feed = item.is_on_feed();
+        let mark = marks::after_put(self.mark, &item);
         let old = self.map.insert(text, item)?;
+        self.mark = mark;
         let feeds = self.feeds.take();
         self.feeds = after_put(alloc, feeds, as_items(&self.map), on_feed, &old);
         Ok(old)
@@ -166,6 +200,7 @@ impl Items {
         ensures { self.new ≡ put_over item self.old }
     {
         let same = has_same_kind(&self.map, &item);
+        self.mark = marks::after_put(self.mark, &item);
         put_over(&mut self.map, item);
         if same {
             return;
@@ -200,7 +235,8 @@ impl Items {
     pub(crate) fn change<C: Change>(&mut self, change: &C)
         ensures { self.new ≡ map (changed_by (C.made change.now)) self.old }
     {
-        change_items(&mut self.map, &self.feeds, change);
+        change_items(&mut self.map, &self.feeds, self.mark, change);
+        self.mark = marks::after_change(self.mark, change);
     }
 
     /// A copy of the items. An error only for want of memory.

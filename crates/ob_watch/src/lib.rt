@@ -8,11 +8,13 @@
 
 mod additions;
 mod change;
+mod due;
 mod fault;
 mod feeds;
 mod item;
 mod items;
 mod laws;
+mod marks;
 mod watch;
 mod watches;
 

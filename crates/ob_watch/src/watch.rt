@@ -1,8 +1,10 @@
 //! One watch.
 ghost use Rattle.std.specs.Prelude.{◌≡◌, List, map, IfOk, IfSome, option_map, position, slice_get};
+ghost use Rattle.std.specs.List.{list_any};
 ghost use Rattle.ob_watch.specs.declared.item.Item.{Item as KeptItem};
 ghost use Rattle.ob_watch.specs.Adding.{Adds};
 ghost use Rattle.ob_watch.specs.Items.{Differ, changed_by, has_text, is_due};
+ghost use Rattle.ob_watch.specs.Marks.{AreStampsPast};
 ghost use Rattle.ob_watch.specs.Tables.{IsLease, is_full_watch, is_over, leased_for, new_watch, next_due, touched_at, watching, without};
 ghost use Rattle.ob_watch.specs.Undo.{StillUndoes, Undoes};
 
@@ -128,6 +130,17 @@ impl Watch {
         ensures { result ≡ has_text self.now.items text.now }
     {
         self.items.has(text)
+    }
+
+    /// Whether an item is to be reported. Quick where nothing has changed since all were reported: no stamp of the
+    /// tree may be of a step to come.
+    ///
+    /// Source: oBIX 1.1, chapter 12 (Watch.pollChanges).
+    pub fn has_due(&self, tree: &Tree) -> bool
+        requires { AreStampsPast tree.now }
+        ensures { result ≡ list_any (is_due tree.now) self.now.items }
+    {
+        self.items.has_due(tree)
     }
 
     /// The first item from a place on that is to be reported.

@@ -18,5 +18,5 @@ loop-place-preserved g c =
 
 pub returns : goal.returns
 returns g c =
-    all_changed (g.C.Change.made c.args.change.now) c.args.held.now.entries c.args.places.now c.requires.places c.requires.spares c.loop-place.held.entries c.loop-place.place-index
+    all_changed (g.C.Change.made c.args.change.now) c.args.held.now.entries c.args.places.now c.requires.places c.requires.stay c.loop-place.held.entries c.loop-place.place-index
     (omega arith) c.loop-place.invariant

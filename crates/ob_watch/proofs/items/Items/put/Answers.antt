@@ -5,6 +5,7 @@ use Rattle.ob_watch.specs.Held.{items_of, StandUnderOwn}
 use Rattle.ob_watch.specs.Items.{Text, found_item, put_item}
 use Rattle.ob_watch.proofs.FeedLemmas.{places_of_same, taken_places}
 use Rattle.ob_watch.proofs.ItemLemmas.{items_found, items_insert, own_insert}
+use Rattle.ob_watch.proofs.MarkLemmas.{marked_same}
 use Rattle.ob_watch.proofs.items.Items.put.Goals as goal
 
 pub invariant_of-self-2 : goal.invariant_of-self-2
@@ -20,6 +21,9 @@ invariant_of-self-2 c =
           ∙ items_found (string_bytes c.in_ok-text.text) c.self.inside.map.entries c.self.invariant.own
           ∙ ap (λ (t : Text). found_item t (items_of c.self.inside.map.entries)) (sym own))
           (c.as_items.ensures ∙ ap items_of c.in_ok-old.ensures.entries ∙ items_insert c.self.inside.map.entries c.in_ok-text.text c.args.item c.self.invariant.own own));
+      marked = marked_same c.after_put-mark.result (put_item c.args.item (items_of c.self.inside.map.entries)) (items_of c.insert.new.self.entries)
+          (ap items_of c.in_ok-old.ensures.entries ∙ items_insert c.self.inside.map.entries c.in_ok-text.text c.args.item c.self.invariant.own own)
+          (c.after_put-mark.ensures.put (items_of c.self.inside.map.entries) c.self.invariant.marked);
     }
 
 pub returns-clause-put : goal.returns-clause-put
