@@ -6,6 +6,7 @@ ghost use Rattle.ob_tree.specs.Laid.{head_at};
 ghost use Rattle.ob_tree.specs.Shown.{standing_at};
 ghost use Rattle.ob_site_rules.specs.Build.{Path};
 ghost use Rattle.ob_site_rules.specs.State.{Log as SiteLog, roll};
+ghost use Rattle.ob_site_rules.specs.Shown.{rule_of};
 ghost use Rattle.ob_shown_laws.specs.Alike.{DifferInValues};
 ghost use Rattle.ob_site_state.specs.Kept.{entry_of};
 ghost use Rattle.ob_site_state.specs.declared.change.Change.{Change as Note};
@@ -22,7 +23,6 @@ use crate::values::{same_status, shows_other_values};
 use ob_contracts::Library;
 use ob_history::Log;
 use ob_object::{Slot, Status};
-use ob_plain_state::rule_of;
 use ob_site_state::{Change, State};
 use ob_tree::NodeId;
 use ob_values::Text;
@@ -87,6 +87,16 @@ fn changed_records(state: &State, place: usize, len: u64) -> Option<NodeId>
     }
 }
 
+/// The place of the rule of a node, if it has one.
+fn rule_of(state: &State, source: &Text) -> Option<u64>
+    ensures { result ≡ rule_of state.now.plan source.now }
+{
+    match state.contents().roles.rule_of(source) {
+        Some(place) => Some(place as u64),
+        None => None,
+    }
+}
+
 /// Whether a rule is the one that a node has.
 fn is_rule(rule: u64, first: Option<u64>) -> bool
     ensures { result ≡ is_rule rule first }
@@ -101,13 +111,12 @@ fn is_rule(rule: u64, first: Option<u64>) -> bool
 fn node_with(state: &State, rule: u64) -> Option<NodeId>
     ensures { option_map (λ node. node.number) result ≡ node_with state.now.plan state.now.now rule }
 {
-    let plan = state.plan();
-    let rules = plan.rules.as_slice();
+    let rules = state.plan().rules.as_slice();
     if rule as usize >= rules.len() {
         return None;
     }
     let source = &rules[rule as usize].source;
-    if is_rule(rule, rule_of(plan, source)) {
+    if is_rule(rule, rule_of(state, source)) {
         state.tree().get(source)
     } else {
         None
