@@ -54,6 +54,7 @@ fn records_asked(state: &State, history: &Text, input: Option<&Obj>) -> Result<O
     ensures { IfOk result (λ o. o
         ≡ query (λ f. records_out f (records_of state.now.now history.now)) (option_copied input.entry)) }
 {
+    state.is_sound();
     query_records(state.allocator(), state.contents(), history, input)
 }
 
