@@ -187,6 +187,9 @@ def dialogue():
     return [*asked, ("Get of the root", GET_ROOT), ("poll of the other watch", POLL)]
 
 
+NO_LINK = "beginning to serve"   # it listened, and ended for want of memory before it served a link
+
+
 class Otherwise(Exception):
     """An answer that no state which may be there gives."""
 
@@ -236,7 +239,7 @@ def follow(service, told):
     try:
         service.connect()
     except ConnectionRefusedError:
-        return "opening"   # it listened, and had no memory to begin
+        return NO_LINK
     for place, (name, request) in enumerate(told.asked):
         allowed = {NOTHING if place == taken else told.answers[place]}
         try:
@@ -245,7 +248,12 @@ def follow(service, told):
             if lost:
                 raise Otherwise(f"the second link ended at {name}") from None
             lost = name
-            service.connect()
+            try:
+                service.connect()
+            except ConnectionRefusedError:
+                if place == 0:   # the first link was made while it ended
+                    return NO_LINK
+                raise
             allowed, is_taken = found_there(service, told, place)
             taken = place + 2 if is_taken else None
             made = service.ask("GET", "/obix/watch/1/") if place == 0 else b""

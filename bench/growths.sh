@@ -3,7 +3,8 @@
 # request is made. By `stdio` a run then ends with status 12 and a front of the whole answers, or with status 0 and all of them;
 # so it does where all growths behind that one are refused too. By `serve` the link on which the growth was refused ends, and
 # over a second link a Get of the root and a poll of a watch show the state as it was before the request that lost its answer,
-# or as that request leaves it, and the rest is answered as ever. Prints the number of growths, and where the runs ended.
+# or as that request leaves it, and the rest is answered as ever; or it ends with status 12 before it serves a link, at times
+# once it listens. Prints the number of growths, and where the runs ended.
 # usage: bench/growths.sh [--each N]      (1; with 10 each tenth growth; OBIX names another program than out/bin/obix)
 set -euo pipefail
 top=$(cd "$(dirname "$0")/.." && pwd)
