@@ -1,7 +1,7 @@
 -- What has changed of items, one after the other.
-use Rattle.std.proofs.Common.{◌≡◌, ℕ, zero, suc, ◌-◌, ◌+◌, ◌<◌, true, false, List, [], ◌∷◌, ◌++◌, map, length, take, get_or, Some, None, refl, sym, ap, ◌∙◌, subst, append_assoc, arith}
+use Rattle.std.proofs.Common.{◌≡◌, ℕ, zero, suc, ◌-◌, ◌+◌, ◌<◌, Bool, true, false, ◌||◌, List, [], ◌∷◌, ◌++◌, map, length, take, get_or, Some, None, refl, sym, ap, ◌∙◌, subst, append_assoc, arith}
 use Rattle.std.specs.Prelude.{option_to_list, option_map, Option}
-use Rattle.std.specs.List.{filter, AllByRecursion}
+use Rattle.std.specs.List.{filter, list_any, AllByRecursion}
 use Rattle.std.proofs.lemmas.List.{append-nil, map-append, take_more}
 use Rattle.ob_object.specs.Object.{Object as Node, parts}
 use Rattle.ob_tree.specs.Laid.{paths}
@@ -21,7 +21,7 @@ use Rattle.ob_watch.specs.Flags.{flags, flag_of}
 use Rattle.ob_watch.specs.Items.{is_due}
 use Rattle.ob_watch.proofs.LawLemmas.{reports_agree}
 use Rattle.ob_site_watched.specs.Entries.{all_changes, changes_in}
-use Rattle.ob_site_watched.specs.Known.{IsKnown}
+use Rattle.ob_site_watched.specs.Known.{AreKnown, IsKnown}
 
 -- a node that is found at a path is one of the tree
 pub placed_within : (o : Node) (p : Path) (n : ℕ) → place_of p (paths o) ≡ Some n → n < parts o
@@ -78,3 +78,16 @@ module _ (plan : Plan) where
       ∙ ap (λ is. map entry (changes m (state_in c) is)) (map-append (flags c.tree) (take k items) (i ∷ []))
       ∙ ap (map entry) (changes_push m (state_in c) (map (flags c.tree) (take k items)) (flags c.tree i))
       ∙ map-append entry (changes m (state_in c) (map (flags c.tree) (take k items))) (changes_in plan c i)
+
+  -- where nothing is due, nothing has an entry
+  pub none_due : (c : Contents) (items : List Item) → AreKnown plan c items → list_any (is_due c.tree) items ≡ false → all_changes plan c items ≡ []
+  none_due c [] known none = refl
+  none_due c (i ∷ items) known none =
+      let here : is_due c.tree i ≡ false = (none_of (is_due c.tree i) (list_any (is_due c.tree) items) none).0 in
+      map-append entry (changes_in plan c i) (changes m (state_in c) (map (flags c.tree) items))
+      ∙ ap (λ es. es ++ all_changes plan c items) (nothing_due c i known.0 here)
+      ∙ none_due c items known.1 (none_of (is_due c.tree i) (list_any (is_due c.tree) items) none).1
+    where
+      none_of : (a b : Bool) → (a || b) ≡ false → (a ≡ false) × (b ≡ false)
+      none_of true b none = absurd (let e : true ≡ false = none in cc)
+      none_of false b none = (refl, none)

@@ -1,6 +1,7 @@
 //! The entries of WatchOut.
 ghost use Rattle.std.specs.Prelude.{◌≡◌, ◌+◌, ◌≤◌, ◌++◌, map, option_to_list, true, IfOk};
 ghost use Rattle.ob_watch.specs.Items.{is_due};
+ghost use Rattle.ob_watch.specs.Marks.{AreStampsPast};
 ghost use Rattle.ob_replies.specs.Plans.{plan as plan_of};
 ghost use Rattle.ob_site_rules.specs.Replies.{content_object, entry};
 ghost use Rattle.ob_site_places.specs.Complete.{IsComplete};
@@ -13,7 +14,7 @@ use ob_replies::{Plan, entry};
 use ob_site_reads::{Since, feed_since, watched_node, watched_node_counted, whole_feed};
 use ob_site_state::Contents;
 use ob_steps::Steps;
-use ob_watch::{Item, Tracked};
+use ob_watch::{Item, Tracked, Watch};
 use std::alloc::{AllocError, Global};
 use std::sync::ledger::Ledger;
 
@@ -164,4 +165,28 @@ pub fn changes<L: Ledger>(
         push_change(alloc, plan, contents, item, &mut entries, steps)?;
     }
     Ok(entries)
+}
+
+/// The entries of what has changed of the items of a watch since it was last reported, and the steps counted, as `changes`
+/// says. Where nothing has changed since all were reported, only the items on feeds are looked at.
+///
+/// Source: oBIX 1.1, chapter 12 (Watch.pollChanges).
+#[tactic(auto, using(crate::proofs::Due::none_due))]
+pub fn watch_changes<L: Ledger>(
+    alloc: Global,
+    plan: &Plan,
+    contents: &Contents,
+    watch: &Watch,
+    steps: &mut Steps<L>,
+) -> Result<Vec<Obj>, AllocError>
+    requires complete { IsComplete (plan_of plan.now) contents.now }
+    requires past { AreStampsPast contents.now.tree }
+    requires known { AreKnown (plan_of plan.now) contents.now watch.now.items }
+    ensures entries { IfOk result (λ os. os.items ≡ all_changes (plan_of plan.now) contents.now watch.now.items) }
+    ensures steps { IfOk result (λ os. steps.new ≤ steps.old + steps_in contents.now.tree.root (of_objects os.items)) }
+{
+    if !watch.has_due(&contents.tree) {
+        return Ok(Vec::new(alloc));
+    }
+    changes(alloc, plan, contents, watch.items(), steps)
 }

@@ -18,7 +18,7 @@ ghost use Rattle.ob_site_watched.specs.Answers.{AllKnown, IsDone, IsReply};
 ghost use Rattle.ob_site_watched.specs.Polls.{object_entries, steps_in};
 
 use crate::adding::{Adding, add};
-use crate::entries::{changes, readings};
+use crate::entries::{readings, watch_changes};
 use ob_contracts::Library;
 use ob_object::Obj;
 use ob_replies::{Fault, Plan, WatchPart, nil, refusal, watch_out, watch_part};
@@ -59,15 +59,16 @@ fn poll<L: Ledger>(
     alloc: Global,
     plan: &Plan,
     contents: &Contents,
-    items: &[Item],
+    watch: &Watch,
     steps: &mut Steps<L>,
 ) -> Result<Obj, AllocError>
     requires complete { IsComplete (plan_of plan.now) contents.now }
-    requires known { AreKnown (plan_of plan.now) contents.now items.now }
-    ensures reply { IfOk result (λ o. o ≡ watch_out (all_changes (plan_of plan.now) contents.now items.now)) }
+    requires past { AreStampsPast contents.now.tree }
+    requires known { AreKnown (plan_of plan.now) contents.now watch.now.items }
+    ensures reply { IfOk result (λ o. o ≡ watch_out (all_changes (plan_of plan.now) contents.now watch.now.items)) }
     ensures steps { IfOk result (λ o. steps.new ≤ steps.old + steps_in contents.now.tree.root (object_entries o)) }
 {
-    let entries = changes(alloc, plan, contents, items, steps)?;
+    let entries = watch_changes(alloc, plan, contents, watch, steps)?;
     watch_out(alloc, entries)
 }
 
@@ -96,6 +97,7 @@ fn reply<L: Ledger>(
     steps: &mut Steps<L>,
 ) -> Result<Obj, AllocError>
     requires complete { IsComplete (plan_of plan.now) contents.now }
+    requires past { AreStampsPast contents.now.tree }
     requires known { AreKnown (plan_of plan.now) contents.now watch.now.items }
     requires other { is_add (operation_of call.now.asks) ≡ false }
     ensures reply { IfOk result (λ o. (numbers : List ℕ) → IsReply (plan_of plan.now) contents.now call.now.moment numbers call.now.number watch.now (operation_of call.now.asks) o) }
@@ -106,7 +108,7 @@ fn reply<L: Ledger>(
         Operation::Renew(input) => lease_told(alloc, plan, contents, call.number, input),
         Operation::Add(_) => unreachable!(),
         Operation::Remove(_) | Operation::Delete => nil(alloc),
-        Operation::PollChanges => poll(alloc, plan, contents, watch.items(), steps),
+        Operation::PollChanges => poll(alloc, plan, contents, watch, steps),
         Operation::PollRefresh => refresh(alloc, plan, contents, watch.items()),
         Operation::Refuse(fault) => refusal(alloc, *fault),
     }
