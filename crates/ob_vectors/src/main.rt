@@ -120,7 +120,7 @@ fn run_sites<R: Print + Files + AllocGlobal + Wait>(rt: &R) -> io::Result<()> {
 // The records of the dialogues that the requests are.
 fn run_records<R: Print + Files + AllocGlobal>(rt: &R, documents: &str) -> io::Result<()> {
     let dialogues = fs::read_to_string(rt, "requests.rows")?;
-    let mut records = Records::new(dialogues.as_str(), documents);
+    let mut records = Records::new(rt.alloc(), dialogues.as_str(), documents);
     run(rt, "audits.rows", &mut records)
 }
 

@@ -1,5 +1,7 @@
 //! Records of dialogues: each is legal, and with another byte in a reply it is illegal at that entry.
-use crate::audits::{Alone, entries_of, illegal, is_illegal_at_each, legal};
+use crate::audits::{
+    Alone, entries_of, find_steady, illegal, is_illegal_at_each, know_first, legal,
+};
 use crate::dialogue::Dialogue;
 use crate::sites::{Opening, site_of};
 use ob_record::{Run, read_record};
@@ -20,6 +22,8 @@ use std::alloc::{AllocError, Global};
 pub(crate) struct Records<'a> {
     dialogues: &'a str,
     documents: &'a str,
+    /// The first entries of the dialogues so far, each with its site.
+    firsts: Vec<Vec<u8>>,
 }
 
 // The rows under a remark.
@@ -89,6 +93,7 @@ fn tell_audits(
 // Tells what audits find of a record.
 fn tell_record(
     alloc: Global,
+    firsts: &mut Vec<Vec<u8>>,
     opening: Opening,
     record: &[u8],
     told: &mut String,
@@ -96,12 +101,19 @@ fn tell_record(
     let Some(run) = run_of(alloc, record) else {
         return told.push_str("no record");
     };
-    let entries = entries_of(alloc, &run)?;
+    let mut entries = entries_of(alloc, &run)?;
+    know_first(alloc, firsts, opening, &mut entries)?;
+    find_steady(alloc, opening, &mut entries);
     tell_audits(alloc, opening, record, &entries, told)
 }
 
 // Tells how many requests a dialogue has, and what audits find of its record.
-fn tell(alloc: Global, dialogue: &Dialogue, told: &mut String) -> Result<(), AllocError> {
+fn tell(
+    alloc: Global,
+    firsts: &mut Vec<Vec<u8>>,
+    dialogue: &Dialogue,
+    told: &mut String,
+) -> Result<(), AllocError> {
     let Some(opening) = dialogue.opening() else {
         return told.push_str("no site");
     };
@@ -110,15 +122,16 @@ fn tell(alloc: Global, dialogue: &Dialogue, told: &mut String) -> Result<(), All
     };
     let requests = dialogue.len();
     write!(told, "requests {requests}, ")?;
-    tell_record(alloc, opening, &record, told)
+    tell_record(alloc, firsts, opening, &record, told)
 }
 
 impl<'a> Records<'a> {
     /// The records of the dialogues of a file, whose sites have their documents in another one.
-    pub(crate) fn new(dialogues: &'a str, documents: &'a str) -> Records<'a> {
+    pub(crate) fn new(alloc: Global, dialogues: &'a str, documents: &'a str) -> Records<'a> {
         Records {
             dialogues,
             documents,
+            firsts: Vec::new(alloc),
         }
     }
 
@@ -157,6 +170,6 @@ impl<'a> Records<'a> {
 impl Table for Records<'_> {
     fn answer(&mut self, alloc: Global, asked: Asked, told: &mut String) -> Result<(), AllocError> {
         let dialogue = self.dialogue(alloc, asked.text)?;
-        tell(alloc, &dialogue, told)
+        tell(alloc, &mut self.firsts, &dialogue, told)
     }
 }
