@@ -1,5 +1,6 @@
 pub mod Kinds
 pub mod Words
+pub mod KeptWords
 pub mod Facets
 pub mod Fits
 pub mod Default

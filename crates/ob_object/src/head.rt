@@ -1,5 +1,5 @@
 //! What an object says of itself, beside its children.
-ghost use Rattle.std.specs.Prelude.{◌≡◌, None, IfOk, OnOk};
+ghost use Rattle.std.specs.Prelude.{true, ◌≡◌, None, IfOk, IsTrue, OnOk};
 ghost use Rattle.ob_object.specs.Object.{empty_head};
 ghost use Rattle.ob_object.specs.Fits.{fits_slot, fits_facets, fits_name, fits_words, fits_head, fits_if_there};
 
@@ -111,6 +111,15 @@ fn fits_words(has: bool, words: &Option<Words>) -> bool
             has
         }
         None => true,
+    }
+}
+
+// Each word of a list is one.
+pub(crate) fn are_words(words: &Option<Words>)
+    ensures { IsTrue (fits_words true words.now) }
+{
+    if let Some(words) = words {
+        let _words = words.as_slice();
     }
 }
 

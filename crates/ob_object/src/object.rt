@@ -8,7 +8,7 @@ ghost use Rattle.ob_object.specs.Pushed.{IsPushed};
 ghost use Rattle.ob_object.specs.WellFormed.{IsWellFormed, named, is_taken, has_name, NamesDiffer, with_child};
 
 use crate::facet::Facets;
-use crate::head::{Head, Slot, fits_facets, fits_name, fits_slot};
+use crate::head::{are_words, Head, Slot, fits_facets, fits_name, fits_slot};
 use crate::kind::Kind;
 use crate::same::same_head;
 use crate::status::Status;
@@ -249,6 +249,7 @@ impl Obj {
             (λ _. self.new ≡ record self.old { head = record self.old.head { is = words } })
             (λ _. ⊥) }
     {
+        are_words(&words);
         self.head.is = words;
         Ok(())
     }

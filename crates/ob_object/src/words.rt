@@ -2,28 +2,47 @@
 ghost use Rattle.std.specs.Prelude.{◌≡◌, not, [], ◌∷◌, ◌++◌, IfOk, IsTrue};
 ghost use Rattle.std.specs.List.{list_all};
 ghost use Rattle.ob_object.specs.Words.{is_word, is_white, IsWordPushed};
+ghost use Rattle.ob_object.specs.KeptWords.{kept_words};
 
 use ob_values::Text;
 use std::alloc::{AllocError, Global};
 use std::marker::Model;
+use std::sync::ArcSlice;
 use thiserror::Error;
 
-/// A list of words, none empty and none with white space, seen as the list of their texts.
-#[derive(Drop)]
+/// A list of words, none empty and none with white space, seen as the list of their texts. Copies of a copy
+/// share its words.
 pub struct Words {
-    words: Vec<Text>,
+    alloc: Global,
+    kept: Kept,
+}
+
+// The words as they are put one behind the other, or shared by copies.
+#[derive(Drop)]
+enum Kept {
+    Own(Vec<Text>),
+    Shared(ArcSlice<Text>),
 }
 
 impl Model for Words {
     ghost use Rattle.std.specs.Prelude.{List, ℕ, IsTrue};
     ghost use Rattle.std.specs.List.{list_all};
     ghost use Rattle.ob_object.specs.Words.{is_word};
+    ghost use Rattle.ob_object.specs.KeptWords.{kept_words};
 
     ghost Value = { List (List ℕ) };
 
-    ghost view = { λ w. w.words.items };
+    ghost view = { λ w. kept_words w.kept };
 
-    ghost invariant = { λ w. IsTrue (list_all is_word w.words.items) };
+    ghost invariant = { λ w. IsTrue (list_all is_word (kept_words w.kept)) };
+}
+
+impl Drop for Words {
+    // By one call, so that to drop a list is one call to whoever may have to.
+    fn drop(self) {
+        let Words { alloc: _, kept } = self;
+        drop(kept);
+    }
 }
 
 /// Why a word was not taken.
@@ -64,13 +83,36 @@ fn is_word(text: &str) -> bool
     !bytes.is_empty() && has_no_white(bytes)
 }
 
+// Copies of texts, which share their characters.
+fn copied(alloc: Global, texts: &[Text]) -> Result<Vec<Text>, AllocError>
+    ensures { IfOk result (λ copies. copies.items ≡ texts.now) }
+{
+    let mut copies = Vec::new(alloc);
+    for text in texts {
+        copies.push(text.copy()?)?;
+    }
+    Ok(copies)
+}
+
+impl Kept {
+    fn as_slice(&self) -> &[Text]
+        ensures { result.now ≡ kept_words self.now }
+    {
+        match self {
+            Kept::Own(words) => words.as_slice(),
+            Kept::Shared(words) => words.as_slice(),
+        }
+    }
+}
+
 impl Words {
     /// No words.
     pub fn new(alloc: Global) -> Words
         ensures { result ≡ [] }
     {
         Words {
-            words: Vec::new(alloc),
+            alloc,
+            kept: Kept::Own(Vec::new(alloc)),
         }
     }
 
@@ -79,7 +121,7 @@ impl Words {
         ensures value { result.now ≡ self.now }
         ensures words { IsTrue (list_all is_word self.now) }
     {
-        self.words.as_slice()
+        self.kept.as_slice()
     }
 
     /// Puts a word last. NotWord gives back a text that is empty or has white space, and Memory a word
@@ -90,22 +132,45 @@ impl Words {
         if !is_word(word.as_str()) {
             return Err(WordFault::NotWord { word });
         }
-        match self.words.push(word) {
-            Ok(()) => Ok(()),
-            Err(refused) => Err(WordFault::Memory {
-                word: refused.value,
-            }),
+        match &mut self.kept {
+            Kept::Own(words) => match words.push(word) {
+                Ok(()) => Ok(()),
+                Err(refused) => Err(WordFault::Memory {
+                    word: refused.value,
+                }),
+            },
+            Kept::Shared(words) => {
+                let Ok(mut own) = copied(self.alloc, words.as_slice()) else {
+                    return Err(WordFault::Memory { word });
+                };
+                match own.push(word) {
+                    Ok(()) => {
+                        self.kept = Kept::Own(own);
+                        Ok(())
+                    }
+                    Err(refused) => Err(WordFault::Memory {
+                        word: refused.value,
+                    }),
+                }
+            }
         }
     }
 
-    /// A copy of the list.
+    /// A copy of the list. Copies of a copy share its words, and take no room for them.
     pub fn copy(&self) -> Result<Words, AllocError>
         ensures { IfOk result (λ copy. copy ≡ self.now) }
     {
-        let mut words = Vec::new(*self.words.allocator());
-        for word in &self.words {
-            words.push(word.copy()?)?;
-        }
-        Ok(Words { words })
+        let kept = match &self.kept {
+            Kept::Own(words) if words.is_empty() => Kept::Own(Vec::new(self.alloc)),
+            Kept::Own(words) => {
+                let copies = copied(self.alloc, words.as_slice())?;
+                Kept::Shared(ArcSlice::from_vec(copies)?)
+            }
+            Kept::Shared(words) => Kept::Shared(words.clone()?),
+        };
+        Ok(Words {
+            alloc: self.alloc,
+            kept,
+        })
     }
 }
