@@ -1,12 +1,7 @@
 -- Words that are put to those that are known.
 use Rattle.std.proofs.Common.{◌≡◌, ℕ, ◌+◌, ◌<◌, Bool, true, false, ◌||◌, List, [], ◌∷◌, ◌++◌, drop, length, get_or, refl, sym, ap, ◌∙◌}
-use Rattle.std.specs.Prelude.{String, string_bytes}
-use Rattle.std.specs.List.{list_any}
-use Rattle.std.specs.Ordering.{nat_cmp}
-use Rattle.std.specs.Cmp.Lexicographic.{slice_cmp}
-use Rattle.std.specs.BTreeMap.{is_at}
+use Rattle.std.specs.Prelude.{String}
 use Rattle.std.proofs.lemmas.Bool.Decides.{same_from_decides}
-use Rattle.std.proofs.lemmas.Map.Text.{is_eq-slice_cmp}
 use Rattle.std.specs.Str.{bytes_eq}
 use Rattle.std.specs.BTreeSet.{BTreeSet, contains_text}
 use Rattle.std.proofs.lemmas.Slice.Eq.{bytes_eq-Decides}
@@ -26,7 +21,7 @@ pub or_second : (a b : Bool) → b ≡ true → (a || b) ≡ true
 or_second true b h = refl
 or_second false b h = h
 
-either : (a b c : Bool) → (a ≡ true → c ≡ true) → (b ≡ true → c ≡ true) → (a || b) ≡ true → c ≡ true
+pub either : (a b c : Bool) → (a ≡ true → c ≡ true) → (b ≡ true → c ≡ true) → (a || b) ≡ true → c ≡ true
 either true b c f g h = f refl
 either false b c f g h = g h
 
@@ -112,32 +107,3 @@ module _ {Y : Type 0} where
       named_more word [] c = or_nothing (names_word word c.1)
       named_more word (d ∷ cs) c =
           ap (λ b. names_word word d.1 || b) (named_more word cs c) ∙ or_joined (names_word word d.1) (library_names word cs) (names_word word c.1)
-
-  -- whether one of these is the word that is asked for
-  abbrev pub has_text : List (String Y) → List ℕ → Bool
-  has_text ks asked = list_any (is_at (λ k. slice_cmp nat_cmp asked (string_bytes k))) ks
-
-  pub others_begun : (kin others : BTreeSet (String Y)) (ks : List (String Y)) → ks ≡ others.keys → (asked : List ℕ) → (contains_text kin asked || has_text ks asked) ≡ (contains_text kin asked || contains_text others asked)
-  others_begun kin others ks is asked = ap (λ l. contains_text kin asked || has_text l asked) is
-
-  pub others_next : (before after : BTreeSet (String Y)) (left rest : List (String Y)) (k : String Y) (word : List ℕ) (all : List ℕ → Bool) → word ≡ string_bytes k → left ≡ k ∷ rest
-      → ((asked : List ℕ) → contains_text after asked ≡ (contains_text before asked || is_among asked (word ∷ [])))
-      → ((asked : List ℕ) → (contains_text before asked || has_text left asked) ≡ all asked)
-      → (asked : List ℕ) → (contains_text after asked || has_text rest asked) ≡ all asked
-  others_next before after left rest k word all bytes is put held asked =
-      let there = contains_text before asked in
-      let more = has_text rest asked in
-      ap (λ b. b || more) (put asked)
-      ∙ ap (λ (w : List ℕ). (there || (bytes_eq w asked || false)) || more) bytes
-      ∙ regroup there (bytes_eq (string_bytes k) asked) more
-      ∙ ap (λ b. there || (b || more)) (turned_eq (string_bytes k) asked ∙ sym (is_eq-slice_cmp asked (string_bytes k)))
-      ∙ ap (λ l. there || has_text l asked) (sym is)
-      ∙ held asked
-
-  pub others_none : (known : BTreeSet (String Y)) (left : List (String Y)) (all : List ℕ → Bool) → left ≡ [] → ((asked : List ℕ) → (contains_text known asked || has_text left asked) ≡ all asked) → (asked : List ℕ) → contains_text known asked ≡ all asked
-  others_none known left all is held asked =
-      sym (or_nothing (contains_text known asked)) ∙ ap (λ l. contains_text known asked || has_text l asked) (sym is) ∙ held asked
-    where
-      or_nothing : (a : Bool) → (a || false) ≡ a
-      or_nothing true = refl
-      or_nothing false = refl

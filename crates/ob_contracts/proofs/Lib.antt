@@ -16,3 +16,6 @@ pub mod Copied
 pub mod Found
 pub mod Views
 pub mod Bare
+pub mod Dropped
+pub mod Heads
+pub mod Naming

@@ -6,8 +6,8 @@ pub mod Adding
 pub mod Found
 pub mod HandedDown
 pub mod Ancestry
-pub mod Kin
 pub mod Named
 pub mod Standard
 pub mod Table
+pub mod Telling
 pub mod Rows

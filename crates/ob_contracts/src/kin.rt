@@ -8,20 +8,6 @@ use ob_values::Text;
 use std::alloc::{AllocError, Global};
 use std::collections::BTreeSet;
 
-/// Puts the words of another set.
-pub(crate) fn put_all(
-    alloc: Global,
-    kin: &mut BTreeSet<String>,
-    others: &BTreeSet<String>,
-) -> Result<(), AllocError>
-    ensures { OnOk result ((asked : List ℕ) → contains_text kin.new asked ≡ (contains_text kin.old asked || contains_text others.now asked)) }
-{
-    for other in others {
-        put_word(alloc, kin, other.as_str())?;
-    }
-    Ok(())
-}
-
 /// Puts words.
 pub(crate) fn put_words(
     alloc: Global,
@@ -38,11 +24,7 @@ pub(crate) fn put_words(
 }
 
 /// Puts a word that may be there.
-pub(crate) fn put_word(
-    alloc: Global,
-    kin: &mut BTreeSet<String>,
-    word: &str,
-) -> Result<(), AllocError>
+fn put_word(alloc: Global, kin: &mut BTreeSet<String>, word: &str) -> Result<(), AllocError>
     ensures kept { KeepsKnown kin.old kin.new }
     ensures ok { OnOk result ((asked : List ℕ) → contains_text kin.new asked ≡ (contains_text kin.old asked || is_among asked (word.now ∷ []))) }
 {

@@ -12,6 +12,7 @@ mod adding;
 mod ancestry;
 mod build;
 mod copies;
+mod fewer;
 mod inherited;
 mod kin;
 mod library;
@@ -21,6 +22,7 @@ mod standard;
 
 pub use adding::LibFault;
 pub use build::{effective, view};
+pub use fewer::{telling, told_by};
 pub use library::Library;
 pub use reading::View;
 

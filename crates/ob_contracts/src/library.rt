@@ -1,18 +1,14 @@
 //! The contracts that words name.
-ghost use Rattle.std.specs.Prelude.{◌≡◌, ◌≤◌, ℕ, List, ◌||◌, false, is_some, [], ◌∷◌, ◌++◌, reverse, IfOk, OnOk, OnErr};
-ghost use Rattle.std.specs.BTreeSet.{contains_text};
+ghost use Rattle.std.specs.Prelude.{◌≡◌, ◌≤◌, false, is_some, None, [], ◌∷◌, ◌++◌, IfOk, OnOk, OnErr};
 ghost use Rattle.std.specs.Option.{option_copied};
 ghost use Rattle.ob_object.specs.Default.{default_of};
 ghost use Rattle.ob_object.specs.Object.{parts};
 ghost use Rattle.ob_contracts.specs.Adding.{library_names};
-ghost use Rattle.ob_contracts.specs.Ancestry.{is_one};
 ghost use Rattle.ob_contracts.specs.Index.{at_place, place_of};
-ghost use Rattle.ob_contracts.specs.Inherit.{contract_of};
+ghost use Rattle.ob_contracts.specs.Inherit.{contract_of, result_of};
 ghost use Rattle.ob_contracts.specs.Sound.{AllSound};
 
 use crate::adding::library_names;
-use crate::ancestry::words_of;
-use crate::kin::{put_all, put_word};
 use crate::named::put_named;
 use ob_object::{Kind, Obj, Slot};
 use ob_values::Text;
@@ -24,8 +20,8 @@ use std::marker::Model;
 /// No contract has more than 512 parts.
 pub struct Library {
     contracts: Vec<(Text, Obj)>,
-    // Where the contract of each word stands, and the words that it is.
-    places: BTreeMap<String, (usize, BTreeSet<String>)>,
+    // Where the contract of each word stands.
+    places: BTreeMap<String, usize>,
     // Each word that a contract names in an `is` or `of`, at any depth. Words of a contract that found no
     // memory may stand here too.
     named: BTreeSet<String>,
@@ -69,7 +65,6 @@ impl Model for Library {
     ghost use Rattle.ob_object.specs.declared.kind.Kind.TheVariants as kind;
     ghost use Rattle.ob_contracts.specs.Index.{IsIndex};
     ghost use Rattle.ob_contracts.specs.Inherit.{Contracts};
-    ghost use Rattle.ob_contracts.specs.Kin.{HasKin};
     ghost use Rattle.ob_contracts.specs.Named.{HasNamed};
     ghost use Rattle.ob_contracts.specs.Sound.{AllSound};
 
@@ -85,7 +80,6 @@ impl Model for Library {
         × (a.defaults.zero_real ≡ default_of kind.Real) × (a.defaults.empty ≡ default_of kind.Str)
         × (a.defaults.empty_uri ≡ default_of kind.Uri) × (a.defaults.no_time ≡ default_of kind.Reltime)
         × IsIndex a.places a.contracts.items
-        × HasKin a.places a.contracts.items
         × HasNamed a.named a.contracts.items };
 }
 
@@ -138,8 +132,10 @@ impl Library {
         Ok(copy)
     }
 
-    /// Puts a new word and what it stands for last.
-    pub(crate) fn put(&mut self, uri: Text, made: Obj) -> Result<(), AllocError>
+    /// Puts a new word and what it stands for last: a contract with all that it inherits. Its own words alone are put
+    /// to those that are named, since all that it inherits are there already.
+    pub(crate) fn put(&mut self, uri: Text, contract: &Obj, made: Obj) -> Result<(), AllocError>
+        requires made { made ≡ result_of self.old contract.now None None }
         requires small { parts made ≤ 512 }
         requires new { is_some (contract_of self.old uri) ≡ false }
         ensures ok { OnOk result (self.new ≡ self.old ++ (uri, made) ∷ []) }
@@ -147,60 +143,20 @@ impl Library {
     {
         let _head = made.head();
         let alloc = self.allocator();
-        let kin = self.kin_of(words_of(&made))?;
         let word = String::from_str(alloc, uri.as_str())?;
         let place = self.contracts.as_slice().len();
         self.contracts.reserve(1)?;
-        put_named(alloc, &mut self.named, &made)?;
-        self.places.insert(word, (place, kin))?;
+        put_named(alloc, &mut self.named, contract)?;
+        self.places.insert(word, place)?;
         self.contracts.push_reserved((uri, made));
         Ok(())
-    }
-
-    /// All that an object with these words is.
-    fn kin_of(&self, words: &[Text]) -> Result<BTreeSet<String>, AllocError>
-        ensures { IfOk result (λ kin. (asked : List ℕ) → contains_text kin asked ≡ is_one (reverse self.now) words.now asked) }
-    {
-        let mut kin = BTreeSet::new(self.allocator());
-        for word in words {
-            self.put_kin(&mut kin, word.as_str())?;
-        }
-        Ok(kin)
-    }
-
-    /// Puts all that a word is: the word itself, and what the contract is that it names.
-    fn put_kin(&self, kin: &mut BTreeSet<String>, word: &str) -> Result<(), AllocError>
-        ensures { OnOk result ((asked : List ℕ) → contains_text kin.new asked ≡ (contains_text kin.old asked || is_one (reverse self.now) (word.now ∷ []) asked)) }
-    {
-        let alloc = self.allocator();
-        put_word(alloc, kin, word)?;
-        match self.places.get(word) {
-            Some(entry) => put_all(alloc, kin, &entry.1),
-            None => Ok(()),
-        }
     }
 
     /// Where the contract of a word stands.
     fn place_of(&self, uri: &str) -> Option<usize>
         ensures { result ≡ place_of uri.now self.now }
     {
-        match self.places.get(uri) {
-            Some(entry) => Some(entry.0),
-            None => None,
-        }
-    }
-
-    /// Whether a word is one that is asked for: it is that one, or names a contract that is one by its own words.
-    pub(crate) fn is_kin(&self, word: &str, asked: &str) -> bool
-        ensures { result ≡ is_one (reverse self.now) (word.now ∷ []) asked.now }
-    {
-        if word == asked {
-            return true;
-        }
-        match self.places.get(word) {
-            Some(entry) => entry.1.contains(asked),
-            None => false,
-        }
+        self.places.get(uri).copied()
     }
 
     /// Whether a contract names a word. Each is gone through only where the word may be named.

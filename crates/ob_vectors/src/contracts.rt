@@ -159,11 +159,8 @@ fn tell_is(
 ) -> Result<(), AllocError> {
     let (word, has) = split_word(said);
     let has = words(alloc, has)?;
-    told.push_str(if library.is_a(&has, word) {
-        "yes"
-    } else {
-        "no"
-    })
+    let is = library.is_a(&has, word)?;
+    told.push_str(if is { "yes" } else { "no" })
 }
 
 // Tells how many objects a contract has.

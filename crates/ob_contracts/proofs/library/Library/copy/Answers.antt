@@ -1,7 +1,7 @@
 use Rattle.std.proofs.Common.{◌≡◌, sym, ◌∙◌, subst}
 use Rattle.ob_contracts.specs.Inherit.{Contracts}
 use Rattle.ob_contracts.specs.Sound.{AllSound}
-use Rattle.ob_contracts.proofs.Copied.{index_copied, kin_copied, named_copied}
+use Rattle.ob_contracts.proofs.Copied.{index_copied, named_copied}
 use Rattle.ob_contracts.proofs.library.Library.copy.Goals as goal
 
 pub invariant_of-copy : goal.invariant_of-copy
@@ -21,6 +21,5 @@ invariant_of-copy c =
       new.7,
       new.8,
       index_copied c.self.inside.places c.in_ok-places.places items copied c.in_ok-places.ensures.cases same old.9,
-      kin_copied c.self.inside.places c.in_ok-places.places items copied c.in_ok-places.ensures.cases same old.10,
-      named_copied c.self.inside.named c.in_ok-named.named items copied c.in_ok-named.ensures.cases same old.11,
+      named_copied c.self.inside.named c.in_ok-named.named items copied c.in_ok-named.ensures.cases same old.10,
     )
