@@ -1,6 +1,7 @@
 //! Put, and the write of a value that a body gives.
 ghost use Rattle.std.specs.Prelude.{◌≡◌, Some, None, true, false, IsTrue, IfOk, IfErr};
 ghost use Rattle.std.specs.Option.{option_copied};
+ghost use Rattle.ob_contracts.specs.Inherit.{effective_of};
 ghost use Rattle.ob_object.specs.Fits.{fits_slot};
 ghost use Rattle.ob_history.specs.Records.{is_value_kind, holds_value};
 ghost use Rattle.ob_site_rules.specs.Build.{Path};
@@ -13,7 +14,7 @@ use crate::reading::replied;
 use crate::stop::Stop;
 use crate::value::{target_fault, value_fault};
 use crate::written::written_at;
-use ob_contracts::effective;
+use ob_contracts::{Library, View};
 use ob_object::{Head, Obj, Slot};
 use ob_replies::Fault;
 use ob_site_state::State;
@@ -54,6 +55,17 @@ fn write_given(state: &mut State, path: &Text, object: &Obj, new: &Head) -> Resu
     Ok(reply)
 }
 
+/// The kind and the slot that a body gives, with what it inherits by its own words; nothing else of it is looked at.
+fn given_by<'x>(library: &'x Library, body: &'x Obj) -> Result<Head, AllocError>
+    ensures kind { IfOk result (λ head. head.kind ≡ (effective_of library.now body.now None None).head.kind) }
+    ensures slot { IfOk result (λ head. head.slot ≡ (effective_of library.now body.now None None).head.slot) }
+{
+    let view = View::new(library, body, None, None);
+    let mut head = Head::empty(view.kind());
+    head.slot = view.slot().copy()?;
+    Ok(head)
+}
+
 /// Writes the value that a body gives to the object shown at a path, where nothing is wrong, and answers what is shown
 /// there then. A node that a history records is shown with a kind that has values.
 pub fn write_by(state: &mut State, path: &Text, object: &Obj, body: &Obj) -> Result<Obj, Stop>
@@ -62,8 +74,8 @@ pub fn write_by(state: &mut State, path: &Text, object: &Obj, body: &Obj) -> Res
     ensures ok { IfOk result (IsDone state.old state.new (write_by state.old.plan state.old.now state.old.time path.now object.now None body.now)) }
     ensures stop { IfErr result (Stops state.old state.new (write_by state.old.plan state.old.now state.old.time path.now object.now None body.now)) }
 {
-    let given = effective(state.allocator(), state.library(), body, None, None)?;
-    write_given(state, path, object, given.head())
+    let given = given_by(state.library(), body)?;
+    write_given(state, path, object, &given)
 }
 
 /// Put on a node that is shown at a path: the tests on the node, that there is a body, and the tests on its value; then
