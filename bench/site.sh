@@ -6,4 +6,4 @@
 set -eu
 top=$(cd "$(dirname "$0")/.." && pwd)
 "$top/obix" stdio "$top/examples/point.xml" </dev/null   # builds it where needed
-exec python3 "$top/bench/site.py" "$top/out/bin/obix" "$top/crates/ob_vectors/data/sites.txt" "${1:-1}"
+exec python3 "$top/bench/site.py" "$top/out/bin/obix" "$top/crates/ob_vectors_sites/data/sites.txt" "${1:-1}"

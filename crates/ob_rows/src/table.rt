@@ -2,7 +2,8 @@
 //
 // A row is a line: its input, ` =>`, and behind a blank what is to come out, unless that is nothing. A line that begins with
 // `###` is a remark. ␣, ␉, ␊, ␍, ⏎ (CR LF), ␀ and ␡ stand for those bytes, `‹C3A9›` for the bytes of these numbers of
-// base 16, and `‹41*8192›` for so many times these bytes, on either side.
+// base 16, and `‹41*8192›` for so many times these bytes, on either side. `«3|a#»` stands for `a0a1a2`, wherever in a row.
+use crate::words::split_bar;
 use std::alloc::{AllocError, Global};
 use std::rt::Files;
 use std::{fs, io};
@@ -179,6 +180,56 @@ fn answer<T: Table>(
     table.answer(alloc, asked, told)
 }
 
+// Puts a part behind a text, with this number in place of each `#`.
+fn push_part(text: &mut String, part: &str, number: u32) -> Result<(), AllocError> {
+    for (place, piece) in part.split('#').enumerate() {
+        if place > 0 {
+            write!(text, "{number}")?;
+        }
+        text.push_str(piece)?;
+    }
+    Ok(())
+}
+
+// Puts the parts behind a text that `3|a#` stands for.
+fn push_parts(text: &mut String, spelled: &str) -> Result<(), AllocError> {
+    let (count, part) = split_bar(spelled);
+    for number in 0..count.parse::<u32>().unwrap_or(0) {
+        push_part(text, part, number)?;
+    }
+    Ok(())
+}
+
+// A row in which its repeated parts are written out.
+fn written_out(alloc: Global, row: &str) -> Result<String, AllocError> {
+    let mut whole = String::new(alloc);
+    for part in row.split('«') {
+        match part.split_once('»') {
+            Some((spelled, rest)) => {
+                push_parts(&mut whole, spelled)?;
+                whole.push_str(rest)?;
+            }
+            None => whole.push_str(part)?,
+        }
+    }
+    Ok(whole)
+}
+
+// Asks a row, and prints it if it comes out otherwise.
+fn ask<R: Print + AllocGlobal, T: Table>(
+    rt: &R,
+    row: &str,
+    table: &mut T,
+    tally: &mut Tally,
+) -> io::Result<()> {
+    let Some(text) = asked_of(row) else {
+        return Ok(());
+    };
+    let mut told = String::new(rt.alloc());
+    answer(rt.alloc(), table, text, &mut told)?;
+    tally.count(rt, row, told.as_str())
+}
+
 // Asks the rows of a table, and prints those that come out otherwise and how many there are.
 fn ask_all<R: Print + AllocGlobal, T: Table>(
     rt: &R,
@@ -188,11 +239,8 @@ fn ask_all<R: Print + AllocGlobal, T: Table>(
 ) -> io::Result<()> {
     let mut tally = Tally::new();
     for row in rows.lines() {
-        if let Some(text) = asked_of(row) {
-            let mut told = String::new(rt.alloc());
-            answer(rt.alloc(), table, text, &mut told)?;
-            tally.count(rt, row, told.as_str())?;
-        }
+        let row = written_out(rt.alloc(), row)?;
+        ask(rt, row.as_str(), table, &mut tally)?;
     }
     tally.print(rt, file)
 }

@@ -3,28 +3,18 @@
 #![tactic(auto)]
 
 mod alarms;
-mod audits;
 mod bases;
 mod calendar;
 mod calls;
 mod contracts;
-mod desks;
-mod dialogue;
-mod dialogues;
 mod documents;
 mod filters;
 mod histories;
 mod hrefs;
-mod links;
-mod loads;
 mod messages;
-mod moments;
 mod objects;
 mod outside;
 mod pieces;
-mod records;
-mod requests;
-mod sites;
 mod spelled;
 mod streams;
 mod values;
@@ -36,24 +26,17 @@ use bases::Bases;
 use calendar::{Calendars, Days};
 use calls::Calls;
 use contracts::Contracts;
-use desks::Desks;
-use dialogues::Dialogues;
 use documents::Documents;
 use filters::Filters;
 use histories::Histories;
 use hrefs::Hrefs;
-use links::Links;
-use loads::Loads;
 use messages::{Messages, Replies};
 use ob_rows::run;
 use objects::Objects;
 use outside::Outside;
 use pieces::Pieces;
-use records::Records;
-use requests::Requests;
+use std::io;
 use std::rt::Files;
-use std::sync::Wait;
-use std::{fs, io};
 use streams::{Heads, Limits, Streams};
 use values::Reading;
 
@@ -109,34 +92,6 @@ fn run_contracts<R: Print + Files + AllocGlobal>(rt: &R) -> io::Result<()> {
     run(rt, "contracts.rows", &mut contracts)
 }
 
-fn run_sites<R: Print + Files + AllocGlobal + Wait>(rt: &R) -> io::Result<()> {
-    let lines = fs::read_to_string(rt, "sites.txt")?;
-    run(rt, "requests.rows", &mut Requests::new(lines.as_str()))?;
-    run(rt, "desks.rows", &mut Desks::new(rt, lines.as_str()))?;
-    run_connections(rt, lines.as_str())?;
-    run_records(rt, lines.as_str())
-}
-
-// The records of the dialogues that the requests are.
-fn run_records<R: Print + Files + AllocGlobal>(rt: &R, documents: &str) -> io::Result<()> {
-    let dialogues = fs::read_to_string(rt, "requests.rows")?;
-    let mut records = Records::new(rt.alloc(), dialogues.as_str(), documents);
-    run(rt, "audits.rows", &mut records)
-}
-
-// The requests on sites again, as bytes over connections: whole, and byte by byte.
-fn run_connections<R: Print + Files + AllocGlobal + Wait>(
-    rt: &R,
-    documents: &str,
-) -> io::Result<()> {
-    let mut whole = Dialogues::new(rt, rt.alloc(), documents, 65_536);
-    run(rt, "requests.rows", &mut whole)?;
-    let mut bytewise = Dialogues::new(rt, rt.alloc(), documents, 1);
-    run(rt, "requests.rows", &mut bytewise)?;
-    run(rt, "loads.rows", &mut Loads)?;
-    run(rt, "links.rows", &mut Links::new(rt, documents))
-}
-
 fn main(rt: HostRuntime) -> io::Result<()> {
     run_values(&rt)?;
     run_hrefs(&rt)?;
@@ -144,6 +99,5 @@ fn main(rt: HostRuntime) -> io::Result<()> {
     run_logs(&rt)?;
     run_calls(&rt)?;
     run_documents(&rt)?;
-    run_contracts(&rt)?;
-    run_sites(&rt)
+    run_contracts(&rt)
 }

@@ -1,14 +1,14 @@
 //! Documents in pieces, and large ones: wherever a text is cut, the same is told of it.
 use crate::documents::{read, read_by, tell};
-use ob_rows::{Asked, Table, split_bar, split_word};
+use ob_rows::{Asked, Table, split_word};
 use ob_xml::{Decoder, Refused, Why};
 use std::alloc::{AllocError, Global};
 
 /// Rows of ways to read, each before what is read:
 ///
 /// `cut TEXT`: in three pieces, cut anywhere; `fronts TEXT`: whole, and each front of it, which has to end too early;
-/// `kept FRONT`: how many bytes a decoder keeps of it; `built FRONT|COUNT|PART|END`: a text with so many parts, in
-/// which `#` stands for the number of the part; `children` and such a text: how many children its object has.
+/// `kept FRONT`: how many bytes a decoder keeps of it; `large TEXT`: in pieces of 4,096 bytes; `children TEXT`: so too, how many
+/// children its object has.
 #[derive(Drop)]
 pub(crate) struct Pieces;
 
@@ -94,46 +94,16 @@ fn tell_kept(alloc: Global, front: &[u8], told: &mut String) -> Result<(), Alloc
     }
 }
 
-// Puts a part behind a text, with this number in place of `#`.
-fn push_part(text: &mut String, part: &str, number: u32) -> Result<(), AllocError> {
-    match part.split_once('#') {
-        Some((before, behind)) => write!(text, "{before}{number}{behind}"),
-        None => text.push_str(part),
-    }
-}
-
-// Puts so many parts behind a text.
-fn push_parts(text: &mut String, part: &str, count: u32) -> Result<(), AllocError> {
-    for number in 0..count {
-        push_part(text, part, number)?;
-    }
-    Ok(())
-}
-
-// Puts the text that is built so behind one.
-fn push_built(text: &mut String, said: &str) -> Result<(), AllocError> {
-    let (front, said) = split_bar(said);
-    let (count, said) = split_bar(said);
-    let (part, end) = split_bar(said);
-    text.push_str(front)?;
-    push_parts(text, part, count.parse::<u32>().unwrap_or(0))?;
-    text.push_str(end)
-}
-
-// The size of the pieces in which a built text comes, in bytes.
+// The size of the pieces in which a large text comes, in bytes.
 const SIZE: usize = 4096;
 
-fn tell_built(alloc: Global, said: &str, told: &mut String) -> Result<(), AllocError> {
-    let mut text = String::new(alloc);
-    push_built(&mut text, said)?;
-    tell(alloc, read_by(alloc, text.as_str().as_bytes(), SIZE), told)
+fn tell_large(alloc: Global, text: &[u8], told: &mut String) -> Result<(), AllocError> {
+    tell(alloc, read_by(alloc, text, SIZE), told)
 }
 
-// Tells how many children the object of a built text has.
-fn tell_children(alloc: Global, said: &str, told: &mut String) -> Result<(), AllocError> {
-    let mut text = String::new(alloc);
-    push_built(&mut text, said)?;
-    match read_by(alloc, text.as_str().as_bytes(), SIZE) {
+// Tells how many children the object of a large text has.
+fn tell_children(alloc: Global, text: &[u8], told: &mut String) -> Result<(), AllocError> {
+    match read_by(alloc, text, SIZE) {
         Ok(doc) => {
             let children = doc.root.children().len();
             write!(told, "{children}")
@@ -152,13 +122,12 @@ impl Table for Pieces {
     fn answer(&mut self, alloc: Global, asked: Asked, told: &mut String) -> Result<(), AllocError> {
         let (word, _) = split_word(asked.text);
         let bytes = behind(&asked, word);
-        let said = str::from_utf8(bytes).unwrap_or("");
         match word {
             "cut" => tell_cut(alloc, bytes, told),
             "fronts" => tell_fronts(alloc, bytes, told),
             "kept" => tell_kept(alloc, bytes, told),
-            "built" => tell_built(alloc, said, told),
-            "children" => tell_children(alloc, said, told),
+            "large" => tell_large(alloc, bytes, told),
+            "children" => tell_children(alloc, bytes, told),
             _ => told.push_str("no such row"),
         }
     }

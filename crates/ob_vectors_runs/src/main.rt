@@ -1,12 +1,13 @@
 //! Runs the program on the rows of its tables, which lie where it runs, over an outside in memory, and prints for each table
 //! how many rows it has, and each row that comes out otherwise than the table says. So it does for the calls of a client: what
-//! a session answers, and what a mirror holds.
+//! a session answers, what a mirror holds, and both together on a site that the program serves.
 #![tactic(auto)]
 
 mod failing;
 mod inputs;
 mod mirrors;
 mod outside;
+mod polls;
 mod ran;
 mod runs;
 mod scarce;
@@ -14,6 +15,7 @@ mod sessions;
 
 use mirrors::Mirrors;
 use ob_rows::run;
+use polls::Polls;
 use runs::run_rows;
 use sessions::Sessions;
 use std::{fs, io};
@@ -25,5 +27,6 @@ fn main(rt: HostRuntime) -> io::Result<()> {
     run_rows(&rt, "clients.rows", texts.as_str())?;
     run(&rt, "sessions.rows", &mut Sessions)?;
     run(&rt, "mirrors.rows", &mut Mirrors::new(rt.alloc()))?;
+    run(&rt, "polls.rows", &mut Polls::new(&rt, texts.as_str()))?;
     run_rows(&rt, "records.rows", texts.as_str())
 }

@@ -63,6 +63,11 @@ impl Mirrors {
         let Some(reply) = reply_of(alloc, said) else {
             return Ok("no document");
         };
+        self.give(call, reply)
+    }
+
+    /// What becomes of the reply to `refresh`, `add` or `changes` that it is given. An error for want of memory.
+    pub(crate) fn give(&mut self, call: &str, reply: Obj) -> Result<&'static str, AllocError> {
         outcome(match call {
             "refresh" => self.mirror.on_refresh(reply),
             "add" => self.mirror.on_add(reply),

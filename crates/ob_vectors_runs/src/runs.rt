@@ -10,8 +10,8 @@ use std::sync::Wait;
 use std::thread::Threads;
 use std::{fs, io};
 
-// The text of a name, without its last line feed.
-fn text_named<'a>(texts: &'a str, name: &str) -> &'a str {
+/// The text of a name, without its last line feed.
+pub(crate) fn text_named<'a>(texts: &'a str, name: &str) -> &'a str {
     match named_part(texts, name) {
         Some((_, text)) => text.strip_suffix("\n").unwrap_or(text),
         None => "no such text",
@@ -33,8 +33,8 @@ fn expanded(alloc: Global, texts: &str, row: &str) -> Result<String, AllocError>
     Ok(whole)
 }
 
-// The words behind the first one.
-fn words_in(alloc: Global, row: &str) -> Result<Vec<String>, AllocError> {
+/// The words behind the first one.
+pub(crate) fn words_in(alloc: Global, row: &str) -> Result<Vec<String>, AllocError> {
     let mut words = Vec::new(alloc);
     let (_, rest) = split_word(row);
     for word in rest.split(' ') {

@@ -14,7 +14,8 @@ use std::alloc::{AllocError, Global};
 #[derive(Drop)]
 pub(crate) struct Sessions;
 
-fn tell_answer(
+/// Tells what a call answers, with ` / ` behind it. An error only for want of memory.
+pub(crate) fn tell_answer(
     alloc: Global,
     answer: Result<Obj, CallFault>,
     told: &mut String,
@@ -54,11 +55,25 @@ fn link_of(alloc: Global, row: &str) -> Result<MemLink, AllocError> {
     Ok(MemLink::new(alloc, replies(alloc, said), piece, failing))
 }
 
-fn tell_session(alloc: Global, link: MemLink, told: &mut String) -> Result<(), AllocError> {
+fn session_on(alloc: Global, link: MemLink) -> Result<Session<MemLink>, AllocError> {
     let host = Text::from_ascii(alloc, "h")?;
-    let Ok(mut session) = Session::new(alloc, link, host) else {
-        return Err(AllocError);
-    };
+    match Session::new(alloc, link, host) {
+        Ok(session) => Ok(session),
+        Err((link, memory)) => {
+            drop(link);
+            Err(memory)
+        }
+    }
+}
+
+/// A session with the host `h` over a link that gives these bytes. An error for want of memory.
+pub(crate) fn session_over(alloc: Global, bytes: &[u8]) -> Result<Session<MemLink>, AllocError> {
+    let bytes = bytes.to_vec(alloc)?;
+    session_on(alloc, MemLink::new(alloc, bytes, 4096, Vec::new(alloc)))
+}
+
+fn tell_session(alloc: Global, link: MemLink, told: &mut String) -> Result<(), AllocError> {
+    let mut session = session_on(alloc, link)?;
     tell_calls(alloc, &mut session, told)?;
     let link = session.end();
     push_bytes(told, link.written().unwrap_or(b"untold"))

@@ -1,6 +1,6 @@
 //! Requests on whole sites, worked one after the other, with their replies.
 use crate::sites::open;
-use crate::spelled::object;
+use ob_documents::read;
 use ob_encode::encode;
 use ob_object::Obj;
 use ob_rows::{Asked, Table, push_bytes, split_word, text_of};
@@ -28,6 +28,12 @@ fn verb(word: &str) -> Option<Verb> {
         "POST" => Some(Verb::Post),
         _ => None,
     }
+}
+
+// The object that a text is, if it is a document.
+fn object(alloc: Global, said: &str) -> Option<Obj> {
+    let (_, root) = read(alloc, said.as_bytes()).ok()?.into_parts();
+    Some(root)
 }
 
 /// The request of a row, if it is one.

@@ -1,6 +1,5 @@
 //! Connections: what is written on them, and how they end.
 use crate::sites::{Opening, load_site, opening_of};
-use crate::streams::fault_word;
 use ob_io::{MemLink, Ticker};
 use ob_load::Loaded;
 use ob_rows::{Asked, Table, number_at, push_bytes};
@@ -38,10 +37,7 @@ fn tell_end(end: LinkEnd, told: &mut String) -> Result<(), AllocError> {
         LinkEnd::Closed => told.push_str("closed"),
         LinkEnd::Asked => told.push_str("asked"),
         LinkEnd::Truncated => told.push_str("truncated"),
-        LinkEnd::BadFrame(fault, place) => {
-            let word = fault_word(fault);
-            write!(told, "frame {word} at {place}")
-        }
+        LinkEnd::BadFrame(fault, place) => write!(told, "frame {fault} at {place}"),
         LinkEnd::ReadFault => told.push_str("read"),
         LinkEnd::WriteFault => told.push_str("write"),
         LinkEnd::ClockFault => told.push_str("clock"),
