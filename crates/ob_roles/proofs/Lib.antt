@@ -7,6 +7,7 @@ pub mod KeptRows
 pub mod PathRows
 pub mod Taken
 pub mod Walks
+pub mod Handed
 pub mod Named
 pub mod WordRows
 pub mod Tabled

@@ -1,7 +1,6 @@
 -- What an object takes from.
-use Rattle.std.proofs.Common.{◌≡◌, ℕ, zero, suc, ◌+◌, ◌<◌, ◌≤◌, Bool, true, false, cond, ◌&&◌, codes, List, [], ◌∷◌, ◌++◌, map, length, take, drop, get_or, Option, Some, None, refl, sym, ap, ap₂, ◌∙◌, subst, append_assoc, arith, add-one}
+use Rattle.std.proofs.Common.{◌≡◌, ℕ, zero, suc, ◌+◌, ◌<◌, ◌≤◌, Bool, true, false, ◌&&◌, codes, List, [], ◌∷◌, ◌++◌, map, length, take, drop, get_or, Option, Some, None, refl, sym, ap, ◌∙◌, arith, add-one}
 use Rattle.std.specs.Prelude.{is_some}
-use Rattle.std.specs.Option.{option_copied}
 use Rattle.std.proofs.Math.Seq.{drop-cons}
 use Rattle.std.proofs.lemmas.List.{append-nil, take_more, take_all}
 use denote.Ref.{Bor}
@@ -29,7 +28,7 @@ put_some xs new r o e is = ap lent e ∙ lent-append xs (r ∷ []) ∙ ap (λ q.
 pub put_none : (xs : List (Bor Object)) (o : Option Object) → o ≡ None → lent xs ≡ lent xs ++ present (o ∷ [])
 put_none xs o is = sym (append-nil (lent xs)) ∙ ap (λ q. lent xs ++ present (q ∷ [])) (sym is)
 
-present_behind : (xs : List (Option Object)) (o : Option Object) → present (xs ++ o ∷ []) ≡ present xs ++ present (o ∷ [])
+pub present_behind : (xs : List (Option Object)) (o : Option Object) → present (xs ++ o ∷ []) ≡ present xs ++ present (o ∷ [])
 present_behind [] o = refl
 present_behind (None ∷ xs) o = present_behind xs o
 present_behind (Some x ∷ xs) o = ap (λ l. x ∷ l) (present_behind xs o)
@@ -47,11 +46,14 @@ found_more lib ws i w xs new h is held put =
     ∙ ap present (sym (map_behind lib (take i ws) w))
     ∙ ap (λ l. present (map (contract_of lib) l)) (sym (take_more ws i w h ∙ ap (λ y. take i ws ++ y ∷ []) (sym is)))
 
-pub found_all : (lib : Contracts) (ws vs : Words) (i : ℕ) (over : Option Object) (xs new : List (Bor Object)) → length ws ≤ i → ws ≡ vs → lent xs ≡ present (map (contract_of lib) (take i ws)) → lent new ≡ lent xs ++ present (over ∷ [])
-    → lent new ≡ present (map (contract_of lib) vs ++ over ∷ [])
-found_all lib ws vs i over xs new h same held put =
-    put ∙ ap (λ l. l ++ present (over ∷ [])) (held ∙ ap (λ l. present (map (contract_of lib) l)) (take_all i ws h ∙ same))
-    ∙ sym (present_behind (map (contract_of lib) vs) over)
+pub found_all : (lib : Contracts) (ws : Words) (i : ℕ) (xs : List (Bor Object)) → length ws ≤ i → lent xs ≡ present (map (contract_of lib) (take i ws)) → lent xs ≡ present (map (contract_of lib) ws)
+found_all lib ws i xs h held = held ∙ ap (λ l. present (map (contract_of lib) l)) (take_all i ws h)
+
+-- and the child that is overridden
+pub found_over : (lib : Contracts) (ws : Words) (over : Option Object) (xs new : List (Bor Object)) → lent xs ≡ present (map (contract_of lib) ws) → lent new ≡ lent xs ++ present (over ∷ [])
+    → lent new ≡ present (map (contract_of lib) ws ++ over ∷ [])
+found_over lib ws over xs new held put =
+    put ∙ ap (λ l. l ++ present (over ∷ [])) held ∙ sym (present_behind (map (contract_of lib) ws) over)
 
 implied_if : (b : Bool) (of : Option Words) (ss : List Object) → only_if b (or_else of (first_given (λ s. only_if b s.head.of) ss)) ≡ only_if b (or_else of (first_given (λ s. s.head.of) ss))
 implied_if true of ss = refl
@@ -80,7 +82,7 @@ else_assoc : {A : Type 0} (a b c : Option A) → or_else (or_else a b) c ≡ or_
 else_assoc None b c = refl
 else_assoc (Some x) b c = refl
 
-else_none : {A : Type 0} (a : Option A) → or_else a None ≡ a
+pub else_none : {A : Type 0} (a : Option A) → or_else a None ≡ a
 else_none None = refl
 else_none (Some x) = refl
 

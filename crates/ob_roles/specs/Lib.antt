@@ -1,4 +1,5 @@
 pub mod Kinds
+pub mod Given
 pub mod Sums
 pub mod Told
 pub mod Tables

@@ -3,6 +3,7 @@
 #![tactic(auto)]
 
 mod ancestors;
+mod given;
 mod kept;
 mod kinds;
 mod library;

@@ -1,5 +1,5 @@
 //! What an object takes from, in contracts whose parts have their words as `is`.
-ghost use Rattle.std.specs.Prelude.{◌≡◌, ◌++◌, ◌∷◌, [], List, ℕ, Some, IfOk, OnOk};
+ghost use Rattle.std.specs.Prelude.{◌≡◌, ◌++◌, ◌∷◌, [], List, ℕ, Some, map, IfOk, OnOk};
 ghost use Rattle.std.specs.Option.{option_copied};
 ghost use Rattle.ob_object.specs.Object.{Object};
 ghost use Rattle.ob_object.specs.WellFormed.{named};
@@ -79,6 +79,21 @@ fn put_over<'a>(from: &mut Vec<&'a Obj>, over: Option<&'a Obj>) -> Result<(), Al
     }
 }
 
+/// The contracts that words name.
+pub(crate) fn contracts_of<'a>(
+    alloc: Global,
+    table: &'a Table,
+    words: &[Text],
+) -> Result<Vec<&'a Obj>, AllocError>
+    ensures { IfOk result (λ from. (lib : Contracts) → Holds table.now lib → lent from.items ≡ present (map (contract_of lib) words.now)) }
+{
+    let mut from = Vec::new(alloc);
+    for word in words {
+        put_found(&mut from, table, word)?;
+    }
+    Ok(from)
+}
+
 /// What an object takes from: what its words stand for, and the child that it overrides.
 pub fn sources<'a>(
     alloc: Global,
@@ -89,19 +104,16 @@ pub fn sources<'a>(
 ) -> Result<Vec<&'a Obj>, AllocError>
     ensures { IfOk result (λ from. (lib : Contracts) → Holds table.now lib → lent from.items ≡ sources lib head.now (option_copied implied.entry) (option_copied over.entry)) }
 {
-    let mut from = Vec::new(alloc);
     if head.kind.is_ref() {
-        return Ok(from);
+        return Ok(Vec::new(alloc));
     }
-    for word in words_of(head, implied) {
-        put_found(&mut from, table, word)?;
-    }
+    let mut from = contracts_of(alloc, table, words_of(head, implied))?;
     put_over(&mut from, over)?;
     Ok(from)
 }
 
-// The words that the first of sources gives to its children.
-fn first_of<'a>(from: &[&'a Obj]) -> Option<&'a Words>
+/// The words that the first of sources gives to its children.
+pub(crate) fn first_of<'a>(from: &[&'a Obj]) -> Option<&'a Words>
     ensures { option_copied result ≡ first_given (λ s. s.head.of) (lent from.now) }
 {
     for source in from {

@@ -1,40 +1,22 @@
 //! The roles of all objects of a site, in the order of the document.
-ghost use Rattle.std.specs.Prelude.{◌≡◌, ◌++◌, List, ℕ, true, Some, IfOk};
+ghost use Rattle.std.specs.Prelude.{◌≡◌, ◌++◌, List, IfOk};
 ghost use Rattle.std.specs.Option.{option_copied};
 ghost use Rattle.ob_object.specs.Object.{Object, in_row};
-ghost use Rattle.ob_contracts.specs.Found.{found, lent};
-ghost use Rattle.ob_contracts.specs.Inherit.{Contracts, sources, overridden};
+ghost use Rattle.ob_contracts.specs.Inherit.{Contracts};
 ghost use Rattle.ob_opening.specs.Roles.{row_roles, all_roles};
 ghost use Rattle.ob_roles.specs.Kinds.{Tells};
 ghost use Rattle.ob_roles.specs.Tables.{Holds};
+ghost use Rattle.ob_roles.specs.Given.{IsGiven, IsAbove};
 
+use crate::given::{Above, Given, above_of, base_of, given_by, gives_of, nothing, over_names};
 use crate::kinds::Known;
-use crate::naming::{Names, find_over, names_in};
-use crate::roles::roles_there;
-use crate::taking::{Table, implied_by, own_words, sources};
+use crate::roles::roles_by;
+use crate::taking::Table;
 use crate::told::is_below;
-use ob_object::{Head, Obj, Words};
+use ob_object::Obj;
 use ob_opening::Roles;
 use std::alloc::{AllocError, Global};
 use std::collections::BTreeMap;
-
-// What an object takes from, where that is asked for.
-fn sources_if<'a>(
-    alloc: Global,
-    table: &'a Table,
-    asked: bool,
-    head: &'a Head,
-    implied: Option<&'a Words>,
-    over: Option<&'a Obj>,
-) -> Result<Vec<&'a Obj>, AllocError>
-    ensures { IfOk result (λ from. (lib : Contracts) → Holds table.now lib → asked ≡ true → lent from.items ≡ sources lib head.now (option_copied implied.entry) (option_copied over.entry)) }
-{
-    if asked {
-        sources(alloc, table, head, implied, over)
-    } else {
-        Ok(Vec::new(alloc))
-    }
-}
 
 /// Puts last the roles of the objects of a row and of what is in them.
 fn put_row<'a>(
@@ -45,28 +27,31 @@ fn put_row<'a>(
     root: bool,
     under: bool,
     inside: bool,
-    implied: Option<&'a Words>,
-    above: &Names<'a>,
+    list: &Given<'a>,
+    above: &Above<'a, '_>,
     objects: &'a [Obj],
 ) -> Result<(), AllocError>
-    ensures { IfOk result (λ _. (lib : Contracts) (ss : List Object) → Holds table.now lib → Tells known.now lib → ((n : List ℕ) → found above.now n ≡ overridden (Some n) ss)
-        → all.new.items ≡ all.old.items ++ row_roles lib root under inside (option_copied implied.entry) ss (in_row objects.now)) }
+    ensures { IfOk result (λ _. (lib : Contracts) (ss : List Object) → Holds table.now lib → Tells known.now lib → IsGiven list.now lib → IsAbove above.now ss
+        → all.new.items ≡ all.old.items ++ row_roles lib root under inside (option_copied list.now.words) ss (in_row objects.now)) }
 {
     for object in objects {
         let head = object.head();
-        let over = find_over(above, head);
-        let words = own_words(head, implied, over);
+        let over = above.over(head);
         let below = is_below(inside, under, head);
-        let roles = roles_there(known, root, below, head, words);
+        let roles = roles_by(known, root, below, head, list, over);
         all.push(roles)?;
         let children = object.children();
-        let asked = children.len() > 0;
-        let from = sources_if(alloc, table, asked, head, implied, over)?;
-        let gives = implied_by(head, from.as_slice());
-        let names = names_in(alloc, from.as_slice())?;
-        put_row(
-            alloc, table, known, all, false, root, below, gives, &names, children,
-        )?;
+        if children.len() > 0 {
+            let own = given_by(alloc, table, known, head.is.as_ref())?;
+            let base = base_of(&own, &*list);
+            let gives = gives_of(head, base, over);
+            let handed = given_by(alloc, table, known, gives)?;
+            let names = over_names(alloc, head, over)?;
+            let within = above_of(head, base, &names);
+            put_row(
+                alloc, table, known, all, false, root, below, &handed, &within, children,
+            )?;
+        }
     }
     Ok(())
 }
@@ -82,10 +67,15 @@ pub fn all_roles(
     ensures { IfOk result (λ rs. (lib : Contracts) → Holds table.now lib → Tells known.now lib → rs.items ≡ all_roles lib root.now) }
 {
     let mut all = Vec::new(alloc);
-    let above = BTreeMap::new(alloc);
+    let names = BTreeMap::new(alloc);
+    let above = Above {
+        base: None,
+        over: &names,
+    };
+    let list = nothing(alloc);
     let row = std::slice::from_ref(root);
     put_row(
-        alloc, table, known, &mut all, true, false, false, None, &above, row,
+        alloc, table, known, &mut all, true, false, false, &list, &above, row,
     )?;
     Ok(all)
 }
