@@ -8,3 +8,4 @@ pub mod Places
 pub mod Replies
 pub mod Requests
 pub mod Batches
+pub mod Seeing

@@ -1,7 +1,10 @@
 -- What is asked for, as the definitions of the site have it.
-use Rattle.std.specs.Prelude.{ℕ, Bool, cond, List, [], ◌∷◌, ◌++◌, codes, Option, Some, None, option_map, Result, Ok, Err}
+use Rattle.std.specs.Prelude.{◌≡◌, ℕ, Bool, cond, List, [], ◌∷◌, ◌++◌, codes, Option, Some, None, option_map, Result, Ok, Err}
 use Rattle.std.specs.List.{list_any}
 use Rattle.std.specs.Str.{bytes_eq}
+use Rattle.std.specs.BTreeSet.{BTreeSet}
+use denote.Ref.{Bor}
+use Rattle.ob_contracts.specs.Telling.{has_text}
 use Rattle.ob_object.specs.declared.kind.Kind.TheVariants as kind
 use Rattle.ob_object.specs.Kinds.{same_kind}
 use Rattle.ob_object.specs.Object.{Object}
@@ -24,6 +27,15 @@ asked_of o = option_map (λ text. (text, child (codes "in") o)) (uri_of o)
 -- a text is asked for
 abbrev pub holds_text : List Asked → Text → Bool
 holds_text asked text = list_any (λ a. bytes_eq text a.0) asked
+
+-- a set has the hrefs of what is asked for
+abbrev pub HaveSeen : BTreeSet (Bor (List ℕ)) → List Asked → Type 0
+HaveSeen seen asked = (text : Text) → has_text seen text ≡ holds_text asked text
+
+-- one more was put behind what is asked for, unless its href is there, and the set has the hrefs of what is then there
+pub record ArePut (seen : BTreeSet (Bor (List ℕ))) (old new : List Asked) (one : Asked) : Type 0 where
+  pub kept : new ≡ cond (holds_text old one.0) old (old ++ one ∷ [])
+  pub have : HaveSeen seen new
 
 -- the first of what asks for equal hrefs, behind what is there
 abbrev pub firsts_behind : List Asked → List Asked → List Asked

@@ -4,11 +4,12 @@ ghost use Rattle.std.specs.Option.{option_copied};
 ghost use Rattle.ob_site_rules.specs.Actions.{uri_of};
 ghost use Rattle.ob_site_rules.specs.Build.{child};
 ghost use Rattle.ob_site_rules.specs.Watched.{asked_by, asked_in, asked_items};
-ghost use Rattle.ob_requests.specs.Calls.{asked_of, firsts, holds_text};
+ghost use Rattle.ob_requests.specs.Calls.{asked_of, firsts, HaveSeen, ArePut};
 
 use ob_object::{Kind, Obj, Slot};
 use ob_values::{Text, Value};
 use std::alloc::{AllocError, Global};
+use std::collections::BTreeSet;
 
 /// An href as it is asked, and the input that stands beside it.
 pub type Asked = (Text, Option<Obj>);
@@ -94,13 +95,6 @@ pub fn asked_by(alloc: Global, input: &Option<Obj>) -> Result<Option<Vec<Asked>>
     }
 }
 
-// Whether a text is asked for.
-fn holds_text(asked: &[Asked], text: &Text) -> bool
-    ensures { result ≡ holds_text asked.now text.now }
-{
-    asked.iter().any(|a| text.as_str() == a.0.as_str())
-}
-
 // A copy of what is asked for.
 fn copy_asked(asked: &Asked) -> Result<Asked, AllocError>
     ensures { IfOk result (λ copy. copy ≡ asked.now) }
@@ -115,15 +109,31 @@ fn copy_asked(asked: &Asked) -> Result<Asked, AllocError>
     }
 }
 
+// Puts a copy of what is asked for last, unless its href is among those that were seen.
+fn put_first<'a>(
+    seen: &mut BTreeSet<&'a str>,
+    kept: &mut Vec<Asked>,
+    asked: &'a Asked,
+) -> Result<(), AllocError>
+    ensures { IfOk result (λ _. HaveSeen seen.old kept.old.items → ArePut seen.new kept.old.items kept.new.items asked.now) }
+{
+    let fresh = seen.insert(asked.0.as_str())?;
+    if !fresh {
+        return Ok(());
+    }
+    let copy = copy_asked(asked)?;
+    kept.push(copy)?;
+    Ok(())
+}
+
 /// What is asked for without what asks for an href again: of equal hrefs only the first counts.
 pub fn firsts(alloc: Global, asked: &[Asked]) -> Result<Vec<Asked>, AllocError>
     ensures { IfOk result (λ kept. kept.items ≡ firsts asked.now) }
 {
+    let mut seen = BTreeSet::new(alloc);
     let mut kept = Vec::new(alloc);
     for a in asked {
-        if !holds_text(&kept, &a.0) {
-            kept.push(copy_asked(a)?)?;
-        }
+        put_first(&mut seen, &mut kept, a)?;
     }
     Ok(kept)
 }
