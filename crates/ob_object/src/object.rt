@@ -8,7 +8,7 @@ ghost use Rattle.ob_object.specs.Pushed.{IsPushed};
 ghost use Rattle.ob_object.specs.WellFormed.{IsWellFormed, named, is_taken, has_name, NamesDiffer, with_child};
 
 use crate::facet::Facets;
-use crate::head::{are_words, Head, Slot, fits_facets, fits_name, fits_slot};
+use crate::head::{Head, Slot, are_words, fits_facets, fits_name, fits_slot};
 use crate::kind::Kind;
 use crate::same::same_head;
 use crate::status::Status;
