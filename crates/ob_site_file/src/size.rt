@@ -143,7 +143,7 @@ fn sources<'a>(
     alloc: Global,
     library: &'a Library,
     head: &'a Head,
-    implied: Option<&'a Words>,
+    implied: Option<&Words>,
     over: Option<&'a Obj>,
 ) -> Result<Vec<&'a Obj>, AllocError>
     ensures { IfOk result (λ from. lent from.items ≡ sources library.now head.now (option_copied implied.entry) (option_copied over.entry)) }
@@ -151,7 +151,7 @@ fn sources<'a>(
     if head.kind.is_ref() {
         return Ok(Vec::new(alloc));
     }
-    let from = contracts_for(alloc, library, words_of(head, implied), over)?;
+    let from = contracts_for(alloc, library, words_of(&*head, implied), over)?;
     Ok(from)
 }
 
@@ -272,7 +272,7 @@ fn left_after_shown<'a>(
     alloc: Global,
     counting: &Counting<'a>,
     object: &'a Obj,
-    implied: Option<&'a Words>,
+    implied: Option<&Words>,
     over: Option<&'a Obj>,
     most: u64,
 ) -> Result<u64, AllocError>

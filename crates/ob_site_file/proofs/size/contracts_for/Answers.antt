@@ -1,6 +1,5 @@
-use Rattle.std.proofs.Common.{refl}
 use Rattle.std.specs.Option.{option_copied}
-use Rattle.ob_roles.proofs.Taken.{found_more, found_all}
+use Rattle.ob_roles.proofs.Taken.{found_more, found_all, found_over}
 use Rattle.ob_site_file.proofs.size.contracts_for.Goals as goal
 
 pub loop-word-preserved : goal.loop-word-preserved
@@ -9,4 +8,5 @@ loop-word-preserved c =
 
 pub returns : goal.returns
 returns c =
-    found_all c.args.library.now c.args.words.now c.args.words.now c.loop-word.word-index (option_copied c.args.over) c.loop-word.from.items c.put_over.new.from.items c.loop-word-test.false refl c.loop-word.invariant c.in_ok-put_over.ensures
+    found_over c.args.library.now c.args.words.now (option_copied c.args.over) c.loop-word.from.items c.put_over.new.from.items
+    (found_all c.args.library.now c.args.words.now c.loop-word.word-index c.loop-word.from.items c.loop-word-test.false c.loop-word.invariant) c.in_ok-put_over.ensures
