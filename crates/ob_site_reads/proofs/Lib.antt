@@ -1,3 +1,4 @@
 pub mod Eventful
 pub mod Nameless
 pub mod Plain
+pub mod Raised

@@ -1,8 +1,10 @@
 //! Events of feeds as objects, those alone that are asked for.
-ghost use Rattle.std.specs.Prelude.{◌≡◌, ◌-◌, [], ◌∷◌, ◌++◌, drop, map, IsTrue, IfOk};
+ghost use Rattle.std.specs.Prelude.{◌≡◌, ◌-◌, [], ◌∷◌, ◌++◌, false, drop, map, Some, IsTrue, IfOk};
 ghost use Rattle.std.specs.List.{filter};
+ghost use Rattle.ob_alarms.specs.Changes.{alarm_of};
+ghost use Rattle.ob_alarms.specs.declared.alarm.Alarm.{Alarm};
 ghost use Rattle.ob_replies.specs.Queries.{values_fit};
-ghost use Rattle.ob_site_rules.specs.Entries.{record_object, event_object, event_objects};
+ghost use Rattle.ob_site_rules.specs.Entries.{is_within, raised_at, record_object, event_object, event_objects};
 ghost use Rattle.ob_site_rules.specs.Watched.{passes as passes_event};
 
 use ob_alarms::Alarms;
@@ -69,6 +71,26 @@ fn event_object(alloc: Global, alarms: &Alarms, event: u64) -> Result<Obj, Alloc
     }
 }
 
+/// Whether a filter passes the moment at which the alarm of a number was raised.
+fn was_raised_within(alarms: &Alarms, bounds: &Filter, number: u64) -> bool
+    ensures { (a : Alarm) → alarm_of number alarms.now.alarms ≡ Some a → result ≡ is_within bounds.now (raised_at a) }
+{
+    match alarms.raised(number) {
+        Some(raised) => passes(bounds, raised.abstime()),
+        None => true,
+    }
+}
+
+/// Whether an event may pass a filter, by the moment at which its alarm was raised: nothing is built to tell it.
+fn may_pass(alarms: &Alarms, bounds: &Filter, event: u64) -> bool
+    ensures { result ≡ false → passes_event bounds.now (event_object alarms.now event) ≡ false }
+{
+    match alarms.events(0).get(event as usize) {
+        Some(told) => was_raised_within(alarms, bounds, told.number),
+        None => true,
+    }
+}
+
 /// Puts the alarm of an event last, if the event passes a filter.
 fn put_event(
     alloc: Global,
@@ -79,6 +101,9 @@ fn put_event(
 ) -> Result<(), AllocError>
     ensures { IfOk result (λ _. events.new.items ≡ events.old.items ++ filter (passes_event bounds.now) (event_object alarms.now event ∷ [])) }
 {
+    if !may_pass(alarms, bounds, event) {
+        return Ok(());
+    }
     let object = event_object(alloc, alarms, event)?;
     if !passes_event(bounds, &object) {
         return Ok(());

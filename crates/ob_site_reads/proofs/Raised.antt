@@ -1,0 +1,81 @@
+-- An event of an alarm has the moment at which the alarm was raised, however it stood just after the event.
+use Rattle.std.proofs.Common.{◌≡◌, ℕ, zero, suc, ◌+◌, ◌-◌, Bool, true, false, cond, nat_eq, List, [], ◌∷◌, take, drop, ◌++◌, append-nil, filter, reverse, Option, Some, None, refl, sym, ap, ◌∙◌}
+use Rattle.std.specs.Prelude.{slice_get, unwrap_or}
+use Rattle.ob_object.specs.Object.{Object}
+use Rattle.ob_history.specs.declared.records.Filter.{Filter}
+use Rattle.ob_alarms.specs.declared.alarm.Alarm.{Alarm}
+use Rattle.ob_alarms.specs.declared.alarm.Event.{Event}
+use Rattle.ob_alarms.specs.declared.alarm.Turn.{Turn}
+use Rattle.ob_alarms.specs.declared.alarm.What.{What}
+use Rattle.ob_alarms.specs.declared.alarm.What.TheVariants as what
+use Rattle.ob_alarms.specs.declared.rule.Rule.{Rule}
+use Rattle.ob_alarms.specs.AlarmObjects.{object_in, shown_alarm, shown_event, before_all, alarms_after}
+use Rattle.ob_alarms.specs.Changes.{State, alarm_of, before, before_what}
+use Rattle.ob_alarms.specs.Lists.{changed_at}
+use Rattle.ob_site_rules.specs.Entries.{empty_object, event_object, is_within, raised_at}
+use Rattle.ob_site_rules.specs.Watched.{passes}
+
+some_same : {A : Type 0} {a b : A} → Some a ≡ Some b → a ≡ b
+some_same e = cc
+
+-- an alarm that is there, raised at the same moment
+abbrev IsThere : Alarm → Option Alarm → Type 0
+IsThere a there = (b : Alarm) × ((there ≡ Some b) × (b.raised ≡ a.raised))
+
+in_front : (k n : ℕ) (alarms : List Alarm) (a : Alarm) → slice_get (take k alarms) n ≡ Some a → slice_get alarms n ≡ Some a
+in_front zero n alarms a e = absurd cc
+in_front (suc k) n [] a e = e
+in_front (suc k) zero (x ∷ alarms) a e = e
+in_front (suc k) (suc n) (x ∷ alarms) a e = in_front k n alarms a e
+
+unchanged : (f : Alarm → Alarm) → ((x : Alarm) → (f x).raised ≡ x.raised) → (k n : ℕ) (alarms : List Alarm) (a : Alarm) → slice_get (changed_at k f alarms) n ≡ Some a → IsThere a (slice_get alarms n)
+unchanged f keep k n [] a e = absurd cc
+unchanged f keep zero zero (x ∷ alarms) a e = (x, (refl, sym (keep x) ∙ ap (λ (y : Alarm). y.raised) (some_same e)))
+unchanged f keep zero (suc n) (x ∷ alarms) a e = (a, (e, refl))
+unchanged f keep (suc k) zero (x ∷ alarms) a e = (x, (refl, ap (λ (y : Alarm). y.raised) (some_same e)))
+unchanged f keep (suc k) (suc n) (x ∷ alarms) a e = unchanged f keep k n alarms a e
+
+before_one : (w : What) (k n : ℕ) (alarms : List Alarm) (a : Alarm) → slice_get (before_what w k alarms) n ≡ Some a → IsThere a (slice_get alarms n)
+before_one what.Raised k n alarms a e = (a, (in_front k n alarms a e, refl))
+before_one what.Acked k n alarms a e = unchanged (λ (x : Alarm). record x { ack = None }) (λ x. refl) k n alarms a e
+before_one what.Normal k n alarms a e = unchanged (λ (x : Alarm). record x { normal = None }) (λ x. refl) k n alarms a e
+
+before_each : (es : List Event) (n : ℕ) (alarms : List Alarm) (a : Alarm) → slice_get (before_all es alarms) n ≡ Some a → IsThere a (slice_get alarms n)
+before_each [] n alarms a e = (a, (e, refl))
+before_each (x ∷ es) n alarms a e =
+    let later = before_each es n (before x alarms) a e in
+    let here = before_one x.what (x.number - 1) n alarms later.0 later.1.0 in
+    (here.0, (here.1.0, here.1.1 ∙ later.1.1))
+
+there_now : (es : List Event) (number : ℕ) (alarms : List Alarm) (a : Alarm) → alarm_of number (before_all es alarms) ≡ Some a → IsThere a (alarm_of number alarms)
+there_now es number alarms a e = go (nat_eq number 0) e
+  where
+    go : (c : Bool) → cond c None (slice_get (before_all es alarms) (number - 1)) ≡ Some a → IsThere a (cond c None (slice_get alarms (number - 1)))
+    go true e = absurd cc
+    go false e = before_each es (number - 1) alarms a e
+
+same_moment : (b a : Alarm) → b.raised ≡ a.raised → raised_at a ≡ raised_at b
+same_moment b a e = ap (λ (t : Turn). let y : Alarm = record a { raised = t } in raised_at y) (sym e)
+
+-- what is shown of an alarm that was raised at such a moment
+shown_passes : (f : Filter) (s : State) (number : ℕ) (a : Alarm) → is_within f (raised_at a) ≡ false → passes f (unwrap_or (shown_alarm s number (Some a)) empty_object) ≡ false
+shown_passes f s number a late = go (slice_get s.rules a.rule)
+  where
+    go : (r : Option Rule) → passes f (unwrap_or (object_in s.root r number a) empty_object) ≡ false
+    go None = refl
+    go (Some r) = late
+
+-- an event whose alarm was raised at a moment that a filter doesn't pass doesn't pass it
+pub raised_late : (f : Filter) (s : State) (event : ℕ) (e : Event) (within : Bool) → slice_get s.events event ≡ Some e
+    → ((a : Alarm) → alarm_of e.number s.alarms ≡ Some a → within ≡ is_within f (raised_at a)) → within ≡ false → passes f (event_object s event) ≡ false
+raised_late f s event e within there is late =
+    ap (λ (o : Option Event). passes f (unwrap_or (shown_event s event o) empty_object)) there ∙ go (alarm_of e.number (alarms_after event s)) refl
+  where
+    go : (o : Option Alarm) → alarm_of e.number (alarms_after event s) ≡ o → passes f (unwrap_or (shown_alarm s e.number o) empty_object) ≡ false
+    go None at = refl
+    go (Some a) at =
+        let now = there_now (reverse (drop (event + 1) s.events)) e.number s.alarms a at in
+        shown_passes f s e.number a (ap (is_within f) (same_moment now.0 a now.1.1) ∙ sym (is now.0 now.1.0) ∙ late)
+
+pub dropped : (f : Filter) (o : Object) (es : List Object) → passes f o ≡ false → es ≡ es ++ filter (passes f) (o ∷ [])
+dropped f o es late = sym (ap (λ (b : Bool). es ++ cond b (o ∷ []) []) late ∙ append-nil es)
