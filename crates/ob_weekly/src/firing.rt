@@ -82,7 +82,7 @@ fn due_in(
 ) -> Result<Vec<Due>, AllocError>
     requires few { length entries.now ≤ 100 }
     requires each { All IsEntry entries.now }
-    requires low { neg_ℤ (pos 1_036_700_000) ≤ℤ from }
+    requires low { neg_ℤ (pos 1_036_799_999) ≤ℤ from }
     requires within { (from ≤ℤ to) × (to ≤ℤ pos 253_402_300_799_999) }
     ensures { IfOk result (λ dues. AreAll (IsDueIn (plain_zone zone.now) schedule entries.now (from -ℤ pos 1) to) dues.items) }
 {
