@@ -1,9 +1,12 @@
-"""The tries of bench/serve.sh. Bounded in time and count; all traffic is on 127.0.0.1."""
+"""The tries of bench/serve.sh. Bounded in time and count; all traffic is on 127.0.0.1 and ::1."""
 import argparse
+import concurrent.futures
 import errno
 import http.client
+import itertools
 import multiprocessing
 import os
+import resource
 import shutil
 import socket
 import struct
@@ -14,6 +17,17 @@ import time
 import xml.etree.ElementTree as ET
 
 CLIENTS_TIME = 900
+# Until when another client is answered, in seconds, where peers are silent or take nothing, and where they send a byte now and then.
+SILENCE, DRIP = 85, 310
+ports = None   # where the tries listen, if it matters
+
+
+def free_port(host):
+    if ports:
+        return next(ports)
+    with socket.socket(socket.AF_INET6 if ":" in host else socket.AF_INET) as free:
+        free.bind((host, 0))
+        return free.getsockname()[1]
 
 
 def site(points):
@@ -25,23 +39,39 @@ def site(points):
 class Server:
     """`obix serve` on a free port of loopback, which ends when each worker has had its links."""
 
-    def __init__(self, program, points, workers, quota):
+    def __init__(self, program, points, workers, quota, host="127.0.0.1", descriptors=None):
         self.room = tempfile.mkdtemp(prefix="obix-serve.")
         with open(f"{self.room}/site.xml", "w") as file:
             file.write(site(points))
-        with socket.socket() as free:
-            free.bind(("127.0.0.1", 0))
-            self.port = free.getsockname()[1]
-        words = [program, "serve", f"{self.room}/site.xml", "127.0.0.1", str(self.port)]
+        self.host = host.strip("[]")
+        self.port = free_port(self.host)
+        words = [program, "serve", f"{self.room}/site.xml", host, str(self.port)]
         self.links = workers * quota
-        self.run = subprocess.Popen([*words, "--workers", str(workers), "--quota", str(quota)], stdout=subprocess.PIPE, text=True)
+        few = (lambda: resource.setrlimit(resource.RLIMIT_NOFILE, (descriptors, descriptors))) if descriptors else None
+        self.run = subprocess.Popen([*words, "--workers", str(workers), "--quota", str(quota)], stdout=subprocess.PIPE, text=True, preexec_fn=few)
         line = self.run.stdout.readline()
-        assert line == f"listening 127.0.0.1 {self.port}\n", line
+        assert line == f"listening {host} {self.port}\n", line
 
     def connect(self):
-        link = socket.create_connection(("127.0.0.1", self.port), timeout=60)
+        link = socket.create_connection((self.host, self.port), timeout=60)
         link.setsockopt(socket.IPPROTO_TCP, socket.TCP_NODELAY, 1)
         return link
+
+    def answers(self, path, timeout):
+        """After how many seconds a new client has its answer."""
+        began, link = time.time(), http.client.HTTPConnection(self.host, self.port, timeout=timeout)
+        try:
+            assert asked(link, "GET", path)[0] == 200
+        except TimeoutError:
+            raise AssertionError(f"no answer within {timeout} s") from None
+        finally:
+            link.close()
+        return time.time() - began
+
+    def stop(self):
+        self.run.terminate()
+        self.run.communicate()
+        shutil.rmtree(self.room)
 
     def end(self):
         rest, _ = self.run.communicate(timeout=CLIENTS_TIME)
@@ -163,18 +193,133 @@ def noise(program, megabytes):
     return f"{links} MB"
 
 
+def ipv6(program):
+    server = Server(program, 1, 1, 1, host="[::1]")
+    server.answers("/obix/p0", 20)
+    server.end()
+
+
+def few_descriptors(program):
+    """Four workers and room for two connections: a third client is answered when one of the two goes away, and no worker ends."""
+    server = Server(program, 1, 4, 6, descriptors=10)
+    links = [server.connect() for _ in range(3)]
+    for link in links:
+        link.sendall(b"GET /obix/p0 HTTP/1.1\r\n\r\n")
+    for link in links[:2]:
+        assert link.recv(100).startswith(b"HTTP/1.1 200 ")
+        link.close()
+    assert links[2].recv(100).startswith(b"HTTP/1.1 200 ")
+    links[2].close()
+    times = [server.answers("/obix/p0", 20) for _ in range(server.links - len(links))]
+    server.end()
+    return f"{len(times)} clients after it in {sum(times):.3f} s"
+
+
+def held(program, workers, opening, limit, points=1, path="/obix/p0", each=None):
+    """Peers that send this and hold all workers; another client is answered within the limit. `each` is done to the peers every 20 s."""
+    server = Server(program, points, workers, 1_000)
+    peers = [server.connect() for _ in range(workers)]
+    for peer in peers:
+        peer.sendall(opening)
+    time.sleep(0.5)
+    with concurrent.futures.ThreadPoolExecutor(1) as one:
+        answered = one.submit(server.answers, path, limit)
+        while each and not concurrent.futures.wait([answered], 20).done:
+            for peer in peers:
+                try:
+                    each(peer)
+                except OSError:   # the server has closed it
+                    pass
+        try:
+            took = answered.result()
+        finally:
+            server.stop()
+    return f"another client is answered after {took:.1f} s"
+
+
+def whole(server, sent):
+    """The answer to these bytes, which may be more than the server reads, up to its end."""
+    link = server.connect()
+    link.sendall(sent)
+    answer = b"".join(iter(lambda: link.recv(65_536), b""))
+    link.close()
+    return answer
+
+
+def refusals(program):
+    """An answer over bytes that the server doesn't read is seen whole, 50 times of 50."""
+    server, seen = Server(program, 1, 4, 100_000), {}
+    post = b"POST /obix/p0 HTTP/1.1\r\nContent-Type: text/xml\r\n"
+    for name, status, sent in (
+            ("413", b"413", post + b"Content-Length: 2000000\r\n\r\n" + b"x" * 2_000_000),
+            ("411", b"411", post + b"Transfer-Encoding: chunked\r\n\r\n" + b"4000\r\n" + b"x" * 16_384 + b"\r\n0\r\n\r\n"),
+            ("431", b"431", b"GET /obix/p0 HTTP/1.1\r\n" + b"X: yyyyyyyy\r\n" * 2_000 + b"\r\n"),
+            ("400", b"400", b"GET\0 /obix/p0 HTTP/1.1\r\n" + b"z" * 100_000)):
+        seen[name] = 0
+        for _ in range(50):
+            try:
+                head, _, body = whole(server, sent).partition(b"\r\n\r\n")
+                length = next((int(it[15:]) for it in head.split(b"\r\n") if it.startswith(b"Content-Length:")), None)
+                seen[name] += head.startswith(b"HTTP/1.1 " + status + b" ") and length == len(body)
+            except ConnectionError:
+                pass
+    seen["411 to http.client"] = 0
+    for _ in range(50):
+        link = http.client.HTTPConnection("127.0.0.1", server.port, timeout=20)
+        try:
+            link.request("PUT", "/obix/p0", iter([b"<int val='1'/>"] * 1_000), {"Content-Type": "text/xml"})
+            seen["411 to http.client"] += link.getresponse().status == 411
+        except ConnectionError:
+            pass
+        link.close()
+    server.stop()
+    told = ", ".join(f"{name} {count}" for name, count in seen.items())
+    assert set(seen.values()) == {50}, f"of 50 each: {told}"
+    return f"of 50 each: {told}"
+
+
 def main():
+    global ports
     words = argparse.ArgumentParser()
     words.add_argument("program")
     for name, number in (("--clients", 64), ("--requests", 10_000), ("--noise", 1_024)):
         words.add_argument(name, type=int, default=number)
+    words.add_argument("--ports", type=int, help="the first port to listen on; free ones if it isn't given")
+    words.add_argument("--only", default="", help="only tries whose name has this text")
     given = words.parse_args()
+    if given.ports:
+        ports = itertools.count(given.ports)
+    half, field = b"GET /obix/p0 HT", b"GET /obix/p0 HTTP/1.1\r\nX: "
+    kept, ask = b"GET /obix/p0 HTTP/1.1\r\n\r\n", b"GET /obix/ HTTP/1.1\r\n\r\n"
     tries = [("verbs by curl", verbs), ("kept connections, and pieces of one byte", kept_and_cut),
              ("many clients", lambda it: many(it, given.clients, given.requests)), ("a silent client", silent),
-             ("a client that resets", reset), ("noise", lambda it: noise(it, given.noise))]
+             ("a client that resets", reset), ("noise", lambda it: noise(it, given.noise)), ("[::1]", ipv6),
+             ("few descriptors", few_descriptors), ("refusals over unread bytes", refusals)]
+    waits = [("64 silent clients of 64 workers", lambda it: held(it, 64, b"", SILENCE)),
+             ("5 half heads of 5 workers", lambda it: held(it, 5, half, SILENCE)),
+             ("4 kept connections of 4 workers", lambda it: held(it, 4, kept, SILENCE)),
+             ("2 clients of 2 workers that read nothing", lambda it: held(it, 2, ask * 30, SILENCE, points=20_000)),
+             ("4 clients of 4 workers that send a byte each 20 s", lambda it: held(it, 4, field, DRIP, each=lambda peer: peer.send(b"y")))]
+    right = True
+
+    def tell(name, run):
+        nonlocal right
+        try:
+            told = run(given.program)
+            print(f"{name}: as it must be{'; ' + told if told else ''}", flush=True)
+        except Exception as fault:
+            right = False
+            print(f"{name}: NOT as it must be; {fault!r}", flush=True)
+
     for name, run in tries:
-        told = run(given.program)
-        print(f"{name}: as it must be{'; ' + told if told else ''}", flush=True)
+        if given.only in name:
+            tell(name, run)
+    # These only wait, so they go side by side.
+    with concurrent.futures.ThreadPoolExecutor(len(waits)) as room:
+        for name, run in waits:
+            if given.only in name:
+                room.submit(tell, name, run)
+    return 0 if right else 1
 
 
 if __name__ == "__main__":

@@ -1,28 +1,23 @@
 //! Dialers over TCP.
 ghost use Rattle.std.specs.Prelude.{◌≡◌, IfOk, None, false};
 
+use crate::host::without_brackets;
 use crate::link::TcpLink;
+use crate::wait_time::TURN_S;
 use ob_io::{Dialer, Failed};
 use std::io;
 use std::net::{Net, TcpListener, TcpStream};
-
-// An IPv6 address without the brackets that it has in a URL.
-fn without_brackets(host: &str) -> &str {
-    let Some(rest) = host.strip_prefix('[') else {
-        return host;
-    };
-    rest.strip_suffix(']').unwrap_or(host)
-}
+use std::rt::Clock as Timer;
 
 /// Dials over TCP.
 #[derive(Drop)]
 pub struct TcpDialer<'a, R> {
     net: &'a R,
-    rose: bool,
-    faults: u64,
+    pub(crate) rose: bool,
+    pub(crate) faults: u64,
 }
 
-impl<'a, R: Net<Listener = TcpListener, Stream = TcpStream>> TcpDialer<'a, R> {
+impl<'a, R: Net<Listener = TcpListener, Stream = TcpStream> + Timer> TcpDialer<'a, R> {
     /// A dialer that has not failed yet.
     pub fn new(net: &'a R) -> TcpDialer<'a, R>
         ensures net { result.net ≡ net.entry }
@@ -35,19 +30,20 @@ impl<'a, R: Net<Listener = TcpListener, Stream = TcpStream>> TcpDialer<'a, R> {
         }
     }
 
-    // A connection to a port of a host.
-    fn connect(&self, host: &str, port: u16) -> io::Result<TcpLink>
+    // A connection to a port of a host. The server may be silent for as long as a whole request may take it: it answers when
+    // it has a worker free.
+    fn connect(&self, host: &str, port: u16) -> io::Result<TcpLink<'a, R>>
         ensures { IfOk result (λ link. (link.read_faults ≡ 0) × (link.write_faults ≡ 0)) }
     {
         match TcpStream::connect(self.net, (without_brackets(host), port)) {
-            Ok(stream) => TcpLink::new(stream),
+            Ok(stream) => TcpLink::new(stream, self.net, TURN_S),
             Err(fault) => Err(fault),
         }
     }
 }
 
-impl<'a, R: Net<Listener = TcpListener, Stream = TcpStream>> Dialer for TcpDialer<'a, R> {
-    type L = TcpLink;
+impl<'a, R: Net<Listener = TcpListener, Stream = TcpStream> + Timer> Dialer for TcpDialer<'a, R> {
+    type L = TcpLink<'a, R>;
 
     ghost faults = { λ s. s.faults };
 
@@ -57,7 +53,7 @@ impl<'a, R: Net<Listener = TcpListener, Stream = TcpStream>> Dialer for TcpDiale
 
     ghost visits = { λ s. None };
 
-    fn dial(&mut self, host: &str, port: u16) -> Result<TcpLink, Failed> {
+    fn dial(&mut self, host: &str, port: u16) -> Result<TcpLink<'a, R>, Failed> {
         match self.connect(host, port) {
             Ok(link) => {
                 self.rose = false;
@@ -71,7 +67,7 @@ impl<'a, R: Net<Listener = TcpListener, Stream = TcpStream>> Dialer for TcpDiale
         }
     }
 
-    fn back(&mut self, link: TcpLink) {
+    fn back(&mut self, link: TcpLink<'a, R>) {
         self.rose = link.read_faults > 0 || link.write_faults > 0;
         if self.rose {
             self.faults = self.faults.saturating_add(1);

@@ -1,14 +1,18 @@
 //! The outside over TCP: links, doors, a port and a dialer over std's sockets.
 //!
-//! They count each error and tell nothing of what a peer sends or has. A call that is interrupted is tried again.
+//! They count each error and tell nothing of what a peer sends or has. A call that is interrupted is tried again. A peer
+//! that is silent, or takes nothing, for too long is a fault of its link.
 #![tactic(auto)]
 
 mod dialer;
 mod door;
+mod host;
 mod link;
 mod port;
+mod refusal;
 #[cfg(test)]
 mod tests;
+mod wait_time;
 
 pub use dialer::TcpDialer;
 pub use door::TcpDoor;
@@ -17,8 +21,8 @@ pub use port::TcpPort;
 
 /// Links, doors, ports and dialers may go to another thread.
 pub fn crosses_threads<R: Sync + 'static>() {
-    is_send::<TcpLink>();
-    is_send::<TcpDoor>();
+    is_send::<TcpLink<'static, R>>();
+    is_send::<TcpDoor<'static, R>>();
     is_send::<TcpPort<'static, R>>();
     is_send::<TcpDialer<'static, R>>();
 }

@@ -2,8 +2,10 @@
 ghost use Rattle.std.specs.Prelude.{◌≡◌, IfSome, None};
 
 use crate::door::TcpDoor;
+use crate::host::without_brackets;
 use ob_io::{Failed, Port};
 use std::net::{Net, TcpListener, TcpStream};
+use std::rt::Clock as Timer;
 
 /// A port of this machine.
 #[derive(Drop)]
@@ -12,10 +14,10 @@ pub struct TcpPort<'a, R> {
     listener: Option<TcpListener>,
     opened: u64,
     returned: u64,
-    faults: u64,
+    pub(crate) faults: u64,
 }
 
-impl<'a, R: Net<Listener = TcpListener, Stream = TcpStream>> TcpPort<'a, R> {
+impl<'a, R: Net<Listener = TcpListener, Stream = TcpStream> + Timer> TcpPort<'a, R> {
     /// A port that doesn't listen yet and has not failed.
     pub fn new(net: &'a R) -> TcpPort<'a, R>
         ensures net { result.net ≡ net.entry }
@@ -31,21 +33,22 @@ impl<'a, R: Net<Listener = TcpListener, Stream = TcpStream>> TcpPort<'a, R> {
     }
 
     // A door on the place that it listens on.
-    fn open(&self) -> Option<TcpDoor>
+    fn open(&self) -> Option<TcpDoor<'a, R>>
         ensures { IfSome result (λ door. (door.handed ≡ 0) × (door.returned ≡ 0) × (door.faults ≡ 0)) }
     {
         let Some(listener) = &self.listener else {
             return None;
         };
         match listener.try_clone() {
-            Ok(listener) => Some(TcpDoor::new(listener)),
+            Ok(listener) => Some(TcpDoor::new(listener, self.net)),
             Err(_) => None,
         }
     }
 }
 
-impl<'a, R: Net<Listener = TcpListener, Stream = TcpStream>> Port for TcpPort<'a, R> {
-    type D = TcpDoor;
+impl<'a, R: Net<Listener = TcpListener, Stream = TcpStream> + Timer + Sync> Port
+    for TcpPort<'a, R> {
+    type D = TcpDoor<'a, R>;
 
     ghost faults = { λ s. s.faults };
 
@@ -58,7 +61,7 @@ impl<'a, R: Net<Listener = TcpListener, Stream = TcpStream>> Port for TcpPort<'a
     ghost doors = { λ s. None };
 
     fn listen(&mut self, host: &str, port: u16) -> Result<(), Failed> {
-        match TcpListener::bind(self.net, (host, port)) {
+        match TcpListener::bind(self.net, (without_brackets(host), port)) {
             Ok(listener) => {
                 self.listener = Some(listener);
                 Ok(())
@@ -70,7 +73,7 @@ impl<'a, R: Net<Listener = TcpListener, Stream = TcpStream>> Port for TcpPort<'a
         }
     }
 
-    fn door(&mut self) -> Result<TcpDoor, Failed> {
+    fn door(&mut self) -> Result<TcpDoor<'a, R>, Failed> {
         match self.open() {
             Some(door) => {
                 self.opened = self.opened.saturating_add(1);
@@ -83,7 +86,7 @@ impl<'a, R: Net<Listener = TcpListener, Stream = TcpStream>> Port for TcpPort<'a
         }
     }
 
-    fn back(&mut self, door: TcpDoor) {
+    fn back(&mut self, door: TcpDoor<'a, R>) {
         self.returned = self.returned.saturating_add(1);
         if door.faults > 0 {
             self.faults = self.faults.saturating_add(1);
