@@ -19,3 +19,4 @@ pub mod Bare
 pub mod Dropped
 pub mod Heads
 pub mod Naming
+pub mod UpTo

@@ -12,6 +12,7 @@ mod adding;
 mod ancestry;
 mod build;
 mod copies;
+mod counting;
 mod fewer;
 mod inherited;
 mod kin;

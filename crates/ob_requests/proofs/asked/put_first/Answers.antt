@@ -1,4 +1,4 @@
-use Rattle.std.proofs.Common.{◌≡◌, ◌||◌, ◌++◌, ◌∷◌, [], ℕ, List, sym, ap, ◌∙◌}
+use Rattle.std.proofs.Common.{◌||◌, ◌++◌, ◌∷◌, [], ℕ, List, sym, ap, ◌∙◌}
 use Rattle.std.specs.Str.{bytes_eq}
 use Rattle.ob_contracts.specs.Telling.{has_text}
 use Rattle.ob_contracts.proofs.Heads.{text_more, not_false}
