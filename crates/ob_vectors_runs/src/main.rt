@@ -15,7 +15,7 @@ mod sessions;
 
 use mirrors::Mirrors;
 use ob_rows::run;
-use polls::Polls;
+use polls::run_polls;
 use runs::run_rows;
 use sessions::Sessions;
 use std::{fs, io};
@@ -27,6 +27,6 @@ fn main(rt: HostRuntime) -> io::Result<()> {
     run_rows(&rt, "clients.rows", texts.as_str())?;
     run(&rt, "sessions.rows", &mut Sessions)?;
     run(&rt, "mirrors.rows", &mut Mirrors::new(rt.alloc()))?;
-    run(&rt, "polls.rows", &mut Polls::new(&rt, texts.as_str()))?;
+    run_polls(&rt, "polls.rows", texts.as_str())?;
     run_rows(&rt, "records.rows", texts.as_str())
 }

@@ -8,11 +8,13 @@ use ob_client::{CallFault, Session};
 use ob_documents::read;
 use ob_io::MemLink;
 use ob_object::Obj;
-use ob_rows::{Asked, Table, split_word, text_of};
+use ob_rows::{Asked, Table, Tally, asked_of, split_word, text_of};
 use ob_values::{Text, Verb};
 use std::alloc::{AllocError, Global};
+use std::rt::Files;
 use std::sync::Wait;
 use std::thread::Threads;
+use std::{fs, io};
 
 /// A client: what it has asked over its link, a row each, the bytes that answered it, how many bytes it wrote, and its mirror.
 struct Client {
@@ -104,16 +106,9 @@ impl Client {
     }
 }
 
-/// Rows of two clients of a site, each with a session over a link of its own, and a mirror:
-///
-/// `open NAME`: both begin anew, with the site of a text. `first ROW` and `second ROW`: what that client does. ROW is
-/// `VERB TARGET` or `VERB TARGET BODY`, which is asked, and told is the reply; or `add`, `changes` or `refresh` with TARGET and
-/// BODY: that is posted, and the reply is given to the mirror; or a row of `Mirrors`.
-///
-/// What answers is `obix stdio` on the site, asked what both sessions have written since it was opened, in the order of the rows.
-#[derive(Drop)]
-pub(crate) struct Polls<'a, R: Threads + Wait + Sync> {
-    rt: &'a R,
+/// Two clients of a site, each with a session over a link of its own, and a mirror; what both sessions have written since the
+/// site was opened, in the order of the rows, and how many bytes answered that.
+struct Polls<'a> {
     texts: &'a str,
     document: &'a str,
     requests: Vec<u8>,
@@ -122,20 +117,37 @@ pub(crate) struct Polls<'a, R: Threads + Wait + Sync> {
     second: Client,
 }
 
-impl<'a, R: Threads + Wait + Sync + AllocGlobal> Polls<'a, R> {
-    /// No site; those that are opened have their documents among these texts.
-    pub(crate) fn new(rt: &'a R, texts: &'a str) -> Polls<'a, R> {
+impl Drop for Polls<'_> {
+    // By one call for each part.
+    fn drop(self) {
+        let Polls {
+            texts: _,
+            document: _,
+            requests,
+            answered: _,
+            first,
+            second,
+        } = self;
+        drop(requests);
+        drop(first);
+        drop(second);
+    }
+}
+
+impl<'a> Polls<'a> {
+    // No site; those that are opened have their documents among these texts.
+    fn new(alloc: Global, texts: &'a str) -> Polls<'a> {
         Polls {
-            rt,
             texts,
             document: "",
-            requests: Vec::new(rt.alloc()),
+            requests: Vec::new(alloc),
             answered: 0,
-            first: Client::new(rt.alloc()),
-            second: Client::new(rt.alloc()),
+            first: Client::new(alloc),
+            second: Client::new(alloc),
         }
     }
 
+    // Both begin anew, with the site of this text.
     fn open(&mut self, alloc: Global, name: &str) {
         self.document = text_named(self.texts, name);
         self.requests.clear();
@@ -143,9 +155,7 @@ impl<'a, R: Threads + Wait + Sync + AllocGlobal> Polls<'a, R> {
         self.first = Client::new(alloc);
         self.second = Client::new(alloc);
     }
-}
 
-impl<R: Threads + Wait + Sync + AllocGlobal> Polls<'_, R> {
     fn client(&mut self, is_first: bool) -> &mut Client {
         if is_first {
             &mut self.first
@@ -155,8 +165,11 @@ impl<R: Threads + Wait + Sync + AllocGlobal> Polls<'_, R> {
     }
 
     // All that the site answers to what was written so far.
-    fn output(&self, alloc: Global) -> Result<Vec<u8>, AllocError> {
-        let words = words_in(alloc, "4096 stdio site")?;
+    fn output<R: Threads + Wait + Sync + AllocGlobal>(
+        &self,
+        rt: &R,
+    ) -> Result<Vec<u8>, AllocError> {
+        let words = words_in(rt.alloc(), "4096 stdio site")?;
         let case = Case {
             piece: 4096,
             is_scarce: false,
@@ -164,37 +177,37 @@ impl<R: Threads + Wait + Sync + AllocGlobal> Polls<'_, R> {
             document: self.document.as_bytes(),
             inputs: Inputs::Source(text_of(self.requests.as_slice())),
         };
-        let ran = ran(self.rt, case, None)?;
-        ran.output.as_slice().to_vec(alloc)
+        let ran = ran(rt, case, None)?;
+        ran.output.as_slice().to_vec(rt.alloc())
     }
 
     // What a client's session answers to a row.
-    fn ask(
+    fn ask<R: Threads + Wait + Sync + AllocGlobal>(
         &mut self,
-        alloc: Global,
+        rt: &R,
         is_first: bool,
         row: &str,
     ) -> Result<Result<Obj, CallFault>, AllocError> {
-        let request = self.client(is_first).request(alloc, row)?;
+        let request = self.client(is_first).request(rt.alloc(), row)?;
         self.requests.extend_from_slice(&request)?;
         drop(request);
-        let output = self.output(alloc)?;
+        let output = self.output(rt)?;
         let answer = output.get(self.answered..).unwrap_or(&[]);
         self.answered = output.len();
-        self.client(is_first).hear(alloc, answer)
+        self.client(is_first).hear(rt.alloc(), answer)
     }
 
     // Posts what a row says, and gives the reply to the client's mirror.
-    fn poll(
+    fn poll<R: Threads + Wait + Sync + AllocGlobal>(
         &mut self,
-        alloc: Global,
+        rt: &R,
         is_first: bool,
         call: &str,
         said: &str,
         told: &mut String,
     ) -> Result<(), AllocError> {
-        let row = format!(in alloc; "POST {said}")?;
-        match self.ask(alloc, is_first, row.as_str())? {
+        let row = format!(in rt.alloc(); "POST {said}")?;
+        match self.ask(rt, is_first, row.as_str())? {
             Ok(reply) => {
                 let outcome = self.client(is_first).mirror.give(call, reply)?;
                 told.push_str(outcome)
@@ -203,9 +216,9 @@ impl<R: Threads + Wait + Sync + AllocGlobal> Polls<'_, R> {
         }
     }
 
-    fn tell(
+    fn tell<R: Threads + Wait + Sync + AllocGlobal>(
         &mut self,
-        alloc: Global,
+        rt: &R,
         is_first: bool,
         row: &str,
         told: &mut String,
@@ -213,32 +226,83 @@ impl<R: Threads + Wait + Sync + AllocGlobal> Polls<'_, R> {
         let (word, said) = split_word(row);
         match word {
             "GET" | "PUT" | "POST" => {
-                let answer = self.ask(alloc, is_first, row)?;
-                tell_answer(alloc, answer, told)
+                let answer = self.ask(rt, is_first, row)?;
+                tell_answer(rt.alloc(), answer, told)
             }
-            "add" | "changes" | "refresh" => self.poll(alloc, is_first, word, said, told),
+            "add" | "changes" | "refresh" => self.poll(rt, is_first, word, said, told),
             _ => {
                 let asked = Asked {
                     text: row,
                     bytes: row.as_bytes(),
                 };
-                self.client(is_first).mirror.answer(alloc, asked, told)
+                self.client(is_first).mirror.answer(rt.alloc(), asked, told)
             }
+        }
+    }
+
+    fn tell_row<R: Threads + Wait + Sync + AllocGlobal>(
+        &mut self,
+        rt: &R,
+        row: &str,
+        told: &mut String,
+    ) -> Result<(), AllocError> {
+        let (who, said) = split_word(row);
+        match who {
+            "open" => {
+                self.open(rt.alloc(), said);
+                told.push_str("opened")
+            }
+            "first" => self.tell(rt, true, said, told),
+            "second" => self.tell(rt, false, said, told),
+            _ => told.push_str("no such row"),
         }
     }
 }
 
-impl<R: Threads + Wait + Sync + AllocGlobal> Table for Polls<'_, R> {
-    fn answer(&mut self, alloc: Global, asked: Asked, told: &mut String) -> Result<(), AllocError> {
-        let (who, row) = split_word(asked.text);
-        match who {
-            "open" => {
-                self.open(alloc, row);
-                told.push_str("opened")
-            }
-            "first" => self.tell(alloc, true, row, told),
-            "second" => self.tell(alloc, false, row, told),
-            _ => told.push_str("no such row"),
-        }
+// Asks a row, and counts it unless it is a remark.
+fn ask_row<R: Threads + Wait + Sync + Print + AllocGlobal>(
+    rt: &R,
+    polls: &mut Polls,
+    row: &str,
+    tally: &mut Tally,
+) -> io::Result<()> {
+    let Some(text) = asked_of(row) else {
+        return Ok(());
+    };
+    let mut told = String::new(rt.alloc());
+    polls.tell_row(rt, text, &mut told)?;
+    tally.count(rt, row, told.as_str())
+}
+
+// Asks all rows, and prints how many there are.
+fn ask_rows<R: Threads + Wait + Sync + Print + AllocGlobal>(
+    rt: &R,
+    file: &str,
+    rows: &str,
+    texts: &str,
+) -> io::Result<()> {
+    let mut polls = Polls::new(rt.alloc(), texts);
+    let mut tally = Tally::new();
+    for row in rows.lines() {
+        ask_row(rt, &mut polls, row, &mut tally)?;
     }
+    tally.print(rt, file)
+}
+
+/// Asks the rows of the file of a name, of two clients of a site, each with a session over a link of its own, and a mirror; prints
+/// those that come out otherwise and how many there are.
+///
+/// `open NAME`: both begin anew, with the site of a text. `first ROW` and `second ROW`: what that client does. ROW is
+/// `VERB TARGET` or `VERB TARGET BODY`, which is asked, and told is the reply; or `add`, `changes` or `refresh` with TARGET and
+/// BODY: that is posted, and the reply is given to the mirror; or a row of `Mirrors`.
+///
+/// What answers is `obix stdio` on the site, asked what both sessions have written since it was opened, in the order of the rows.
+/// An `io::Error` where the file isn't there, or for want of memory.
+pub(crate) fn run_polls<R: Threads + Wait + Sync + Print + Files + AllocGlobal>(
+    rt: &R,
+    file: &str,
+    texts: &str,
+) -> io::Result<()> {
+    let rows = fs::read_to_string(rt, file)?;
+    ask_rows(rt, file, rows.as_str(), texts)
 }
