@@ -8,6 +8,7 @@ import multiprocessing
 import os
 import resource
 import shutil
+import signal
 import socket
 import struct
 import subprocess
@@ -199,6 +200,20 @@ def ipv6(program):
     server.end()
 
 
+def stopped(program):
+    """A read that a stopped process goes on with is tried again: signals interrupt calls with a time limit."""
+    server = Server(program, 1, 1, 1)
+    link = http.client.HTTPConnection("127.0.0.1", server.port, timeout=20)
+    for _ in range(20):
+        assert asked(link, "GET", "/obix/p0")[0] == 200
+        server.run.send_signal(signal.SIGSTOP)
+        time.sleep(0.02)
+        server.run.send_signal(signal.SIGCONT)
+        time.sleep(0.02)
+    link.close()
+    server.end()
+
+
 def few_descriptors(program):
     """Four workers and room for two connections: a third client is answered when one of the two goes away, and no worker ends."""
     server = Server(program, 1, 4, 6, descriptors=10)
@@ -294,12 +309,13 @@ def main():
     tries = [("verbs by curl", verbs), ("kept connections, and pieces of one byte", kept_and_cut),
              ("many clients", lambda it: many(it, given.clients, given.requests)), ("a silent client", silent),
              ("a client that resets", reset), ("noise", lambda it: noise(it, given.noise)), ("[::1]", ipv6),
-             ("few descriptors", few_descriptors), ("refusals over unread bytes", refusals)]
+             ("stopped and continued", stopped), ("few descriptors", few_descriptors), ("refusals over unread bytes", refusals)]
     waits = [("64 silent clients of 64 workers", lambda it: held(it, 64, b"", SILENCE)),
              ("5 half heads of 5 workers", lambda it: held(it, 5, half, SILENCE)),
              ("4 kept connections of 4 workers", lambda it: held(it, 4, kept, SILENCE)),
              ("2 clients of 2 workers that read nothing", lambda it: held(it, 2, ask * 30, SILENCE, points=20_000)),
-             ("4 clients of 4 workers that send a byte each 20 s", lambda it: held(it, 4, field, DRIP, each=lambda peer: peer.send(b"y")))]
+             ("4 clients of 4 workers that send a byte each 20 s", lambda it: held(it, 4, field, DRIP, each=lambda peer: peer.send(b"y"))),
+             ("2 clients of 2 workers that read 256 kB each 20 s", lambda it: held(it, 2, ask * 90, DRIP, points=20_000, each=lambda peer: peer.recv(1 << 18)))]
     right = True
 
     def tell(name, run):

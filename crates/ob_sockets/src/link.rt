@@ -10,8 +10,16 @@ use std::net::{Shutdown, TcpStream};
 use std::rt::Clock as Timer;
 use std::time::{Duration, Instant};
 
-/// A connection over TCP. A write that takes nothing is a fault, and so is a call that waits longer than it may: for a
-/// peer that is silent, or that takes nothing, and, together with the calls before it in its direction, 300 seconds.
+/// How many seconds a peer is listened to when all is written to it.
+const LINGER_S: u64 = 2;
+
+/// How many bytes of what it then sends are dropped.
+const LEFTOVER: usize = 4_194_304;
+
+const PIECE: usize = 4_096;
+
+/// A connection over TCP. A write that takes nothing is a fault, and so is a call that waits too long: for a peer that is
+/// silent or takes nothing, or, with the calls since the last one in the other direction, for 300 seconds in all.
 #[derive(Drop)]
 pub struct TcpLink<'a, R> {
     stream: TcpStream,
@@ -80,14 +88,6 @@ impl<'a, R: Timer> TcpLink<'a, R> {
         }
     }
 }
-
-/// How many seconds a peer is listened to when all is written to it.
-const LINGER_S: u64 = 2;
-
-/// How many bytes of what it then sends are dropped.
-const LEFTOVER: usize = 4_194_304;
-
-const PIECE: usize = 4_096;
 
 // A read that waits as long as it may.
 fn read_in_time<R: Timer, S: Read>(
