@@ -24,12 +24,9 @@ class Server:
 
     def ask(self, verb, href, body=""):
         path = urllib.parse.urlsplit(urllib.parse.urljoin(self.url, href)).path
-        try:
-            self.link.request(verb, path, body.encode(), {"Content-Type": "text/xml"} if body else {})
-            reply = self.link.getresponse()
-            text = reply.read().decode()
-        except (OSError, http.client.HTTPException) as fault:
-            sys.exit(f"{verb} {path}: no answer from {self.url}: {fault}")
+        self.link.request(verb, path, body.encode(), {"Content-Type": "text/xml"} if body else {})
+        reply = self.link.getresponse()
+        text = reply.read().decode()
         if reply.status != 200:
             sys.exit(f"{verb} {path}: {reply.status} {text}")
         root = ET.fromstring(text)
@@ -55,17 +52,10 @@ def hear(held, reply, is_poll):
         else:
             held[entry.get("href")] = entry
 
-
-def shown(entry):
-    """An object's text: what it displays, its value, or how many children it has."""
-    whole = f"{len(entry)} children" if is_kind(entry, "obj") or is_kind(entry, "list") else "null"
-    return entry.get("display") or entry.get("val") or whole
-
-
 def print_table(head, held):
     print(head)
     for asked, entry in held.items():
-        text = shown(entry)
+        text = entry.get("display") or entry.get("val") or "null"
         told = f"{len(entry)} events" if is_kind(entry, "feed") else f"{text} {entry.get('unit', '').rpartition('/')[2]}"
         print(f"  {asked:<32} {told} {entry.get('status') or ''}".rstrip(), flush=True)
 
