@@ -11,7 +11,7 @@ import urllib.request
 from pathlib import Path
 
 PAGES = ("README.md", "examples/README.md", "docs/RUNNING.md", "docs/obix.1")
-PORTS = ("8080", "8081")
+PORTS = ("8080", "8081", "9180")
 NOT_HERE = (("rt ", "needs the kit, for an hour"), ("cd crates/", "needs the kit"), ("sudo ", "changes the machine"),
             ("systemctl ", "needs systemd"))
 PRINTED = re.compile(r"(?:listening|served|legal|illegal|obix:) ?\S*.*")
@@ -111,10 +111,10 @@ class Room:
         return run
 
 
-def is_answered(port):
+def is_answered(port, path):
     for _ in range(100):
         try:
-            return urllib.request.urlopen(f"http://127.0.0.1:{port}/", timeout=5).status == 200
+            return urllib.request.urlopen(f"http://127.0.0.1:{port}{path}", timeout=5).status == 200
         except urllib.error.HTTPError:
             return False
         except OSError:
@@ -149,7 +149,7 @@ def judge(told, room, page, command, block):
         return told.ok(what) if first == wanted else told.not_ok(what, f"printed {first!r}, not {wanted!r}")
     if "tools/dashboard.py" in text or "tools/exporter.py" in text:
         run, port = room.start(text), re.search(r"--listen \S*?(\d+)$", room.here(text))
-        good = is_answered(port[1]) if port else run.poll() is None
+        good = port and is_answered(port[1], "/metrics" if "exporter" in text else "/")
         return told.ok(what) if good else told.not_ok(what, "its page isn't answered")
     at, printed = room.run(text)
     if at != status:
