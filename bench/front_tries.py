@@ -27,8 +27,10 @@ class Front:
     def __init__(self, examples, program):
         self.examples, self.program, self.running = examples, program, contextlib.ExitStack()
         self.room = self.running.enter_context(tempfile.TemporaryDirectory(prefix="obix-front."))
+        self.front = None
+        self.running.callback(lambda: self.front and end(self.front))
         os.chmod(self.room, 0o755)
-        self.port, self.inner = free_port(), free_port()
+        self.port, self.inner, self.page = free_port(), free_port(), free_port()
 
     def __enter__(self):
         with self.running:
@@ -52,14 +54,19 @@ class Front:
         self.running.callback(lambda: end(self.site))
         assert self.site.stdout.readline() == f"listening 127.0.0.1 {self.inner}\n"
 
-    def open_front(self):
-        """The file as it stands, but for its port, the port of obix, and where the certificate lies."""
+    def open_front(self, with_users=False):
+        """The file as it stands, but for its ports and where the certificate lies; with the two lines on users taken in."""
+        if self.front:
+            end(self.front)
         with open(f"{self.examples}/nginx.conf", encoding="utf-8") as file:
             text = file.read()
         for old, new in (("listen 443 ", f"listen 127.0.0.1:{self.port} "), ("127.0.0.1:8080;", f"127.0.0.1:{self.inner};"),
+                         ("127.0.0.1:8081;", f"127.0.0.1:{self.page};"),
                          ("/etc/obix/", f"{self.room}/"), (rf"{NAME.replace('.', chr(92) + '.')}$)", rf"plant\.example:{self.port}$)")):
             assert old in text, old
             text = text.replace(old, new)
+        if with_users:
+            text = text.replace("# auth_basic", "auth_basic")
         with open(f"{self.room}/nginx.conf", "w", encoding="utf-8") as file:
             file.write(f"worker_processes 4; daemon off; pid {self.room}/pid; error_log {self.room}/error.log;\n"
                        "events { worker_connections 1024; }\n"
@@ -70,7 +77,6 @@ class Front:
         tested = subprocess.run([*words, "-t"], capture_output=True, text=True)
         assert tested.returncode == 0, tested.stderr
         self.front = subprocess.Popen(words, stderr=subprocess.DEVNULL)
-        self.running.callback(lambda: end(self.front))
         wait_for(lambda: socket.create_connection(("127.0.0.1", self.port), 1).close())
 
     def curl(self, path, *words, host=NAME, body=None):
@@ -147,21 +153,13 @@ def forms(it):
 
 
 def users(it):
-    """The two lines on users, taken in."""
-    with open(f"{it.room}/nginx.conf", encoding="utf-8") as file:
-        text = file.read()
-    with open(f"{it.room}/nginx.conf", "w", encoding="utf-8") as file:
-        file.write(text.replace("# auth_basic", "auth_basic"))
     made = subprocess.run(["openssl", "passwd", "-apr1", "secret"], capture_output=True, text=True, check=True).stdout
     with open(f"{it.room}/users", "w", encoding="utf-8") as file:
         file.write(f"ann:{made}")
-    it.front.send_signal(1)
-    wait_for_status(it, lambda: it.curl(FLOW)[0], 401)
-    assert it.curl(FLOW, "-u", "ann:secret")[0] == 200 and it.curl(FLOW, "-u", "ann:other")[0] == 401
-    with open(f"{it.room}/nginx.conf", "w", encoding="utf-8") as file:
-        file.write(text)
-    it.front.send_signal(1)
-    wait_for_status(it, lambda: it.curl(FLOW)[0], 200)
+    it.open_front(with_users=True)
+    assert it.curl(FLOW)[0] == 401 and it.curl(FLOW, "-u", "ann:other")[0] == 401
+    assert it.curl(FLOW, "-u", "ann:secret")[0] == 200
+    it.open_front()
 
 
 def wait_for_status(it, attempt, wanted):
@@ -195,6 +193,25 @@ def silent(it):
     return f"another is answered in {statistics.median(times) * 1000:.2f} ms, the median of 50, at most {max(times) * 1000:.2f}"
 
 
+def page(it):
+    """The page of tools/dashboard.py behind nginx."""
+    tool = f"{it.examples}/../tools/dashboard.py"
+    if not os.path.exists(tool):
+        return "not tried, as there is no tools/dashboard.py"
+    run = subprocess.Popen([sys.executable, tool, f"http://127.0.0.1:{it.inner}/obix/", "--listen", f"127.0.0.1:{it.page}",
+                            "--name", f"{NAME}:{it.port}"], stdout=subprocess.DEVNULL, stderr=subprocess.DEVNULL)
+    it.running.callback(lambda: end(run))
+    wait_for_status(it, lambda: it.curl("/")[0], 200)
+    wait_for(lambda: socket.create_connection(("127.0.0.1", it.page), 1).close())
+    write = ("-X", "POST", "-H", "Content-Type: application/json", "-d", f'{{"user": "ann", "point": "{FLOW}", "text": "77"}}')
+    assert it.curl("/write", *write, "-H", "Origin: http://evil.example")[0] == 403
+    own = it.curl("/write", *write, "-H", f"Origin: https://{NAME}:{it.port}")
+    assert own[0] == 200 and it.flow() == "77", own
+    events = subprocess.run(["curl", "-s", "-N", "--max-time", "3", "--cacert", f"{it.room}/plant.crt", "--resolve",
+                             f"{NAME}:{it.port}:127.0.0.1", f"https://{NAME}:{it.port}/events"], capture_output=True).stdout
+    assert b"data:" in events, events
+
+
 def restarted(it):
     end(it.site)
     assert it.curl(FLOW)[0] == 502
@@ -216,7 +233,8 @@ def main():
         for name, tries in (("a read over TLS, with its charset", reads), ("other hosts: 421", other_hosts),
                             ("writes of foreign pages: 403, own ones and clients that are no browser: 200", foreign_writes),
                             ("chunked bodies, Expect, HEAD and /obix: 200; 2 MB: 413", forms), ("500 silent clients", silent),
-                            ("users and passwords: 401 without", users), ("obix started again: 502 meanwhile", restarted),
+                            ("users and passwords: 401 without", users),
+                            ("the page for people, and its events", page), ("obix started again: 502 meanwhile", restarted),
                             ("nginx's log has each request, with its user", logged)):
             told = tries(it)
             print(f"ok {name}{'; ' + told if told else ''}", flush=True)
