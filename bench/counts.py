@@ -36,12 +36,18 @@ def rows(crates):
     return sum(int(it[1]) for _, line in lines_of(f"crates/{crates}/stdout") if (it := re.search(r": (\d+) rows$", line)))
 
 
+def rows_of(*tables):
+    """The rows of these tables of ob_vectors_runs."""
+    return sum(int(it[2]) for _, line in lines_of("crates/ob_vectors_runs/stdout")
+               if (it := re.match(r"(\w+)\.rows: (\d+) rows$", line)) and it[1] in tables)
+
+
 def runs(kept):
     """The whole runs of the program: those whose piece has one of these signs."""
     found = 0
     for path, line in lines_of("crates/ob_vectors_runs/data/*.rows"):
         row = RUN.match(line)
-        found += bool(row and path.name not in ("sessions.rows", "mirrors.rows") and (row[2] or "") in kept)
+        found += bool(row and path.name not in ("sessions.rows", "mirrors.rows", "polls.rows") and (row[2] or "") in kept)
     return found
 
 
@@ -88,8 +94,8 @@ def counted():
         "altered replies": sum(int(it[1]) for _, line in lines_of("crates/ob_vectors*/data/audits.rows") if (it := re.search(r"illegal (\d+)$", line))),
         "whole runs": runs(("", "*", "!")),
         "runs with each call failing": runs(("*",)),
-        "sessions and mirrors": sum(int(it[1]) for _, line in lines_of("crates/ob_vectors_runs/stdout")
-                                    if (it := re.match(r"(?:sessions|mirrors)\.rows: (\d+) rows$", line))),
+        "sessions and mirrors": rows_of("sessions", "mirrors"),
+        "two clients": rows_of("polls"),
         "tests of threads": matches("crates/ob_vectors_threads/src/**/*.rt", r"^\s*#\[test\]"),
         "tests of sockets": matches("crates/ob_sockets/src/**/*.rt", r"^\s*#\[test\]"),
         "hostile forms": hostile(),
