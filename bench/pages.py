@@ -1,6 +1,7 @@
 """The runs of bench/pages.sh. All traffic is on 127.0.0.1, on free ports in place of those that the pages name."""
 import os
 import re
+import shutil
 import socket
 import subprocess
 import sys
@@ -208,6 +209,24 @@ def look_at_counts(told, top):
         told.not_ok("docs/TESTING.md: its counts", "; ".join(it for it in run.stdout.splitlines() if "the page has" in it))
 
 
+def look_by(told, what, words):
+    """Whether a tool of the machine has nothing to say of a file."""
+    if not shutil.which(words[0]):
+        return told.skipped(what, f"no {words[0]}")
+    run = subprocess.run(words, capture_output=True, text=True)
+    said = (run.stdout + run.stderr).strip()
+    return told.ok(what) if run.returncode == 0 else told.not_ok(what, said)
+
+
+def look_at_files(told, top, program):
+    """The manual page by mandoc; the service by systemd, with this program in the place that it names."""
+    look_by(told, "docs/obix.1: mandoc", ["mandoc", "-T", "lint", str(top / "docs/obix.1")])
+    with tempfile.TemporaryDirectory(prefix="obix-pages.") as folder:
+        unit = Path(folder) / "obix.service"
+        unit.write_text((top / "examples/obix.service").read_text(encoding="utf-8").replace("/usr/local/bin/obix", program))
+        look_by(told, "examples/obix.service: systemd-analyze verify", ["systemd-analyze", "verify", str(unit)])
+
+
 def main():
     top, program = Path(sys.argv[1]), sys.argv[2]
     told = Told()
@@ -215,6 +234,7 @@ def main():
         run_page(told, top, program, page)
     look_at_links(told, top)
     look_at_form(told, top)
+    look_at_files(told, top, program)
     look_at_counts(told, top)
     return 1 if told.failed else 0
 
