@@ -158,7 +158,7 @@ def try_plant(browser):
     page.click(f"{setpoint}.querySelector('input')")
     page.type("warm")
     page.key("Enter", 13, "\r")
-    ok(page.until(f"{text_of(setpoint)}.includes('NotNumber')"), "so does one that is no number", page.js(text_of(f"{setpoint}.querySelector('.said')")))
+    ok(page.until(f"{text_of(setpoint)}.includes('warm is no real')"), "so does one that is no number")
     server.ask("PUT", FLOW, '<real val="75"/>')
     ok(page.until("!$('closed').hidden && $('badge').textContent === 'no open alarms'"), "an alarm that is over is among the closed ones")
 
@@ -178,9 +178,16 @@ def try_plant(browser):
     ok(page.until("$('count').textContent === '1 of 7'") and page.js("[...document.querySelectorAll('tr')].filter(it => it.checkVisibility()).length") == 1, "the key / leads to the search")
     page.js("$('search').value = ''; $('search').dispatchEvent(new Event('input'))")
 
+    page.js("Object.defineProperty(document, 'hidden', { value: true, configurable: true }); document.dispatchEvent(new Event('visibilitychange'))")
+    server.ask("PUT", FLOW, '<real val="74"/>')
+    ok(page.js("source.readyState") == 2 and not page.until("points.get('/obix/boiler/flow').val === '74'", 1.5), "a page that isn't seen holds no connection")
+    page.js("delete document.hidden; document.dispatchEvent(new Event('visibilitychange'))")
+    ok(page.until("points.get('/obix/boiler/flow').val === '74'"), "and goes on when it is seen")
+
     # the server ends and comes back
     server.stop()
-    ok(page.until("!$('banner').hidden && $('banner').textContent.includes('No answer from the oBIX server')", 15), "the page says that there's no server", page.js(text_of("$('banner')"))[:110])
+    ok(page.until("!$('banner').hidden && $('banner').textContent.includes('No answer from the oBIX server')", 15), "the page says that there's no server", page.js(text_of("$('banner')"))[:70])
+    ok(page.js("document.title") == "(?) Plant room" and page.js("$('badge').textContent") == "alarms not known", "and that alarms aren't known then")
     page.click(f"{row('speed', 'pump1')}.querySelector('input')")
     page.type("50")
     page.key("Enter", 13, "\r")
@@ -240,8 +247,8 @@ def try_strangers(browser):
         ok(status == 403, f"a write from the origin {origin.replace(str(shown.port), 'PORT')} is answered 403", status)
     ok(shown.ask("GET", "/events", Sec_Fetch_Site="cross-site")[0] == 403, "a page of another site can't listen")
     ok(shown.ask("POST", "/write", body, Content_Type="text/plain")[0] == 415 and shown.ask("POST", "/write", "{", Content_Type="application/json")[0] == 400, "another media type 415, no JSON 400")
-    ok(shown.ask("POST", "/write", json.dumps({"point": "/obix/batch", "text": "1", "user": ""}), Content_Type="application/json")[0] == 409 and shown.ask("POST", "/elsewhere", "{}", Content_Type="application/json")[0] >= 400,
-       "what is no point can't be written")
+    ok(shown.ask("POST", "/write", json.dumps({"point": "/obix/batch", "text": "1", "user": ""}), Content_Type="application/json")[0] == 409, "what is no point can't be written")
+    ok(shown.ask("POST", "/ack", json.dumps({"alarm": SETPOINT, "user": ""}), Content_Type="application/json")[0] == 409 and shown.ask("POST", "/x", "{}", Content_Type="application/json")[0] == 404, "nor anything else asked")
     page = browser.open("about:blank")
     other = Shown(server.url)                    # a page of another origin, in the same browser
     page.go(other.url)
@@ -409,7 +416,8 @@ def try_ends(_):
                 ("no lobby there", 8, [f"{server.url}boiler", "--listen", f"127.0.0.1:{free_port()}"]),
                 ("the lobby without its slash", 8, [server.url[:-1], "--listen", f"127.0.0.1:{free_port()}"]),
                 ("a port that is taken", 9, [server.url, "--listen", f"127.0.0.1:{taken.getsockname()[1]}"]),
-                ("no URL", 1, ["boiler"]), ("an unknown option", 1, [server.url, "--colour"]), ("no HOST:PORT", 1, [server.url, "--listen", "8081"]), ("--help", 0, ["--help"])]
+                ("no URL", 1, ["boiler"]), ("an unknown option", 1, [server.url, "--colour"]), ("no HOST:PORT", 1, [server.url, "--listen", "8081"]),
+                ("all addresses, and no name", 1, [server.url, "--listen", "0.0.0.0:8081"]), ("--help", 0, ["--help"])]
         for name, wanted, words in rows:
             run = subprocess.run([sys.executable, str(TOP / "tools/dashboard.py"), *words], capture_output=True, text=True, timeout=30)
             ok(run.returncode == wanted and "Traceback" not in run.stderr and (wanted == 0 or run.stderr), f"{name}: status {wanted}", (run.stderr.splitlines() or [""])[-1].replace(str(port), "PORT"))

@@ -34,6 +34,7 @@ import urllib.parse
 from plant import LOST, Plant, Refused, words
 
 READERS = 500                                              # browsers at once
+PLOTTED = 1200                                             # about so many values of a trend
 LOOPBACK = ("127.0.0.1", "localhost", "::1")
 SIGN_OF_LIFE = 10                                          # seconds after which a page hears something, though nothing is new
 PAGE = pathlib.Path(__file__).with_suffix(".html").read_bytes()
@@ -46,6 +47,13 @@ FIELDS = {"Cache-Control": "no-store", "X-Content-Type-Options": "nosniff", "Ref
 
 def log(text):
     print(time.strftime("%Y-%m-%dT%H:%M:%S"), text.encode("unicode_escape").decode(), flush=True)
+
+
+def thinned(pairs):
+    """Of each stretch that a plot can't resolve the least value, or the gap, and the greatest."""
+    size = len(pairs) // PLOTTED + 1
+    parts = [sorted(pairs[at:at + size], key=lambda pair: (pair[1] is not None, pair[1])) for at in range(0, len(pairs), size)]
+    return pairs if size == 1 else [pair for part in parts for pair in sorted((part[0], part[-1]), key=lambda pair: pair[0])]
 
 
 class Page(http.server.BaseHTTPRequestHandler):
@@ -90,7 +98,7 @@ class Page(http.server.BaseHTTPRequestHandler):
             self.events()
         elif path == "/trend":
             asked = dict(urllib.parse.parse_qsl(query))
-            self.answer(lambda: self.plant.trend(asked["point"], float(asked["from"]), float(asked["to"])))
+            self.answer(lambda: thinned(self.plant.trend(asked["point"], float(asked["from"]), float(asked["to"]))))
         else:
             self.reply(404, {"error": "not here"})
 
@@ -98,7 +106,10 @@ class Page(http.server.BaseHTTPRequestHandler):
         size = self.headers.get("Content-Length", "")
         if not self.is_welcome():
             return
-        if self.headers.get_content_type() != "application/json" or not re.fullmatch("[0-9]{1,5}", size):
+        if self.path not in ("/write", "/ack"):
+            self.close_connection = True
+            self.reply(404, {"error": "not here"})
+        elif self.headers.get_content_type() != "application/json" or not re.fullmatch("[0-9]{1,5}", size):
             self.close_connection = True
             self.reply(415, {"error": "a small JSON object is wanted"})
         else:
@@ -149,8 +160,9 @@ class Page(http.server.BaseHTTPRequestHandler):
 class Door(http.server.ThreadingHTTPServer):
     request_queue_size = 128
 
-    def handle_error(self, *_):
-        pass                                               # a browser that went away
+    def handle_error(self, *asked):
+        if not isinstance(sys.exc_info()[1], OSError):     # else a browser that went away
+            super().handle_error(*asked)
 
 
 class Words(argparse.ArgumentParser):
@@ -185,12 +197,14 @@ def main():
     about, _, statuses = __doc__.partition("\nstatuses")
     asked = Words(description=about, epilog="statuses" + statuses, formatter_class=argparse.RawDescriptionHelpFormatter)
     asked.add_argument("url", type=site, help="the lobby of the server")
-    asked.add_argument("--listen", type=address, default="127.0.0.1:8081", metavar="HOST:PORT", help="127.0.0.1:8081 if not given")
-    asked.add_argument("--name", action="append", default=[], metavar="HOST[:PORT]", help="a further name that browsers call it by")
-    asked.add_argument("--every", type=float, default=1.0, metavar="SECONDS", help="between two polls, 1 if not given")
+    asked.add_argument("--listen", type=address, default="127.0.0.1:8081", metavar="HOST:PORT", help="if not given 127.0.0.1:8081")
+    asked.add_argument("--name", action="append", default=[], metavar="HOST[:PORT]", help="a further name that browsers use")
+    asked.add_argument("--every", type=float, default=1.0, metavar="SECONDS", help="between two polls; if not given 1")
     asked.add_argument("--wait", action="store_true", help="begin though no server is there yet")
     given = asked.parse_args()
     host, port = given.listen
+    if host in ("0.0.0.0", "::") and not given.name:
+        asked.error("--name has to say by which names browsers call it")
     try:
         Door.address_family = socket.AF_INET6 if ":" in host else socket.AF_INET
         door = Door((host, port), Page)
@@ -199,7 +213,7 @@ def main():
     port = door.server_address[1]
     hosts = {f"[{host}]" if ":" in host else host, *({"127.0.0.1", "localhost", "[::1]"} if host in LOOPBACK else ())}
     Page.names = {f"{name}:{port}" for name in {*hosts, *given.name}} | {*given.name} | (hosts if port == 80 else set())
-    Page.plant = plant = Plant(given.url, given.every, log)
+    Page.plant = plant = Plant(given.url, max(given.every, 0.1), log)
     signal.signal(signal.SIGTERM, stop)
     try:
         if not given.wait:
