@@ -38,9 +38,8 @@ class Socket:
 
     def send(self, text):
         body, mask = text.encode(), os.urandom(4)
-        size = len(body)
-        head = bytes([0x81]) + (bytes([0x80 | size]) if size < 126 else struct.pack(">BH", 0xFE, size) if size < 65536 else struct.pack(">BQ", 0xFF, size))
-        self.link.sendall(head + mask + bytes(byte ^ mask[at % 4] for at, byte in enumerate(body)))
+        size = bytes([0x80 | len(body)]) if len(body) < 126 else struct.pack(">BQ", 0xFF, len(body))
+        self.link.sendall(b"\x81" + size + mask + bytes(byte ^ mask[at % 4] for at, byte in enumerate(body)))
 
     def receive(self):
         text = b""
