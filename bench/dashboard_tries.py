@@ -280,6 +280,7 @@ def try_strangers(browser):
     ok(status("GET", "/events", Sec_Fetch_Site="cross-site") == 403, "a page of another site can't listen")
     ok(status("POST", "/write", json.dumps(what), Content_Type="text/plain") == 415, "another media type is answered 415")
     ok(status("POST", "/write", "{", Content_Type="application/json") == 400 == status("POST", "/write", [1]), "what isn't asked so is answered 400")
+    ok(status("POST", "/write", {**what, "text": None}) == 400 == status("POST", "/write", {**what, "text": 4}), "so is a value that is no text")
     ok(status("POST", "/write", {**what, "point": "/obix/batch"}) == 409 == status("POST", "/ack", {"alarm": SETPOINT, "user": ""}),
        "what is no point, or no alarm, is refused")
     ok(status("POST", "/x", {}) == 404 == status("GET", "/../plant.py"), "there's nothing else")

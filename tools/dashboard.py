@@ -74,17 +74,19 @@ class Page(http.server.BaseHTTPRequestHandler):
         self.head(status, Content_Type=media, Content_Length=len(body))
         self.wfile.write(body)
 
+    def refuse(self, status, said):
+        self.close_connection = True                       # its body isn't read
+        self.reply(status, {"error": said})
+
     def is_welcome(self):
         """Whether it is addressed to this page, and comes from no page of another host."""
         host, origin = self.headers.get("Host", "").lower(), self.headers.get("Origin", "").lower()
         is_foreign = self.path != "/" and self.headers.get("Sec-Fetch-Site") in ("cross-site", "same-site")
-        self.close_connection = True
         if host not in self.names:
-            self.reply(421, {"error": "this isn't the host of that name; another name is given by --name"})
+            self.refuse(421, "this isn't the host of that name; another name is given by --name")
         elif is_foreign or origin and origin.partition("://")[2] != host:
-            self.reply(403, {"error": "this comes from a page of another host"})
+            self.refuse(403, "this comes from a page of another host")
         else:
-            self.close_connection = self.headers.get("Connection", "").lower() == "close"
             return True
         return False
 
@@ -100,30 +102,29 @@ class Page(http.server.BaseHTTPRequestHandler):
             asked = dict(urllib.parse.parse_qsl(query))
             self.answer(lambda: thinned(self.plant.trend(asked["point"], float(asked["from"]), float(asked["to"]))))
         else:
-            self.reply(404, {"error": "not here"})
+            self.refuse(404, "not here")
 
     def do_POST(self):
         size = self.headers.get("Content-Length", "")
         if not self.is_welcome():
             return
         if self.path not in ("/write", "/ack"):
-            self.close_connection = True
-            self.reply(404, {"error": "not here"})
+            self.refuse(404, "not here")
         elif self.headers.get_content_type() != "application/json" or not re.fullmatch("[0-9]{1,5}", size):
-            self.close_connection = True
-            self.reply(415, {"error": "a small JSON object is wanted"})
+            self.refuse(415, "a small JSON object is wanted")
         else:
             text = self.rfile.read(int(size))
             self.answer(lambda: self.act(**json.loads(text)))
 
     def act(self, user, text=None, point=None, alarm=None):
         """Writes a point, or acknowledges an alarm."""
-        did, said = f"{self.client_address[0]} {user!r} {self.path} {point or alarm} {text or ''}".rstrip(), "done"
+        did, said = f"{self.client_address[0]} {user!r} {self.path} {point or alarm} {text or ''}".rstrip(), "no such request"
         try:
             if self.path == "/write":
                 self.plant.write(point, text)
             else:
                 self.plant.acknowledge(alarm, user)
+            said = "done"
         except (*LOST, Refused) as fault:
             said = words(fault)
             raise
@@ -144,7 +145,7 @@ class Page(http.server.BaseHTTPRequestHandler):
     def events(self):
         """All that is held, and then what is new, as it comes."""
         if not self.readers.acquire(blocking=False):
-            return self.reply(503, {"error": f"{READERS} browsers look at it already"})
+            return self.refuse(503, f"{READERS} browsers look at it already")
         version, self.close_connection = 0, True
         try:
             self.head(200, Content_Type="text/event-stream", Connection="close")
