@@ -35,7 +35,7 @@ from plant import LOST, Plant, Refused, words
 
 READERS = 500                                              # browsers at once
 PLOTTED = 1200                                             # about so many values of a trend
-LOOPBACK = ("127.0.0.1", "localhost", "::1")
+LOOPBACK = ("127.0.0.1", "localhost", "[::1]")
 SIGN_OF_LIFE = 10                                          # seconds after which a page hears something, though nothing is new
 PAGE = pathlib.Path(__file__).with_suffix(".html").read_bytes()
 OWN = " ".join(f"'sha256-{base64.b64encode(hashlib.sha256(part).digest()).decode()}'"
@@ -211,8 +211,8 @@ def main():
         door = Door((host, port), Page)
     except (OSError, UnicodeError) as fault:
         return fail(9, f"{host}:{port}: {words(fault)}")
-    port = door.server_address[1]
-    hosts = {f"[{host}]" if ":" in host else host, *({"127.0.0.1", "localhost", "[::1]"} if host in LOOPBACK else ())}
+    host, port = f"[{host}]" if ":" in host else host, door.server_address[1]
+    hosts = {host, *(LOOPBACK if host in LOOPBACK else ())}
     Page.names = {f"{name}:{port}" for name in {*hosts, *given.name}} | {*given.name} | (hosts if port == 80 else set())
     Page.plant = plant = Plant(given.url, max(given.every, 0.1), log)
     signal.signal(signal.SIGTERM, stop)
@@ -220,7 +220,7 @@ def main():
         if not given.wait:
             plant.open()
         threading.Thread(target=door.serve_forever, daemon=True).start()
-        log(f"listening at http://{sorted(hosts)[0]}:{port}/")
+        log(f"listening at http://{host}:{port}/")
         plant.run()
     except LOST as fault:
         return fail(7, f"{given.url}: {words(fault)}")
