@@ -414,7 +414,7 @@ def try_many(browser):
     ok(page.until("points.size === 500 && alarms.length === 2"), "500 points and two alarms",
        f"{1000 * (time.monotonic() - began):.0f} ms from the opening of the page")
     told = page.js("[...groups.values()].filter(it => !it.round).map(it => it.box.querySelector('summary').textContent)")
-    ok(told == ["Floor 1100", "Floor 2100▲ Alarm", "Floor 3100", "Floor 4100", "Floor 5100"], "in groups by the site's tree, with their worst state")
+    ok(told == ["Floor 1100", "Floor 2100▲ Alarm", "Floor 3100", "Floor 4100", "Floor 5100"], "grouped by the site's tree, with the worst state")
     count = "charts.get('/obix/floor1/room1/t').pairs?.length"
     ok(page.until(f"{count} > 900"), "the trend of a history of 20,000 records", page.js(count))
     shot(page, "many")

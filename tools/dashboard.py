@@ -148,7 +148,7 @@ class Page(http.server.BaseHTTPRequestHandler):
             return self.refuse(503, f"{READERS} browsers look at it already")
         version, self.close_connection = 0, True
         try:
-            self.head(200, Content_Type="text/event-stream", Connection="close")
+            self.head(200, Content_Type="text/event-stream", Connection="close", X_Accel_Buffering="no")     # nginx would keep it back
             while True:
                 text, version = self.plant.since(version)
                 self.wfile.write(f"id: {time.time() * 1000:.0f}\ndata: {text}\n\n".encode())
