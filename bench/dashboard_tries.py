@@ -430,6 +430,11 @@ def try_many(browser):
         server.ask("PUT", f"/obix/floor5/room{number}/sp", f'<real val="{16 + number / 2}"/>')
     wanted = "[...Array(20).keys()].every(at => points.get(`/obix/floor5/room${at + 1}/sp`).val === String(16 + (at + 1) / 2))"
     ok(page.until(wanted), "20 writes are followed")
+    for number in range(100):
+        server.ask("PUT", f"/obix/floor{number // 20 + 1}/room{number % 20 + 1}/t", '<real val="29.5"/>')
+    is_calm = "$('open').clientHeight <= innerHeight / 2 && $('news').textContent.length < 99"
+    ok(page.until(f"alarms.length === 100 && $('open').childElementCount === 100 && {is_calm}"), "100 open alarms leave room for the rest")
+    shot(page, "many-alarms")
     page.size(390, 844, True)
     ok(is_wide_enough(page), "a phone is wide enough")
     shot(page, "many-phone")
