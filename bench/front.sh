@@ -1,0 +1,11 @@
+#!/usr/bin/env bash
+# Tries examples/nginx.conf: nginx with a self-made certificate in front of `obix serve` with 64 workers, both on free ports of
+# loopback, in a folder of their own. Prints `ok` and what was tried, a line each; the first that fails ends it.
+# usage: bench/front.sh [PROGRAM]      (default: the built program); needs nginx, curl, openssl and python3
+set -eu
+top=$(cd "$(dirname "$0")/.." && pwd)
+if [ $# = 0 ]; then
+  "$top/obix" stdio "$top/examples/point.xml" </dev/null   # builds it where needed
+  set -- "$top/out/bin/obix"
+fi
+PATH=$PATH:/usr/sbin exec python3 "$top/bench/front_tries.py" "$top/examples" "$1"

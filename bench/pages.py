@@ -1,0 +1,243 @@
+"""The runs of bench/pages.sh. All traffic is on 127.0.0.1, on free ports in place of those that the pages name."""
+import os
+import re
+import shutil
+import socket
+import subprocess
+import sys
+import tempfile
+import time
+import urllib.error
+import urllib.request
+from pathlib import Path
+
+PAGES = ("README.md", "examples/README.md", "docs/RUNNING.md", "docs/obix.1")
+PORTS = ("8080", "8081", "9180")
+NOT_HERE = (("rt ", "needs the kit, for an hour"), ("cd crates/", "needs the kit"), ("sudo ", "changes the machine"),
+            ("systemctl ", "needs systemd"))
+PRINTED = re.compile(r"(?:listening|served|legal|illegal|obix:) ?\S*.*")
+TIME = re.compile(r"\d{4}-\d\d-\d\dT[\d:.]*Z *")
+README_LINES, CELL = 150, 250
+
+
+class Told:
+    """What has been found so far."""
+
+    failed = 0
+
+    def ok(self, what):
+        print(f"ok {what}", flush=True)
+
+    def skipped(self, what, why):
+        print(f"skipped {what} ({why})", flush=True)
+
+    def not_ok(self, what, why):
+        self.failed += 1
+        print(f"not ok {what}\n    {why}", flush=True)
+
+
+class Block:
+    """The commands of a block of shell lines, and the text of the block behind it that shows what the last one prints."""
+
+    def __init__(self, lines):
+        self.commands = [it for it in re.sub(r"\\\n\s*", "", "\n".join(lines)).split("\n") if it.strip() and not it.startswith("#")]
+        self.shown, self.begins = None, False
+
+
+def blocks_of(path):
+    """The blocks of a page."""
+    found, inside, lines, before = [], None, [], ""
+    manual = path.suffix == ".1"
+    for line in path.read_text(encoding="utf-8").split("\n"):
+        fence = line.startswith((".Bd -literal", ".Ed")) if manual else line.startswith("```")
+        if fence and inside is None:
+            inside, lines = "sh" if manual else line[3:].strip(), []
+        elif fence:
+            if inside == "sh":
+                found.append(Block([it.replace("\\e", "\\") for it in lines]))
+            elif not inside and found and found[-1].shown is None:
+                found[-1].shown, found[-1].begins = "\n".join(lines), before.endswith("begins")
+            inside = None
+        elif inside is not None:
+            lines.append(line)
+        elif manual and line.startswith(".Dl obix "):
+            found.append(Block([line[4:]]))
+        elif line.strip():
+            before = line.strip()
+    return found
+
+
+class Room:
+    """A folder in which a page's commands find what they name, and the servers that they start there."""
+
+    def __init__(self, top, program):
+        self.folder = tempfile.TemporaryDirectory(prefix="obix-pages.")
+        self.at, self.running = Path(self.folder.name), []
+        for name in ("examples", "docs", "tools", "bench"):
+            (self.at / name).symlink_to(top / name)
+        for place in ("obix", "out/bin/obix", "bin/obix"):
+            (self.at / place).parent.mkdir(parents=True, exist_ok=True)
+            (self.at / place).symlink_to(program)
+        held = [socket.socket() for _ in PORTS]
+        [it.bind(("127.0.0.1", 0)) for it in held]
+        self.ports = dict(zip(PORTS, (str(it.getsockname()[1]) for it in held)))
+        [it.close() for it in held]
+        self.environment = {**os.environ, "PATH": f"{self.at}/bin:{os.environ['PATH']}"}
+
+    def __enter__(self):
+        return self
+
+    def __exit__(self, *fault):
+        for run in self.running:
+            run.terminate()
+            run.wait(20)
+        self.folder.cleanup()
+
+    def here(self, command):
+        """The command with this room's ports and places."""
+        for old, new in (*self.ports.items(), ("/etc/obix/", "examples/"), ("/usr/local/bin/obix", f"{self.at}/bin/obix")):
+            command = command.replace(old, new)
+        return command
+
+    def run(self, command):
+        done = subprocess.run(["bash", "-o", "pipefail", "-c", self.here(command)], cwd=self.at, env=self.environment,
+                              stdin=subprocess.DEVNULL, capture_output=True, timeout=120)
+        return done.returncode, (done.stdout + done.stderr).decode()
+
+    def start(self, command):
+        """Starts what doesn't end by itself, and gives its first line, or nothing where its port is answered first."""
+        run = subprocess.Popen(["bash", "-c", f"exec {self.here(command)}"], cwd=self.at, env=self.environment,
+                               stdout=subprocess.PIPE, stderr=subprocess.STDOUT, text=True)
+        self.running.append(run)
+        return run
+
+
+def is_answered(port, path):
+    for _ in range(100):
+        try:
+            return urllib.request.urlopen(f"http://127.0.0.1:{port}{path}", timeout=5).status == 200
+        except urllib.error.HTTPError:
+            return False
+        except OSError:
+            time.sleep(0.1)
+    return False
+
+
+def told_of(comment):
+    """The line and the status that a comment behind a command says, if it does."""
+    status = re.search(r"\bstatus (\d+)", comment)
+    line = re.sub(r",? *status \d+.*", "", comment).strip()
+    return line if PRINTED.fullmatch(line) else None, int(status[1]) if status else 0
+
+
+def same(printed, shown, begins):
+    printed, shown = (TIME.sub("TIME ", it.replace("\r", "")).strip() for it in (printed, shown))
+    return printed.startswith(shown) if begins else printed == shown
+
+
+def judge(told, room, page, command, block):
+    """Runs one command, and says whether it does what the page says."""
+    text, _, comment = command.partition(" # ") if " # " in command else (command, "", "")
+    text, what = text.strip(), f"{page}: {command.split('  ')[0].strip()}"
+    line, status = told_of(comment.strip())
+    why = next((why for front, why in NOT_HERE if text.startswith(front)), None)
+    missing = next((it for it in re.findall(r"\btools/\S+\.py", text) if not (room.at / it).exists()), None)
+    if why or missing:
+        return told.skipped(what, why or f"no {missing}")
+    if re.match(r"(\./)?obix serve ", text):
+        first = room.start(text).stdout.readline().strip()
+        wanted = room.here(line or "listening 127.0.0.1 8080")
+        return told.ok(what) if first == wanted else told.not_ok(what, f"printed {first!r}, not {wanted!r}")
+    if "tools/dashboard.py" in text or "tools/exporter.py" in text:
+        run, port = room.start(text), re.search(r"--listen \S*?(\d+)$", room.here(text))
+        good = port and is_answered(port[1], "/metrics" if "exporter" in text else "/")
+        return told.ok(what) if good else told.not_ok(what, "its page isn't answered")
+    at, printed = room.run(text)
+    if at != status:
+        return told.not_ok(what, f"status {at}, not {status}: {printed.strip()[-300:]}")
+    if line and printed.strip() != room.here(line):
+        return told.not_ok(what, f"printed {printed.strip()!r}, not {line!r}")
+    asked = re.search(r"stdio examples/plant-room.xml < (examples/\w+)\.http$", text)
+    if asked and not same(printed, (room.at / f"{asked[1]}.out").read_text(encoding="utf-8"), False):
+        return told.not_ok(what, f"isn't {asked[1]}.out")
+    block.printed = printed
+    return told.ok(what)
+
+
+def run_page(told, top, program, page):
+    with Room(top, program) as room:
+        for block in blocks_of(top / page):
+            block.printed = None
+            for command in block.commands:
+                judge(told, room, page, command, block)
+            if block.shown is not None and block.printed is not None:
+                what = f"{page}: what {block.commands[0].split('  ')[0][:60]} prints"
+                if same(block.printed, block.shown, block.begins):
+                    told.ok(what)
+                else:
+                    told.not_ok(what, f"printed {block.printed!r}")
+
+
+def look_at_links(told, top):
+    """Whether each file that a page leads to is there, and each page that it names in words."""
+    for page in [top / "README.md", *sorted(top.glob("docs/*.md")), top / "examples/README.md", top / "bench/README.md"]:
+        text = page.read_text(encoding="utf-8")
+        gone = [it for it in re.findall(r"\]\(([^)#:]+)\)", text) if not (page.parent / it).exists()]
+        name = page.relative_to(top)
+        if gone:
+            told.not_ok(f"{name}: links", f"not there: {', '.join(gone)}")
+        else:
+            told.ok(f"{name}: links")
+
+
+def look_at_form(told, top):
+    """The README's number of lines, and its longest cell."""
+    lines = (top / "README.md").read_text(encoding="utf-8").splitlines()
+    longest = max(len(cell.strip()) for line in lines if line.startswith("|") for cell in line.strip("|").split(" | "))
+    if len(lines) <= README_LINES and longest <= CELL:
+        told.ok(f"README.md: {len(lines)} lines, the longest cell {longest}")
+    else:
+        told.not_ok("README.md: its size", f"{len(lines)} lines, the longest cell {longest}")
+
+
+def look_at_counts(told, top):
+    """Whether docs/TESTING.md has the counts of the files."""
+    run = subprocess.run([sys.executable, str(top / "bench/counts.py")], capture_output=True, text=True)
+    if run.returncode == 0:
+        told.ok("docs/TESTING.md: its counts")
+    else:
+        told.not_ok("docs/TESTING.md: its counts", "; ".join(it for it in run.stdout.splitlines() if "the page has" in it))
+
+
+def look_by(told, what, words):
+    """Whether a tool of the machine has nothing to say of a file."""
+    if not shutil.which(words[0]):
+        return told.skipped(what, f"no {words[0]}")
+    run = subprocess.run(words, capture_output=True, text=True)
+    said = (run.stdout + run.stderr).strip()
+    return told.ok(what) if run.returncode == 0 else told.not_ok(what, said)
+
+
+def look_at_files(told, top, program):
+    """The manual page by mandoc; the service by systemd, with this program in the place that it names."""
+    look_by(told, "docs/obix.1: mandoc", ["mandoc", "-T", "lint", str(top / "docs/obix.1")])
+    with tempfile.TemporaryDirectory(prefix="obix-pages.") as folder:
+        unit = Path(folder) / "obix.service"
+        unit.write_text((top / "examples/obix.service").read_text(encoding="utf-8").replace("/usr/local/bin/obix", program))
+        look_by(told, "examples/obix.service: systemd-analyze verify", ["systemd-analyze", "verify", str(unit)])
+
+
+def main():
+    top, program = Path(sys.argv[1]), sys.argv[2]
+    told = Told()
+    for page in PAGES:
+        run_page(told, top, program, page)
+    look_at_links(told, top)
+    look_at_form(told, top)
+    look_at_files(told, top, program)
+    look_at_counts(told, top)
+    return 1 if told.failed else 0
+
+
+if __name__ == "__main__":
+    sys.exit(main())

@@ -1,0 +1,88 @@
+#!/usr/bin/env python3
+"""Says where and why `obix` refuses a site file, and what in it passes in silence though it is likely a slip.
+
+    tools/site_lint.py SITE [--obix PROGRAM]
+
+What is refused, where hrefs lead and what the site shows is asked of the program itself, in runs that end at once. A
+finding is a line FILE:LINE:COLUMN: refused, warning or note: TEXT, then the line of the file, and a caret below its place;
+columns count characters from 1. This tool stands beside the proved program, and isn't proved.
+
+status 0: nothing to say. 1: the site opens, with warnings. 2: the file is refused. 3: nothing can be said, since the words
+are no command, the file can't be read, or the program couldn't be asked.
+"""
+import argparse
+import gc
+import re
+import signal
+import sys
+
+from lint import openings, refusals, slips
+from lint.asking import Program, Site, Trouble
+from lint.parts import File
+
+
+class Words(argparse.ArgumentParser):
+    def error(self, message):
+        self.print_usage(sys.stderr)
+        self.exit(3, f"site_lint: {message}\n")
+
+
+def of_opening(cause, data, name, program):
+    """The findings of a document that opens no site."""
+    site, told = Site(name, data, program), cause.split(" ")
+    if cause == "RootHref":
+        return openings.of_root(site.root)
+    site.find_paths(program)
+    if told[0] in ("Href", "Rule"):
+        return {"Href": openings.of_href, "Rule": openings.of_rule}[told[0]](site, site.parts[int(told[1])])
+    if told[0] == "Contract":
+        return openings.of_contract(site, told[1], told[2])
+    if told[0] == "PathTwice":
+        return openings.of_path(site, told[1])
+    if cause == "Size":
+        return [(site.root.at, f"the site shows more than 200,000 parts: {len(site.parts):,} of the file, and what they inherit")]
+    return [(site.root.at, "the file is refused")]
+
+
+def lint(name, program):
+    """Prints the findings, and gives the status."""
+    with open(name, "rb") as file:
+        data = file.read(1 << 25)
+    told, cause = File(name, data), program.run("stdio", "--", name)[1]
+    if cause is None:
+        site = Site(name, data, program)
+        site.find_paths(program)
+        for at, text in slips.all_of(site, name, program):
+            told.say(at, "warning", text)
+        print(f"{name}: opens, {told.warnings} warning{'s' if told.warnings != 1 else ''}")
+        return 1 if told.warnings else 0
+    place = re.fullmatch(r"(.*) at (\d+)", cause)
+    found = refusals.of_document(data, place[1], int(place[2])) if place else of_opening(cause, data, name, program)
+    for number, (at, text) in enumerate(found):
+        told.say(at, "note" if number else "refused", text if number else f"{text} [{cause}]")
+    return 2
+
+
+def main():
+    words = Words(description=__doc__, formatter_class=argparse.RawDescriptionHelpFormatter)
+    words.add_argument("site", metavar="SITE", help="the site file")
+    words.add_argument("--obix", metavar="PROGRAM", help="the program; without it out/bin/obix beside the tools, or obix on the PATH")
+    given = words.parse_args()
+    sys.stdout.reconfigure(errors="backslashreplace")
+    try:
+        return lint(given.site, Program(given.obix))
+    except (OSError, ValueError) as fault:
+        trouble = f"{given.site}: {getattr(fault, 'strerror', None) or fault}"
+    except Trouble as fault:
+        trouble = str(fault)
+    except RecursionError:
+        trouble = f"{given.site}: contracts that inherit from so many others are more than this tool follows"
+    print(f"site_lint: {trouble}", file=sys.stderr)
+    return 3
+
+
+if __name__ == "__main__":
+    gc.disable()   # parts refer to one another, and the process ends soon
+    signal.signal(signal.SIGINT, signal.SIG_DFL)
+    signal.signal(signal.SIGPIPE, signal.SIG_DFL)
+    sys.exit(main())
