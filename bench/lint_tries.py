@@ -1,7 +1,5 @@
 """The tries of bench/lint.sh. Each file is written to a folder of its own, as site.xml."""
 import ast
-import contextlib
-import io
 import os
 import random
 import re
@@ -42,10 +40,7 @@ def bytes_of(text):
 def say(data, program):
     """The status, and the lines that the lint prints of a file."""
     Path("site.xml").write_bytes(data)
-    out = io.StringIO()
-    with contextlib.redirect_stdout(out):
-        status = lint("site.xml", program)
-    return status, out.getvalue().rstrip("\n").split("\n")
+    return lint("site.xml", program)
 
 
 def cases():
@@ -153,6 +148,8 @@ def try_statuses(program):
         words = words if "--obix" in words or not words or words[0] == "--help" else ["--obix", program.path, *words]
         came, said = start(words, os.environ["PATH"])
         judge(came == status and "Traceback" not in said and bool(said) == (status == 3), f"{words} => {status}", f"\ncame out: {came} {said}")
+    run = subprocess.run(f"cat site.xml | {sys.executable} {TOP}/tools/site_lint.py /dev/stdin --obix {program.path}", shell=True, capture_output=True)
+    judge((run.returncode, run.stdout) == (0, b"/dev/stdin: opens, 0 warnings\n"), "a file through a pipe", f"\ncame out: {run}")
     Path("obix").symlink_to(program.path)
     judge(start(["site.xml"], os.getcwd()) == (0, ""), "the program that is found without --obix")
     if not (TOP / "out" / "bin" / "obix").is_file():

@@ -15,6 +15,7 @@ import gc
 import re
 import signal
 import sys
+import tempfile
 
 from lint import openings, refusals, slips
 from lint.asking import Program, Site, Trouble
@@ -27,9 +28,9 @@ class Words(argparse.ArgumentParser):
         self.exit(3, f"site_lint: {message}\n")
 
 
-def of_opening(cause, data, name, program):
+def of_opening(cause, data, copy, program):
     """The findings of a document that opens no site."""
-    site, told = Site(name, data, program), cause.split(" ")
+    site, told = Site(copy, data, program), cause.split(" ")
     if cause == "RootHref":
         return openings.of_root(site.root)
     site.find_paths(program)
@@ -45,19 +46,29 @@ def of_opening(cause, data, name, program):
 
 
 def lint(name, program):
-    """Prints the findings, and gives the status."""
+    """The status, and the lines to print. The file is read once, and the program is asked about a copy of it: so all that it
+    answers is of the same bytes."""
     with open(name, "rb") as file:
         data = file.read(1 << 25)
-    told, cause = File(name, data), program.run("stdio", "--", name)[1]
+    with tempfile.NamedTemporaryFile(prefix="site_lint.", suffix=".xml") as copy:
+        copy.write(data)
+        copy.flush()
+        told = File(name, data)
+        return find(told, copy.name, program), told.lines
+
+
+def find(told, copy, program):
+    """Tells the findings, and gives the status."""
+    data, cause = told.data, program.run("stdio", copy)[1]
     if cause is None:
-        site = Site(name, data, program)
+        site = Site(copy, data, program)
         site.find_paths(program)
-        for at, text in slips.all_of(site, name, program):
+        for at, text in slips.all_of(site, copy, program):
             told.say(at, "warning", text)
-        print(f"{name}: opens, {told.warnings} warning{'s' if told.warnings != 1 else ''}")
+        told.lines.append(f"{told.name}: opens, {told.warnings} warning{'s' if told.warnings != 1 else ''}")
         return 1 if told.warnings else 0
     place = re.fullmatch(r"(.*) at (\d+)", cause)
-    found = refusals.of_document(data, place[1], int(place[2])) if place else of_opening(cause, data, name, program)
+    found = refusals.of_document(data, place[1], int(place[2])) if place else of_opening(cause, data, copy, program)
     for number, (at, text) in enumerate(found):
         told.say(at, "note" if number else "refused", text if number else f"{text} [{cause}]")
     return 2
@@ -68,9 +79,14 @@ def main():
     words.add_argument("site", metavar="SITE", help="the site file")
     words.add_argument("--obix", metavar="PROGRAM", help="the program; without it out/bin/obix beside the tools, or obix on the PATH")
     given = words.parse_args()
-    sys.stdout.reconfigure(errors="backslashreplace")
     try:
-        return lint(given.site, Program(given.obix))
+        status, lines = lint(given.site, Program(given.obix))
+        sys.stdout.reconfigure(errors="backslashreplace")
+        signal.signal(signal.SIGPIPE, signal.SIG_DFL)   # a reader may have seen enough
+        print("\n".join(lines), flush=True)
+        return status
+    except KeyboardInterrupt:
+        return 130
     except (OSError, ValueError) as fault:
         trouble = f"{given.site}: {getattr(fault, 'strerror', None) or fault}"
     except Trouble as fault:
@@ -83,6 +99,4 @@ def main():
 
 if __name__ == "__main__":
     gc.disable()   # parts refer to one another, and the process ends soon
-    signal.signal(signal.SIGINT, signal.SIG_DFL)
-    signal.signal(signal.SIGPIPE, signal.SIG_DFL)
     sys.exit(main())

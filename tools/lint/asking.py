@@ -37,7 +37,7 @@ class Program:
     def ask(self, site, paths):
         """The objects that the site of a file shows at these paths, as text."""
         requests = "".join(f"GET http://h{it} HTTP/1.1\r\n\r\n" for it in paths).encode()
-        out, at, replies = self.run("stdio", "--", site, requests=requests)[0], 0, []
+        out, at, replies = self.run("stdio", site, requests=requests)[0], 0, []
         while at < len(out):
             body = out.index(b"\r\n\r\n", at) + 4
             at = body + int(re.search(rb"Content-Length: (\d+)", out[at:body])[1])
@@ -69,13 +69,13 @@ class Site:
                "obix:History": ["count", "start", "end", "query", "feed"], "obix:AlarmSubject": ["count", "query", "feed"]}
     VALUES = "bool int real str enum uri abstime reltime date time".split()
 
-    def __init__(self, name, data, program):
+    def __init__(self, copy, data, program):
         self.parts = parts_of(data)[0]
         self.root, self.written = self.parts[0], [it.has for it in self.parts]
         self.kept_sources, self.kept_children, self.kept_nodes = {}, {}, None
-        read = parts_of(program.run("check", "--", name)[0])[0]
+        read = parts_of(program.run("check", copy)[0])[0]
         if [it.kind for it in read] != [it.kind for it in self.parts]:
-            raise Trouble(f"{name}: its parts can't be told apart; did the file change meanwhile?")
+            raise Trouble("the program reads other parts in the file than this tool")
         for part, it in zip(self.parts, read):
             part.has = it.has
         self.paths, self.contracts = {}, {}

@@ -134,7 +134,7 @@ def rule(site, part):
     low, high = part.child("low"), part.child("high")
     if Decimal(low.has["val"]) > Decimal(high.has["val"]):
         return low.place("val"), f"low {low.has['val']} is above high {high.has['val']}"
-    earlier = (it.child("source", "ref") for it in part.parent.children[:part.parent.children.index(part)])
+    earlier = (it.child("source", "ref") for it in part.parent.children[:part.nth - 1])
     if any(it is not None and site.paths.get(it.has.get("href")) == path for it in earlier):
         return ref.place("href"), f"an earlier rule has the source {path}, and no two have one"
     return part.at, None
@@ -148,8 +148,8 @@ def record(part):
         return time.at if time else part.at, "the record needs an abstime named timestamp with a val"
     if value is None or value.kind in ("obj", "list", "op", "feed", "ref", "err"):
         return value.at if value else part.at, "the record needs a child named value of a kind that has values"
-    records = part.parent.children
-    if records.index(part) and instant(time.has["val"]) < instant(records[records.index(part) - 1].child("timestamp").has["val"]):
+    before = part.parent.children[part.nth - 2] if part.nth > 1 else None
+    if before and instant(time.has["val"]) < instant(before.child("timestamp").has["val"]):
         return time.place("val"), "this record is earlier than the one before it: records stand in the order of their times"
     if instant(time.has["val"]) > instant("9999-12-31T23:59:59.999Z"):
         return time.place("val"), "this record is later than 9999-12-31T23:59:59.999Z"

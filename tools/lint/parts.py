@@ -1,6 +1,7 @@
 """The parts of a site file and their places in it, and what is printed of them. Whether bytes are a document, and what its
 values are, isn't judged here: the program tells it.
 """
+import bisect
 import re
 import unicodedata
 
@@ -18,8 +19,10 @@ class Part:
         self.has, self.where, self.children = {}, {}, []
         self.path, self.shown, self.taken, self.given = None, None, False, []
         self.inside = parent is not None and parent.inside   # in the contracts of the site
+        self.nth = 1   # among its siblings
         if parent is not None:
             parent.children.append(self)
+            self.nth = len(parent.children)
 
     @property
     def name(self):
@@ -43,7 +46,7 @@ class Part:
         """Its names from the root on; one without a name is told by its href, or its place among its siblings."""
         names, it = [], self
         while it.parent is not None:
-            names.append(it.name or it.has.get("href") or f"{it.kind} {1 + it.parent.children.index(it)}")
+            names.append(it.name or it.has.get("href") or f"{it.kind} {it.nth}")
             it = it.parent
         return " / ".join(reversed(names)) or "the root"
 
@@ -83,27 +86,30 @@ def parts_of(data, end=None):
 
 
 class File:
-    """The file that is read, and the findings that are printed of it."""
+    """The file that is read, and the lines that are to be printed of it."""
 
     def __init__(self, name, data):
-        self.name, self.data, self.warnings = name, data, 0
+        self.name, self.data, self.lines, self.warnings = name, data, [], 0
+        self.starts = [0] + [it.end() for it in re.finditer(b"\n", data)]
 
     def position(self, at):
         """Line and column of a byte, in characters from 1, and its line. The mark EF BB BF is no column."""
-        mark = 3 if self.data.startswith(b"\xef\xbb\xbf") else 0
-        start = max(self.data.rfind(b"\n", 0, at) + 1, mark)
-        end = self.data.find(b"\n", at)
-        line = self.data[start:len(self.data) if end < 0 else end].rstrip(b"\r")
-        return self.data.count(b"\n", 0, at) + 1, len(self.data[start:at].decode(errors="replace")) + 1, line.decode(errors="replace")
+        row = bisect.bisect_right(self.starts, at)
+        start = max(self.starts[row - 1], 3 if self.data.startswith(b"\xef\xbb\xbf") else 0)
+        end = self.starts[row] - 1 if row < len(self.starts) else len(self.data)
+        line = self.data[start:end].rstrip(b"\r")
+        return row, len(self.data[start:at].decode(errors="replace")) + 1, line.decode(errors="replace")
 
     def say(self, at, grade, text):
         """A finding, the line that it is about, or what is near of a long one, and a caret below its place."""
         row, column, line = self.position(at)
         left = max(0, column - WIDTH // 2) if len(line) > WIDTH else 0
         piece, before, behind = line[left:left + WIDTH], "..." if left else "", "..." if len(line) > left + WIDTH else ""
-        print(f"{self.name}:{row}:{column}: {grade}: {text}")
-        print("    " + before + "".join(c if c.isprintable() or c == "\t" else "\ufffd" for c in piece) + behind)
-        print("    " + " " * len(before) + "".join(map(blank, piece[:column - 1 - left])) + "^")
+        self.lines += [
+            f"{self.name}:{row}:{column}: {grade}: {text}",
+            "    " + before + "".join(c if c.isprintable() or c == "\t" else "\ufffd" for c in piece) + behind,
+            "    " + " " * len(before) + "".join(map(blank, piece[:column - 1 - left])) + "^",
+        ]
         self.warnings += grade == "warning"
 
 

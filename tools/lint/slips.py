@@ -19,10 +19,10 @@ STANDARD = ["obix:" + it for it in """Range Weekday Month Unit Dimension History
 ROLES = {"obix:WritablePoint": "a value kind", "obix:History": "an obj", "obix:AlarmSubject": "an obj"}
 
 
-def all_of(site, name, program):
+def all_of(site, copy, program):
     """The findings of a site that opens, in the order of the file."""
-    see(site, site.root, shown_root(site, name, program))
-    found = root(site) + leads_nowhere(site, name, program)
+    see(site, site.root, shown_root(site, copy, program))
+    found = root(site) + leads_nowhere(site, copy, program)
     for part, written in zip(site.parts, site.written):
         found += attributes(part, written) + words(site, part)
         if part.shown is None:
@@ -34,8 +34,8 @@ def all_of(site, name, program):
     return sorted(found, key=lambda it: it[0])
 
 
-def shown_root(site, name, program):
-    return parts_of(program.ask(name, [site.paths[""]])[0])[0][0]
+def shown_root(site, copy, program):
+    return parts_of(program.ask(copy, [site.paths[""]])[0])[0][0]
 
 
 def see(site, part, shown):
@@ -192,13 +192,13 @@ def begins_outside(site, rule):
              " no alarm is raised at the opening, only when another value outside is written")]
 
 
-def leads_nowhere(site, name, program):
+def leads_nowhere(site, copy, program):
     """Refs and ranges that lead to the site, where nothing stands when it opens."""
     leading = [(part, attribute, site.paths.get(part.has[attribute])) for part in site.parts for attribute in ("href", "range")
                if attribute in part.has and (attribute == "range" or part.kind == "ref")]
     leading = [it for it in leading if it[2] and len(it[2]) < 4000 and it[2] not in site.nodes]
     paths = sorted({it[2] for it in leading})
-    replies = zip(paths, program.ask(name, paths)) if paths else ()
+    replies = zip(paths, program.ask(copy, paths)) if paths else ()
     gone = {path for path, reply in replies if re.match(rb'<err [^>]*display="no such object"', reply)}
     return [(part.place(attribute), f"{part}: {attribute} leads to {path}, where nothing stands")
             for part, attribute, path in leading if path in gone]
