@@ -53,7 +53,8 @@ def cases():
 
 
 def rows(name):
-    for line in (TOP / "crates" / "ob_vectors" / "data" / name).read_text().split("\n"):
+    table = next((TOP / "crates").glob(f"ob_vectors*/data/{name}"))
+    for line in table.read_text().split("\n"):
         if line and not line.startswith("###"):
             text, _, answer = line.partition(" =>")
             yield text, bytes_of(text), answer.strip()
