@@ -1,9 +1,0 @@
-pub mod Adding
-pub mod Days
-pub mod Dates
-pub mod Order
-pub mod Told
-pub mod OneList
-pub mod Lists
-pub mod Force
-pub mod Rows
