@@ -1,76 +1,243 @@
-"""The forms of bench/hostile.sh: documents for `check` and streams for `stdio`, each by how many times something stands in it."""
+"""The forms of bench/hostile.sh: documents for `check`, site files that `stdio` opens, and streams of requests to a site, each by how
+many times something stands in it."""
+import math
 import os
+import resource
 import sys
 import tempfile
 
-program, site, runs = sys.argv[1], sys.argv[2], int(sys.argv[3])
+program, point, runs, part = sys.argv[1], sys.argv[2], int(sys.argv[3]), sys.argv[4]
+MOST = 2.2
+# no form may take more, so that one that grows is told and doesn't take the machine with it
+MEMORY, SECONDS = 4_000_000_000, 30
+BASE = "http://h/obix/"
 
 DOCUMENTS = {
     "spaces": (8_000_000, lambda n: b" " * n),
     "start tags that nest": (3_000_000, lambda n: b"<obj>" * n),
-    "attributes that aren't known": (400_000, lambda n: b"<obj" + b"".join(b' a%d=""' % k for k in range(n)) + b"/>"),
-    "the last attribute twice": (400_000, lambda n: b"<obj" + b"".join(b' a%d=""' % k for k in range(n)) + b' a0=""/>'),
-    "siblings with names": (400_000, lambda n: b"<obj>" + b"".join(b'<int name="%d"/>' % k for k in range(n)) + b"</obj>"),
-    "the last sibling's name twice": (400_000, lambda n: b"<obj>" + b"".join(b'<int name="%d"/>' % k for k in range(n)) + b'<int name="0"/></obj>'),
+    "attributes that aren't known": (200_000, lambda n: b"<obj" + b"".join(b' a%d=""' % k for k in range(n)) + b"/>"),
+    "the last attribute twice": (200_000, lambda n: b"<obj" + b"".join(b' a%d=""' % k for k in range(n)) + b' a0=""/>'),
+    "siblings with names": (200_000, lambda n: b"<obj>" + b"".join(b'<int name="%d"/>' % k for k in range(n)) + b"</obj>"),
+    "the last sibling's name twice": (200_000, lambda n: b"<obj>" + b"".join(b'<int name="%d"/>' % k for k in range(n)) + b'<int name="0"/></obj>'),
     "a comment": (8_000_000, lambda n: b"<!--" + b"x" * n + b"--><obj/>"),
     "dashes in a comment": (4_000_000, lambda n: b"<!--" + b"- " * n + b"--><obj/>"),
-    "comments": (1_000_000, lambda n: b"<!---->" * n + b"<obj/>"),
+    "comments": (500_000, lambda n: b"<!---->" * n + b"<obj/>"),
     "question marks in an instruction": (8_000_000, lambda n: b"<?a " + b"?" * n + b">" + b"?><obj/>"),
-    "references in a value": (1_500_000, lambda n: b'<str val="' + b"&amp;" * n + b'"/>'),
+    "references in a value": (1_000_000, lambda n: b'<str val="' + b"&amp;" * n + b'"/>'),
     "a value without an end": (8_000_000, lambda n: b'<str val="' + b"x" * n),
     "a name without an end": (8_000_000, lambda n: b"<" + b"x" * n),
     "digits of an int": (8_000_000, lambda n: b'<int val="' + b"9" * n + b'"/>'),
     "digits of a real": (8_000_000, lambda n: b'<real val="1.' + b"0" * n + b'"/>'),
-    "words of an is": (2_000_000, lambda n: b'<obj is="' + b"a " * n + b'"/>'),
+    "words of an is": (1_000_000, lambda n: b'<obj is="' + b"a " * n + b'"/>'),
     "references to characters": (1_000_000, lambda n: b'<str val="' + b"&#x41;" * n + b'"/>'),
 }
 
-HEAD = b"GET /obix/n HTTP/1.1\r\n"
-STREAMS = {
-    "requests": (60_000, lambda n: (HEAD + b"\r\n") * n),
-    "fields in heads": (2_000, lambda n: (HEAD + b"".join(b"a%d: b\r\n" % k for k in range(60)) + b"\r\n") * n),
-    "empty lines before requests": (2_000, lambda n: (b"\r\n" * 2_000 + HEAD + b"\r\n") * n),
-    "a head without an end": (8_000_000, lambda n: HEAD + b"a: " + b"x" * n),
-    "bodies that are a comment": (10, lambda n: (b"PUT /obix/n HTTP/1.1\r\nContent-Length: 1000000\r\n\r\n<!--" + b"x" * 999_996) * n),
-    "long targets": (2_000, lambda n: (b"GET /obix/" + b"%41/" * 1_000 + b" HTTP/1.1\r\n\r\n") * n),
-    "batches": (20, lambda n: batch(1_000) * n),
+
+def site(contracts, rest=""):
+    """A lobby with these contracts and objects."""
+    return f'<obj href="{BASE}" is="obix:Lobby"><list name="contracts">{contracts}</list>{rest}</obj>'.encode()
+
+
+def each(count, made):
+    return "".join(made(k) for k in range(count))
+
+
+def contract(name, children):
+    return f'<obj href="{name}">{each(children, lambda k: f"""<int name="c{k}"/>""")}</obj>'
+
+
+def words(name, count):
+    return " ".join([name] * count)
+
+
+def points(count):
+    return site("", each(count, lambda k: f'<int href="p{k}" val="0" writable="true" is="obix:WritablePoint"/>'))
+
+
+def listed(count, more=""):
+    """A site with a list of so many words that name nothing, and as many items."""
+    return site("", f'<list href="l" of="{words("a", count)}">' + "<obj/>" * count + f"</list>{more}")
+
+
+def chain(count):
+    """A site with contracts, each of which is the one before, and the first of which has a default that can be written."""
+    first = '<obj href="c0"><int name="v" href="c0/v" val="0" writable="true"/></obj>'
+    return site(first + each(count, lambda k: f'<obj href="c{k + 1}" is="c{k}"/>'))
+
+
+def logged(count):
+    """A site with a history and the alarms of one point, and so many requests that turn its alarm."""
+    source = '<ref name="source" href="p"/>'
+    rule = f'<obj>{source}<int name="low" val="0"/><int name="high" val="9"/><bool name="needsAck" val="true"/></obj>'
+    return (
+        site("", '<int href="p" val="0" writable="true"/>'
+            f'<obj href="h" is="obix:History">{source}</obj><obj href="r" is="obix:History">{source}<int name="capacity" val="10"/></obj>'
+            f'<obj href="a" is="obix:AlarmSubject"><list name="rules">{rule}</list></obj>'),
+        batches(count, lambda k: item("Write", "/obix/p", f'<int name="in" val="{20 if k % 2 == 0 else 5}"/>')),
+    )
+
+
+SITES = {
+    "nodes": (20_000, points, 0),
+    "a list of n words, n items": (60_000, listed, 0),
+    "n contracts, a list of all, n items": (8_000, lambda n: site(each(n, lambda k: f'<obj href="c{k}"/>'), f'<list of="{" ".join(f"c{k}" for k in range(n))}">' + "<obj/>" * n + "</list>"), 0),
+    "a chain of contracts": (6_000, chain, 0),
+    "contracts with an of of 4n words": (8_000, lambda n: site(f'<list href="c" of="{words("a", 4 * n)}"/>' + each(n, lambda k: f'<list href="d{k}" is="c"/>')), 0),
+    "contracts with a text of n bytes": (8_000, lambda n: site(f'<obj href="c" display="{"x" * n}"/>' + each(n, lambda k: f'<obj href="d{k}" is="c"/>')), 0),
+    "contracts of 500 parts": (150, lambda n: site(contract("c", 500) + each(n, lambda k: f'<obj href="d{k}" is="c"/>')), 0),
+    "a contract of n parts of 500": (100_000, lambda n: site(contract("c", 500) + f'<obj href="d">{"""<obj is="c"/>""" * n}</obj>'), 2),
+    "a contract: n words, n items": (12_000, lambda n: site(each(n, lambda k: f'<obj href="c{k}"><int name="n{k}"/></obj>') + f'<obj href="d"><list of="{" ".join(f"c{k}" for k in range(n))}">' + "<obj/>" * n + "</list></obj>"), 2),
+    "n parts of 500 shown": (100_000, lambda n: site(contract("c", 500), '<obj is="c"/>' * n), 2),
+    "words of an is, of 500 parts": (4_000, lambda n: site(contract("c", 500), f'<obj is="{words("c", n)}"/>'), 0),
+    "objects over a child": (32_000, lambda n: site(contract("c", 100), '<obj is="c"><int name="c99" val="1"/></obj>' * (n // 40)), 0),
+    "objects that nest": (3_000, lambda n: site("", ("<obj>" * 30 + "</obj>" * 30) * n), 0),
+    "hrefs with dots": (30_000, lambda n: site("", each(n, lambda k: f'<int href="a/../b/./../p{k}"/>')), 0),
+    "an href of n segments": (1_000_000, lambda n: site("", f'<int href="{"a/" * n}{"../" * n}p"/>'), 0),
+    "histories of one point": (3_000, lambda n: site("", '<int href="p" val="0"/>' + each(n, lambda k: f'<obj href="h{k}" is="obix:History"><ref name="source" href="p"/></obj>')), 0),
+    "records of a history": (10_000, lambda n: site("", '<obj href="h" is="obix:History"><list name="data">' + each(n, lambda k: '<obj><abstime name="timestamp" val="2026-01-05T06:00:00Z"/><int name="value" val="1"/></obj>') + "</list></obj>"), 0),
+    "rules of alarms": (6_000, lambda n: site("", each(n, lambda k: f'<int href="p{k}" val="0"/>') + '<obj href="a" is="obix:AlarmSubject"><list name="rules">' + each(n, lambda k: f'<obj><ref name="source" href="p{k}"/><int name="low" val="0"/><int name="high" val="9"/><bool name="needsAck" val="true"/></obj>') + "</list></obj>"), 0),
 }
 
 
-def batch(items):
-    body = b"<list>" + b'<uri is="obix:Read" val="/obix/n"/>' * items + b"</list>"
-    return b"POST /obix/batch HTTP/1.1\r\nContent-Type: text/xml\r\nContent-Length: %d\r\n\r\n%b" % (len(body), body)
+def request(verb, target, body=""):
+    head = f"{verb} {target} HTTP/1.1\r\n"
+    if body:
+        head += f"Content-Type: text/xml\r\nContent-Length: {len(body)}\r\n"
+    return (head + "\r\n" + body).encode()
 
 
-def seconds(words, given):
-    """Processor seconds of a run, and its status."""
-    child = os.fork()
-    if child == 0:
-        null = os.open(os.devnull, os.O_WRONLY)
-        os.dup2(os.open(given, os.O_RDONLY), 0)
-        os.dup2(null, 1)
-        os.dup2(null, 2)
-        os.execv(program, [program, *words])
-    _, status, used = os.wait4(child, 0)
-    return used.ru_utime + used.ru_stime, os.waitstatus_to_exitcode(status)
+def item(verb, target, given=""):
+    return f'<uri is="obix:{verb}" val="{target}">{given}</uri>'
 
 
-def tried(folder, name, times, made, words):
-    with open(f"{folder}/form", "wb") as file:
-        file.write(made(times))
-    size = os.path.getsize(f"{folder}/form")
-    results = [seconds([*words, *([f"{folder}/form"] if words == ["check"] else [])], f"{folder}/form") for _ in range(runs)]
-    return size, min(it[0] for it in results), results[0][1]
+def batches(count, made):
+    """So many items, a thousand to a batch."""
+    return b"".join(request("POST", "/obix/batch", "<list>" + "".join(made(k) for k in range(first, min(first + 1_000, count))) + "</list>") for first in range(0, count, 1_000))
 
 
-bad = 0
-print(f"{'form':34} {'MB':>6} {'cpu s':>7} {'twice':>7} {'ratio':>6} status")
-with tempfile.TemporaryDirectory() as folder:
-    for forms, words in ((DOCUMENTS, ["check"]), (STREAMS, ["stdio", site])):
-        for name, (times, made) in forms.items():
-            size, once, status = tried(folder, name, times, made, words)
-            _, twice, also = tried(folder, name, times * 2, made, words)
-            ratio = twice / once if once >= 0.02 else float("nan")
-            bad += ratio > 2.2
-            print(f"{name:34} {size / 1e6:6.1f} {once:7.2f} {twice:7.2f} {ratio:6.2f} {status}" + (f" and {also}" if also != status else ""))
-sys.exit(bad > 0)
+def asking(part, hrefs, given=""):
+    """A call on the first watch, with these hrefs."""
+    return request("POST", f"/obix/watch/1/{part}", '<obj><list name="hrefs">' + "".join(f'<uri val="{href}">{given}</uri>' for href in hrefs) + "</list></obj>")
+
+
+MAKE = request("POST", "/obix/watchService/make")
+REFRESH = request("POST", "/obix/watch/1/pollRefresh")
+CHANGES = request("POST", "/obix/watch/1/pollChanges")
+LATE = '<obj name="in"><abstime name="start" val="2999-01-01T00:00:00Z"/></obj>'
+HEAD = b"GET /obix/n HTTP/1.1\r\n"
+
+
+def body(count):
+    """An int with a list of so many words and items in it."""
+    return f'<int val="8"><list of="{words("a", count)}">' + "<obj/>" * count + "</list></int>"
+
+
+def behind(logs, more):
+    """More requests behind those that fill the logs."""
+    return logs[0], logs[1] + more
+
+
+STREAMS = {
+    "requests": (60_000, lambda n: (None, (HEAD + b"\r\n") * n)),
+    "fields in heads": (16_000, lambda n: (None, (HEAD + b"".join(b"a%d: b\r\n" % k for k in range(60)) + b"\r\n") * n)),
+    "empty lines before requests": (2_000, lambda n: (None, (b"\r\n" * 2_000 + HEAD + b"\r\n") * n)),
+    "a head without an end": (8_000_000, lambda n: (None, HEAD + b"a: " + b"x" * n)),
+    "bodies that are a comment": (10, lambda n: (None, (b"PUT /obix/n HTTP/1.1\r\nContent-Length: 1000000\r\n\r\n<!--" + b"x" * 999_996) * n)),
+    "long targets": (2_000, lambda n: (None, (b"GET /obix/" + b"%41/" * 1_000 + b" HTTP/1.1\r\n\r\n") * n)),
+    "batches": (40_000, lambda n: (None, batches(n, lambda k: item("Read", "/obix/n")))),
+    "puts with n words and n items": (60_000, lambda n: (points(1), request("PUT", "/obix/p0", body(n)) * 8)),
+    "writePoints with them": (60_000, lambda n: (points(1), request("POST", "/obix/p0/writePoint", body(n).replace("<int", '<obj><int name="value"', 1) + "</obj>") * 8)),
+    "batches with them": (60_000, lambda n: (points(1), request("POST", "/obix/batch", "<list>" + item("Write", "/obix/p0", body(n).replace("<int", '<int name="in"', 1)) + "</list>") * 8)),
+    "a get of a list of them": (60_000, lambda n: (listed(n), request("GET", "/obix/l"))),
+    "polls of that list": (20_000, lambda n: (listed(n).replace(b"<obj/></list>", b'<int href="i" val="0" writable="true"/></list>'), MAKE + asking("add", ["/obix/l"]) + request("PUT", "/obix/i", '<int val="1"/>') + CHANGES + REFRESH)),
+    "a write to a default in a chain": (4_000, lambda n: (chain(n), request("PUT", "/obix/c0/v", '<int val="1"/>'))),
+    "hrefs that name nothing, added": (10_000, lambda n: (points(1), (MAKE + asking("add", [f"q{k}" for k in range(n)])))),
+    "one href, added again": (20_000, lambda n: (points(1), MAKE + asking("add", ["p0"] * n))),
+    "items added, written and polled": (1_000, lambda n: (points(2_000), (MAKE + asking("add", [f"p{k}" for k in range(n)]) + batches(n, lambda k: item("Write", f"/obix/p{k}", '<int name="in" val="1"/>')) + CHANGES + REFRESH) * 1)),
+    "hrefs removed, of 2,000 items": (10_000, lambda n: (points(2_000), MAKE + asking("add", [f"p{k}" for k in range(2_000)]) + asking("remove", [f"q{k}" for k in range(n)]))),
+    "hrefs of one node, added": (4_000, lambda n: (points(100), MAKE + asking("add", [f"//h{k}/obix/p0" for k in range(n)]))),
+    "100 calls of a root of n points": (2_000, lambda n: (points(n), batches(100, lambda k: item("Invoke", "/obix/")))),
+    "100 writes to a root of n points": (2_000, lambda n: (points(n), batches(100, lambda k: item("Write", "/obix/", '<int name="in" val="1"/>')))),
+    "100 writes to a default, n contracts": (500, lambda n: (site('<obj href="d"><int name="v" href="d/v" val="0" writable="true"/></obj>' + each(n, lambda k: contract(f"c{k}", 1))), batches(100, lambda k: item("Write", "/obix/d/v", f'<int name="in" val="{k + 1}"/>')))),
+    "100 reads in a list of n words": (2_000, lambda n: (site("", f'<list of="{words("a", n)}"><int href="i" val="1"/></list>'), batches(100, lambda k: item("Read", "/obix/i")))),
+    "dots in an item's href": (100_000, lambda n: (None, batches(1, lambda k: item("Read", "a/" * n + "../" * n + "n")))),
+    "writes to logs": (50_000, lambda n: logged(n)),
+    "acknowledgements": (10_000, lambda n: behind(logged(n), batches(n // 2, lambda k: item("Invoke", f"/obix/alarm/{k + 1}/ack")))),
+    "queries of logs that pass nothing": (20_000, lambda n: behind(logged(n), batches(100, lambda k: item("Invoke", ("/obix/h/query", "/obix/r/query", "/obix/a/query")[k % 3], LATE)))),
+    "queries of all records": (20_000, lambda n: behind(logged(n), request("POST", "/obix/h/query", f'<obj><int name="limit" val="{n}"/></obj>') + request("POST", "/obix/a/query", f'<obj><int name="limit" val="{n}"/></obj>'))),
+    "feeds that pass nothing": (10_000, lambda n: behind(logged(n), MAKE + asking("add", [f"//h{k}/obix/{'a' if k % 2 else 'h'}/feed" for k in range(50)], LATE) + REFRESH)),
+    "events of feeds": (5_000, lambda n: (logged(n)[0], MAKE + asking("add", ["/obix/a/feed", "/obix/h/feed", "/obix/r/feed"]) + logged(n)[1] + CHANGES + REFRESH)),
+}
+
+
+def spent(words, given, used):
+    """User seconds of a run, the most memory that it had in MB, and its status."""
+    # by `time`, as a child of this process would begin with the memory that Python has
+    timed = ["/usr/bin/prlimit", f"--cpu={SECONDS}", "/usr/bin/time", "-q", "-f", "%M", "-o", used, program, *words]
+    null = os.open(os.devnull, os.O_WRONLY)
+    source = os.open(given, os.O_RDONLY)
+    files = [(os.POSIX_SPAWN_DUP2, source, 0), (os.POSIX_SPAWN_DUP2, null, 1), (os.POSIX_SPAWN_DUP2, null, 2)]
+    child = os.posix_spawn(timed[0], timed, os.environ, file_actions=files)
+    os.close(source)
+    os.close(null)
+    _, status, resources = os.wait4(child, 0)
+    with open(used) as file:
+        return resources.ru_utime, int(file.read()) / 1024, os.waitstatus_to_exitcode(status)
+
+
+def ratio(once, twice, least):
+    return twice / once if once >= least else math.nan
+
+
+def tried(folder, name, made, counts, words):
+    """The sizes of a form at both counts, and of each the least time and memory of the runs, and the statuses. Where one grows too
+    fast there are more runs, as a busy machine makes some slow."""
+    sizes = []
+    for place, count in enumerate(counts):
+        opened, given = made(count)
+        sizes.append(len(opened or b"") + len(given))
+        for what, data in (("site", opened), ("in", given)):
+            if data is not None:
+                with open(f"{folder}/{what}{place}", "wb") as file:
+                    file.write(data)
+    results = [[], []]
+    for _ in range(3):
+        for place in (0, 1):
+            opened = point if made(1)[0] is None else f"{folder}/site{place}"
+            said = [*words, opened, "--at", "1767600000000", "--tick", "1"] if words == ["stdio"] else [*words, f"{folder}/in{place}"]
+            results[place] += [spent(said, f"{folder}/in{place}", f"{folder}/used") for _ in range(runs)]
+        least = [(min(it[0] for it in own), min(it[1] for it in own), {it[2] for it in own}) for own in results]
+        grows = ratio(least[0][0], least[1][0], 0.05), ratio(least[0][1], least[1][1], 16)
+        if not any(it > MOST for it in grows) or any(len(own[2]) > 1 for own in least):
+            break
+    return sizes, least, grows
+
+
+def forms():
+    """Each form: its name, how many, the site and the input of a count, the words of the program, and the statuses that it may end in."""
+    for name, (count, made) in DOCUMENTS.items():
+        yield name, count, lambda n, made=made: (b"", made(n)), ["check"], {0, 2}
+    for name, (count, made, status) in SITES.items():
+        yield name, count, lambda n, made=made: (made(n), b""), ["stdio"], {status}
+    for name, (count, made) in STREAMS.items():
+        yield name, count, made, ["stdio"], {0, 5, 6}
+
+
+def main():
+    bad = 0
+    resource.setrlimit(resource.RLIMIT_AS, (MEMORY, MEMORY))
+    print(f"{'form':36} {'MB':>6} {'user s':>7} {'twice':>7} {'ratio':>6} {'MB':>6} {'twice':>7} {'ratio':>6} status")
+    with tempfile.TemporaryDirectory() as folder:
+        for name, count, made, words, allowed in forms():
+            if part not in name:
+                continue
+            sizes, ((once, held, status), (twice, more, also)), grows = tried(folder, name, made, (count, count * 2), words)
+            wrong = any(it > MOST for it in grows) or not (status == also and len(status) == 1 and status <= allowed)
+            bad += wrong
+            told = ",".join(str(it) for it in sorted(status | also))
+            print(f"{name:36} {sizes[0] / 1e6:6.1f} {once:7.2f} {twice:7.2f} {grows[0]:6.2f} {held:6.0f} {more:7.0f} {grows[1]:6.2f} {told}{' BAD' if wrong else ''}", flush=True)
+    print(f"{bad} forms grow faster than {MOST} or end otherwise" if bad else f"none grows faster than {MOST}")
+    sys.exit(bad > 0)
+
+
+main()
