@@ -1,0 +1,10 @@
+pub mod WireLemmas
+pub mod SaidLemmas
+pub mod NeedLemmas
+pub mod OpenLemmas
+pub mod TurnLemmas
+pub mod PartLemmas
+pub mod LiveLemmas
+pub mod SuperLemmas
+pub mod PlaceLemmas
+pub mod TreeLemmas
