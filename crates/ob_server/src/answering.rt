@@ -25,22 +25,31 @@ use std::alloc::{AllocError, Global};
 
 /// What answers the requests of a link that nobody else asks. Its state is what contracts see of it.
 ///
-/// It is no machine: where memory is wanting it may have changed, and an answer need not be a function of its state.
-pub trait Answerer {
-    /// Whether this call may make of the one state the other.
-    ghost asks: { Self → Self → Call → Type 0 };
+/// It is no machine: where memory is wanting it may have changed, an answer need not be a function of its state, and a
+/// part of the outside may be lent to it for each answer.
+pub trait Answerer<O> {
+    /// Whether this call may make of the one state, with what is lent beside it, the other.
+    ghost asks: { Self × O → Self × O → Call → Type 0 };
 
     /// Answers a request at a moment. An error only for want of memory; what was done before memory was wanting stays
     /// done.
-    fn answer(&mut self, request: &Request, moment: Moment) -> Result<Obj, AllocError>
-        ensures replied { IfOk result (λ reply. asks self.old self.new (entry 0 request.now moment (Done reply))) }
-        ensures wanting { OnErr result (asks self.old self.new (entry 0 request.now moment NoMemory)) };
+    fn answer(
+        &mut self,
+        outside: &mut O,
+        request: &Request,
+        moment: Moment,
+    ) -> Result<Obj, AllocError>
+        ensures replied { IfOk result (λ reply. asks (self.old, outside.old) (self.new, outside.new)
+            (entry 0 request.now moment (Done reply))) }
+        ensures wanting { OnErr result (asks (self.old, outside.old) (self.new, outside.new)
+            (entry 0 request.now moment NoMemory)) };
 }
 
 /// Answers one request.
-fn answer_one<A: Answerer, L: Link, C: Clock>(
+fn answer_one<O, A: Answerer<O>, L: Link, C: Clock>(
     alloc: Global,
     answerer: &mut A,
+    outside: &mut O,
     ns: Option<&Text>,
     next: Next,
     text: &mut Vec<u8>,
@@ -48,7 +57,7 @@ fn answer_one<A: Answerer, L: Link, C: Clock>(
     clock: &mut C,
 ) -> Result<(), Break>
     ensures answers { (request : Framed) → SortsTo request next.sorted → request.close ≡ next.close
-        → AnswersOneBy A.asks answerer.old answerer.new (option_copied ns.entry) request
+        → AnswersOneBy A.asks (answerer.old, outside.old) (answerer.new, outside.new) (option_copied ns.entry) request
         (L.held link.old) (L.held link.new) (C.given clock.old) (C.given clock.new) result }
     ensures pace { C.pace clock.new ≡ C.pace clock.old }
     ensures apart { (L.left link.new ≡ L.left link.old) × (L.taken link.new ≡ L.taken link.old)
@@ -63,7 +72,7 @@ fn answer_one<A: Answerer, L: Link, C: Clock>(
     match sorted {
         Sorted::Fixed { line, body } => write_out(alloc, text, link, line, close, body.as_slice()),
         Sorted::Step(request) => {
-            let Ok(reply) = answerer.answer(&request, moment) else {
+            let Ok(reply) = answerer.answer(outside, &request, moment) else {
                 return Err(Break::Memory);
             };
             let Ok(document) = encode(alloc, ns, &reply) else {
@@ -75,16 +84,17 @@ fn answer_one<A: Answerer, L: Link, C: Clock>(
 }
 
 /// Answers the whole requests that are held.
-fn answer_held<A: Answerer, L: Link, C: Clock>(
+fn answer_held<O, A: Answerer<O>, L: Link, C: Clock>(
     alloc: Global,
     answerer: &mut A,
+    outside: &mut O,
     ns: Option<&Text>,
     framer: &mut Framer,
     text: &mut Vec<u8>,
     link: &mut L,
     clock: &mut C,
 ) -> Result<(), Stop>
-    ensures answers { AnswersHeldBy A.asks answerer.old answerer.new (option_copied ns.entry) framer.old framer.new
+    ensures answers { AnswersHeldBy A.asks (answerer.old, outside.old) (answerer.new, outside.new) (option_copied ns.entry) framer.old framer.new
         (L.held link.old) (L.held link.new) (C.given clock.old) (C.given clock.new) result }
     ensures pace { C.pace clock.new ≡ C.pace clock.old }
     ensures apart { (L.left link.new ≡ L.left link.old) × (L.taken link.new ≡ L.taken link.old)
@@ -97,7 +107,9 @@ fn answer_held<A: Answerer, L: Link, C: Clock>(
             Ok(None) => return Ok(()),
             Ok(Some(next)) => {
                 let close = next.close;
-                if let Err(broken) = answer_one(alloc, answerer, ns, next, text, link, clock) {
+                if let Err(broken) = answer_one(
+                    alloc, answerer, outside, ns, next, text, link, clock,
+                ) {
                     return Err(Stop::Broke(broken));
                 }
                 if close {
@@ -116,14 +128,15 @@ fn answer_held<A: Answerer, L: Link, C: Clock>(
 }
 
 /// Answers the requests piece by piece.
-fn serve_pieces<A: Answerer, L: Link, C: Clock>(
+fn serve_pieces<O, A: Answerer<O>, L: Link, C: Clock>(
     alloc: Global,
     answerer: &mut A,
+    outside: &mut O,
     ns: Option<&Text>,
     link: &mut L,
     clock: &mut C,
 ) -> LinkEnd
-    ensures serves { ServesBy A.asks answerer.old answerer.new (option_copied ns.entry)
+    ensures serves { ServesBy A.asks (answerer.old, outside.old) (answerer.new, outside.new) (option_copied ns.entry)
         (inlet (L.left link.old) (L.taken link.old)) (inlet (L.left link.new) (L.taken link.new))
         (L.held link.old) (L.held link.new) (C.given clock.old) (C.given clock.new) result }
     ensures pace { C.pace clock.new ≡ C.pace clock.old }
@@ -137,7 +150,16 @@ fn serve_pieces<A: Answerer, L: Link, C: Clock>(
     let mut text = Vec::new(alloc);
     let mut room = BUDGET;
     'pieces: loop {
-        if let Err(stop) = answer_held(alloc, answerer, ns, &mut framer, &mut text, link, clock) {
+        if let Err(stop) = answer_held(
+            alloc,
+            answerer,
+            outside,
+            ns,
+            &mut framer,
+            &mut text,
+            link,
+            clock,
+        ) {
             return end_of(stop, framer.place());
         }
         if room == 0 {
@@ -151,15 +173,17 @@ fn serve_pieces<A: Answerer, L: Link, C: Clock>(
     }
 }
 
-/// Answers the requests that come over a link by an answerer that nobody else asks, until the link ends.
-pub fn serve_by<A: Answerer, L: Link, C: Clock>(
+/// Answers the requests that come over a link by an answerer that nobody else asks, until the link ends. What is outside
+/// is lent to it for each answer.
+pub fn serve_by<O, A: Answerer<O>, L: Link, C: Clock>(
     alloc: Global,
     answerer: &mut A,
+    outside: &mut O,
     ns: Option<&Text>,
     link: &mut L,
     clock: &mut C,
 ) -> LinkEnd
-    ensures serves { ServesBy A.asks answerer.old answerer.new (option_copied ns.entry)
+    ensures serves { ServesBy A.asks (answerer.old, outside.old) (answerer.new, outside.new) (option_copied ns.entry)
         (inlet (L.left link.old) (L.taken link.old)) (inlet (L.left link.new) (L.taken link.new))
         (L.held link.old) (L.held link.new) (C.given clock.old) (C.given clock.new) result }
     ensures pace { C.pace clock.new ≡ C.pace clock.old }
@@ -170,5 +194,5 @@ pub fn serve_by<A: Answerer, L: Link, C: Clock>(
 {
     framing_is_one();
     end_stays();
-    serve_pieces(alloc, answerer, ns, link, clock)
+    serve_pieces(alloc, answerer, outside, ns, link, clock)
 }
