@@ -57,7 +57,7 @@ done_then (x ∷ xs) ys a b = (a.0, done_then xs ys a.1 b)
 
 -- what didn't break off
 done_of : {E : Type 0} (done : Unit {0}) (broken : E) (calls : List Call) → (let kept : Result (Unit {0}) E = Ok done in kept ≡ Err broken) ⊎ AreDone calls → AreDone calls
-done_of done broken calls memory = elim memory [ inl no ↦ absurd (cc) | inr all ↦ all ]
+done_of done broken calls memory = elim memory [ inl wrong ↦ absurd (cc) | inr all ↦ all ]
 
 broke_then : (before calls : List Call) (broken : Break) → AreDone before → (let kept : Result (Unit {0}) Break = Err broken in kept ≡ Err breaks.Memory) ⊎ AreDone calls
     → (let kept : Result (Unit {0}) Stop = Err (stops.Broke broken) in kept ≡ Err (stops.Broke breaks.Memory)) ⊎ AreDone (before ++ calls)
