@@ -22,7 +22,7 @@ use Rattle.ob_super.proofs.SuperLemmas.{told_before, part_less, goes_none, goes_
 -- ---- what is told less
 
 module _ (T U : Type 0) (less : U → T) where
-  rounds_less : (us : List Upstream) (olds news : List Standing) (ds : List Dial) (vs : List Visit) → Rounds T us olds news ds vs → Rounds U us olds news ds vs
+  pub rounds_less : (us : List Upstream) (olds news : List Standing) (ds : List Dial) (vs : List Visit) → Rounds T us olds news ds vs → Rounds U us olds news ds vs
   rounds_less [] [] [] ds vs r = r
   rounds_less [] [] (n ∷ news) ds vs r = absurd r
   rounds_less [] (o ∷ olds) news ds vs r = absurd r
@@ -31,7 +31,7 @@ module _ (T U : Type 0) (less : U → T) where
   rounds_less (u ∷ us) (o ∷ olds) (n ∷ news) ds vs (d, e, v, w, dials, visits, part, rest) =
       (d, e, v, w, dials, visits, part_less T U less u o n d v part, rounds_less us olds news e w rest)
 
-  many_less : (us : List Upstream) (n : ℕ) (olds news : List Standing) (ds : List Dial) (vs : List Visit) → ManyRounds T us n olds news ds vs → ManyRounds U us n olds news ds vs
+  pub many_less : (us : List Upstream) (n : ℕ) (olds news : List Standing) (ds : List Dial) (vs : List Visit) → ManyRounds T us n olds news ds vs → ManyRounds U us n olds news ds vs
   many_less us zero olds news ds vs r = r
   many_less us (suc n) olds news ds vs (mids, d, e, v, w, dials, visits, round, rest) =
       (mids, d, e, v, w, dials, visits, rounds_less us olds mids d v round, many_less us n mids news e w rest)
