@@ -8,3 +8,4 @@ pub mod LiveLemmas
 pub mod SuperLemmas
 pub mod PlaceLemmas
 pub mod TreeLemmas
+pub mod ConfigLemmas
