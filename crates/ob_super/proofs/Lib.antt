@@ -8,4 +8,7 @@ pub mod LiveLemmas
 pub mod SuperLemmas
 pub mod PlaceLemmas
 pub mod TreeLemmas
+pub mod NameLemmas
+pub mod AnswerLemmas
+pub mod ChainLemmas
 pub mod ConfigLemmas

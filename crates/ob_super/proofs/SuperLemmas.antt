@@ -33,10 +33,10 @@ told_before None (Some xs) more g t = absurd g
 told_before (Some ys) (Some xs) more g t = refl
 
 module _ (T U : Type 0) (less : U → T) where
-  comes_less : (u : Upstream) (calls : List Call) (vs : List Visit) → ComesBack T u calls vs → ComesBack U u calls vs
+  pub comes_less : (u : Upstream) (calls : List Call) (vs : List Visit) → ComesBack T u calls vs → ComesBack U u calls vs
   comes_less u calls vs (v, e, back) = (v, e, λ t. back (less t))
 
-  breaks_next_less : (u : Upstream) (calls : List Call) (n : Option Stage) (e : Fault) (vs : List Visit) → BreaksNext T u calls n e vs → BreaksNext U u calls n e vs
+  pub breaks_next_less : (u : Upstream) (calls : List Call) (n : Option Stage) (e : Fault) (vs : List Visit) → BreaksNext T u calls n e vs → BreaksNext U u calls n e vs
   breaks_next_less u calls None e vs b = absurd b
   breaks_next_less u calls (Some s) e vs (v, f, back) = (v, f, λ t. back (less t))
 
@@ -50,7 +50,7 @@ module _ (T U : Type 0) (less : U → T) where
   back_at_less u (Up calls) (Reply o) vs b = if_down_less u (calls ++ InRound o ∷ []) (standing u (calls ++ InRound o ∷ [])) vs b
   back_at_less u (Up calls) Broken vs (e, fault, b) = (e, fault, breaks_next_less u calls (stage_of u calls) e vs b)
 
-  back_less : (u : Upstream) (s : Standing) (ts : List Turn) (vs : List Visit) → AreBack T u s ts vs → AreBack U u s ts vs
+  pub back_less : (u : Upstream) (s : Standing) (ts : List Turn) (vs : List Visit) → AreBack T u s ts vs → AreBack U u s ts vs
   back_less u s [] vs b = b
   back_less u s (t ∷ ts) vs (these, those, e, a, b) = (these, those, e, back_at_less u s t these a, back_less u (turned u s t) ts those b)
 

@@ -1,5 +1,5 @@
 -- Objects that are shown, part by part.
-use Rattle.std.proofs.Common.{◌≡◌, ℕ, ◌+◌, ◌<◌, ◌≤◌, Bool, true, false, cond, List, [], ◌∷◌, ◌++◌, map, length, take, drop, get_or, Option, Some, None, refl, sym, ap, ◌∙◌, append_assoc, append-nil}
+use Rattle.std.proofs.Common.{◌≡◌, ℕ, ◌+◌, ◌<◌, ◌≤◌, Bool, true, false, cond, List, [], ◌∷◌, ◌++◌, map, length, take, drop, get_or, Option, Some, None, refl, sym, ap, ◌∙◌, append_assoc, append-nil, add-one, drop-cons}
 use Rattle.std.specs.Prelude.{bytes_eq, find, is_some, option_map, option_and_then, slice_get, unwrap_or}
 use Rattle.std.specs.List.{flat_map}
 use Rattle.std.specs.Option.{option_or}
@@ -15,7 +15,8 @@ use Rattle.ob_super.specs.Upstreams.{Upstream}
 use Rattle.ob_client.specs.Mirrors.{found}
 use Rattle.ob_super.specs.Trees.{bare, bare_one, root_path, list_at, object_path, Entry, the_entry, with_entry, entries_from, entry_in, objects, View, subtree, tree, with_children, has_href, shown_among, shown_in}
 use Rattle.ob_super.proofs.PlaceLemmas.{at_in, at_empty, left_at, get_same}
-use Rattle.ob_super.specs.Told.{entry_of}
+use Rattle.ob_super.specs.declared.upstream.Followed.{Followed}
+use Rattle.ob_super.specs.Told.{entry_of, view, views, shown_over}
 
 -- ---- without hrefs
 
@@ -202,3 +203,47 @@ pub below_shown : (vs : List View) (path : Text) → bytes_eq root_path path ≡
 below_shown vs path e =
     ap (λ b. option_map without_name (cond b (Some (tree vs)) (find (has_href path) (flat_map with_children (children (tree vs)))))) e
     ∙ ap (λ (os : List Object). shown_among (flat_map with_children os) path) (listed-in_row (map subtree vs))
+
+-- ---- upstream by upstream, as a loop goes
+
+module _ {L : Type 0} where
+  rest_at : (all : List (Followed L)) (i : ℕ) (f : Followed L) → i < length all → f ≡ get_or all i f → drop i all ≡ f ∷ drop (i + 1) all
+  rest_at all i f lt is =
+      drop-cons all i f lt ∙ ap (λ (n : ℕ). get_or all i f ∷ drop n all) (sym (add-one i)) ∙ ap (λ (y : Followed L). y ∷ drop (i + 1) all) (sym is)
+
+  pub over_here : (all : List (Followed L)) (i : ℕ) (f : Followed L) (path : Text) (o : Object) → i < length all → f ≡ get_or all i f → Some o ≡ shown_among (with_children (subtree (view f))) path
+      → shown_over all path ≡ shown_over (drop i all) path → shown_over all path ≡ Some o
+  over_here all i f path o lt is here so = so ∙ ap (λ (fs : List (Followed L)). shown_over fs path) (rest_at all i f lt is) ∙ lists_here (view f) (views (drop (i + 1) all)) path o here
+
+  pub over_past : (all : List (Followed L)) (i : ℕ) (f : Followed L) (path : Text) → i < length all → f ≡ get_or all i f → None ≡ shown_among (with_children (subtree (view f))) path
+      → shown_over all path ≡ shown_over (drop i all) path → shown_over all path ≡ shown_over (drop (i + 1) all) path
+  over_past all i f path lt is past so = so ∙ ap (λ (fs : List (Followed L)). shown_over fs path) (rest_at all i f lt is) ∙ lists_past (view f) (views (drop (i + 1) all)) path past
+
+  pub over_none : (all : List (Followed L)) (i : ℕ) (path : Text) → length all ≤ i → shown_over all path ≡ shown_over (drop i all) path → shown_over all path ≡ None
+  over_none all i path le so = so ∙ at_drop_all (λ (fs : List (Followed L)). shown_over fs path) all i le
+
+  -- the tree of those before a place
+  abbrev pub tree_to : ℕ → List (Followed L) → Object
+  tree_to i all = tree (views (take i all))
+
+  lists_more : (all : List (Followed L)) (i : ℕ) (f : Followed L) → i < length all → f ≡ get_or all i f → map subtree (views (take i all)) ++ subtree (view f) ∷ [] ≡ map subtree (views (take (i + 1) all))
+  lists_more all i f lt is =
+      sym (map-append subtree (views (take i all)) (view f ∷ []))
+      ∙ ap (map subtree) (sym (map-append view (take i all) (f ∷ [])))
+      ∙ ap (λ (x : Followed L). map subtree (views (take i all ++ x ∷ []))) is
+      ∙ sym (ap (λ (fs : List (Followed L)). map subtree (views fs)) (take_more all i f lt))
+
+  pub tree_more : (all : List (Followed L)) (i : ℕ) (f : Followed L) (root new list : Object) → i < length all → f ≡ get_or all i f → root ≡ tree_to i all → list ≡ subtree (view f) → new ≡ with_child root list
+      → new ≡ tree_to (i + 1) all
+  tree_more all i f root new list lt is at same put =
+      put ∙ ap (λ (r : Object). with_child r list) at
+      ∙ ap (λ (os : List Object). let o : Object = record { head = (tree_to i all).head; inner = in_row (os ++ list ∷ []) } in o) (listed-in_row (map subtree (views (take i all))))
+      ∙ ap (λ (c : Object). let o : Object = record { head = (tree_to i all).head; inner = in_row (map subtree (views (take i all)) ++ c ∷ []) } in o) same
+      ∙ ap (λ (os : List Object). let o : Object = record { head = (tree_to i all).head; inner = in_row os } in o) (lists_more all i f lt is)
+
+  pub tree_all : (all : List (Followed L)) (i : ℕ) (root : Object) → length all ≤ i → root ≡ tree_to i all → root ≡ tree (views all)
+  tree_all all i root le at = at ∙ ap (λ (fs : List (Followed L)). tree (views fs)) (take_all i all le)
+
+  -- the children of the tree so far
+  pub tree_children : (all : List (Followed L)) (i : ℕ) (root : Object) → root ≡ tree_to i all → children root ≡ map subtree (views (take i all))
+  tree_children all i root at = ap (λ (r : Object). children r) at ∙ listed-in_row (map subtree (views (take i all)))

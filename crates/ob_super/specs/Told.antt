@@ -16,6 +16,7 @@ use Rattle.ob_super.specs.Turns.{Standing, Down, Up}
 use Rattle.ob_super.specs.Trees.{Entry, View, the_entry, entry_in, objects, subtree, with_children, shown_among}
 use Rattle.ob_super.specs.Links.{is_fault, HasSaid}
 use Rattle.ob_super.specs.Rounds.{host, BreaksAt, Part, Lacks, Rounded, SendsIf, Sends, Puts, Ends}
+use Rattle.ob_super.specs.Supervised.{Asked, RepliesBy, LacksReply, RepliesTo, Supervises, ManyRounds, StopsAmong, Supervised, StoppedEarly}
 use Rattle.std.specs.declared.alloc.AllocError.{AllocError}
 use Rattle.ob_object.specs.Object.{Object, in_row}
 use Rattle.std.specs.List.{AllByRecursion, flat_map}
@@ -32,7 +33,7 @@ use Rattle.ob_asking.specs.declared.fault.Fault.TheVariants as faults
 use Rattle.ob_super.specs.declared.asking.Ops.{Ops}
 use Rattle.ob_super.specs.declared.asking.Watch.{Watch}
 use Rattle.ob_super.specs.declared.upstream.Upstream.{Upstream}
-use Rattle.ob_super.specs.declared.supervisor.Super.{Super}
+use Rattle.ob_super.specs.declared.state.Super.{Super}
 use Rattle.ob_super.specs.declared.config_fault.ConfigFault.{ConfigFault}
 use Rattle.ob_super.specs.declared.config_fault.ConfigFault.TheVariants.{Shape, Memory}
 use Rattle.ob_super.specs.declared.upstream.Live.{Live}
@@ -53,6 +54,23 @@ outside dials visits = record { dials = dials; visits = visits }
 pub record Goes (before : Outside) (dials : List Dial) (visits : List Visit) (after : Outside) : Type 0 where
   pub dialled : Gains before.dials dials after.dials
   pub back : Gains before.visits visits after.visits
+
+abbrev pub asked : Request → Option Object → Asked
+asked q reply = record { request = q; reply = reply }
+
+-- the reply, if there was memory for it
+abbrev pub replied_by : Result Object AllocError → Option Object
+replied_by (Ok o) = Some o
+replied_by (Err e) = None
+
+-- Outside a whole run of a supervisor of these upstreams was told, in which this was asked behind so many rounds.
+abbrev pub RunsAll : Outside → Outside → List spec.Upstream → ℕ → List Asked → Type 0
+RunsAll before after us n qs =
+    (dials : List Dial) × (visits : List Visit) × Goes before dials visits after × Supervised (IsSome after.visits) us n qs dials visits
+
+-- Memory was wanting in those rounds.
+abbrev pub StopsAll : Outside → Outside → List spec.Upstream → ℕ → Type 0
+StopsAll before after us n = (dials : List Dial) × (visits : List Visit) × Goes before dials visits after × StoppedEarly (IsSome after.visits) us n dials visits
 
 module _ {L : Type 0} (left taken held : L → Option (List ℕ)) where
   abbrev pub wire_of : Session L → Wire
@@ -137,6 +155,38 @@ module _ {L : Type 0} (left taken held : L → Option (List ℕ)) where
   abbrev pub EndsAll : Outside → Outside → List (Followed L) → Type 0
   EndsAll before after all =
       (ss : List Standing) → StandAll ss all → (visits : List Visit) × Goes before [] visits after × Ends (IsSome after.visits) (upstreams all) ss visits
+
+  -- So many rounds were had; or memory was wanting in one of them.
+  abbrev pub HasRounds : Type 0 → List spec.Upstream → ℕ → List Standing → List Standing → List Dial → List Visit → Result (Unit {0}) AllocError → Type 0
+  HasRounds Told us n olds news dials visits (Ok _) = ManyRounds Told us n olds news dials visits
+  HasRounds Told us n olds news dials visits (Err _) = StopsAmong Told us n olds news dials visits
+
+  abbrev pub ManyAll : Outside → Outside → List (Followed L) → List (Followed L) → ℕ → Result (Unit {0}) AllocError → Type 0
+  ManyAll before after old new n result =
+      (olds : List Standing) → StandAll olds old → (news : List Standing) × (dials : List Dial) × (visits : List Visit)
+      × Goes before dials visits after × HasRounds (IsSome after.visits) (upstreams old) n olds news dials visits result × StandAll news new
+
+  -- A request has this reply; or memory was wanting for it.
+  abbrev pub RepliesOr : Type 0 → List spec.Upstream → List Standing → List Standing → Request → List Visit → Option Object → Type 0
+  RepliesOr Told us olds news q visits (Some reply) = RepliesBy Told us olds news q.verb q.target q.body visits reply
+  RepliesOr Told us olds news q visits None = LacksReply Told us olds news q.verb q.target q.body visits
+
+  abbrev pub RepliesAll : Outside → Outside → List (Followed L) → List (Followed L) → Request → Option Object → Type 0
+  RepliesAll before after old new q reply =
+      (olds : List Standing) → StandAll olds old → (news : List Standing) × (visits : List Visit)
+      × Goes before [] visits after × RepliesOr (IsSome after.visits) (upstreams old) olds news q visits reply × StandAll news new
+
+  -- Before a request there was a round, and then it had this reply; or memory was wanting.
+  abbrev pub AnswersAll : Outside → Outside → List (Followed L) → List (Followed L) → Request → Option Object → Type 0
+  AnswersAll before after old new q reply =
+      (olds : List Standing) → StandAll olds old → (news : List Standing) × (dials : List Dial) × (visits : List Visit)
+      × Goes before dials visits after × RepliesTo (IsSome after.visits) (upstreams old) olds news q reply dials visits × StandAll news new
+
+  abbrev pub SupervisesAll : Outside → Outside → List (Followed L) → List (Followed L) → List Asked → Type 0
+  SupervisesAll before after old new qs =
+      (olds : List Standing) → StandAll olds old → (news : List Standing) × (dials : List Dial) × (visits : List Visit)
+      × Goes before dials visits after × Supervises (IsSome after.visits) (upstreams old) olds news qs dials visits × StandAll news new
+
 
 -- ---- what calls bring
 

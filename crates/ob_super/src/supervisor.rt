@@ -3,7 +3,6 @@ ghost use Rattle.std.specs.Prelude.{◌≡◌, ◌<◌, ℕ, List, [], ◌∷◌
 ghost use Rattle.ob_client.specs.Mirrors.{found};
 ghost use Rattle.ob_asking.specs.Places.{place_at};
 ghost use Rattle.ob_super.specs.Calls.{Call};
-ghost use Rattle.ob_super.specs.Rounds.{plain_err, not_supported};
 ghost use Rattle.ob_super.specs.Trees.{object_at, entry_in, with_children, subtree, shown_among, shown_in};
 ghost use Rattle.ob_super.specs.Turns.{Up};
 ghost use Rattle.ob_super.specs.Told as told;
@@ -11,22 +10,17 @@ ghost use Rattle.ob_super.specs.Told as told;
 use crate::config::upstreams;
 use crate::config_fault::ConfigFault;
 use crate::live::{end_live, follow, send_put};
-use crate::place::{ROOT, behind_list, is_list_path, is_number, object_path, text_of};
+use crate::place::{ROOT, behind_list, is_list_path, is_number, object_path};
+use crate::refusal::{err, not_supported};
+use crate::state::Super;
 use crate::tree::{placed, placed_at, subtree, tree};
 use crate::upstream::{Followed, Upstream};
 use ob_asking::place_at;
 use ob_client::Mirror;
 use ob_io::{Dialer, Link};
-use ob_object::{Facets, Head, Kind, Obj, Words};
+use ob_object::Obj;
 use ob_values::Text;
 use std::alloc::{AllocError, Global};
-
-/// Several servers, each followed by a watch over a link.
-#[derive(Drop)]
-pub struct Super<L> {
-    alloc: Global,
-    followed: Vec<Followed<L>>,
-}
 
 // The place of the href of an upstream whose object is held, and has this path.
 fn held_place<L>(followed: &Followed<L>, path: &str) -> Option<usize>
@@ -86,41 +80,6 @@ fn shown_of<L>(alloc: Global, followed: &Followed<L>, path: &str) -> Result<Opti
         return Ok(Some(subtree(alloc, followed)?));
     }
     object_shown(alloc, followed, path)
-}
-
-// An err with these words.
-fn err(alloc: Global, words: &str) -> Result<Obj, AllocError>
-    ensures { IfOk result (λ o. o ≡ plain_err words.now) }
-{
-    let mut facets = Facets::none();
-    facets.display = Some(text_of(alloc, words)?);
-    let mut head = Head::empty(Kind::Err);
-    head.facets = facets;
-    Ok(Obj::from_head(alloc, head))
-}
-
-// The words of one contract.
-fn one_word(alloc: Global, contract: &str) -> Result<Words, AllocError>
-    ensures { IfOk result (λ ws. ws ≡ contract.now ∷ []) }
-{
-    let mut words = Words::new(alloc);
-    let word = text_of(alloc, contract)?;
-    match words.push(word) {
-        Ok(()) => Ok(words),
-        Err(_) => Err(AllocError),
-    }
-}
-
-// The reply where an href leads to no place of the upstream's server.
-fn not_supported(alloc: Global) -> Result<Obj, AllocError>
-    ensures { IfOk result (λ o. o ≡ not_supported) }
-{
-    let words = one_word(alloc, "obix:UnsupportedErr")?;
-    let mut made = err(alloc, "verb not supported here")?;
-    match made.put_is(Some(words)) {
-        Ok(()) => Ok(made),
-        Err(_) => Err(AllocError),
-    }
 }
 
 // Sends a PUT on to the href at a place of an upstream that is up.

@@ -1,8 +1,8 @@
 //! What is shown of upstreams.
-ghost use Rattle.std.specs.Prelude.{◌≡◌, [], IfOk, OnOk, None, option_map};
-ghost use Rattle.ob_object.specs.WellFormed.{with_child};
+ghost use Rattle.std.specs.Prelude.{◌≡◌, [], true, IfOk, OnOk, None, option_map};
 ghost use Rattle.ob_object.specs.Object.{children};
 ghost use Rattle.ob_watching.specs.WatchOuts.{without_name};
+ghost use Rattle.ob_super.specs.Names.{are_apart, names};
 ghost use Rattle.ob_super.specs.Trees.{bare_one, placed, list_head, subtree, tree};
 ghost use Rattle.ob_super.specs.Told as told;
 
@@ -101,16 +101,6 @@ pub(crate) fn subtree<L>(alloc: Global, followed: &Followed<L>) -> Result<Obj, A
     Ok(list)
 }
 
-// Puts the list of an upstream last. No other has its name, as the names of a config's upstreams differ.
-fn push_list(root: &mut Obj, list: Obj) -> Result<(), AllocError>
-    ensures { OnOk result (root.new ≡ with_child root.old list) }
-{
-    match root.push(list) {
-        Ok(()) => Ok(()),
-        Err(_) => Err(AllocError),
-    }
-}
-
 // The list of an upstream, under its name.
 fn named_subtree<L>(alloc: Global, followed: &Followed<L>) -> Result<Obj, AllocError>
     ensures { IfOk result (λ o. o ≡ subtree (told.view followed.now)) }
@@ -125,6 +115,7 @@ fn named_subtree<L>(alloc: Global, followed: &Followed<L>) -> Result<Obj, AllocE
 
 /// The whole tree.
 pub(crate) fn tree<L>(alloc: Global, all: &[Followed<L>]) -> Result<Obj, AllocError>
+    requires { are_apart (names all.now) ≡ true }
     ensures { IfOk result (λ o. o ≡ tree (told.views all.now)) }
 {
     let mut head = Head::empty(Kind::Obj);
@@ -132,7 +123,7 @@ pub(crate) fn tree<L>(alloc: Global, all: &[Followed<L>]) -> Result<Obj, AllocEr
     let mut root = Obj::from_head(alloc, head);
     for followed in all {
         let list = named_subtree(alloc, followed)?;
-        push_list(&mut root, list)?;
+        root.push_last(list)?;
     }
     Ok(root)
 }
