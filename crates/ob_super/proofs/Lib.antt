@@ -11,3 +11,4 @@ pub mod TreeLemmas
 pub mod NameLemmas
 pub mod AnswerLemmas
 pub mod ChainLemmas
+pub mod ConfigLemmas

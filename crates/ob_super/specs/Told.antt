@@ -6,7 +6,8 @@ use Rattle.ob_asking.specs.Wires.{Wire, wire}
 use Rattle.ob_asking.specs.Told as dialogue
 use Rattle.ob_client.specs.declared.session.Session.{Session}
 use Rattle.ob_super.specs.Upstreams as spec
-use Rattle.ob_super.specs.Upstreams.{configured}
+use Rattle.ob_super.specs.Upstreams.{IsConfig, IsFirstOffence, configured}
+pub use Rattle.ob_super.specs.Configs.{upstream}
 use Rattle.ob_io.specs.Dials.{Dial, Visit, IsVisit}
 use Rattle.ob_http.specs.Replies.{AreTaken}
 use Rattle.ob_io.specs.Told.{Gains}
@@ -37,9 +38,6 @@ use Rattle.ob_super.specs.declared.config_fault.ConfigFault.{ConfigFault}
 use Rattle.ob_super.specs.declared.config_fault.ConfigFault.TheVariants.{Shape, Memory}
 use Rattle.ob_super.specs.declared.upstream.Live.{Live}
 use Rattle.ob_super.specs.declared.upstream.Followed.{Followed}
-
-abbrev pub upstream : Upstream → spec.Upstream
-upstream u = record { name = u.name; lobby = dialogue.place u.lobby; hrefs = u.hrefs.items }
 
 abbrev pub upstreams : {L : Type 0} → List (Followed L) → List spec.Upstream
 upstreams all = map (λ f. upstream f.upstream) all
@@ -312,31 +310,17 @@ IsBehind front text (Some rest) = text ≡ front ++ rest
 
 -- ---- a config
 
--- what is told; or the number of the first part that isn't as it has to be; or there was no memory
-abbrev pub Configs : {A B : Type 0} → (A → B) → Result A ConfigFault → Result B ℕ → Type 0
-Configs tells (Ok x) expected = expected ≡ Ok (tells x)
-Configs tells (Err (Shape part)) expected = expected ≡ Err part
-Configs tells (Err Memory) expected = Unit {0}
+-- an upstream stands last, and is down
+abbrev pub HasDown : {L : Type 0} → List (Followed L) → List (Followed L) → Upstream → Type 0
+HasDown old new u = new ≡ old ++ record { upstream = u; live = None } ∷ []
 
-abbrev pub texts : {Y : Type 0} → Vec Text Y → List Text
-texts v = v.items
+-- these are followed, and all of them are down
+abbrev pub AreDown : {L : Type 0} → List Upstream → List (Followed L) → Type 0
+AreDown us all = all ≡ map (λ u. record { upstream = u; live = None }) us
 
-abbrev pub all_upstreams : {Y : Type 0} → Vec Upstream Y → List spec.Upstream
-all_upstreams v = map upstream v.items
-
-abbrev pub first_of : ConfigFault → ConfigFault → ConfigFault
-first_of (Shape n) (Shape m) = Shape (min n m)
-first_of (Shape n) Memory = Memory
-first_of Memory other = Memory
-
-abbrev pub both : {A B : Type 0} → Result A ConfigFault → Result B ConfigFault → Result (A × B) ConfigFault
-both (Ok a) (Ok b) = Ok (a, b)
-both (Ok a) (Err f) = Err f
-both (Err f) (Ok b) = Err f
-both (Err f) (Err g) = Err (first_of f g)
-
--- what it tells is followed, and all of it is down; or the number of the first part that isn't as it has to be
+-- it is a config, and what it tells is followed, and all of it is down; or this part is the first that offends against its form; or there
+-- was no memory
 abbrev pub Configures : {L : Type 0} → Object → Result (Super L) ConfigFault → Type 0
-Configures config (Ok s) = (configured config ≡ Ok (upstreams s.followed.items)) × AllByRecursion (λ f. f.live ≡ None) s.followed.items
-Configures config (Err (Shape part)) = configured config ≡ Err part
+Configures config (Ok s) = IsConfig config × (configured config ≡ Some (upstreams s.followed.items)) × AllByRecursion (λ f. f.live ≡ None) s.followed.items
+Configures config (Err (Shape part)) = IsFirstOffence config part
 Configures config (Err Memory) = Unit {0}

@@ -1,19 +1,20 @@
--- What a supervisor follows, as its config tells it: a list of upstreams. Its parts are numbered in document order, from 0.
-use Rattle.std.specs.Prelude.{ℕ, Bool, cond, ◌&&◌, ◌||◌, nat_le, min, bytes_eq, codes, List, [], ◌∷◌, ◌++◌, length, Option, Some, None, Result, Ok, Err, option_and_then, unwrap_or}
-use Rattle.std.specs.List.{list_all}
+-- What a supervisor follows, as its config tells it, and the parts of a config that offend against its form. A part that is there
+-- and is wrong offends itself; where one that is needed is missing, the object round it does. Children of other names, and
+-- attributes that no rule names, are passed over.
+use Rattle.std.specs.Prelude.{◌≡◌, ℕ, Bool, false, cond, not, ◌&&◌, ◌||◌, nat_le, bytes_eq, codes, List, [], ◌∷◌, ◌++◌, length, map, Option, Some, None, is_some, option_map, option_and_then}
+use Rattle.std.specs.List.{list_all, list_any}
 use Rattle.url.specs.Parts.{Parts}
 use Rattle.url.specs.Parser.{parse_url}
-use Rattle.ob_io.specs.Visits.{raised}
 use Rattle.ob_values.specs.declared.value.Value.TheVariants as value
 use Rattle.ob_object.specs.declared.kind.Kind.TheVariants as kind
 use Rattle.ob_object.specs.declared.head.Slot.{Slot}
 use Rattle.ob_object.specs.declared.head.Slot.TheVariants.{Is}
-use Rattle.ob_object.specs.Object.{Object, children, parts}
-use Rattle.ob_object.specs.WellFormed.{has_name}
+use Rattle.ob_object.specs.Object.{Object, children}
 use Rattle.ob_href.specs.Href.{as_base}
-use Rattle.ob_watching.specs.Tables.{is_among}
 use Rattle.ob_watching.specs.WatchOuts.{Text, is_of_kind}
 use Rattle.ob_asking.specs.Places.{Place, some_of, place_at}
+use Rattle.ob_parts.specs.Numbered.{Part, inside, inside_child, root}
+use Rattle.ob_parts.specs.Offences.{unless, needs, said, each, IsFirst}
 
 -- a server that is followed: its name, its lobby, and the hrefs that are added to the watch there
 pub record Upstream : Type 0 where
@@ -21,7 +22,7 @@ pub record Upstream : Type 0 where
   pub lobby : Place
   pub hrefs : List Text
 
--- ---- what a part has to be
+-- ---- what objects say
 
 abbrev pub is_between : ℕ → ℕ → ℕ → Bool
 is_between least most n = nat_le least n && nat_le n most
@@ -30,8 +31,13 @@ is_between least most n = nat_le least n && nat_le n most
 abbrev pub is_letter : ℕ → Bool
 is_letter b = is_between 97 122 b || is_between 48 57 b
 
+-- 1 to 32 of these
 abbrev pub is_name : Text → Bool
 is_name t = is_between 1 32 (length t) && list_all is_letter t
+
+-- the name of an obj
+abbrev pub name_in : Object → Option Text
+name_in o = cond (is_of_kind kind.Obj o) (option_and_then (λ (t : Text). cond (is_name t) (Some t) None) o.head.name) None
 
 abbrev pub uri_text : Slot → Option Text
 uri_text (Is (value.Uri t)) = Some t
@@ -46,77 +52,70 @@ abbrev pub lobby_at : Text → Option Place
 lobby_at t =
     option_and_then (λ (url : Parts). cond (bytes_eq url.scheme (codes "https")) None (place_at url [])) (some_of (as_base (parse_url None t)))
 
--- an href of 1 to 1,024 bytes
+-- the lobby that a uri says
+abbrev pub lobby_in : Object → Option Place
+lobby_in o = option_and_then lobby_at (uri_in o)
+
+-- an href of 1 to 1,024 bytes, which a uri says
 abbrev pub href_in : Object → Option Text
 href_in o = option_and_then (λ (t : Text). cond (is_between 1 1024 (length t)) (Some t) None) (uri_in o)
 
--- ---- numbers of parts
+-- a list of so many objects
+abbrev pub is_list : ℕ → ℕ → Object → Bool
+is_list least most o = is_of_kind kind.List o && is_between least most (length (children o))
 
--- the number of the first part in a part, and of the one behind it; numbers stop at the last of 64 bits
-abbrev pub inside : ℕ → ℕ
-inside n = raised n 1
+-- ---- the parts that offend
 
-abbrev pub behind : ℕ → Object → ℕ
-behind n o = raised n (parts o)
+abbrev pub is_text : Text → Option Text → Bool
+is_text t None = false
+is_text t (Some other) = bytes_eq t other
 
--- the child of a name with its number, where the first child has this number
-abbrev pub numbered : Text → ℕ → List Object → Option (ℕ × Object)
-numbered name n [] = None
-numbered name n (o ∷ os) = cond (has_name name o.head.name) (Some (n, o)) (numbered name (behind n o) os)
+-- an href that none of the objects before it says
+abbrev pub new_href : List Object → Object → Option Text
+new_href before o =
+    option_and_then (λ (t : Text). cond (list_any (λ other. is_text t (href_in other)) before) None (Some t)) (href_in o)
 
--- ---- what parts tell, or the number of the first one that isn't as it has to be
+abbrev pub href_offences : List Object → Part → List ℕ
+href_offences before p = unless (is_some (new_href before p.object)) p
 
--- what is told, or this number
-abbrev pub or_part : {T : Type 0} → ℕ → Option T → Result T ℕ
-or_part n None = Err n
-or_part n (Some x) = Ok x
+-- an obj with a name, a uri `url` and a list `hrefs` of 1 to 2,048 hrefs, of which no text stands twice
+abbrev pub upstream_offences : List Object → Part → List ℕ
+upstream_offences before p =
+    unless (is_some (name_in p.object)) p
+    ++ (needs (codes "url") (λ o. is_some (lobby_in o)) p
+    ++ (needs (codes "hrefs") (is_list 1 2_048) p
+    ++ each href_offences [] (inside_child (codes "hrefs") p)))
 
--- what a part tells in front of what those behind it do; or the first number
-abbrev pub in_front : {T : Type 0} → Result T ℕ → Result (List T) ℕ → Result (List T) ℕ
-in_front (Ok x) (Ok xs) = Ok (x ∷ xs)
-in_front (Ok x) (Err n) = Err n
-in_front (Err n) rest = Err n
+-- the numbers of all parts of a config that offend: it is a list of 1 to 64 upstreams
+abbrev pub offences : Object → List ℕ
+offences config = unless (is_list 1 64 config) (root config) ++ each upstream_offences [] (inside (root config))
 
--- what two parts tell together, of which either may stand first; or the lower number
-abbrev pub together : {A B C : Type 0} → (A → B → C) → Result A ℕ → Result B ℕ → Result C ℕ
-together f (Ok a) (Ok b) = Ok (f a b)
-together f (Ok a) (Err n) = Err n
-together f (Err n) (Ok b) = Err n
-together f (Err n) (Err m) = Err (min n m)
+-- a config of the form
+abbrev pub IsConfig : Object → Type 0
+IsConfig config = offences config ≡ []
 
-abbrev pub new_href : List Text → Object → Option Text
-new_href before o = option_and_then (λ (t : Text). cond (is_among bytes_eq before t) None (Some t)) (href_in o)
+-- this part is the first that offends
+abbrev pub IsFirstOffence : Object → ℕ → Type 0
+IsFirstOffence config part = IsFirst (offences config) part
 
--- the hrefs that items tell, of which the first has this number, behind these; none may stand twice
-abbrev pub hrefs_from : ℕ → List Text → List Object → Result (List Text) ℕ
-hrefs_from n before [] = Ok []
-hrefs_from n before (o ∷ os) = in_front (or_part n (new_href before o)) (hrefs_from (behind n o) (before ++ unwrap_or (href_in o) [] ∷ []) os)
+-- ---- what a config of the form tells
 
--- a list of 1 to 2,048 hrefs
-abbrev pub hrefs_at : ℕ × Object → Result (List Text) ℕ
-hrefs_at (n, o) = cond (is_of_kind kind.List o && is_between 1 2048 (length (children o))) (hrefs_from (inside n) [] (children o)) (Err n)
+-- all of them, where each is there
+abbrev pub all_of : {A : Type 0} → List (Option A) → Option (List A)
+all_of [] = Some []
+all_of (None ∷ xs) = None
+all_of (Some x ∷ xs) = option_map (λ ys. x ∷ ys) (all_of xs)
 
-abbrev pub lobby_in : ℕ × Object → Result Place ℕ
-lobby_in (n, o) = or_part n (option_and_then lobby_at (uri_in o))
+abbrev pub hrefs_in : Object → Option (List Text)
+hrefs_in o = all_of (map href_in (children o))
 
-abbrev pub name_in : Object → Option Text
-name_in o = cond (is_of_kind kind.Obj o) (option_and_then (λ (t : Text). cond (is_name t) (Some t) None) o.head.name) None
+abbrev pub with_hrefs : Option Text → Option Place → Option (List Text) → Option Upstream
+with_hrefs (Some name) (Some lobby) (Some hrefs) = Some (record { name = name; lobby = lobby; hrefs = hrefs })
+with_hrefs _ _ _ = None
 
--- an obj of a name, with a child `url` and a child `hrefs`; a part that isn't there is told by the obj's own number
-abbrev pub upstream_of : ℕ → Option Text → Option (ℕ × Object) → Option (ℕ × Object) → Result Upstream ℕ
-upstream_of n (Some name) (Some url) (Some hrefs) =
-    together (λ (lobby : Place) (texts : List Text). let u : Upstream = record { name = name; lobby = lobby; hrefs = texts } in u) (lobby_in url) (hrefs_at hrefs)
-upstream_of n _ _ _ = Err n
+abbrev pub upstream_in : Object → Option Upstream
+upstream_in o = with_hrefs (name_in o) (said (codes "url") lobby_in o) (said (codes "hrefs") hrefs_in o)
 
-abbrev pub upstream_in : ℕ → Object → Result Upstream ℕ
-upstream_in n o =
-    upstream_of n (name_in o) (numbered (codes "url") (inside n) (children o)) (numbered (codes "hrefs") (inside n) (children o))
-
--- the upstreams that items tell, of which the first has this number
-abbrev pub upstreams_from : ℕ → List Object → Result (List Upstream) ℕ
-upstreams_from n [] = Ok []
-upstreams_from n (o ∷ os) = in_front (upstream_in n o) (upstreams_from (behind n o) os)
-
--- what a config tells: a list of 1 to 64 upstreams
-abbrev pub configured : Object → Result (List Upstream) ℕ
-configured o = cond (is_of_kind kind.List o && is_between 1 64 (length (children o))) (upstreams_from 1 (children o)) (Err 0)
+-- the upstreams, in the order in which they stand
+abbrev pub configured : Object → Option (List Upstream)
+configured config = all_of (map upstream_in (children config))

@@ -1,9 +1,14 @@
 //! What a config tells.
-ghost use Rattle.std.specs.Prelude.{◌≡◌, ◌++◌, ◌∷◌, [], Some, Err, IfOk, OnOk, option_copied, option_map};
+ghost use Rattle.std.specs.Prelude.{◌≡◌, ◌++◌, ◌∷◌, Some, IfOk, IfSome, OnOk, option_copied, option_map, codes, is_some, [], map};
+ghost use Rattle.std.specs.List.{list_all};
 ghost use Rattle.ob_asking.specs.Told as dialogue;
-ghost use Rattle.ob_super.specs.Upstreams.{is_letter, is_name, uri_in, lobby_at, lobby_in, href_in, hrefs_from, hrefs_at, numbered, name_in, upstream_of, upstream_in, configured};
+ghost use Rattle.ob_parts.specs.Least.{least};
+ghost use Rattle.ob_parts.specs.Numbered.{inside, inside_child};
+ghost use Rattle.ob_parts.specs.Offences.{unless, needs, said, each};
+ghost use Rattle.ob_parts.specs.Views.{part_of};
+ghost use Rattle.ob_super.specs.Configs as read;
+ghost use Rattle.ob_super.specs.Upstreams as form;
 ghost use Rattle.ob_super.specs.declared.config_fault.ConfigFault.TheVariants.{Shape};
-ghost use Rattle.ob_super.specs.Told as told;
 
 use crate::config_fault::ConfigFault;
 use crate::upstream::Upstream;
@@ -11,13 +16,17 @@ use indexmap::IndexSet;
 use ob_asking::{Place, place_at};
 use ob_href::{Base, HrefFault};
 use ob_object::{Kind, Obj, Slot};
+use ob_parts::{Part, earlier, number_behind};
 use ob_values::{Text, Value};
 use std::alloc::{AllocError, Global};
 
 /// The most upstreams, the most hrefs of one, the most bytes of an href and of a name.
 const MOST_UPSTREAMS: usize = 64;
+
 const MOST_HREFS: usize = 2048;
+
 const MOST_HREF: usize = 1024;
+
 const MOST_NAME: usize = 32;
 
 // The part of this number isn't as it has to be.
@@ -27,22 +36,51 @@ fn wrong<T>(part: u64) -> Result<T, ConfigFault>
     Err(ConfigFault::Shape { part })
 }
 
+// What is told, unless a part offends.
+fn unless_any<T: Drop>(first: Option<u64>, told: T) -> Result<T, ConfigFault>
+    ensures { result ≡ read.unless_any first told }
+{
+    match first {
+        Some(part) => wrong(part),
+        None => Ok(told),
+    }
+}
+
 fn is_letter(byte: u8) -> bool
-    ensures { result ≡ is_letter byte }
+    ensures { result ≡ form.is_letter byte }
 {
     byte.is_ascii_lowercase() || byte.is_ascii_digit()
 }
 
+fn are_letters(bytes: &[u8]) -> bool
+    ensures { result ≡ list_all form.is_letter bytes.now }
+{
+    bytes.iter().all(|byte| is_letter(*byte))
+}
+
 fn is_name(name: &Text) -> bool
-    ensures { result ≡ is_name name.now }
+    ensures { result ≡ form.is_name name.now }
 {
     let bytes = name.as_str().as_bytes();
-    !bytes.is_empty() && bytes.len() <= MOST_NAME && bytes.iter().all(|byte| is_letter(*byte))
+    !bytes.is_empty() && bytes.len() <= MOST_NAME && are_letters(bytes)
+}
+
+// The name of an obj.
+fn name_in(object: &Obj) -> Option<&Text>
+    ensures { option_copied result ≡ form.name_in object.now }
+{
+    if !object.kind().same(Kind::Obj) {
+        return None;
+    }
+    match object.name() {
+        Some(name) if is_name(name) => Some(name),
+        _ => None,
+    }
 }
 
 // The value of a uri.
 fn uri_in(object: &Obj) -> Option<&Text>
-    ensures { option_copied result ≡ uri_in object.now }
+    ensures { option_copied result ≡ form.uri_in object.now }
 {
     if !object.kind().same(Kind::Uri) {
         return None;
@@ -53,9 +91,9 @@ fn uri_in(object: &Obj) -> Option<&Text>
     }
 }
 
-// The place of an http URL without fragment.
+// Where an http URL without fragment leads.
 fn lobby_at(alloc: Global, text: &Text) -> Result<Option<Place>, AllocError>
-    ensures { IfOk result (λ place. option_map dialogue.place place ≡ lobby_at text.now) }
+    ensures { IfOk result (λ place. option_map dialogue.place place ≡ form.lobby_at text.now) }
 {
     match Base::new(alloc, text.as_str()) {
         Ok(base) => {
@@ -70,22 +108,9 @@ fn lobby_at(alloc: Global, text: &Text) -> Result<Option<Place>, AllocError>
     }
 }
 
-// The lobby that a part tells.
-fn lobby(alloc: Global, part: u64, object: &Obj) -> Result<Place, ConfigFault>
-    ensures { told.Configs dialogue.place result (lobby_in (part, object.now)) }
-{
-    let Some(text) = uri_in(object) else {
-        return wrong(part);
-    };
-    match lobby_at(alloc, text)? {
-        Some(place) => Ok(place),
-        None => wrong(part),
-    }
-}
-
-// The href that a part tells.
-fn href(object: &Obj) -> Option<&Text>
-    ensures { option_copied result ≡ href_in object.now }
+// An href of 1 to 1,024 bytes.
+fn href_in(object: &Obj) -> Option<&Text>
+    ensures { option_copied result ≡ form.href_in object.now }
 {
     let Some(text) = uri_in(object) else {
         return None;
@@ -97,10 +122,58 @@ fn href(object: &Obj) -> Option<&Text>
     Some(text)
 }
 
-// Whether a text isn't among those that were seen; from now on it is.
-fn is_new<'a>(seen: &mut IndexSet<&'a str>, text: &'a Text) -> Result<bool, AllocError> {
+fn is_list(object: &Obj, most: usize) -> bool
+    ensures { result ≡ form.is_list 1 most object.now }
+{
+    object.kind().same(Kind::List) && !object.is_empty() && object.len() <= most
+}
+
+// The name of an upstream.
+fn name(part: Part<'_>) -> Result<Text, ConfigFault>
+    ensures { read.Judges (unless (is_some (form.name_in part.entry.object.now)) (part_of part.entry)) (λ name. form.name_in part.entry.object.now ≡ Some name) result }
+{
+    match name_in(part.object) {
+        Some(name) => Ok(name.copy()?),
+        None => wrong(part.number),
+    }
+}
+
+// The lobby that a uri says.
+fn lobby_in(alloc: Global, object: &Obj) -> Result<Option<Place>, AllocError>
+    ensures { IfOk result (λ place. option_map dialogue.place place ≡ form.lobby_in object.now) }
+{
+    match uri_in(object) {
+        Some(text) => lobby_at(alloc, text),
+        None => Ok(None),
+    }
+}
+
+// The lobby of an upstream.
+fn lobby(alloc: Global, part: Part<'_>) -> Result<Place, ConfigFault>
+    ensures { read.Judges (needs (codes "url") (λ o. is_some (form.lobby_in o)) (part_of part.entry)) (λ place. said (codes "url") form.lobby_in part.entry.object.now ≡ Some (dialogue.place place)) result }
+{
+    let Some(url) = part.child("url") else {
+        return wrong(part.number);
+    };
+    match lobby_in(alloc, url.object)? {
+        Some(place) => Ok(place),
+        None => wrong(url.number),
+    }
+}
+
+// The href that an object says, unless it was seen; from now on it is.
+fn new_href<'a>(
+    seen: &mut IndexSet<&'a str>,
+    object: &'a Obj,
+) -> Result<Option<&'a Text>, AllocError>
+    ensures is { IfOk result (λ href. option_copied href ≡ read.unseen seen.old.keys (form.href_in object.now)) }
+    ensures seen { OnOk result (read.Sees seen.old.keys (form.href_in object.now) seen.new.keys) }
+{
+    let Some(text) = href_in(object) else {
+        return Ok(None);
+    };
     let (_, is_new) = seen.insert_full(text.as_str())?;
-    Ok(is_new)
+    if is_new { Ok(Some(text)) } else { Ok(None) }
 }
 
 fn push_copy(texts: &mut Vec<Text>, text: &Text) -> Result<(), AllocError>
@@ -111,54 +184,54 @@ fn push_copy(texts: &mut Vec<Text>, text: &Text) -> Result<(), AllocError>
     Ok(())
 }
 
-// The hrefs that the items of a list tell, of which the first has this number. No text stands twice.
-fn hrefs_from(alloc: Global, first: u64, items: &[Obj]) -> Result<Vec<Text>, ConfigFault>
-    ensures { told.Configs told.texts result (hrefs_from first [] items.now) }
+// Takes the href of an object in, or tells its number where it says none that is new.
+fn take_href<'a>(
+    seen: &mut IndexSet<&'a str>,
+    hrefs: &mut Vec<Text>,
+    number: u64,
+    object: &'a Obj,
+) -> Result<Option<u64>, AllocError>
+    ensures seen { OnOk result (read.Sees seen.old.keys (form.href_in object.now) seen.new.keys) }
+    ensures taken { IfOk result (read.TakesHref hrefs.old.items hrefs.new.items number (read.unseen seen.old.keys (form.href_in object.now))) }
 {
-    let mut part = first;
+    match new_href(seen, object)? {
+        Some(href) => {
+            push_copy(hrefs, href)?;
+            Ok(None)
+        }
+        None => Ok(Some(number)),
+    }
+}
+
+// The hrefs that the items of a list say, no text of which stands twice.
+fn listed_hrefs(alloc: Global, list: Part<'_>) -> Result<Vec<Text>, ConfigFault>
+    ensures { read.Judges (unless (form.is_list 1 2_048 list.entry.object.now) (part_of list.entry) ++ each form.href_offences [] (inside (part_of list.entry))) (λ texts. form.hrefs_in list.entry.object.now ≡ Some texts.items) result }
+{
+    let mut first = list.unless(is_list(list.object, MOST_HREFS));
+    let mut number = list.number_inside();
     let mut seen: IndexSet<&str> = IndexSet::new(alloc);
     let mut hrefs = Vec::new(alloc);
-    for item in items {
-        let Some(text) = href(item) else {
-            return wrong(part);
-        };
-        if !is_new(&mut seen, text)? {
-            return wrong(part);
-        }
-        push_copy(&mut hrefs, text)?;
-        part = part.saturating_add(item.parts());
+    for object in list.object.children() {
+        let offence = take_href(&mut seen, &mut hrefs, number, object)?;
+        first = earlier(first, offence);
+        number = number_behind(number, object);
     }
-    Ok(hrefs)
+    unless_any(first, hrefs)
 }
 
-// The hrefs that a part tells.
-fn hrefs(alloc: Global, part: u64, object: &Obj) -> Result<Vec<Text>, ConfigFault>
-    ensures { told.Configs told.texts result (hrefs_at (part, object.now)) }
+// The hrefs of an upstream.
+fn hrefs(alloc: Global, part: Part<'_>) -> Result<Vec<Text>, ConfigFault>
+    ensures { read.Judges (needs (codes "hrefs") (form.is_list 1 2_048) (part_of part.entry) ++ each form.href_offences [] (inside_child (codes "hrefs") (part_of part.entry))) (λ texts. said (codes "hrefs") form.hrefs_in part.entry.object.now ≡ Some texts.items) result }
 {
-    let is_list = object.kind().same(Kind::List);
-    if !is_list || object.is_empty() || object.len() > MOST_HREFS {
-        return wrong(part);
+    match part.child("hrefs") {
+        Some(list) => listed_hrefs(alloc, list),
+        None => wrong(part.number),
     }
-    hrefs_from(alloc, part.saturating_add(1), object.children())
 }
 
-// The child of a name, and its number, where the first child has this one.
-fn numbered<'a>(first: u64, children: &'a [Obj], name: &str) -> Option<(u64, &'a Obj)>
-    ensures { option_map (λ p. (p.0, p.1.now)) result ≡ numbered name.now first children.now }
-{
-    let mut part = first;
-    for child in children {
-        if child.is_named(name) {
-            return Some((part, child));
-        }
-        part = part.saturating_add(child.parts());
-    }
-    None
-}
-
-// The first of two parts that aren't as they have to be; want of memory goes before.
+// The first of two parts that offend; want of memory goes before.
 fn first_of(one: ConfigFault, other: ConfigFault) -> ConfigFault
-    ensures { result ≡ told.first_of one other }
+    ensures { result ≡ read.first_of one other }
 {
     match one {
         ConfigFault::Memory => ConfigFault::Memory,
@@ -176,7 +249,7 @@ fn both<A: Drop, B: Drop>(
     one: Result<A, ConfigFault>,
     other: Result<B, ConfigFault>,
 ) -> Result<(A, B), ConfigFault>
-    ensures { result ≡ told.both one other }
+    ensures { result ≡ read.both one other }
 {
     match one {
         Ok(a) => match other {
@@ -190,51 +263,15 @@ fn both<A: Drop, B: Drop>(
     }
 }
 
-// The upstream of this name, with the lobby and the hrefs that two parts tell.
-fn upstream_of(
-    alloc: Global,
-    name: &Text,
-    url: (u64, &Obj),
-    list: (u64, &Obj),
-) -> Result<Upstream, ConfigFault>
-    ensures { told.Configs told.upstream result (upstream_of 0 (Some name.now) (Some (url.0, url.1.now)) (Some (list.0, list.1.now))) }
+// An upstream.
+fn upstream(alloc: Global, part: Part<'_>) -> Result<Upstream, ConfigFault>
+    ensures { read.Judges (form.upstream_offences [] (part_of part.entry)) (λ u. form.upstream_in part.entry.object.now ≡ Some (read.upstream u)) result }
 {
-    let (lobby, hrefs) = both(
-        lobby(alloc, url.0, url.1),
-        hrefs(alloc, list.0, list.1),
-    )?;
-    let name = name.copy()?;
-    Ok(Upstream { name, lobby, hrefs })
-}
-
-// The name of an upstream.
-fn name_in(object: &Obj) -> Option<&Text>
-    ensures { option_copied result ≡ name_in object.now }
-{
-    if !object.kind().same(Kind::Obj) {
-        return None;
+    let reached = both(lobby(alloc, part), hrefs(alloc, part));
+    match both(name(part), reached) {
+        Ok((name, (lobby, hrefs))) => Ok(Upstream { name, lobby, hrefs }),
+        Err(fault) => Err(fault),
     }
-    match object.name() {
-        Some(name) if is_name(name) => Some(name),
-        _ => None,
-    }
-}
-
-// The upstream that a part tells.
-fn upstream(alloc: Global, part: u64, object: &Obj) -> Result<Upstream, ConfigFault>
-    ensures { told.Configs told.upstream result (upstream_in part object.now) }
-{
-    let first = part.saturating_add(1);
-    let Some(name) = name_in(object) else {
-        return wrong(part);
-    };
-    let Some(url) = numbered(first, object.children(), "url") else {
-        return wrong(part);
-    };
-    let Some(list) = numbered(first, object.children(), "hrefs") else {
-        return wrong(part);
-    };
-    upstream_of(alloc, name, url, list)
 }
 
 fn push_upstream(all: &mut Vec<Upstream>, upstream: Upstream) -> Result<(), AllocError>
@@ -244,20 +281,36 @@ fn push_upstream(all: &mut Vec<Upstream>, upstream: Upstream) -> Result<(), Allo
     Ok(())
 }
 
-/// The upstreams that a config tells.
-pub(crate) fn upstreams(alloc: Global, config: &Obj) -> Result<Vec<Upstream>, ConfigFault>
-    ensures { told.Configs told.all_upstreams result (configured config.now) }
+// Takes an upstream in, or tells the part that offends in it.
+fn take_in(
+    all: &mut Vec<Upstream>,
+    upstream: Result<Upstream, ConfigFault>,
+) -> Result<Option<u64>, AllocError>
+    ensures { IfOk result (read.TakesIn all.old.items all.new.items upstream) }
 {
-    let is_list = config.kind().same(Kind::List);
-    if !is_list || config.is_empty() || config.len() > MOST_UPSTREAMS {
-        return wrong(0);
+    match upstream {
+        Ok(upstream) => {
+            push_upstream(all, upstream)?;
+            Ok(None)
+        }
+        Err(ConfigFault::Shape { part }) => Ok(Some(part)),
+        Err(ConfigFault::Memory) => Err(AllocError),
     }
-    let mut part = 1u64;
+}
+
+/// The upstreams that a config tells; Shape where a part offends against its form, with the first that does.
+pub(crate) fn upstreams(alloc: Global, config: &Obj) -> Result<Vec<Upstream>, ConfigFault>
+    ensures { read.Judges (form.offences config.now) (λ all. form.configured config.now ≡ Some (map read.upstream all.items)) result }
+{
+    let root = Part::root(config);
+    let mut first = root.unless(is_list(config, MOST_UPSTREAMS));
+    let mut number = root.number_inside();
     let mut all = Vec::new(alloc);
     for object in config.children() {
-        let upstream = upstream(alloc, part, object)?;
-        push_upstream(&mut all, upstream)?;
-        part = part.saturating_add(object.parts());
+        let upstream = upstream(alloc, Part { number, object });
+        let offence = take_in(&mut all, upstream)?;
+        first = earlier(first, offence);
+        number = number_behind(number, object);
     }
-    Ok(all)
+    unless_any(first, all)
 }

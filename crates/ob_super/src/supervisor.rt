@@ -1,5 +1,5 @@
 //! The supervisor.
-ghost use Rattle.std.specs.Prelude.{◌≡◌, ◌<◌, ℕ, List, [], ◌∷◌, None, Some, IsSome, IfSome, IfOk, is_some, option_copied, option_map, slice_get, length};
+ghost use Rattle.std.specs.Prelude.{◌≡◌, ◌<◌, ℕ, List, [], ◌∷◌, None, Some, IsSome, IfSome, IfOk, OnOk, is_some, option_copied, option_map, slice_get, length};
 ghost use Rattle.ob_client.specs.Mirrors.{found};
 ghost use Rattle.ob_asking.specs.Places.{place_at};
 ghost use Rattle.ob_super.specs.Calls.{Call};
@@ -73,11 +73,7 @@ fn object_shown<L>(
 }
 
 // What an upstream shows at a path.
-fn shown_of<L>(
-    alloc: Global,
-    followed: &Followed<L>,
-    path: &str,
-) -> Result<Option<Obj>, AllocError>
+fn shown_of<L>(alloc: Global, followed: &Followed<L>, path: &str) -> Result<Option<Obj>, AllocError>
     ensures { IfOk result (λ o. o ≡ shown_among (with_children (subtree (told.view followed.now))) path.now) }
 {
     if is_list_path(&followed.upstream.name, path) {
@@ -165,17 +161,27 @@ fn put_or_down<W: Dialer>(
     }
 }
 
+// An upstream that is down stands last.
+fn push_down<L: Drop>(all: &mut Vec<Followed<L>>, upstream: Upstream) -> Result<(), AllocError>
+    ensures { OnOk result (told.HasDown all.old.items all.new.items upstream) }
+{
+    all.push(Followed {
+        upstream,
+        live: None,
+    })?;
+    Ok(())
+}
+
 // Upstreams that are down.
 fn all_down<L: Drop>(
     alloc: Global,
     upstreams: Vec<Upstream>,
-) -> Result<Vec<Followed<L>>, AllocError> {
+) -> Result<Vec<Followed<L>>, AllocError>
+    ensures { IfOk result (λ all. told.AreDown upstreams.items all.items) }
+{
     let mut all = Vec::new(alloc);
     for upstream in upstreams {
-        all.push(Followed {
-            upstream,
-            live: None,
-        })?;
+        push_down(&mut all, upstream)?;
     }
     Ok(all)
 }
@@ -212,11 +218,7 @@ fn end_over<W: Dialer>(all: &mut [Followed<W::L>], dialer: &mut W)
 }
 
 // What the first of upstreams that has a place of this path shows there.
-fn shown_over<L>(
-    alloc: Global,
-    all: &[Followed<L>],
-    path: &str,
-) -> Result<Option<Obj>, AllocError>
+fn shown_over<L>(alloc: Global, all: &[Followed<L>], path: &str) -> Result<Option<Obj>, AllocError>
     ensures { IfOk result (λ shown. shown ≡ told.shown_over all.now path.now) }
 {
     for followed in all {
