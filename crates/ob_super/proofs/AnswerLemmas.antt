@@ -22,7 +22,7 @@ use Rattle.ob_super.proofs.SuperLemmas.{told_before, part_less, goes_none, goes_
 -- ---- what is told less
 
 module _ (T U : Type 0) (less : U → T) where
-  rounds_less : (us : List Upstream) (olds news : List Standing) (ds : List Dial) (vs : List Visit) → Rounds T us olds news ds vs → Rounds U us olds news ds vs
+  pub rounds_less : (us : List Upstream) (olds news : List Standing) (ds : List Dial) (vs : List Visit) → Rounds T us olds news ds vs → Rounds U us olds news ds vs
   rounds_less [] [] [] ds vs r = r
   rounds_less [] [] (n ∷ news) ds vs r = absurd r
   rounds_less [] (o ∷ olds) news ds vs r = absurd r
@@ -31,7 +31,7 @@ module _ (T U : Type 0) (less : U → T) where
   rounds_less (u ∷ us) (o ∷ olds) (n ∷ news) ds vs (d, e, v, w, dials, visits, part, rest) =
       (d, e, v, w, dials, visits, part_less T U less u o n d v part, rounds_less us olds news e w rest)
 
-  many_less : (us : List Upstream) (n : ℕ) (olds news : List Standing) (ds : List Dial) (vs : List Visit) → ManyRounds T us n olds news ds vs → ManyRounds U us n olds news ds vs
+  pub many_less : (us : List Upstream) (n : ℕ) (olds news : List Standing) (ds : List Dial) (vs : List Visit) → ManyRounds T us n olds news ds vs → ManyRounds U us n olds news ds vs
   many_less us zero olds news ds vs r = r
   many_less us (suc n) olds news ds vs (mids, d, e, v, w, dials, visits, round, rest) =
       (mids, d, e, v, w, dials, visits, rounds_less us olds mids d v round, many_less us n mids news e w rest)
@@ -42,19 +42,20 @@ more_rounds : (T : Type 0) (us : List Upstream) (n : ℕ) (olds mids news : List
     → ManyRounds T us (suc n) olds news (d ++ e) (v ++ w)
 more_rounds T us zero olds mids news d e v w (same, none, nothing) round =
     (news, e, [], w, [], ap (λ (x : List Dial). x ++ e) none ∙ sym (append-nil e), ap (λ (x : List Visit). x ++ w) nothing ∙ sym (append-nil w),
-    subst (λ (s : List Standing). Rounds T us s news e w) same round, refl, refl, refl)
+    subst (λ (s : List Standing). Rounds T us s news e w) same round, (refl, refl, refl))
 more_rounds T us (suc n) olds mids news d e v w (first, a, b, p, q, dials, visits, round, rest) last =
     (first, a, b ++ e, p, q ++ w, ap (λ (x : List Dial). x ++ e) dials ∙ append_assoc a b e, ap (λ (x : List Visit). x ++ w) visits ∙ append_assoc p q w, round,
     more_rounds T us n first mids news b e q w rest last)
 
 -- memory was wanting in the one behind so many
-then_stops : (T : Type 0) (us : List Upstream) (n k : ℕ) (olds mids news : List Standing) (d e : List Dial) (v w : List Visit) → ManyRounds T us n olds mids d v → Stops T us mids news e w
-    → StopsAmong T us (n + suc k) olds news (d ++ e) (v ++ w)
-then_stops T us zero k olds mids news d e v w (same, none, nothing) stops =
+then_stops : (T : Type 0) (us : List Upstream) (n m : ℕ) (olds mids news : List Standing) (d e : List Dial) (v w : List Visit) → n < m → ManyRounds T us n olds mids d v → Stops T us mids news e w
+    → StopsAmong T us m olds news (d ++ e) (v ++ w)
+then_stops T us n zero olds mids news d e v w lt many stops = absurd (let x : ⊥ = omega (arith, lt) in x)
+then_stops T us zero (suc m) olds mids news d e v w lt (same, none, nothing) stops =
     inl (subst (λ (x : List Dial). Stops T us olds news (x ++ e) (v ++ w)) (sym none) (subst (λ (y : List Visit). Stops T us olds news e (y ++ w)) (sym nothing) (subst (λ (s : List Standing). Stops T us s news e w) same stops)))
-then_stops T us (suc n) k olds mids news d e v w (first, a, b, p, q, dials, visits, round, rest) stops =
+then_stops T us (suc n) (suc m) olds mids news d e v w lt (first, a, b, p, q, dials, visits, round, rest) stops =
     inr (first, a, b ++ e, p, q ++ w, ap (λ (x : List Dial). x ++ e) dials ∙ append_assoc a b e, ap (λ (x : List Visit). x ++ w) visits ∙ append_assoc p q w, round,
-    then_stops T us n k first mids news b e q w rest stops)
+    then_stops T us n m first mids news b e q w (omega (arith, lt)) rest stops)
 
 -- ---- a PUT of a place that nothing holds
 
@@ -64,7 +65,12 @@ sent_not T u (Up calls) new entry body vs s = of (place_at u.lobby.url entry.ask
   where
     of : (p : Option Place) → SendsIf T u calls new entry.path p body vs (Ok None) → ⊥
     of (Some place) s = s
-    of None s = let (e, rest) = s in absurd (let x : None ≡ Some not_supported = e in cc)
+    of None s = absurd (let x : None ≡ Some not_supported = s.0 in cc)
+
+same_here : (T : Type 0) (u : Upstream) (o n : Standing) (olds news : List Standing) (body : Option Object) (vs : List Visit) (behind : Type 0) → (behind → news ≡ olds) → (e : Option Entry)
+    → PutsHere e (λ (entry : Entry). (news ≡ olds) × Sends T u o n entry body vs (Ok None)) ((n ≡ o) × behind) → (n ∷ news) ≡ (o ∷ olds)
+same_here T u o n olds news body vs behind same None (here, rest) = ap (λ (s : Standing). s ∷ news) here ∙ ap (λ (ss : List Standing). o ∷ ss) (same rest)
+same_here T u o n olds news body vs behind same (Some entry) (there, sends) = absurd (sent_not T u o n entry body vs sends)
 
 puts_same : (T : Type 0) (us : List Upstream) (olds news : List Standing) (path : Text) (body : Option Object) (vs : List Visit) → Puts T us olds news path body vs (Ok None) → news ≡ olds
 puts_same T [] [] [] path body vs p = refl
@@ -72,11 +78,8 @@ puts_same T [] [] (n ∷ news) path body vs p = absurd p
 puts_same T [] (o ∷ olds) news path body vs p = absurd p
 puts_same T (u ∷ us) [] news path body vs p = absurd p
 puts_same T (u ∷ us) (o ∷ olds) [] path body vs p = absurd p
-puts_same T (u ∷ us) (o ∷ olds) (n ∷ news) path body vs p = of (entry_at u o path) p
-  where
-    of : (e : Option Entry) → PutsHere e (λ (entry : Entry). (news ≡ olds) × Sends T u o n entry body vs (Ok None)) ((n ≡ o) × Puts T us olds news path body vs (Ok None)) → (n ∷ news) ≡ (o ∷ olds)
-    of None (same, rest) = ap (λ (s : Standing). s ∷ news) same ∙ ap (λ (ss : List Standing). o ∷ ss) (puts_same T us olds news path body vs rest)
-    of (Some entry) (same, sends) = absurd (sent_not T u o n entry body vs sends)
+puts_same T (u ∷ us) (o ∷ olds) (n ∷ news) path body vs p =
+    same_here T u o n olds news body vs (Puts T us olds news path body vs (Ok None)) (puts_same T us olds news path body vs) (entry_at u o path) p
 
 module _ {L : Type 0} (left taken held : L → Option (List ℕ)) where
   abbrev AllStand : List Standing → List (Followed L) → Type 0
@@ -188,7 +191,6 @@ module _ {L : Type 0} (left taken held : L → Option (List ℕ)) where
       let p = many olds are in
       let a = rounds p.0 p.5 in
       (a.0, p.1 ++ a.1, p.2 ++ a.2, goes_then before mid after p.1 a.1 p.2 a.2 p.3 a.3,
-      subst (λ (k : ℕ). StopsAmong (IsSome after.visits) (told.upstreams old) k olds a.0 (p.1 ++ a.1) (p.2 ++ a.2)) (omega (arith, lt))
-      (then_stops (IsSome after.visits) (told.upstreams old) n (m - suc n) olds p.0 a.0 p.1 a.1 p.2 a.2
+      then_stops (IsSome after.visits) (told.upstreams old) n m olds p.0 a.0 p.1 a.1 p.2 a.2 lt
       (many_less (IsSome mid.visits) (IsSome after.visits) (λ t. told_before mid.visits after.visits a.2 a.3.back t) (told.upstreams old) n olds p.0 p.1 p.2 p.4)
-      (subst (λ (us : List Upstream). Stops (IsSome after.visits) us p.0 a.0 a.1 a.2) same a.4)), a.5)
+      (subst (λ (us : List Upstream). Stops (IsSome after.visits) us p.0 a.0 a.1 a.2) same a.4), a.5)

@@ -1,5 +1,5 @@
 -- A whole run, from the rounds before any request to the end.
-use Rattle.std.proofs.Common.{◌≡◌, ◌⊎◌, ℕ, List, [], ◌∷◌, ◌++◌, map, Option, Some, None, Result, Ok, Err, refl, sym, ap, subst, ◌∙◌, append_assoc, append-nil, inl, inr}
+use Rattle.std.proofs.Common.{◌≡◌, ◌⊎◌, ℕ, zero, suc, List, [], ◌∷◌, ◌++◌, map, Option, Some, None, Result, Ok, Err, refl, sym, ap, subst, ◌∙◌, append_assoc, append-nil, inl, inr}
 use Rattle.std.specs.Prelude.{IsSome}
 use Rattle.std.specs.List.{AllByRecursion}
 use Rattle.std.specs.declared.alloc.AllocError.{AllocError}
@@ -63,18 +63,20 @@ module _ (T U : Type 0) (less : U → T) where
   sends_less u Down new entry body vs r s = s
   sends_less u (Up calls) new entry body vs r s = sends_if_less u calls new entry.path (place_at u.lobby.url entry.asked) body vs r s
 
+  here_less : (u : Upstream) (o n : Standing) (olds news : List Standing) (body : Option Object) (vs : List Visit) (r : Result (Option Object) AllocError) (more fewer : Type 0) → (more → fewer) → (e : Option Entry)
+      → PutsHere e (λ (entry : Entry). (news ≡ olds) × Sends T u o n entry body vs r) ((n ≡ o) × more)
+      → PutsHere e (λ (entry : Entry). (news ≡ olds) × Sends U u o n entry body vs r) ((n ≡ o) × fewer)
+  here_less u o n olds news body vs r more fewer f None (same, rest) = (same, f rest)
+  here_less u o n olds news body vs r more fewer f (Some entry) (same, sends) = (same, sends_less u o n entry body vs r sends)
+
   puts_less : (us : List Upstream) (olds news : List Standing) (path : Text) (body : Option Object) (vs : List Visit) (r : Result (Option Object) AllocError) → Puts T us olds news path body vs r → Puts U us olds news path body vs r
   puts_less [] [] [] path body vs r p = p
   puts_less [] [] (n ∷ news) path body vs r p = absurd p
   puts_less [] (o ∷ olds) news path body vs r p = absurd p
   puts_less (u ∷ us) [] news path body vs r p = absurd p
   puts_less (u ∷ us) (o ∷ olds) [] path body vs r p = absurd p
-  puts_less (u ∷ us) (o ∷ olds) (n ∷ news) path body vs r p = of (entry_at u o path) p
-    where
-      of : (e : Option Entry) → PutsHere e (λ (entry : Entry). (news ≡ olds) × Sends T u o n entry body vs r) ((n ≡ o) × Puts T us olds news path body vs r)
-          → PutsHere e (λ (entry : Entry). (news ≡ olds) × Sends U u o n entry body vs r) ((n ≡ o) × Puts U us olds news path body vs r)
-      of None (same, rest) = (same, puts_less us olds news path body vs r rest)
-      of (Some entry) (same, sends) = (same, sends_less u o n entry body vs r sends)
+  puts_less (u ∷ us) (o ∷ olds) (n ∷ news) path body vs r p =
+      here_less u o n olds news body vs r (Puts T us olds news path body vs r) (Puts U us olds news path body vs r) (puts_less us olds news path body vs r) (entry_at u o path) p
 
   by_less : (us : List Upstream) (olds news : List Standing) (verb : Verb) (path : Text) (body : Option Object) (vs : List Visit) (reply : Object) → RepliesBy T us olds news verb path body vs reply → RepliesBy U us olds news verb path body vs reply
   by_less us olds news Get path body vs reply r = r
@@ -165,7 +167,7 @@ module _ {L : Type 0} (left taken held : L → Option (List ℕ)) where
       })
 
   among_less : (T U : Type 0) → (U → T) → (us : List Upstream) (n : ℕ) (olds news : List Standing) (ds : List Dial) (vs : List Visit) → StopsAmong T us n olds news ds vs → StopsAmong U us n olds news ds vs
-  among_less T U less us 0 olds news ds vs s = s
+  among_less T U less us zero olds news ds vs s = s
   among_less T U less us (suc n) olds news ds vs s = elim s [
     | inl a ↦ inl (stops_less T U less us olds news ds vs a)
     | inr (mids, d, e, v, w, dials, visits, round, rest) ↦ inr (mids, d, e, v, w, dials, visits, rounds_less T U less us olds mids d v round, among_less T U less us n mids news e w rest)

@@ -1,7 +1,8 @@
 -- Names that differ, and the lists of upstreams in the tree.
 use Rattle.std.proofs.Common.{◌≡◌, ℕ, ◌<◌, Bool, true, false, cond, List, [], ◌∷◌, map, length, take, get_or, Option, Some, None, refl, sym, ap, subst, ◌∙◌, true≢false}
-use Rattle.std.specs.Prelude.{◌||◌, bytes_eq, find, is_some, option_map, slice_get}
-use Rattle.std.proofs.lemmas.List.{take-map}
+use Rattle.std.specs.Prelude.{◌||◌, bytes_eq, find, is_some, option_map, slice_get, Vec}
+use Rattle.std.specs.Vec.{with_items}
+use Rattle.std.proofs.lemmas.List.{take-map, length-map, with_items_is}
 use Rattle.std.proofs.lemmas.Option.{slice_get-get_or, slice_get-map}
 use Rattle.ob_object.specs.Object.{Object}
 use Rattle.ob_object.specs.WellFormed.{has_name, is_taken, NamesDiffer}
@@ -63,3 +64,11 @@ module _ {L : Type 0} where
   -- they stay apart while the upstreams are the same
   pub apart_still : (old new : List (Followed L)) → upstreams new ≡ upstreams old → are_apart (names old) ≡ true → are_apart (names new) ≡ true
   apart_still old new same apart = subst (λ (ns : List Text). are_apart ns ≡ true) (names_of old ∙ ap (map (λ (u : Upstream). u.name)) (sym same) ∙ sym (names_of new)) apart
+
+  -- and with other elements in the same place
+  pub apart_after : {Z : Type 0} (v : Vec (Followed L) Z) (new : List (Followed L)) → length v.items ≡ v.len → upstreams new ≡ upstreams v.items → are_apart (names v.items) ≡ true
+      → are_apart (names (with_items v new).items) ≡ true
+  apart_after v new len same apart =
+      subst (λ (fs : List (Followed L)). are_apart (names fs) ≡ true)
+      (sym (with_items_is v new (sym (length-map new (λ (f : Followed L). upstream f.upstream)) ∙ ap length same ∙ length-map v.items (λ (f : Followed L). upstream f.upstream) ∙ len)))
+      (apart_still v.items new same apart)

@@ -85,7 +85,7 @@ impl<L: Link + Drop> Super<L> {
     }
 
     /// Has so many rounds, one behind the other. Without memory in one of them there are no more, and its upstream in hand is down.
-    pub fn rounds<W: Dialer<L = L>>(&mut self, dialer: &mut W, count: u64) -> Result<(), AllocError>
+    pub fn rounds<W: Dialer<L = L>>(&mut self, dialer: &mut W, count: u32) -> Result<(), AllocError>
         ensures same { told.upstreams self.new.followed.items ≡ told.upstreams self.old.followed.items }
         ensures rounds { told.ManyAll L.left L.taken L.held (told.outside (W.dials dialer.old) (W.visits dialer.old)) (told.outside (W.dials dialer.new) (W.visits dialer.new)) self.old.followed.items self.new.followed.items count result }
     {
