@@ -1,5 +1,5 @@
 -- What a config tells, and the first part that offends.
-use Rattle.std.proofs.Common.{◌≡◌, ℕ, zero, suc, ◌+◌, ◌<◌, ◌≤◌, Bool, true, false, ◌||◌, List, [], ◌∷◌, ◌++◌, map, length, take, drop, get_or, Option, Some, None, refl, ap, ap₂, sym, ◌∙◌, arith, Bor}
+use Rattle.std.proofs.Common.{◌≡◌, ℕ, zero, suc, ◌+◌, ◌<◌, ◌≤◌, Bool, true, false, ◌||◌, List, [], ◌∷◌, ◌++◌, map, length, take, drop, get_or, Option, Some, None, refl, ap, ap₂, sym, subst, ◌∙◌, arith, Bor}
 use Rattle.std.specs.Prelude.{cond, is_some, option_map, option_and_then, Result, min}
 use Rattle.std.specs.declared.result.Result.TheVariants.{Ok, Err}
 use Rattle.std.specs.List.{list_any}
@@ -7,7 +7,6 @@ use Rattle.std.specs.Str.{bytes_eq}
 use Rattle.std.proofs.lemmas.List.{map-append}
 use Rattle.ob_object.specs.Object.{Object}
 use Rattle.ob_watching.specs.WatchOuts.{Text}
-use Rattle.ob_asking.specs.Places.{Place}
 use Rattle.ob_parts.specs.Numbered.{Part, plus, numbered_from, inside}
 use Rattle.ob_parts.specs.Offences.{unless, each}
 use Rattle.ob_object.specs.Object.{parts}
@@ -17,7 +16,7 @@ use Rattle.ob_parts.proofs.Walk.{taken, walk_more, walk_end}
 use Rattle.ob_super.specs.declared.config_fault.ConfigFault.{ConfigFault}
 use Rattle.ob_super.specs.declared.config_fault.ConfigFault.TheVariants.{Shape, Memory}
 use Rattle.ob_super.specs.declared.upstream.Upstream as code
-use Rattle.ob_super.specs.Upstreams.{Upstream, is_text, href_in, new_href, href_offences, upstream_in, upstream_offences, with_hrefs, all_of}
+use Rattle.ob_super.specs.Upstreams.{Upstream, is_text, href_in, new_href, href_offences, upstream_in, upstream_offences, all_of}
 use Rattle.ob_super.specs.Configs.{upstream, Judges, unless_any, both, was_seen, unseen, Sees, TakesHref, TakesIn}
 
 -- ---- results
@@ -42,6 +41,15 @@ pub judge_err : {A B : Type 0} (xs : List ℕ) (P : A → Type 0) (Q : B → Typ
 judge_err xs P Q (Shape n) h = h
 judge_err xs P Q Memory h = tt
 
+-- of three parts, the first that offends
+pub refused : {A B C D : Type 0} (xs ys zs : List ℕ) (P : A → Type 0) (Q : B → Type 0) (R : C → Type 0) (S : D → Type 0)
+    (a : Result A ConfigFault) (b : Result B ConfigFault) (c : Result C ConfigFault) (bc : Result (B × C) ConfigFault) (f : ConfigFault)
+    → Judges xs P a → Judges ys Q b → Judges zs R c → bc ≡ both b c → both a bc ≡ Err f → Judges (xs ++ (ys ++ zs)) S (Err f)
+refused {A = A} {B = B} {C = C} xs ys zs P Q R S a b c bc f p q r is e =
+    judge_err (xs ++ (ys ++ zs)) (λ (t : A × (B × C)). P t.0 × (Q t.1.0 × R t.1.1)) S f
+    (subst (Judges (xs ++ (ys ++ zs)) (λ (t : A × (B × C)). P t.0 × (Q t.1.0 × R t.1.1))) (ap (both a) (sym is) ∙ e)
+    (both_judge xs (ys ++ zs) P (λ (u : B × C). Q u.0 × R u.1) a (both b c) p (both_judge ys zs Q R b c q r)))
+
 -- what is told where the offences are others, and told otherwise
 pub judge_as : {A : Type 0} (xs ys : List ℕ) (P Q : A → Type 0) (r : Result A ConfigFault) → ys ≡ xs → ((x : A) → P x → Q x) → Judges xs P r → Judges ys Q r
 judge_as xs ys P Q (Ok x) e f h = (e ∙ h.0, f x h.1)
@@ -52,10 +60,6 @@ judge_as xs ys P Q (Err Memory) e f h = tt
 pub judge_walk : {A : Type 0} (xs : List ℕ) (P : A → Type 0) (first : Option ℕ) (x : A) → first ≡ least xs → (first ≡ None → P x) → Judges xs P (unless_any first x)
 judge_walk xs P None x e f = (least_none xs (sym e), f refl)
 judge_walk xs P (Some n) x e f = sym e
-
-pub three : (a : Option Text) (b : Option Place) (c : Option (List Text)) (name : Text) (lobby : Place) (hrefs : List Text)
-    → a ≡ Some name → b ≡ Some lobby → c ≡ Some hrefs → with_hrefs a b c ≡ Some (record { name = name; lobby = lobby; hrefs = hrefs })
-three a b c name lobby hrefs e f g = rw (e, f, g) refl
 
 pub all_some : {A : Type 0} (xs : List A) → all_of (map Some xs) ≡ Some xs
 all_some [] = refl

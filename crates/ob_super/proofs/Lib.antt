@@ -12,3 +12,5 @@ pub mod NameLemmas
 pub mod AnswerLemmas
 pub mod ChainLemmas
 pub mod ConfigLemmas
+pub mod ConfigNames
+pub mod DownLemmas

@@ -187,7 +187,6 @@ module _ {L : Type 0} (left taken held : L → Option (List ℕ)) where
       (olds : List Standing) → StandAll olds old → (news : List Standing) × (dials : List Dial) × (visits : List Visit)
       × Goes before dials visits after × Supervises (IsSome after.visits) (upstreams old) olds news qs dials visits × StandAll news new
 
-
 -- ---- what calls bring
 
 abbrev pub request : Verb → Text → Option Object → Request
@@ -310,13 +309,13 @@ IsBehind front text (Some rest) = text ≡ front ++ rest
 
 -- ---- a config
 
--- an upstream stands last, and is down
-abbrev pub HasDown : {L : Type 0} → List (Followed L) → List (Followed L) → Upstream → Type 0
-HasDown old new u = new ≡ old ++ record { upstream = u; live = None } ∷ []
+-- an upstream that is down
+abbrev pub down : {L : Type 0} → Upstream → Followed L
+down u = record { upstream = u; live = None }
 
 -- these are followed, and all of them are down
 abbrev pub AreDown : {L : Type 0} → List Upstream → List (Followed L) → Type 0
-AreDown us all = all ≡ map (λ u. record { upstream = u; live = None }) us
+AreDown us all = all ≡ map down us
 
 -- it is a config, and what it tells is followed, and all of it is down; or this part is the first that offends against its form; or there
 -- was no memory

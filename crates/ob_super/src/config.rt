@@ -1,12 +1,12 @@
 //! What a config tells.
-ghost use Rattle.std.specs.Prelude.{◌≡◌, ◌++◌, ◌∷◌, Some, IfOk, IfSome, OnOk, option_copied, option_map, codes, is_some, [], map};
+ghost use Rattle.std.specs.Prelude.{◌≡◌, ◌++◌, ◌∷◌, [], true, Some, IfOk, OnOk, is_some, option_copied, option_map, codes, map};
 ghost use Rattle.std.specs.List.{list_all};
 ghost use Rattle.ob_asking.specs.Told as dialogue;
-ghost use Rattle.ob_parts.specs.Least.{least};
 ghost use Rattle.ob_parts.specs.Numbered.{inside, inside_child};
 ghost use Rattle.ob_parts.specs.Offences.{unless, needs, said, each};
 ghost use Rattle.ob_parts.specs.Views.{part_of};
 ghost use Rattle.ob_super.specs.Configs as read;
+ghost use Rattle.ob_super.specs.Names.{are_apart};
 ghost use Rattle.ob_super.specs.Upstreams as form;
 ghost use Rattle.ob_super.specs.declared.config_fault.ConfigFault.TheVariants.{Shape};
 
@@ -300,7 +300,8 @@ fn take_in(
 
 /// The upstreams that a config tells; Shape where a part offends against its form, with the first that does.
 pub(crate) fn upstreams(alloc: Global, config: &Obj) -> Result<Vec<Upstream>, ConfigFault>
-    ensures { read.Judges (form.offences config.now) (λ all. form.configured config.now ≡ Some (map read.upstream all.items)) result }
+    ensures apart { IfOk result (λ all. are_apart (map (λ u. u.name) all.items) ≡ true) }
+    ensures tells { read.Judges (form.offences config.now) (λ all. form.configured config.now ≡ Some (map read.upstream all.items)) result }
 {
     let root = Part::root(config);
     let mut first = root.unless(is_list(config, MOST_UPSTREAMS));

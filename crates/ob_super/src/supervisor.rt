@@ -1,5 +1,5 @@
 //! The supervisor.
-ghost use Rattle.std.specs.Prelude.{◌≡◌, ◌<◌, ℕ, List, [], ◌∷◌, None, Some, IsSome, IfSome, IfOk, OnOk, is_some, option_copied, option_map, slice_get, length};
+ghost use Rattle.std.specs.Prelude.{◌≡◌, ◌<◌, ◌++◌, ℕ, List, [], ◌∷◌, None, Some, IsSome, IfSome, IfOk, OnOk, is_some, option_copied, option_map, slice_get, length};
 ghost use Rattle.ob_client.specs.Mirrors.{found};
 ghost use Rattle.ob_asking.specs.Places.{place_at};
 ghost use Rattle.ob_super.specs.Calls.{Call};
@@ -163,7 +163,7 @@ fn put_or_down<W: Dialer>(
 
 // An upstream that is down stands last.
 fn push_down<L: Drop>(all: &mut Vec<Followed<L>>, upstream: Upstream) -> Result<(), AllocError>
-    ensures { OnOk result (told.HasDown all.old.items all.new.items upstream) }
+    ensures { OnOk result (all.new.items ≡ all.old.items ++ told.down upstream ∷ []) }
 {
     all.push(Followed {
         upstream,
@@ -235,9 +235,13 @@ impl<L: Link + Drop> Super<L> {
     pub fn new(alloc: Global, config: &Obj) -> Result<Super<L>, ConfigFault>
         ensures configured { told.Configures config.now result }
     {
-        let upstreams = upstreams(alloc, config)?;
-        let followed = all_down(alloc, upstreams)?;
-        Ok(Super { alloc, followed })
+        match upstreams(alloc, config) {
+            Ok(upstreams) => {
+                let followed = all_down(alloc, upstreams)?;
+                Ok(Super { alloc, followed })
+            }
+            Err(fault) => Err(fault),
+        }
     }
 
     /// Has a round over the upstreams, in order: one that is down is dialled and a watch opened over the link, one that is up is

@@ -1,10 +1,12 @@
-use Rattle.std.proofs.Common.{◌≡◌, ◌+◌, Some, arith, ap, ap₂, sym, ◌∙◌, subst, map, take, drop}
+use Rattle.std.proofs.Common.{◌≡◌, ◌+◌, true, Some, IfOk, arith, ap, ap₂, sym, ◌∙◌, subst, map, take, drop}
 use Rattle.ob_parts.specs.Least.{earlier, least}
 use Rattle.ob_parts.specs.Numbered.{Part, numbered_from}
 use Rattle.ob_parts.specs.Offences.{each}
 use Rattle.ob_parts.proofs.Walk.{taken, walk_more, walk_end}
 use Rattle.ob_super.specs.Configs.{Judges, upstream}
 use Rattle.ob_super.specs.Upstreams.{configured, offences, upstream_in, upstream_offences, all_of}
+use Rattle.ob_super.specs.Names.{are_apart}
+use Rattle.ob_super.proofs.ConfigNames.{ok_walk, all_apart}
 use Rattle.ob_super.proofs.ConfigLemmas.{upstream_judged, upstreams_more, judge_walk, told_all, take_all}
 use Rattle.ob_super.proofs.config.upstreams.Goals as goal
 
@@ -28,8 +30,8 @@ loop-object-preserved c =
           c.earlier-first.ensures c.loop-object.invariant.told none;
     }
 
-pub returns : goal.returns
-returns c =
+pub returns-clause-tells : goal.returns-clause-tells
+returns-clause-tells c =
     let objects = c.children-object-items.result.now in
     let i = c.loop-object.object-index in
     let past = c.loop-object-test.false in
@@ -39,3 +41,12 @@ returns c =
     (judge_walk (offences config) (λ all. configured config ≡ Some (map upstream all.items)) c.loop-object.first c.loop-object.all first_is
     (λ none. ap (λ l. all_of (map upstream_in l)) (sym c.children-object-items.ensures.value ∙ sym (take_all objects i (omega (arith, past))))
     ∙ (ap all_of (c.loop-object.invariant.told none) ∙ told_all c.loop-object.all.items)))
+
+pub returns-clause-apart : goal.returns-clause-apart
+returns-clause-apart c =
+    let objects = c.children-object-items.result.now in
+    let i = c.loop-object.object-index in
+    subst (λ r. IfOk r (λ all. are_apart (map (λ u. u.name) all.items) ≡ true)) (sym c.unless_any.ensures)
+    (ok_walk (λ all. are_apart (map (λ u. u.name) all.items) ≡ true) c.loop-object.first c.loop-object.all
+    (λ none. all_apart objects c.loop-object.all.items (ap (λ l. map upstream_in l) (sym (take_all objects i (omega (arith, c.loop-object-test.false)))) ∙ c.loop-object.invariant.told none)
+    c.children-object-items.ensures.names_differ))
