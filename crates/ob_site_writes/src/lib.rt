@@ -13,3 +13,4 @@ mod written;
 pub use putting::{put, write_by};
 pub use reading::{replied, shown};
 pub use stop::Stop;
+pub use value::is_value_kind;
