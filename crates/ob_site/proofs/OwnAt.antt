@@ -12,7 +12,7 @@ use Rattle.ob_tree.specs.Paths.{place_of}
 use Rattle.ob_tree.specs.Shown.{row}
 
 -- the first of some heads that is that of the node of a path
-first : Path → List Head → Option Head
+abbrev first : Path → List Head → Option Head
 first p [] = None
 first p (h ∷ hs) = cond (is_path p (node_path h)) (Some h) (first p hs)
 
@@ -24,7 +24,7 @@ first-append p (h ∷ hs) ys = ap (λ o. cond (is_path p (node_path h)) (Some h)
     go true i l = refl
     go false i l = refl
 
-head_of : Object → Head
+abbrev head_of : Object → Head
 head_of o = o.head
 
 -- it is that of the first node of the path
