@@ -27,10 +27,11 @@ module _ {L W : Type 0} (left taken held : L → Option (List ℕ)) (dials : W �
   chain : (s t : Supervising L × W) (calls : List Call) → AreAsked (Asks left taken held dials visits) s t calls → Chained s t calls
   chain s t [] same = subst (λ (x : Supervising L × W). Chained s x []) (sym same) (refl, supervises_none left taken held (told_by left taken held dials visits s.1) (following s))
   chain s t (call ∷ calls) (mid, asks, rest) =
-      let more = chain mid t calls rest in
-      (more.0 ∙ asks.0,
-      supervises_more left taken held (told_by left taken held dials visits s.1) (told_by left taken held dials visits mid.1) (told_by left taken held dials visits t.1)
-      (following s) (following mid) (following t) (request_of call.request) (reply_of call.answer) (all_asked calls) asks.0 asks.1 more.1)
+      let more = chain mid t calls rest in (
+        more.0 ∙ asks.0,
+        supervises_more left taken held (told_by left taken held dials visits s.1) (told_by left taken held dials visits mid.1) (told_by left taken held dials visits t.1)
+            (following s) (following mid) (following t) (request_of call.request) (reply_of call.answer) (all_asked calls) asks.0 asks.1 more.1,
+      )
 
   pub answers_link : (s t : Supervising L × W) (link link' : Inlet) (sent sent' given : Option (List ℕ)) (end : LinkEnd)
       → ServesBy (Asks left taken held dials visits) s t None link link' sent sent' (Some []) given end
