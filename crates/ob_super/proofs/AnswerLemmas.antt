@@ -40,12 +40,28 @@ module _ (T U : Type 0) (less : U → T) where
 
 more_rounds : (T : Type 0) (us : List Upstream) (n : ℕ) (olds mids news : List Standing) (d e : List Dial) (v w : List Visit) → ManyRounds T us n olds mids d v → Rounds T us mids news e w
     → ManyRounds T us (suc n) olds news (d ++ e) (v ++ w)
-more_rounds T us zero olds mids news d e v w (same, none, nothing) round =
-    (news, e, [], w, [], ap (λ (x : List Dial). x ++ e) none ∙ sym (append-nil e), ap (λ (x : List Visit). x ++ w) nothing ∙ sym (append-nil w),
-    subst (λ (s : List Standing). Rounds T us s news e w) same round, (refl, refl, refl))
-more_rounds T us (suc n) olds mids news d e v w (first, a, b, p, q, dials, visits, round, rest) last =
-    (first, a, b ++ e, p, q ++ w, ap (λ (x : List Dial). x ++ e) dials ∙ append_assoc a b e, ap (λ (x : List Visit). x ++ w) visits ∙ append_assoc p q w, round,
-    more_rounds T us n first mids news b e q w rest last)
+more_rounds T us zero olds mids news d e v w (same, none, nothing) round = (
+  news,
+  e,
+  [],
+  w,
+  [],
+  ap (λ (x : List Dial). x ++ e) none ∙ sym (append-nil e),
+  ap (λ (x : List Visit). x ++ w) nothing ∙ sym (append-nil w),
+  subst (λ (s : List Standing). Rounds T us s news e w) same round,
+  (refl, refl, refl),
+)
+more_rounds T us (suc n) olds mids news d e v w (first, a, b, p, q, dials, visits, round, rest) last = (
+  first,
+  a,
+  b ++ e,
+  p,
+  q ++ w,
+  ap (λ (x : List Dial). x ++ e) dials ∙ append_assoc a b e,
+  ap (λ (x : List Visit). x ++ w) visits ∙ append_assoc p q w,
+  round,
+  more_rounds T us n first mids news b e q w rest last,
+)
 
 -- memory was wanting in the one behind so many
 then_stops : (T : Type 0) (us : List Upstream) (n m : ℕ) (olds mids news : List Standing) (d e : List Dial) (v w : List Visit) → n < m → ManyRounds T us n olds mids d v → Stops T us mids news e w
@@ -54,8 +70,17 @@ then_stops T us n zero olds mids news d e v w lt many stops = absurd (let x : �
 then_stops T us zero (suc m) olds mids news d e v w lt (same, none, nothing) stops =
     inl (subst (λ (x : List Dial). Stops T us olds news (x ++ e) (v ++ w)) (sym none) (subst (λ (y : List Visit). Stops T us olds news e (y ++ w)) (sym nothing) (subst (λ (s : List Standing). Stops T us s news e w) same stops)))
 then_stops T us (suc n) (suc m) olds mids news d e v w lt (first, a, b, p, q, dials, visits, round, rest) stops =
-    inr (first, a, b ++ e, p, q ++ w, ap (λ (x : List Dial). x ++ e) dials ∙ append_assoc a b e, ap (λ (x : List Visit). x ++ w) visits ∙ append_assoc p q w, round,
-    then_stops T us n m first mids news b e q w (omega (arith, lt)) rest stops)
+    inr (
+      first,
+      a,
+      b ++ e,
+      p,
+      q ++ w,
+      ap (λ (x : List Dial). x ++ e) dials ∙ append_assoc a b e,
+      ap (λ (x : List Visit). x ++ w) visits ∙ append_assoc p q w,
+      round,
+      then_stops T us n m first mids news b e q w (omega (arith, lt)) rest stops,
+    )
 
 -- ---- a PUT of a place that nothing holds
 
@@ -134,9 +159,12 @@ module _ {L : Type 0} (left taken held : L → Option (List ℕ)) where
     where
       of : (olds news : List Standing) (vs : List Visit) → Puts (IsSome after.visits) (told.upstreams old) olds news path body vs (Ok None) → AllStand news new → (r : Result Object AllocError)
           → IfOk r (λ x. x ≡ refused_at (is_some (shown_in (told.views new) path))) → RepliesOr left taken held (IsSome after.visits) (told.upstreams old) olds news (told.request Put path body) vs (told.replied_by r)
-      of olds news vs p stand (Ok x) is =
-          (None, p, is ∙ ap (λ (s : Option Object). refused_at (is_some s)) (shown_standing new news path stand
-          ∙ ap (λ (us : List Upstream). shown_at us news path) same ∙ ap (λ (ss : List Standing). shown_at (told.upstreams old) ss path) (puts_same (IsSome after.visits) (told.upstreams old) olds news path body vs p)))
+      of olds news vs p stand (Ok x) is = (
+        None,
+        p,
+        is ∙ ap (λ (s : Option Object). refused_at (is_some s)) (shown_standing new news path stand
+            ∙ ap (λ (us : List Upstream). shown_at us news path) same ∙ ap (λ (ss : List Standing). shown_at (told.upstreams old) ss path) (puts_same (IsSome after.visits) (told.upstreams old) olds news path body vs p)),
+      )
       of olds news vs p stand (Err e) is = (Ok None, tt, p)
 
   pub replies_lacked : (before after : Outside) (old new : List (Followed L)) (path : Text) (body : Option Object) (r : Result Object AllocError) {e : AllocError} → IsErr r
@@ -150,11 +178,16 @@ module _ {L : Type 0} (left taken held : L → Option (List ℕ)) where
       → RoundsAll left taken held before mid old mids (Ok x) → RepliesAll left taken held mid after mids new q r → AnswersAll left taken held before after old new q r
   answers before mid after old mids new q r x same rounds replies = λ olds are.
       let p = rounds olds are in
-      let a = replies p.0 p.5 in
-      (a.0, p.1, p.2 ++ a.1, subst (λ (ds : List Dial). Goes before ds (p.2 ++ a.1) after) (append-nil p.1) (goes_then before mid after p.1 [] p.2 a.1 p.3 a.2),
-      of r olds p.0 a.0 p.1 p.2 a.1
-      (rounds_less (IsSome mid.visits) (IsSome after.visits) (λ t. told_before mid.visits after.visits a.1 a.2.back t) (told.upstreams old) olds p.0 p.1 p.2 p.4)
-      (subst (λ (us : List Upstream). RepliesOr left taken held (IsSome after.visits) us p.0 a.0 q a.1 r) same a.3), a.4)
+      let a = replies p.0 p.5 in (
+        a.0,
+        p.1,
+        p.2 ++ a.1,
+        subst (λ (ds : List Dial). Goes before ds (p.2 ++ a.1) after) (append-nil p.1) (goes_then before mid after p.1 [] p.2 a.1 p.3 a.2),
+        of r olds p.0 a.0 p.1 p.2 a.1
+            (rounds_less (IsSome mid.visits) (IsSome after.visits) (λ t. told_before mid.visits after.visits a.1 a.2.back t) (told.upstreams old) olds p.0 p.1 p.2 p.4)
+            (subst (λ (us : List Upstream). RepliesOr left taken held (IsSome after.visits) us p.0 a.0 q a.1 r) same a.3),
+        a.4,
+      )
     where
       of : (r : Option Object) (olds rounded news : List Standing) (ds : List Dial) (v w : List Visit) → Rounds (IsSome after.visits) (told.upstreams old) olds rounded ds v
           → RepliesOr left taken held (IsSome after.visits) (told.upstreams old) rounded news q w r → RepliesTo (IsSome after.visits) (told.upstreams old) olds news q r ds (v ++ w)
@@ -177,20 +210,30 @@ module _ {L : Type 0} (left taken held : L → Option (List ℕ)) where
       → ManyAll left taken held before mid old mids n (Ok x) → RoundsAll left taken held mid after mids new (Ok y) → ManyAll left taken held before after old new (n + 1) (Ok z)
   many_more before mid after old mids new n x y z same many rounds = λ olds are.
       let p = many olds are in
-      let a = rounds p.0 p.5 in
-      (a.0, p.1 ++ a.1, p.2 ++ a.2, goes_then before mid after p.1 a.1 p.2 a.2 p.3 a.3,
-      subst (λ (m : ℕ). ManyRounds (IsSome after.visits) (told.upstreams old) m olds a.0 (p.1 ++ a.1) (p.2 ++ a.2)) (sym (add-one n))
-      (more_rounds (IsSome after.visits) (told.upstreams old) n olds p.0 a.0 p.1 a.1 p.2 a.2
-      (many_less (IsSome mid.visits) (IsSome after.visits) (λ t. told_before mid.visits after.visits a.2 a.3.back t) (told.upstreams old) n olds p.0 p.1 p.2 p.4)
-      (subst (λ (us : List Upstream). Rounds (IsSome after.visits) us p.0 a.0 a.1 a.2) same a.4)), a.5)
+      let a = rounds p.0 p.5 in (
+        a.0,
+        p.1 ++ a.1,
+        p.2 ++ a.2,
+        goes_then before mid after p.1 a.1 p.2 a.2 p.3 a.3,
+        subst (λ (m : ℕ). ManyRounds (IsSome after.visits) (told.upstreams old) m olds a.0 (p.1 ++ a.1) (p.2 ++ a.2)) (sym (add-one n))
+            (more_rounds (IsSome after.visits) (told.upstreams old) n olds p.0 a.0 p.1 a.1 p.2 a.2
+            (many_less (IsSome mid.visits) (IsSome after.visits) (λ t. told_before mid.visits after.visits a.2 a.3.back t) (told.upstreams old) n olds p.0 p.1 p.2 p.4)
+            (subst (λ (us : List Upstream). Rounds (IsSome after.visits) us p.0 a.0 a.1 a.2) same a.4)),
+        a.5,
+      )
 
   pub many_stop : (before mid after : Outside) (old mids new : List (Followed L)) (n m : ℕ) (x : Unit {0}) (r : Result (Unit {0}) AllocError) {e : AllocError} → IsErr r → n < m → told.upstreams mids ≡ told.upstreams old
       → ManyAll left taken held before mid old mids n (Ok x) → RoundsAll left taken held mid after mids new (Err e) → ManyAll left taken held before after old new m r
   many_stop before mid after old mids new n m x (Ok y) is lt same many rounds = never is
   many_stop before mid after old mids new n m x (Err y) is lt same many rounds = λ olds are.
       let p = many olds are in
-      let a = rounds p.0 p.5 in
-      (a.0, p.1 ++ a.1, p.2 ++ a.2, goes_then before mid after p.1 a.1 p.2 a.2 p.3 a.3,
-      then_stops (IsSome after.visits) (told.upstreams old) n m olds p.0 a.0 p.1 a.1 p.2 a.2 lt
-      (many_less (IsSome mid.visits) (IsSome after.visits) (λ t. told_before mid.visits after.visits a.2 a.3.back t) (told.upstreams old) n olds p.0 p.1 p.2 p.4)
-      (subst (λ (us : List Upstream). Stops (IsSome after.visits) us p.0 a.0 a.1 a.2) same a.4), a.5)
+      let a = rounds p.0 p.5 in (
+        a.0,
+        p.1 ++ a.1,
+        p.2 ++ a.2,
+        goes_then before mid after p.1 a.1 p.2 a.2 p.3 a.3,
+        then_stops (IsSome after.visits) (told.upstreams old) n m olds p.0 a.0 p.1 a.1 p.2 a.2 lt
+            (many_less (IsSome mid.visits) (IsSome after.visits) (λ t. told_before mid.visits after.visits a.2 a.3.back t) (told.upstreams old) n olds p.0 p.1 p.2 p.4)
+            (subst (λ (us : List Upstream). Stops (IsSome after.visits) us p.0 a.0 a.1 a.2) same a.4),
+        a.5,
+      )

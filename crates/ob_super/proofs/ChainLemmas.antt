@@ -48,10 +48,13 @@ module _ (T U : Type 0) (less : U → T) where
     | inl a ↦ inl a
     | inr (is, down, (e, fault, (v, one, back))) ↦ inr (is, down, (e, fault, (v, one, λ t. back (less t))))
   ]
-  sends_to_less u calls new path q vs (Err e) (down, s) = (down, elim s [
-    | inl (v, one, back) ↦ inl (v, one, λ t. back (less t))
-    | inr (o, (v, one, back)) ↦ inr (o, (v, one, λ t. back (less t)))
-  ])
+  sends_to_less u calls new path q vs (Err e) (down, s) = (
+    down,
+    elim s [
+      | inl (v, one, back) ↦ inl (v, one, λ t. back (less t))
+      | inr (o, (v, one, back)) ↦ inr (o, (v, one, λ t. back (less t)))
+    ],
+  )
 
   sends_if_less : (u : Upstream) (calls : List Call) (new : Standing) (path : Text) (place : Option Place) (body : Option Object) (vs : List Visit) (r : Result (Option Object) AllocError)
       → SendsIf T u calls new path place body vs r → SendsIf U u calls new path place body vs r
@@ -126,11 +129,24 @@ module _ {L : Type 0} (left taken held : L → Option (List ℕ)) where
       → AnswersAll left taken held before mid old mids q reply → SupervisesAll left taken held mid after mids new qs → SupervisesAll left taken held before after old new (told.asked q reply ∷ qs)
   supervises_more before mid after old mids new q reply qs same first rest = λ olds are.
       let p = first olds are in
-      let a = rest p.0 p.5 in
-      (a.0, p.1 ++ a.1, p.2 ++ a.2, goes_then before mid after p.1 a.1 p.2 a.2 p.3 a.3,
-      (p.0, p.1, a.1, p.2, a.2, refl, refl,
-      replies_less (IsSome mid.visits) (IsSome after.visits) (λ t. told_before mid.visits after.visits a.2 a.3.back t) (told.upstreams old) olds p.0 q reply p.1 p.2 p.4,
-      subst (λ (us : List Upstream). Supervises (IsSome after.visits) us p.0 a.0 qs a.1 a.2) same a.4), a.5)
+      let a = rest p.0 p.5 in (
+        a.0,
+        p.1 ++ a.1,
+        p.2 ++ a.2,
+        goes_then before mid after p.1 a.1 p.2 a.2 p.3 a.3,
+        (
+          p.0,
+          p.1,
+          a.1,
+          p.2,
+          a.2,
+          refl,
+          refl,
+          replies_less (IsSome mid.visits) (IsSome after.visits) (λ t. told_before mid.visits after.visits a.2 a.3.back t) (told.upstreams old) olds p.0 q reply p.1 p.2 p.4,
+          subst (λ (us : List Upstream). Supervises (IsSome after.visits) us p.0 a.0 qs a.1 a.2) same a.4,
+        ),
+        a.5,
+      )
 
   -- ---- a whole run
 
@@ -147,24 +163,26 @@ module _ {L : Type 0} (left taken held : L → Option (List ℕ)) where
       let a = asked p.0 p.5 in
       let e = ends a.0 a.5 in
       let us = told.upstreams old in
-      let lost = λ (t : IsSome after.visits). told_before late.visits after.visits e.0 e.1.back t in
-      (p.1 ++ a.1, p.2 ++ (a.2 ++ e.0),
-      subst (λ (ds : List Dial). Goes before (p.1 ++ ds) (p.2 ++ (a.2 ++ e.0)) after) (append-nil a.1)
-      (goes_then before mid after p.1 (a.1 ++ []) p.2 (a.2 ++ e.0) p.3 (goes_then mid late after a.1 [] a.2 e.0 a.3 e.1)),
-      record {
-        begun = p.0;
-        last = a.0;
-        dials_before = p.1;
-        dials_asked = a.1;
-        back_before = p.2;
-        back_asked = a.2;
-        back_last = e.0;
-        dials_are = refl;
-        visits_are = refl;
-        before = many_less (IsSome mid.visits) (IsSome after.visits) (λ t. told_before mid.visits late.visits a.2 a.3.back (lost t)) us n (all_down us) p.0 p.1 p.2 p.4;
-        replies = subst (λ (vs : List Upstream). Supervises (IsSome after.visits) vs p.0 a.0 qs a.1 a.2) same (supervises_less (IsSome late.visits) (IsSome after.visits) lost (told.upstreams begun) p.0 a.0 qs a.1 a.2 a.4);
-        ends = subst (λ (vs : List Upstream). Ends (IsSome after.visits) vs a.0 e.0) (still ∙ same) e.2;
-      })
+      let lost = λ (t : IsSome after.visits). told_before late.visits after.visits e.0 e.1.back t in (
+        p.1 ++ a.1,
+        p.2 ++ (a.2 ++ e.0),
+        subst (λ (ds : List Dial). Goes before (p.1 ++ ds) (p.2 ++ (a.2 ++ e.0)) after) (append-nil a.1)
+            (goes_then before mid after p.1 (a.1 ++ []) p.2 (a.2 ++ e.0) p.3 (goes_then mid late after a.1 [] a.2 e.0 a.3 e.1)),
+        record {
+          begun = p.0;
+          last = a.0;
+          dials_before = p.1;
+          dials_asked = a.1;
+          back_before = p.2;
+          back_asked = a.2;
+          back_last = e.0;
+          dials_are = refl;
+          visits_are = refl;
+          before = many_less (IsSome mid.visits) (IsSome after.visits) (λ t. told_before mid.visits late.visits a.2 a.3.back (lost t)) us n (all_down us) p.0 p.1 p.2 p.4;
+          replies = subst (λ (vs : List Upstream). Supervises (IsSome after.visits) vs p.0 a.0 qs a.1 a.2) same (supervises_less (IsSome late.visits) (IsSome after.visits) lost (told.upstreams begun) p.0 a.0 qs a.1 a.2 a.4);
+          ends = subst (λ (vs : List Upstream). Ends (IsSome after.visits) vs a.0 e.0) (still ∙ same) e.2;
+        },
+      )
 
   among_less : (T U : Type 0) → (U → T) → (us : List Upstream) (n : ℕ) (olds news : List Standing) (ds : List Dial) (vs : List Visit) → StopsAmong T us n olds news ds vs → StopsAmong U us n olds news ds vs
   among_less T U less us zero olds news ds vs s = s
@@ -179,13 +197,16 @@ module _ {L : Type 0} (left taken held : L → Option (List ℕ)) where
   stops before mid after old last n x down same many ends =
       let p = many (all_down (told.upstreams old)) (down_stand old down) in
       let e = ends p.0 p.5 in
-      let us = told.upstreams old in
-      (p.1, p.2 ++ e.0, subst (λ (ds : List Dial). Goes before ds (p.2 ++ e.0) after) (append-nil p.1) (goes_then before mid after p.1 [] p.2 e.0 p.3 e.1),
-      record {
-        last = p.0;
-        back_before = p.2;
-        back_last = e.0;
-        visits_are = refl;
-        before = among_less (IsSome mid.visits) (IsSome after.visits) (λ t. told_before mid.visits after.visits e.0 e.1.back t) us n (all_down us) p.0 p.1 p.2 p.4;
-        ends = subst (λ (vs : List Upstream). Ends (IsSome after.visits) vs p.0 e.0) same e.2;
-      })
+      let us = told.upstreams old in (
+        p.1,
+        p.2 ++ e.0,
+        subst (λ (ds : List Dial). Goes before ds (p.2 ++ e.0) after) (append-nil p.1) (goes_then before mid after p.1 [] p.2 e.0 p.3 e.1),
+        record {
+          last = p.0;
+          back_before = p.2;
+          back_last = e.0;
+          visits_are = refl;
+          before = among_less (IsSome mid.visits) (IsSome after.visits) (λ t. told_before mid.visits after.visits e.0 e.1.back t) us n (all_down us) p.0 p.1 p.2 p.4;
+          ends = subst (λ (vs : List Upstream). Ends (IsSome after.visits) vs p.0 e.0) same e.2;
+        },
+      )

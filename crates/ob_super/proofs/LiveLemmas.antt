@@ -106,11 +106,18 @@ module _ {L : Type 0} (left taken held : L → Option (List ℕ)) where
   pub parts_unbegun : (u : Upstream) (before after : Outside) (link : L) (reads writes : ℕ) (v : Visit) (e : AllocError) → IsFresh (taken link) (held link) reads writes
       → Gains before.dials (dial u false ∷ []) after.dials → Gains before.visits (v ∷ []) after.visits
       → (IsSome after.visits → IsVisit v (left link) (taken link) (held link) reads writes) → Parts left taken held before after u Down (Err e)
-  parts_unbegun u before after link reads writes v e fresh d b visit =
-      (dial u false ∷ [], v ∷ [], (let g : Goes before (dial u false ∷ []) (v ∷ []) after = record { dialled = d; back = b } in g),
-      lacks_dialled (IsSome after.visits) u (v ∷ []) (v, refl, λ told.
-      broken_back (left link) (taken link) (held link) [] reads writes v (visit told) (host u) [] (request_at u Lobby) faults.Memory reads writes
-      (λ l. absurd (not_link faults.Memory refl l)) ((unasked (host u) (request_at u Lobby) (at_hand link [])).1 [] (fresh_said (host u) (at_hand link []) reads writes fresh start))))
+  parts_unbegun u before after link reads writes v e fresh d b visit = (
+    dial u false ∷ [],
+    v ∷ [],
+    (let g : Goes before (dial u false ∷ []) (v ∷ []) after = record { dialled = d; back = b } in g),
+    lacks_dialled (IsSome after.visits) u (v ∷ []) (
+      v,
+      refl,
+      λ told.
+          broken_back (left link) (taken link) (held link) [] reads writes v (visit told) (host u) [] (request_at u Lobby) faults.Memory reads writes
+          (λ l. absurd (not_link faults.Memory refl l)) ((unasked (host u) (request_at u Lobby) (at_hand link [])).1 [] (fresh_said (host u) (at_hand link []) reads writes fresh start)),
+    ),
+  )
 
   pub parts_unbegun_as : (u : Upstream) (before after : Outside) (link : L) (reads writes : ℕ) (v : Visit) (r : Result (Option (Live L)) AllocError) → IsErr r → IsFresh (taken link) (held link) reads writes
       → Gains before.dials (dial u false ∷ []) after.dials → Gains before.visits (v ∷ []) after.visits
@@ -122,11 +129,15 @@ module _ {L : Type 0} (left taken held : L → Option (List ℕ)) where
       → Opens u Lobby w0 (wire_of left taken held live.session) (Ok (polling live.watch))
       → live.session.is_dead ≡ false → live.session.host ≡ host u → live.watch.mirror.stale ≡ false
       → Gains before.dials (dial u false ∷ []) after.dials → Gains before.visits [] after.visits → Parts left taken held before after u Down (Ok (Some live))
-  parts_opened u before after live w0 had (polls, (os, passes, says)) alive host_is fresh d v =
-      (Up (in_round os), dial u false ∷ [], [], (let g : Goes before (dial u false ∷ []) [] after = record { dialled = d; back = v } in g),
-      part_opened (IsSome after.visits) u os (polling live.watch) passes polls,
-      (let l : IsLive left taken held u (in_round os) live =
-        record { alive = alive; host_is = host_is; polls = stage_on u [] Lobby (polling live.watch) os refl passes; fresh = fresh; said = says [] had } in l))
+  parts_opened u before after live w0 had (polls, (os, passes, says)) alive host_is fresh d v = (
+    Up (in_round os),
+    dial u false ∷ [],
+    [],
+    (let g : Goes before (dial u false ∷ []) [] after = record { dialled = d; back = v } in g),
+    part_opened (IsSome after.visits) u os (polling live.watch) passes polls,
+    (let l : IsLive left taken held u (in_round os) live =
+        record { alive = alive; host_is = host_is; polls = stage_on u [] Lobby (polling live.watch) os refl passes; fresh = fresh; said = says [] had } in l),
+  )
 
   pub parts_unopened : (u : Upstream) (before after : Outside) (link : L) (kept : List ℕ) (w0 : Wire) (e : Fault) (reads writes reads0 writes0 : ℕ) (v : Visit) (r : Result (Option (Live L)) AllocError)
       → HasSaid (host u) [] w0 → Opens u Lobby w0 (at_hand link kept) (Err e) → (e ≡ faults.Link → Rose reads0 reads ⊎ Rose writes0 writes)
@@ -136,17 +147,36 @@ module _ {L : Type 0} (left taken held : L → Option (List ℕ)) where
     | inl m ↦ subst (λ (x : Result (Option (Live L)) AllocError). Parts left taken held before after u Down x) (sym (miss_down e r m.2 down))
         (Down, dial u false ∷ [], v ∷ [], goes, part_missed Told u m.0 (v ∷ []) m.1 (v, refl, λ told. said_back (left link) (taken link) (held link) kept reads writes v (visit told) (host u) (said_in u (in_round m.0)) (m.3 [] had)), tt)
     | inr k ↦ elim (break_kind e k.4.0) [
-      | inl fault ↦ subst (λ (x : Result (Option (Live L)) AllocError). Parts left taken held before after u Down x) (sym (fault_down e r fault down))
-          (Down, dial u false ∷ [], v ∷ [], goes, part_broken Told u k.0 k.1 e (v ∷ []) k.3 k.2 fault (v, refl, λ told.
-          broken_back (left link) (taken link) (held link) kept reads writes v (visit told) (host u) (said_in u (in_round k.0)) (request_at u k.1) e reads0 writes0 cause (k.4.1 [] had)), tt)
-      | inr m ↦ memory_down e r (λ (x : Result (Option (Live L)) AllocError). Parts left taken held before after u Down x) m (λ a.
-          (dial u false ∷ [], v ∷ [], goes, lacks_opening Told u k.0 k.1 (v ∷ []) k.3 (v, refl, λ told. subst (λ (f : Fault). IsBroken (host u) (said_in u (in_round k.0)) (request_at u k.1) f v) m
-          (broken_back (left link) (taken link) (held link) kept reads writes v (visit told) (host u) (said_in u (in_round k.0)) (request_at u k.1) e reads0 writes0 cause (k.4.1 [] had))))) down
+      | inl fault ↦ subst (λ (x : Result (Option (Live L)) AllocError). Parts left taken held before after u Down x) (sym (fault_down e r fault down)) (
+        Down,
+        dial u false ∷ [],
+        v ∷ [],
+        goes,
+        part_broken Told u k.0 k.1 e (v ∷ []) k.3 k.2 fault (
+          v,
+          refl,
+          λ told.
+              broken_back (left link) (taken link) (held link) kept reads writes v (visit told) (host u) (said_in u (in_round k.0)) (request_at u k.1) e reads0 writes0 cause (k.4.1 [] had),
+        ),
+        tt,
+      )
+      | inr m ↦ memory_down e r (λ (x : Result (Option (Live L)) AllocError). Parts left taken held before after u Down x) m (λ a. (
+        dial u false ∷ [],
+        v ∷ [],
+        goes,
+        lacks_opening Told u k.0 k.1 (v ∷ []) k.3 (
+          v,
+          refl,
+          λ told. subst (λ (f : Fault). IsBroken (host u) (said_in u (in_round k.0)) (request_at u k.1) f v) m
+              (broken_back (left link) (taken link) (held link) kept reads writes v (visit told) (host u) (said_in u (in_round k.0)) (request_at u k.1) e reads0 writes0 cause (k.4.1 [] had)),
+        ),
+      )) down
     ]
   ]
     where
       Told : Type 0
       Told = IsSome after.visits
+
       goes : Goes before (dial u false ∷ []) (v ∷ []) after
       goes = record { dialled = d; back = b }
 
@@ -163,16 +193,20 @@ module _ {L : Type 0} (left taken held : L → Option (List ℕ)) where
       → Gains before.dials [] after.dials → Gains before.visits [] after.visits → Parts left taken held before after u (Up calls) (Ok (Some live))
   parts_polled u before after calls old live is (o, brings, a) alive host_is fresh d v =
       let s = Polling old.watch.changes old.watch.mirror.held in
-      let answered = subst (λ (h : Text). Answered h (request_at u s) o (wire_of left taken held old.session) (wire_of left taken held live.session)) is.host_is a in
-      (Up (with_reply calls o), [], [], (let g : Goes before [] [] after = record { dialled = d; back = v } in g),
-      part_polled (IsSome after.visits) u calls s (polling live.watch) o is.polls brings refl,
-      (let l : IsLive left taken held u (with_reply calls o) live = record {
-        alive = alive;
-        host_is = host_is ∙ is.host_is;
-        polls = stage_more u calls s o is.polls ∙ brings;
-        fresh = fresh;
-        said = subst (λ (ss : List Said). HasSaid (host u) ss (wire_of left taken held live.session)) (sym (said_polled u calls s o (Some (polling live.watch)) is.polls brings)) (answered (said_in u calls) is.said);
-      } in l))
+      let answered = subst (λ (h : Text). Answered h (request_at u s) o (wire_of left taken held old.session) (wire_of left taken held live.session)) is.host_is a in (
+        Up (with_reply calls o),
+        [],
+        [],
+        (let g : Goes before [] [] after = record { dialled = d; back = v } in g),
+        part_polled (IsSome after.visits) u calls s (polling live.watch) o is.polls brings refl,
+        (let l : IsLive left taken held u (with_reply calls o) live = record {
+          alive = alive;
+          host_is = host_is ∙ is.host_is;
+          polls = stage_more u calls s o is.polls ∙ brings;
+          fresh = fresh;
+          said = subst (λ (ss : List Said). HasSaid (host u) ss (wire_of left taken held live.session)) (sym (said_polled u calls s o (Some (polling live.watch)) is.polls brings)) (answered (said_in u calls) is.said);
+        } in l),
+      )
 
   pub parts_unpolled : (u : Upstream) (before after : Outside) (calls : List Call) (old : Live L) (link : L) (kept : List ℕ) (e : Fault) (reads writes reads0 writes0 : ℕ) (v : Visit) (r : Result (Option (Live L)) AllocError)
       → IsLive left taken held u calls old
@@ -181,26 +215,56 @@ module _ {L : Type 0} (left taken held : L → Option (List ℕ)) where
       → Gains before.dials [] after.dials → Gains before.visits (v ∷ []) after.visits
       → (IsSome after.visits → IsVisit v (left link) (taken link) (held link) reads writes) → IsDown e r → Parts left taken held before after u (Up calls) r
   parts_unpolled u before after calls old link kept e reads writes reads0 writes0 v r is brings cause d b visit down = elim brings [
-    | inl m ↦ subst (λ (x : Result (Option (Live L)) AllocError). Parts left taken held before after u (Up calls) x) (sym (miss_down e r m.2 down))
-        (Down, [], v ∷ [], goes, part_unpolled Told u calls s m.0 (v ∷ []) is.polls m.1 (v, refl, λ told. said_back (left link) (taken link) (held link) kept reads writes v (visit told) (host u) (said_in u (with_reply calls m.0))
-        (subst (λ (ss : List Said). HasSaid (host u) ss (at_hand link kept)) (sym (said_polled u calls s m.0 None is.polls m.1))
-        (subst (λ (h : Text). Answered h (request_at u s) m.0 (wire_of left taken held old.session) (at_hand link kept)) is.host_is m.3 (said_in u calls) is.said))), tt)
+    | inl m ↦ subst (λ (x : Result (Option (Live L)) AllocError). Parts left taken held before after u (Up calls) x) (sym (miss_down e r m.2 down)) (
+      Down,
+      [],
+      v ∷ [],
+      goes,
+      part_unpolled Told u calls s m.0 (v ∷ []) is.polls m.1 (
+        v,
+        refl,
+        λ told. said_back (left link) (taken link) (held link) kept reads writes v (visit told) (host u) (said_in u (with_reply calls m.0))
+            (subst (λ (ss : List Said). HasSaid (host u) ss (at_hand link kept)) (sym (said_polled u calls s m.0 None is.polls m.1))
+            (subst (λ (h : Text). Answered h (request_at u s) m.0 (wire_of left taken held old.session) (at_hand link kept)) is.host_is m.3 (said_in u calls) is.said)),
+      ),
+      tt,
+    )
     | inr k ↦
         let broke = subst (λ (h : Text). Broke h (request_at u s) e (wire_of left taken held old.session) (at_hand link kept)) is.host_is k in
         elim (break_kind e broke.0) [
-          | inl fault ↦ subst (λ (x : Result (Option (Live L)) AllocError). Parts left taken held before after u (Up calls) x) (sym (fault_down e r fault down))
-              (Down, [], v ∷ [], goes, part_cut Told u calls s e (v ∷ []) is.polls fault (v, refl, λ told.
-              broken_back (left link) (taken link) (held link) kept reads writes v (visit told) (host u) (said_in u calls) (request_at u s) e reads0 writes0 cause (broke.1 (said_in u calls) is.said)), tt)
-          | inr m ↦ memory_down e r (λ (x : Result (Option (Live L)) AllocError). Parts left taken held before after u (Up calls) x) m (λ a.
-              ([], v ∷ [], goes, lacks_poll Told u calls s (v ∷ []) is.polls (v, refl, λ told. subst (λ (f : Fault). IsBroken (host u) (said_in u calls) (request_at u s) f v) m
-              (broken_back (left link) (taken link) (held link) kept reads writes v (visit told) (host u) (said_in u calls) (request_at u s) e reads0 writes0 cause (broke.1 (said_in u calls) is.said))))) down
+          | inl fault ↦ subst (λ (x : Result (Option (Live L)) AllocError). Parts left taken held before after u (Up calls) x) (sym (fault_down e r fault down)) (
+            Down,
+            [],
+            v ∷ [],
+            goes,
+            part_cut Told u calls s e (v ∷ []) is.polls fault (
+              v,
+              refl,
+              λ told.
+                  broken_back (left link) (taken link) (held link) kept reads writes v (visit told) (host u) (said_in u calls) (request_at u s) e reads0 writes0 cause (broke.1 (said_in u calls) is.said),
+            ),
+            tt,
+          )
+          | inr m ↦ memory_down e r (λ (x : Result (Option (Live L)) AllocError). Parts left taken held before after u (Up calls) x) m (λ a. (
+            [],
+            v ∷ [],
+            goes,
+            lacks_poll Told u calls s (v ∷ []) is.polls (
+              v,
+              refl,
+              λ told. subst (λ (f : Fault). IsBroken (host u) (said_in u calls) (request_at u s) f v) m
+                  (broken_back (left link) (taken link) (held link) kept reads writes v (visit told) (host u) (said_in u calls) (request_at u s) e reads0 writes0 cause (broke.1 (said_in u calls) is.said)),
+            ),
+          )) down
         ]
   ]
     where
       Told : Type 0
       Told = IsSome after.visits
+
       s : Stage
       s = Polling old.watch.changes old.watch.mirror.held
+
       goes : Goes before [] (v ∷ []) after
       goes = record { dialled = d; back = b }
 
@@ -229,16 +293,18 @@ module _ {L : Type 0} (left taken held : L → Option (List ℕ)) where
       → SendsOn left taken held before after u calls (put_on q body) (Some live) (Ok (Some o))
   sends_answered u before after calls old live q body o is a alive host_is watch same =
       let s = Polling old.watch.changes old.watch.mirror.held in
-      let more = SentOn q body o in
-      (same, (let l : IsLive left taken held u (calls ++ more ∷ []) live = record {
-        alive = alive;
-        host_is = host_is ∙ is.host_is;
-        polls = reached_more u Lobby calls (more ∷ []) ∙ ap (option_and_then (λ (t : Stage). reached u t (more ∷ []))) is.polls
-            ∙ ap (λ (w : Watch). Some (polling w)) (sym watch);
-        fresh = ap (λ (w : Watch). w.mirror.stale) watch ∙ is.fresh;
-        said = subst (λ (ss : List Said). HasSaid (host u) ss (wire_of left taken held live.session)) (sym (spoken_app u Lobby s calls (more ∷ []) is.polls))
-            (subst (λ (h : Text). Answered h (put_on q body) o (wire_of left taken held old.session) (wire_of left taken held live.session)) is.host_is a (said_in u calls) is.said);
-      } in l))
+      let more = SentOn q body o in (
+        same,
+        (let l : IsLive left taken held u (calls ++ more ∷ []) live = record {
+          alive = alive;
+          host_is = host_is ∙ is.host_is;
+          polls = reached_more u Lobby calls (more ∷ []) ∙ ap (option_and_then (λ (t : Stage). reached u t (more ∷ []))) is.polls
+              ∙ ap (λ (w : Watch). Some (polling w)) (sym watch);
+          fresh = ap (λ (w : Watch). w.mirror.stale) watch ∙ is.fresh;
+          said = subst (λ (ss : List Said). HasSaid (host u) ss (wire_of left taken held live.session)) (sym (spoken_app u Lobby s calls (more ∷ []) is.polls))
+              (subst (λ (h : Text). Answered h (put_on q body) o (wire_of left taken held old.session) (wire_of left taken held live.session)) is.host_is a (said_in u calls) is.said);
+        } in l),
+      )
 
   pub sends_answered_as : (u : Upstream) (before after : Outside) (calls : List Call) (old live : Live L) (now : Option (Live L)) (q : Text) (body : Option Object) (o : Object) → now ≡ Some live → IsLive left taken held u calls old
       → Answered old.session.host (put_on q body) o (wire_of left taken held old.session) (wire_of left taken held live.session)
@@ -263,7 +329,9 @@ module _ {L : Type 0} (left taken held : L → Option (List ℕ)) where
     where
       broke : Broke (host u) q e (wire_of left taken held old.session) (at_hand link kept)
       broke = subst (λ (h : Text). Broke h q e (wire_of left taken held old.session) (at_hand link kept)) is.host_is b
+
       broken : IsSome after.visits → IsBroken (host u) (said_in u calls) q e v
       broken = λ told. broken_back (left link) (taken link) (held link) kept reads writes v (visit told) (host u) (said_in u calls) q e reads0 writes0 cause (broke.1 (said_in u calls) is.said)
+
       goes : Goes before [] (v ∷ []) after
       goes = record { dialled = d; back = back }

@@ -51,9 +51,11 @@ module _ {L : Type 0} where
     where
       listed : Followed L → Object
       listed x = subtree (view x)
+
       both : (xs : List (Followed L)) → map listed xs ≡ map subtree (views xs)
       both [] = refl
       both (x ∷ xs) = ap (λ (os : List Object). subtree (view x) ∷ os) (both xs)
+
       at : Some (subtree (view f)) ≡ slice_get (map subtree (views all)) i
       at = ap (λ (x : Followed L). Some (listed x)) is ∙ ap (option_map listed) (sym (slice_get-get_or all i f lt)) ∙ sym (slice_get-map listed all i) ∙ ap (λ (os : List Object). slice_get os i) (both all)
 

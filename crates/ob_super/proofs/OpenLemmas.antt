@@ -49,14 +49,28 @@ behind ss more x all e = append_assoc ss (x ∷ []) more ∙ ap (λ (l : List Sa
 
 pub opens_then : (u : Upstream) (s t : Stage) (old mid new : Wire) (r : Result Stage Fault) → is_polling (Some s) ≡ false
     → Brings (host u) (request_at u s) (led u s) old mid (Ok t) → Opens u t mid new r → Opens u s old new r
-opens_then u s t old mid new (Ok p) going (o, e, a) (polling, (os, passes, says)) =
-    (polling, (o ∷ os, (going, subst (λ (n : Option Stage). Passes u n os (Some p)) (sym e) passes),
-    λ ss had. subst (λ (l : List Said). HasSaid (host u) l new) (behind ss (spoken u t (in_round os)) (said (request_at u s) o) _ (spoken_more u s t o os e)) (says (ss ++ said (request_at u s) o ∷ []) (a ss had))))
+opens_then u s t old mid new (Ok p) going (o, e, a) (polling, (os, passes, says)) = (
+  polling,
+  (
+    o ∷ os,
+    (going, subst (λ (n : Option Stage). Passes u n os (Some p)) (sym e) passes),
+    λ ss had. subst (λ (l : List Said). HasSaid (host u) l new) (behind ss (spoken u t (in_round os)) (said (request_at u s) o) _ (spoken_more u s t o os e)) (says (ss ++ said (request_at u s) o ∷ []) (a ss had)),
+  ),
+)
 opens_then u s t old mid new (Err f) going (o, e, a) opens = elim opens [
-  | inl m ↦ inl (o ∷ m.0, (going, subst (λ (n : Option Stage). Passes u n m.0 None) (sym e) m.1), m.2,
-    λ ss had. subst (λ (l : List Said). HasSaid (host u) l new) (behind ss (spoken u t (in_round m.0)) (said (request_at u s) o) _ (spoken_more u s t o m.0 e)) (m.3 (ss ++ said (request_at u s) o ∷ []) (a ss had)))
-  | inr k ↦ inr (o ∷ k.0, k.1, k.2, (going, subst (λ (n : Option Stage). Passes u n k.0 (Some k.1)) (sym e) k.3),
-    (k.4.0, λ ss had. subst (λ (l : List Said). HasBroken (host u) l (request_at u k.1) f new) (behind ss (spoken u t (in_round k.0)) (said (request_at u s) o) _ (spoken_more u s t o k.0 e)) (k.4.1 (ss ++ said (request_at u s) o ∷ []) (a ss had))))
+  | inl m ↦ inl (
+    o ∷ m.0,
+    (going, subst (λ (n : Option Stage). Passes u n m.0 None) (sym e) m.1),
+    m.2,
+    λ ss had. subst (λ (l : List Said). HasSaid (host u) l new) (behind ss (spoken u t (in_round m.0)) (said (request_at u s) o) _ (spoken_more u s t o m.0 e)) (m.3 (ss ++ said (request_at u s) o ∷ []) (a ss had)),
+  )
+  | inr k ↦ inr (
+    o ∷ k.0,
+    k.1,
+    k.2,
+    (going, subst (λ (n : Option Stage). Passes u n k.0 (Some k.1)) (sym e) k.3),
+    (k.4.0, λ ss had. subst (λ (l : List Said). HasBroken (host u) l (request_at u k.1) f new) (behind ss (spoken u t (in_round k.0)) (said (request_at u s) o) _ (spoken_more u s t o k.0 e)) (k.4.1 (ss ++ said (request_at u s) o ∷ []) (a ss had))),
+  )
 ]
 
 pub opens_last : (u : Upstream) (s p : Stage) (old new : Wire) → is_polling (Some s) ≡ false → is_polling (Some p) ≡ true

@@ -26,7 +26,7 @@ behind_then a b text rest (Some more) h k = h ∙ ap (λ (x : Text). a ++ x) k �
 
 -- what strips a front tells
 pub strips : (front text : Text) (r : Option (Bor Text)) → MatchOption r (bytes_eq (take (length front) text) front ≡ false)
-      (λ x. (bytes_eq (take (length front) text) front ≡ true) × (x.now ≡ drop (length front) text) × (length x.now + length front ≡ length text)) → IsBehind front text (option_map (λ x. x.now) r)
+    (λ x. (bytes_eq (take (length front) text) front ≡ true) × (x.now ≡ drop (length front) text) × (length x.now + length front ≡ length text)) → IsBehind front text (option_map (λ x. x.now) r)
 strips front text None h = λ rest e.
     true≢false (sym ((bytes_eq-Decides (take (length front) text) front).1 (ap (take (length front)) e ∙ take-append_seam front rest)) ∙ h)
 strips front text (Some x) h =

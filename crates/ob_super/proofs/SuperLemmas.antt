@@ -97,6 +97,7 @@ module _ {L : Type 0} (left taken held : L → Option (List ℕ)) where
       down : (live : Option (Live L)) → live ≡ None → Stands left taken held (told.upstream g.upstream) Down live
       down None d = tt
       down (Some l) d = absurd (let x : Some l ≡ None = d in cc)
+
       of : (olds : List Standing) → AllStand olds (f ∷ rest) → (news : List Standing) × (dials : List Dial) × (visits : List Visit)
           × Goes before dials visits after × Rounded (IsSome after.visits) (told.upstreams (f ∷ rest)) olds news dials visits (Err x) × AllStand news (g ∷ rest)
       of [] are = absurd are
@@ -115,16 +116,21 @@ module _ {L : Type 0} (left taken held : L → Option (List ℕ)) where
           → Rounded (IsSome after.visits) (told.upstreams (f ∷ rest)) (old ∷ olds) (new ∷ news) (d ++ ds) (v ++ vs) r
       put (Ok y) old new olds news d ds v vs p q = (d, ds, v, vs, refl, refl, p, q)
       put (Err e) old new olds news d ds v vs p q = inr (d, ds, v, vs, refl, refl, p, q)
+
       of : (olds : List Standing) → AllStand olds (f ∷ rest) → (news : List Standing) × (dials : List Dial) × (visits : List Visit)
           × Goes before dials visits after × Rounded (IsSome after.visits) (told.upstreams (f ∷ rest)) olds news dials visits r × AllStand news (g ∷ more)
       of [] are = absurd are
       of (s ∷ ss) (first, others) =
           let p = follows s first in
-          let q = rounds ss others in
-          (p.0 ∷ q.0, p.1 ++ q.1, p.2 ++ q.2, goes_then before mid after p.1 q.1 p.2 q.2 p.3 q.3,
-          put r s p.0 ss q.0 p.1 q.1 p.2 q.2
-          (part_less (IsSome mid.visits) (IsSome after.visits) (λ t. told_before mid.visits after.visits q.2 q.3.back t) (told.upstream f.upstream) s p.0 p.1 p.2 p.4) q.4,
-          (subst (λ (u : Upstream). Stands left taken held u p.0 g.live) (sym (ap told.upstream same)) p.5, q.5))
+          let q = rounds ss others in (
+            p.0 ∷ q.0,
+            p.1 ++ q.1,
+            p.2 ++ q.2,
+            goes_then before mid after p.1 q.1 p.2 q.2 p.3 q.3,
+            put r s p.0 ss q.0 p.1 q.1 p.2 q.2
+                (part_less (IsSome mid.visits) (IsSome after.visits) (λ t. told_before mid.visits after.visits q.2 q.3.back t) (told.upstream f.upstream) s p.0 p.1 p.2 p.4) q.4,
+            (subst (λ (u : Upstream). Stands left taken held u p.0 g.live) (sym (ap told.upstream same)) p.5, q.5),
+          )
 
   -- ---- a PUT
 
@@ -141,7 +147,7 @@ module _ {L : Type 0} (left taken held : L → Option (List ℕ)) where
 
   pub puts_here : (before after : Outside) (f g : Followed L) (rest : List (Followed L)) (path : Text) (body : Option Object) (r : Result (Option Object) AllocError) → g.upstream ≡ f.upstream
       → ((old : Standing) → Stands left taken held (told.upstream f.upstream) old f.live
-        → (entry : Entry) × (entry_at (told.upstream f.upstream) old path ≡ Some entry) × PutsOne left taken held before after (told.upstream f.upstream) old entry body g.live r)
+      → (entry : Entry) × (entry_at (told.upstream f.upstream) old path ≡ Some entry) × PutsOne left taken held before after (told.upstream f.upstream) old entry body g.live r)
       → PutsAll left taken held before after (f ∷ rest) (g ∷ rest) path body r
   puts_here before after f g rest path body r same one = λ olds are. of olds are
     where
@@ -150,11 +156,14 @@ module _ {L : Type 0} (left taken held : L → Option (List ℕ)) where
       of [] are = absurd are
       of (s ∷ ss) (first, others) =
           let h = one s first in
-          let p = h.2 in
-          (p.0 ∷ ss, p.1, p.2,
-          subst (λ (n : Option Entry). PutsHere n (λ entry. (ss ≡ ss) × Sends (IsSome after.visits) (told.upstream f.upstream) s p.0 entry body p.1 r)
-          ((p.0 ≡ s) × Puts (IsSome after.visits) (told.upstreams rest) ss ss path body p.1 r)) (sym h.1) (refl, p.3),
-          (subst (λ (u : Upstream). Stands left taken held u p.0 g.live) (sym (ap told.upstream same)) p.4, others))
+          let p = h.2 in (
+            p.0 ∷ ss,
+            p.1,
+            p.2,
+            subst (λ (n : Option Entry). PutsHere n (λ entry. (ss ≡ ss) × Sends (IsSome after.visits) (told.upstream f.upstream) s p.0 entry body p.1 r)
+                ((p.0 ≡ s) × Puts (IsSome after.visits) (told.upstreams rest) ss ss path body p.1 r)) (sym h.1) (refl, p.3),
+            (subst (λ (u : Upstream). Stands left taken held u p.0 g.live) (sym (ap told.upstream same)) p.4, others),
+          )
 
   pub puts_past : (before after : Outside) (f : Followed L) (rest more : List (Followed L)) (path : Text) (body : Option Object) (r : Result (Option Object) AllocError)
       → ((old : Standing) → Stands left taken held (told.upstream f.upstream) old f.live → entry_at (told.upstream f.upstream) old path ≡ None)
@@ -166,11 +175,14 @@ module _ {L : Type 0} (left taken held : L → Option (List ℕ)) where
           × Goes before [] visits after × Puts (IsSome after.visits) (told.upstreams (f ∷ rest)) olds news path body visits r × AllStand news (f ∷ more)
       of [] are = absurd are
       of (s ∷ ss) (first, others) =
-          let q = puts ss others in
-          (s ∷ q.0, q.1, q.2,
-          subst (λ (n : Option Entry). PutsHere n (λ entry. (q.0 ≡ ss) × Sends (IsSome after.visits) (told.upstream f.upstream) s s entry body q.1 r)
-          ((s ≡ s) × Puts (IsSome after.visits) (told.upstreams rest) ss q.0 path body q.1 r)) (sym (none s first)) (refl, q.3),
-          (first, q.4))
+          let q = puts ss others in (
+            s ∷ q.0,
+            q.1,
+            q.2,
+            subst (λ (n : Option Entry). PutsHere n (λ entry. (q.0 ≡ ss) × Sends (IsSome after.visits) (told.upstream f.upstream) s s entry body q.1 r)
+                ((s ≡ s) × Puts (IsSome after.visits) (told.upstreams rest) ss q.0 path body q.1 r)) (sym (none s first)) (refl, q.3),
+            (first, q.4),
+          )
 
   -- ---- the end
 
@@ -267,9 +279,13 @@ module _ {L : Type 0} (left taken held : L → Option (List ℕ)) (reads writes 
   was_sent : (u : Upstream) (before mid after : Outside) (calls : List Call) (path : Text) (p : Place) (body : Option Object) (live : Option (Live L)) (e : AllocError) (o : Object)
       → mid ≡ before → Stands left taken held u (Up (calls ++ SentOn p.target body o ∷ [])) live → IsDown live mid after → PutsTo left taken held before after u calls path (Some p) body None (Err e)
   was_sent u before mid after calls path p body None e o same stands d = absurd stands
-  was_sent u before mid after calls path p body (Some l) e o same is d =
-      (Down, d.0.0 ∷ [], subst (λ (x : Outside). Goes x [] (d.0.0 ∷ []) after) same (link_back mid after l d),
-      (refl, inr (o, (d.0.0, refl, said_is u mid after (calls ++ SentOn p.target body o ∷ []) l is d))), tt)
+  was_sent u before mid after calls path p body (Some l) e o same is d = (
+    Down,
+    d.0.0 ∷ [],
+    subst (λ (x : Outside). Goes x [] (d.0.0 ∷ []) after) same (link_back mid after l d),
+    (refl, inr (o, (d.0.0, refl, said_is u mid after (calls ++ SentOn p.target body o ∷ []) l is d))),
+    tt,
+  )
 
   had_broken : (u : Upstream) (before mid after : Outside) (calls : List Call) (path : Text) (p : Place) (body : Option Object) (live : Option (Live L)) (e : AllocError) (vs : List Visit)
       → live ≡ None → Goes before [] vs mid → BreaksAt (IsSome mid.visits) u calls (put_on p.target body) faults.Memory vs → IsDown live mid after → PutsTo left taken held before after u calls path (Some p) body None (Err e)
@@ -318,6 +334,7 @@ module _ {L : Type 0} (left taken held : L → Option (List ℕ)) where
       down : (live : Option (Live L)) → live ≡ None → Stands left taken held u Down live
       down None d = tt
       down (Some l) d = absurd (let x : Some l ≡ None = d in cc)
+
       of : (r : Result Object AllocError) → IfOk r (λ x. x ≡ upstream_down) → MayPut left taken held before after u calls path (Some p) body live r
       of (Ok x) is = (Down, vs, goes, inr (is, refl, (e, fault, (v, one, broken))), down live none)
       of (Err x) is = inr (inr (none, (vs, goes, (v, one, λ t. broken_memory (host u) (said_in u calls) (put_on p.target body) e v (broken t)))))

@@ -146,6 +146,7 @@ no_name u held i copy e = of (slice_get u.hrefs i) e
     held_name : (href : Text) (h : Option Held) → Some copy ≡ option_map object_of (option_map (λ (one : Held). the_entry u i href one) h) → copy.head.name ≡ None
     held_name href None e = absurd (let x : Some copy ≡ None = e in cc)
     held_name href (Some one) e = ap (λ (o : Object). o.head.name) (let x : copy ≡ (the_entry u i href one).object = cc in x)
+
     of : (h : Option Text) → Some copy ≡ option_map object_of (option_and_then (λ (href : Text). option_map (λ (one : Held). the_entry u i href one) (found href held)) h) → copy.head.name ≡ None
     of None e = absurd (let x : Some copy ≡ None = e in cc)
     of (Some href) e = held_name href (found href held) e

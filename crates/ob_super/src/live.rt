@@ -4,6 +4,7 @@ ghost use Rattle.ob_super.specs.Calls.{Call, put_on};
 ghost use Rattle.ob_super.specs.Rounds.{host};
 ghost use Rattle.ob_super.specs.Turns.{Standing, Down, Up};
 ghost use Rattle.ob_super.specs.Told as told;
+
 use crate::asking::{call, open, poll};
 use crate::upstream::{Followed, Live, Upstream};
 use ob_asking::{Fault, host_field};
@@ -134,11 +135,7 @@ pub(crate) fn follow<W: Dialer>(
 }
 
 // Puts the link of an upstream that has none.
-fn put_live<W: Dialer>(
-    followed: &mut Followed<W::L>,
-    live: Option<Live<W::L>>,
-    dialer: &mut W,
-)
+fn put_live<W: Dialer>(followed: &mut Followed<W::L>, live: Option<Live<W::L>>, dialer: &mut W)
     requires { followed.old.live ≡ None }
     ensures put { followed.new ≡ record followed.old { live = live } }
     ensures apart { dialer.new ≡ dialer.old }

@@ -11,10 +11,11 @@ pub loop-preserved : goal.loop-preserved
 loop-preserved g c =
     let before = told.outside (g.W.Dialer.dials c.args.dialer.now) (g.W.Dialer.visits c.args.dialer.now) in
     let mid = told.outside (g.W.Dialer.dials c.loop.dialer) (g.W.Dialer.visits c.loop.dialer) in
-    let after = told.outside (g.W.Dialer.dials c.round.new.dialer) (g.W.Dialer.visits c.round.new.dialer) in
-    (c.in_ok-round.ensures.same ∙ c.loop.invariant.0,
-    many_more g.L.Link.left g.L.Link.taken g.L.Link.held before mid after c.args.self.now.followed.items c.loop.self.followed.items c.round.new.self.followed.items c.loop.counter
-    tt c.in_ok-round.field-0 tt c.loop.invariant.0 c.loop.invariant.1 c.in_ok-round.ensures.rounds)
+    let after = told.outside (g.W.Dialer.dials c.round.new.dialer) (g.W.Dialer.visits c.round.new.dialer) in (
+      c.in_ok-round.ensures.same ∙ c.loop.invariant.0,
+      many_more g.L.Link.left g.L.Link.taken g.L.Link.held before mid after c.args.self.now.followed.items c.loop.self.followed.items c.round.new.self.followed.items c.loop.counter
+          tt c.in_ok-round.field-0 tt c.loop.invariant.0 c.loop.invariant.1 c.in_ok-round.ensures.rounds,
+    )
 
 pub returns-in_err-round-clause-same : goal.returns-in_err-round-clause-same
 returns-in_err-round-clause-same g c = c.in_err-round.ensures.same ∙ c.loop.invariant.0

@@ -1,0 +1,11 @@
+pub mod Adding
+pub mod Days
+pub mod Dates
+pub mod Order
+pub mod Told
+pub mod OneList
+pub mod Lists
+pub mod Force
+pub mod Rows
+pub mod Again
+pub mod Behind
