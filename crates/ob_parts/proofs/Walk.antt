@@ -1,5 +1,6 @@
 -- Walks over objects side by side, with their numbers.
 use Rattle.std.proofs.Common.{◌≡◌, ℕ, ◌+◌, ◌<◌, ◌≤◌, zero, suc, List, [], ◌∷◌, ◌++◌, length, take, drop, get_or, Option, Some, None, refl, ap, sym, ◌∙◌, arith, drop-cons, add-one, Bool, true, false, find}
+use Rattle.std.specs.Prelude.{slice_get}
 use Rattle.std.proofs.lemmas.List.{take_more}
 use Rattle.ob_object.specs.Object.{Object, parts}
 use Rattle.ob_object.specs.WellFormed.{has_name}
@@ -7,6 +8,15 @@ use Rattle.ob_parts.specs.Numbered.{Part, plus, numbered_from}
 use Rattle.ob_parts.specs.Offences.{each}
 use Rattle.ob_parts.specs.Least.{earlier, least}
 use Rattle.ob_parts.proofs.Earliest.{least_append, earlier_assoc, earlier_none}
+
+some_one : {A : Type 0} (a b : A) → Some a ≡ Some b → a ≡ b
+some_one a b e = cc
+
+-- the object at a place, by an index
+pub got : {A : Type 0} (xs : List A) (k : ℕ) (x : A) → slice_get xs k ≡ Some x → get_or xs k x ≡ x
+got [] k x e = absurd (let f : None ≡ Some x = e in cc)
+got (y ∷ ys) zero x e = some_one y x e
+got (y ∷ ys) (suc k) x e = got ys k x e
 
 -- the rest of the objects from a place on
 pub ahead : (xs : List Object) (k : ℕ) (x : Object) → k < length xs → x ≡ get_or xs k x → drop k xs ≡ x ∷ drop (k + 1) xs
