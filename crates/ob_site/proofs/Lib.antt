@@ -11,4 +11,4 @@ pub mod Renumbered
 pub mod Sound
 pub mod Stepped
 pub mod Crossing
-mod Points
+mod OwnAt

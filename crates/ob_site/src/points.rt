@@ -6,13 +6,13 @@ ghost use Rattle.ob_site_rules.specs.Shown.{node_of};
 
 use ob_object::Obj;
 use ob_site_state::State;
+use ob_tree::Tree;
 use ob_values::Text;
 
 /// The own object at a path, without its children.
-fn own_at<'a>(state: &'a State, path: &Text) -> Option<&'a Obj>
-    ensures { option_copied result ≡ option_map (λ o. leaf o.head) (node_of path.now state.now.now.tree) }
+fn own_at<'a>(tree: &'a Tree, path: &Text) -> Option<&'a Obj>
+    ensures { option_copied result ≡ option_map (λ o. leaf o.head) (node_of path.now tree.now.root) }
 {
-    let tree = state.tree();
     match tree.get(path) {
         Some(node) => Some(tree.own(node)),
         None => None,
@@ -24,7 +24,7 @@ pub(crate) fn point<'a>(state: &'a State, path: &Text) -> Option<&'a Obj>
     ensures { option_copied result ≡ point_at state.now.plan state.now.now path.now }
 {
     if state.contents().roles.is_point(path) {
-        own_at(state, path)
+        own_at(state.tree(), path)
     } else {
         None
     }

@@ -15,3 +15,4 @@ pub use passing::passes;
 pub use putting::{put, write_by};
 pub use reading::{replied, shown};
 pub use stop::Stop;
+pub use value::is_value_kind;

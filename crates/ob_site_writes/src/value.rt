@@ -16,7 +16,7 @@ use ob_values::{Text, Value};
 use std::alloc::AllocError;
 
 /// Whether a kind is one of the ten that have values.
-fn is_value_kind(kind: Kind) -> bool
+pub fn is_value_kind(kind: Kind) -> bool
     ensures { result ≡ is_value_kind kind }
 {
     match kind {
