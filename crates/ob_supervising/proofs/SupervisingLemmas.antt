@@ -35,14 +35,14 @@ module _ {L W : Type 0} (left taken held : L → Option (List ℕ)) (dials : W �
 
   pub answers_link : (s t : Supervising L × W) (link link' : Inlet) (sent sent' given : Option (List ℕ)) (end : LinkEnd)
       → ServesBy (Asks left taken held dials visits) s t None link link' sent sent' (Some []) given end
-      → AnswersLink left taken held dials visits (told_by left taken held dials visits s.1) (told_by left taken held dials visits t.1) (following s) (following t) link link' sent sent' end
+      → AnswersLink left taken held (told_by left taken held dials visits s.1) (told_by left taken held dials visits t.1) (following s) (following t) link link' sent sent' end
   answers_link s t link link' sent sent' given end by =
       let chained = chain s t by.calls by.asked in
       record { calls = by.calls; given = given; serves = by.serves; memory = by.memory; same = chained.0; supervises = chained.1 }
 
   pub whole_run : (before mid late after : Outside) (old begun last : List (Followed L)) (rounds : ℕ) (x : Unit {0}) (link link' : Inlet) (sent sent' : Option (List ℕ)) (end : LinkEnd)
       → AllByRecursion (λ (f : Followed L). f.live ≡ None) old → upstreams begun ≡ upstreams old → ManyAll left taken held before mid old begun rounds (Ok x)
-      → AnswersLink left taken held dials visits mid late begun last link link' sent sent' end → EndsAll left taken held late after last
+      → AnswersLink left taken held mid late begun last link link' sent sent' end → EndsAll left taken held late after last
       → SupervisesLink (upstreams old) rounds before after link link' sent sent' end
   whole_run before mid late after old begun last rounds x link link' sent sent' end down same many a ends =
       inl (record {

@@ -46,6 +46,7 @@ module _ {L W : Type 0} (left taken held : L → Option (List ℕ)) (dials : W �
       (upstreams after.0.upstreams.followed.items ≡ upstreams before.0.upstreams.followed.items)
       × AnswersAll left taken held (told_by before.1) (told_by after.1) before.0.upstreams.followed.items after.0.upstreams.followed.items (request_of call.request) (reply_of call.answer)
 
+module _ {L : Type 0} (left taken held : L → Option (List ℕ)) where
   -- A link's requests were answered by a supervisor, from the one to the other of what it follows.
   pub record AnswersLink (before after : Outside) (old new : List (Followed L)) (link link' : Inlet) (sent sent' : Option (List ℕ)) (end : LinkEnd) : Type 0 where
     pub calls : List Call
