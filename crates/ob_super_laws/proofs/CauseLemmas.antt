@@ -1,14 +1,13 @@
 -- Why an upstream is down after its part in a round.
-use Rattle.std.proofs.Common.{◌≡◌, ◌⊎◌, Bool, true, false, List, [], ◌∷◌, ◌++◌, Option, Some, None, refl, sym, ap, subst, ◌∙◌, append-nil, true≢false, inl, inr}
+use Rattle.std.proofs.Common.{◌≡◌, ◌⊎◌, true, false, List, [], ◌∷◌, ◌++◌, Option, Some, None, refl, sym, ap, subst, ◌∙◌, append-nil, true≢false, inl, inr}
 use Rattle.std.specs.Option.{option_map_or}
 use Rattle.ob_io.specs.Dials.{Dial, Visit}
-use Rattle.ob_object.specs.Object.{Object}
 use Rattle.ob_asking.specs.declared.fault.Fault.{Fault}
 use Rattle.ob_super.specs.Upstreams.{Upstream}
 use Rattle.ob_super.specs.Calls.{Stage, Call, InRound, request_at, stage_of}
-use Rattle.ob_super.specs.Turns.{Turn, Dialled, Reply, Broken, Standing, Down, Up, standing, turned, after, is_over, ArePart}
+use Rattle.ob_super.specs.Turns.{Turn, Dialled, Reply, Broken, Standing, Down, Up, standing, after, is_over, ArePart}
 use Rattle.ob_super.specs.Links.{is_fault}
-use Rattle.ob_super.specs.Rounds.{dial, dials_of, BackIfDown, BreaksNext, AreBackAt, AreBack, Part}
+use Rattle.ob_super.specs.Rounds.{dials_of, BackIfDown, BreaksNext, AreBack, Part}
 use Rattle.ob_super_laws.specs.Laws.{EndedSo, LacksNeeded, IsCause}
 
 -- an upstream that is up isn't one that is down

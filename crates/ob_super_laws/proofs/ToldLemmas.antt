@@ -1,5 +1,5 @@
 -- Where the err `upstream down` is the reply.
-use Rattle.std.proofs.Common.{◌≡◌, ◌⊎◌, Bool, true, false, List, [], ◌∷◌, ◌++◌, Option, Some, None, Result, Ok, Err, refl, sym, ap, subst, ◌∙◌, true≢false, inl, inr}
+use Rattle.std.proofs.Common.{◌≡◌, Bool, true, false, List, [], ◌∷◌, Option, Some, None, Result, Ok, refl, sym, ap, subst, ◌∙◌, true≢false, inl, inr}
 use Rattle.std.specs.Prelude.{◌&&◌, ◌||◌, not}
 use Rattle.std.specs.declared.alloc.AllocError.{AllocError}
 use Rattle.ob_io.specs.Dials.{Visit}
@@ -55,12 +55,12 @@ here Told u old new olds news body visits reply behind more None (same, rest) =
 here Told u old new olds news body visits reply behind more (Some entry) (same, sends) =
     subst (λ (ss : List Standing). IsTold reply (goes_down (old ∷ olds) (new ∷ ss))) (sym same) (sent Told u olds visits reply old new entry body sends)
 
+nothing : (reply : Object) → (let r : Result (Option Object) AllocError = Ok (Some reply) in r) ≡ Ok None → ⊥
+nothing reply e = absurd (let x : (let r : Result (Option Object) AllocError = Ok (Some reply) in r) ≡ Ok None = e in cc)
+
 pub told : (Told : Type 0) (us : List Upstream) (olds news : List Standing) (path : Text) (body : Option Object) (visits : List Visit) (reply : Object)
     → Puts Told us olds news path body visits (Ok (Some reply)) → IsTold reply (goes_down olds news)
-told Told [] [] [] path body visits reply puts = absurd (nothing puts.0)
-  where
-    nothing : Ok (Some reply) ≡ Ok None → ⊥
-    nothing e = absurd (let x : Ok (Some reply) ≡ Ok None = e in cc)
+told Told [] [] [] path body visits reply puts = absurd (nothing reply puts.0)
 told Told [] [] (n ∷ news) path body visits reply puts = absurd puts
 told Told [] (o ∷ olds) news path body visits reply puts = absurd puts
 told Told (u ∷ us) [] news path body visits reply puts = absurd puts

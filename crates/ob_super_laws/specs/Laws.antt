@@ -1,6 +1,6 @@
 -- What follows of a round, and of a PUT that was sent on.
-use Rattle.std.specs.Prelude.{◌≡◌, ◌⊎◌, ◌&&◌, ◌||◌, not, Bool, true, false, List, [], ◌∷◌, Option, Some, None, Result}
-use Rattle.std.specs.declared.result.Result.TheVariants.{Ok, Err}
+use Rattle.std.specs.Prelude.{◌≡◌, ◌⊎◌, ◌&&◌, ◌||◌, not, Bool, true, false, List, [], ◌∷◌, Option, Some, None, IsSome}
+use Rattle.std.specs.declared.result.Result.TheVariants.{Ok}
 use Rattle.ob_io.specs.Dials.{Dial, Visit}
 use Rattle.ob_object.specs.Object.{Object}
 use Rattle.ob_watching.specs.WatchOuts.{Text}
@@ -8,7 +8,7 @@ use Rattle.ob_asking.specs.Places.{Request}
 use Rattle.ob_asking.specs.declared.fault.Fault.{Fault}
 use Rattle.ob_super.specs.Upstreams.{Upstream}
 use Rattle.ob_super.specs.Calls.{Call, stage_of, said_in}
-use Rattle.ob_super.specs.Turns.{Standing, Down, Up, is_up}
+use Rattle.ob_super.specs.Turns.{Standing, Down, is_up}
 use Rattle.ob_super.specs.Links.{is_fault, IsBack, IsBroken}
 use Rattle.ob_super.specs.Rounds.{host, dial, Part, Puts, upstream_down}
 
@@ -35,10 +35,13 @@ pub record LacksNeeded (Told : Type 0) (u : Upstream) (visits : List Visit) : Ty
 abbrev pub IsCause : Type 0 → Upstream → List Dial → List Visit → Type 0
 IsCause Told u dials visits = (dials ≡ dial u true ∷ []) ⊎ (EndedSo Told u visits ⊎ LacksNeeded Told u visits)
 
+-- `back` is what the dialer tells of the links that it has back.
+
 -- An upstream is down after its part in a round only where the dial failed, or its own link came back for one of these.
 abbrev pub DownHasCause : Type 0
 DownHasCause =
-    (Told : Type 0) (u : Upstream) (old : Standing) (dials : List Dial) (visits : List Visit) → Part Told u old Down dials visits → IsCause Told u dials visits
+    (back : Option (List Visit)) (u : Upstream) (old : Standing) (dials : List Dial) (visits : List Visit) → Part (IsSome back) u old Down dials visits
+    → IsCause (IsSome back) u dials visits
 
 -- ---- the err `upstream down`
 
@@ -54,5 +57,5 @@ IsTold reply down = ((reply ≡ upstream_down) → (down ≡ true)) × ((down �
 -- A PUT that went to an upstream is answered by that err exactly where the upstream goes down.
 abbrev pub DownIsTold : Type 0
 DownIsTold =
-    (Told : Type 0) (us : List Upstream) (olds news : List Standing) (path : Text) (body : Option Object) (visits : List Visit) (reply : Object)
-    → Puts Told us olds news path body visits (Ok (Some reply)) → IsTold reply (goes_down olds news)
+    (back : Option (List Visit)) (us : List Upstream) (olds news : List Standing) (path : Text) (body : Option Object) (visits : List Visit) (reply : Object)
+    → Puts (IsSome back) us olds news path body visits (Ok (Some reply)) → IsTold reply (goes_down olds news)

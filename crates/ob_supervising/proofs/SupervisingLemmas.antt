@@ -1,5 +1,5 @@
 -- Calls of a supervisor, one behind the other, and the service of a link by it.
-use Rattle.std.proofs.Common.{◌≡◌, ◌⊎◌, ℕ, List, [], ◌∷◌, Option, Some, None, Result, Ok, Err, refl, sym, ap, subst, ◌∙◌, inl, inr}
+use Rattle.std.proofs.Common.{◌≡◌, ℕ, List, [], ◌∷◌, Option, Some, None, Ok, Err, refl, sym, subst, ◌∙◌, inl, inr}
 use Rattle.std.specs.List.{AllByRecursion}
 use Rattle.std.specs.declared.alloc.AllocError.{AllocError}
 use Rattle.ob_io.specs.Dials.{Dial, Visit}
@@ -9,7 +9,6 @@ use Rattle.ob_server.specs.Answering.{AreAsked, ServesBy}
 use Rattle.ob_server.specs.declared.end.LinkEnd.{LinkEnd}
 use Rattle.ob_server.specs.declared.end.LinkEnd.TheVariants as ends
 use Rattle.ob_super.specs.declared.upstream.Followed.{Followed}
-use Rattle.ob_super.specs.Upstreams.{Upstream}
 use Rattle.ob_super.specs.Told.{Outside, upstreams, ManyAll, SupervisesAll, EndsAll}
 use Rattle.ob_super.proofs.ChainLemmas.{supervises_none, supervises_more, runs, stops}
 use Rattle.ob_supervising.specs.declared.supervising.Supervising.{Supervising}
