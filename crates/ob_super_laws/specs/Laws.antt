@@ -1,6 +1,7 @@
 -- What follows of a round, and of a PUT that was sent on.
-use Rattle.std.specs.Prelude.{◌≡◌, ◌⊎◌, ◌&&◌, ◌||◌, not, Bool, true, false, List, [], ◌∷◌, Option, Some, None, IsSome}
+use Rattle.std.specs.Prelude.{◌≡◌, ◌⊎◌, ◌&&◌, ◌||◌, not, Bool, true, false, List, [], ◌∷◌, Option, Some, None, IsSome, Result}
 use Rattle.std.specs.declared.result.Result.TheVariants.{Ok}
+use Rattle.std.specs.declared.alloc.AllocError.{AllocError}
 use Rattle.ob_io.specs.Dials.{Dial, Visit}
 use Rattle.ob_object.specs.Object.{Object}
 use Rattle.ob_watching.specs.WatchOuts.{Text}
@@ -8,9 +9,10 @@ use Rattle.ob_asking.specs.Places.{Request}
 use Rattle.ob_asking.specs.declared.fault.Fault.{Fault}
 use Rattle.ob_super.specs.Upstreams.{Upstream}
 use Rattle.ob_super.specs.Calls.{Call, stage_of, said_in}
-use Rattle.ob_super.specs.Turns.{Standing, Down, is_up}
+use Rattle.ob_super.specs.Turns.{Turn, Standing, Down, is_up, after, ArePart}
+use Rattle.ob_super.specs.Trees.{entry_at}
 use Rattle.ob_super.specs.Links.{is_fault, IsBack, IsBroken}
-use Rattle.ob_super.specs.Rounds.{host, dial, Part, Puts, upstream_down}
+use Rattle.ob_super.specs.Rounds.{host, dial, Part, Rounds, Puts, upstream_down}
 
 -- ---- why an upstream is down
 
@@ -59,3 +61,30 @@ abbrev pub DownIsTold : Type 0
 DownIsTold =
     (back : Option (List Visit)) (us : List Upstream) (olds news : List Standing) (path : Text) (body : Option Object) (visits : List Visit) (reply : Object)
     → Puts (IsSome back) us olds news path body visits (Ok (Some reply)) → IsTold reply (goes_down olds news)
+
+-- ---- one upstream beside another
+
+-- this holds of each upstream with its standing before and after
+abbrev pub AllOf : (Upstream → Standing → Standing → Type 0) → List Upstream → List Standing → List Standing → Type 0
+AllOf P (u ∷ us) (old ∷ olds) (new ∷ news) = P u old new × AllOf P us olds news
+AllOf P _ _ _ = Unit {0}
+
+-- it had the turns of a round, and these alone are what it comes to
+abbrev pub HasTurns : Upstream → Standing → Standing → Type 0
+HasTurns u old new = (turns : List Turn) × ArePart u old turns × (new ≡ after u old turns)
+
+-- In a round each upstream has turns of its own, and what it comes to is decided by no other's.
+abbrev pub EachHasTurns : Type 0
+EachHasTurns =
+    (back : Option (List Visit)) (us : List Upstream) (olds news : List Standing) (dials : List Dial) (visits : List Visit) → Rounds (IsSome back) us olds news dials visits
+    → AllOf HasTurns us olds news
+
+-- it holds nothing at this path, or stays as it is
+abbrev pub StaysWithout : Text → Upstream → Standing → Standing → Type 0
+StaysWithout path u old new = entry_at u old path ≡ None → new ≡ old
+
+-- A PUT changes no upstream that holds nothing at its path.
+abbrev pub OthersStay : Type 0
+OthersStay =
+    (back : Option (List Visit)) (us : List Upstream) (olds news : List Standing) (path : Text) (body : Option Object) (visits : List Visit) (result : Result (Option Object) AllocError)
+    → Puts (IsSome back) us olds news path body visits result → AllOf (StaysWithout path) us olds news

@@ -2,7 +2,7 @@
 
 #![tactic(auto)]
 
-ghost use Rattle.ob_super_laws.specs.Laws.{DownHasCause, DownIsTold};
+ghost use Rattle.ob_super_laws.specs.Laws.{DownHasCause, DownIsTold, EachHasTurns, OthersStay};
 /// An upstream is down after its part in a round only where the dial failed in it, its own link ended or failed in it, or the reply to
 /// the last request on that link is none, or is an err, or lacks what is needed.
 pub fn down_has_cause()
@@ -12,4 +12,14 @@ pub fn down_has_cause()
 /// A PUT that went to an upstream is answered by the err `upstream down` exactly where that upstream goes down.
 pub fn down_is_told()
     ensures { DownIsTold }
+{}
+
+/// In a round each upstream has turns of its own, and what it comes to is decided by no other's.
+pub fn each_has_turns()
+    ensures { EachHasTurns }
+{}
+
+/// A PUT changes no upstream that holds nothing at its path.
+pub fn others_stay()
+    ensures { OthersStay }
 {}
