@@ -1,5 +1,5 @@
 -- The schedules of a file that has the form have slots that fit.
-use Rattle.std.proofs.Common.{◌≡◌, ℕ, zero, suc, ◌+◌, Bool, true, false, ◌&&◌, List, [], ◌∷◌, ◌++◌, map, Option, Some, None, cond, find, refl, ap, sym, subst, ◌∙◌, arith, codes}
+use Rattle.std.proofs.Common.{◌≡◌, ℕ, zero, suc, Bool, true, false, ◌&&◌, List, [], ◌∷◌, ◌++◌, map, Option, Some, None, cond, find, refl, ap, sym, subst, ◌∙◌, arith, codes}
 use Rattle.std.specs.Prelude.{IsTrue, option_map, option_and_then, unwrap_or, is_some, not}
 use Rattle.std.specs.List.{All, AllByRecursion, list_any}
 use Rattle.ob_contracts.proofs.Fitting.{one_kind}
