@@ -1,0 +1,6 @@
+use Rattle.std.specs.Prelude.{IsSome}
+use Rattle.ob_super_laws.proofs.ToldLemmas.{told}
+use Rattle.ob_super_laws.proofs.down_is_told.Goals as goal
+
+pub returns : goal.returns
+returns c = λ back us olds news path body visits reply puts. told (IsSome back) us olds news path body visits reply puts
