@@ -80,7 +80,7 @@ ShownNowhere =
 
 -- the dial of an upstream that is down fails: it is down, it was dialled once, and no link comes back
 abbrev pub failed_dial : Dial
-failed_dial = record { host = codes "h"; port = 80; failed = true }
+failed_dial = record { host = codes "h"; port = 8081; failed = true }
 
 abbrev pub DialFails : Type 0
 DialFails = Rounds (Unit {0}) (one ∷ []) (Down ∷ []) (Down ∷ []) (failed_dial ∷ []) []

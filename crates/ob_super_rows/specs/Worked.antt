@@ -40,14 +40,14 @@ two = config (named_obj (codes "a") (url ∷ hrefs (codes "/obix/n" ∷ []) ∷ 
 
 -- ---- upstreams in hand
 
--- `http://h/obix/`
+-- `http://h:8081/obix/`
 abbrev pub base : Parts
 base = record {
   scheme = codes "http";
   username = [];
   password = [];
   host = Some (Domain (codes "h"));
-  port = None;
+  port = Some 8081;
   path = codes "/obix/";
   query = None;
   fragment = None;
