@@ -150,7 +150,7 @@ STREAMS = {
     "writePoints with them": (60_000, lambda n: (points(1), request("POST", "/obix/p0/writePoint", body(n).replace("<int", '<obj><int name="value"', 1) + "</obj>") * 8)),
     "batches with them": (60_000, lambda n: (points(1), request("POST", "/obix/batch", "<list>" + item("Write", "/obix/p0", body(n).replace("<int", '<int name="in"', 1)) + "</list>") * 8)),
     "a get of a list of them": (60_000, lambda n: (listed(n), request("GET", "/obix/l"))),
-    "polls of that list": (20_000, lambda n: (listed(n).replace(b"<obj/></list>", b'<int href="i" val="0" writable="true"/></list>'), MAKE + asking("add", ["/obix/l"]) + request("PUT", "/obix/i", '<int val="1"/>') + CHANGES + REFRESH)),
+    "polls of that list": (40_000, lambda n: (listed(n).replace(b"<obj/></list>", b'<int href="i" val="0" writable="true"/></list>'), MAKE + asking("add", ["/obix/l"]) + request("PUT", "/obix/i", '<int val="1"/>') + CHANGES + REFRESH)),
     "a write to a default in a chain": (4_000, lambda n: (chain(n), request("PUT", "/obix/c0/v", '<int val="1"/>'))),
     "hrefs that name nothing, added": (10_000, lambda n: (points(1), (MAKE + asking("add", [f"q{k}" for k in range(n)])))),
     "one href, added again": (20_000, lambda n: (points(1), MAKE + asking("add", ["p0"] * n))),
