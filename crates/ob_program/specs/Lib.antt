@@ -8,4 +8,5 @@ pub mod Serving
 pub mod Client
 pub mod Storm
 pub mod Audit
+pub mod Schedule
 pub mod Run

@@ -2,7 +2,7 @@
 //!
 //! `stdio SITE` opens the site of a file and answers the requests of the source on the sink, and `serve SITE HOST PORT` those
 //! of links on threads. `check FILE` reads a document and writes its canonical text. `watch` and `console` are clients.
-//! `storm SEED CLIENTS REQUESTS` asks a site of its own.
+//! `storm SEED CLIENTS REQUESTS` asks a site of its own. `schedule SITE FILE` is `stdio SITE` with weekly schedules.
 #![tactic(auto)]
 
 mod audit;
@@ -12,6 +12,7 @@ mod document;
 mod exit;
 mod lines;
 mod program;
+mod schedule;
 mod serve;
 mod stdio;
 mod storm;

@@ -9,6 +9,7 @@ use crate::audit::run_audit;
 use crate::check::run_check;
 use crate::client::{console_plan, run_client, watch_plan};
 use crate::exit::{Exit, tell};
+use crate::schedule::run_schedule;
 use crate::serve::run_serve;
 use crate::stdio::run_stdio;
 use crate::storm::run_storm;
@@ -22,6 +23,7 @@ use std::thread::Threads;
 ///
 /// `stdio SITE [--at MS] [--tick MS]` opens the site of a file, and answers the requests of the link's source on its sink.
 /// `record SITE [--at MS] [--tick MS]` asks them of the site in the same way, and writes the record of that run in their place.
+/// `schedule SITE FILE [--at MS] [--tick MS]` is `stdio SITE` whose site also gets the writes of the weekly schedules of a file.
 /// `audit SITE FILE` tells whether the record of a run is legal from a site file.
 /// `serve SITE HOST PORT [--workers N] [--quota M]` answers those of links that come to a port. `check FILE` writes the
 /// canonical text of a file's document, and a line feed. `watch URL HREF.. [--polls N] [--retry R]` and `console URL SUBJECT
@@ -95,6 +97,7 @@ where
     };
     match command {
         Command::Stdio(service) => run_stdio(rt, alloc, service, files, link, errors, clock),
+        Command::Schedule(service) => run_schedule(alloc, service, files, link, errors, clock),
         Command::Audit(audit) => run_audit(alloc, audit, files, &mut link.sink, errors),
         Command::Serve(service) => run_serve(
             rt,
