@@ -1,7 +1,7 @@
 -- What a command has nothing to do with.
 use Rattle.std.proofs.Common.{◌≡◌, ℕ, List, Option, Some, None, refl, subst}
 use Rattle.std.specs.Prelude.{IsSome}
-use Rattle.ob_command.specs.Command.{Command, stdio, schedule, auditing, serve, check, watch, console, storm}
+use Rattle.ob_command.specs.Command.{Command, stdio, schedule, auditing, serve, check, watch, console, storm, supervise}
 use Rattle.ob_command.specs.declared.server.Output.{Output}
 use Rattle.ob_program.specs.Run.{LeavesAlone}
 
@@ -35,3 +35,4 @@ module _ (files source sink port dialer clock : Type 0) where
   all_apart (Some (watch url hrefs polls retries)) f s k p d c = (f, s, p, c)
   all_apart (Some (console url subject polls ack user)) f s k p d c = (f, s, p, c)
   all_apart (Some (storm asked)) f s k p d c = (f, s, p, d, c)
+  all_apart (Some (supervise config rounds)) f s k p d c = (p, c)

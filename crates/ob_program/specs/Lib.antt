@@ -9,4 +9,5 @@ pub mod Client
 pub mod Storm
 pub mod Audit
 pub mod Schedule
+pub mod Super
 pub mod Run

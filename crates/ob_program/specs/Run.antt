@@ -15,6 +15,7 @@ use Rattle.ob_program.specs.Client.{ClientRan}
 use Rattle.ob_program.specs.Storm.{StormRan}
 use Rattle.ob_program.specs.Audit.{AuditRan}
 use Rattle.ob_program.specs.Schedule.{ScheduledRan}
+use Rattle.ob_program.specs.Super.{SuperRan}
 
 -- Memory was wanting to read the URL or a text of a client's words, and this is as it was.
 abbrev pub IsUnread : (words : List (List ℕ)) → Exit → (untouched : Type 0) → Type 0
@@ -42,6 +43,8 @@ module _ {D C : Type 0} (faults handed returned : D → ℕ) (visits : D → Opt
       ClientRan (record { url = url; watched = Alarms subject ack user; polls = polls; retries = 0 }) s.held s'.held s.writes s'.writes d d' exit
   Ran content files files' s s' p p' d d' t t' (commands.storm asked) exit =
       StormRan asked s.held s'.held s.writes s'.writes exit
+  Ran content files files' s s' p p' d d' t t' (commands.supervise config rounds) exit =
+      SuperRan (content config) rounds files files' s s' d d' exit
 
 -- the parts of the outside that a command has nothing to do with are as they were
 abbrev pub LeavesAlone : Option Command → (files source sink port dialer clock : Type 0) → Type 0
@@ -56,3 +59,4 @@ LeavesAlone (Some (commands.check file)) files source sink port dialer clock = s
 LeavesAlone (Some (commands.watch url hrefs polls retries)) files source sink port dialer clock = files × source × port × clock
 LeavesAlone (Some (commands.console url subject polls ack user)) files source sink port dialer clock = files × source × port × clock
 LeavesAlone (Some (commands.storm asked)) files source sink port dialer clock = files × source × port × dialer × clock
+LeavesAlone (Some (commands.supervise config rounds)) files source sink port dialer clock = port × clock
