@@ -1,0 +1,22 @@
+use Rattle.std.proofs.Common.{◌≡◌, ◌++◌, [], subst}
+use Rattle.std.specs.Prelude.{codes}
+use Rattle.ob_object.specs.Kinds.{same_kind}
+use Rattle.ob_object.specs.declared.kind.Kind.TheVariants as kind
+use Rattle.ob_schedule.specs.Forms as form
+use Rattle.ob_schedule.specs.Least.{least}
+use Rattle.ob_schedule.specs.Numbered.{Part, inside_child}
+use Rattle.ob_schedule.specs.Views.{part_of}
+use Rattle.ob_schedule.proofs.Earliest.{of_four}
+use Rattle.ob_schedule.proofs.form.first_offence.Goals as goal
+
+pub returns : goal.returns
+returns g c =
+    let site = g.P.Points.rules c.args.points.now in
+    let p = part_of c.root-doc.result in
+    subst (λ (p : Part). c.earlier-3.result ≡ least (form.unless (same_kind p.object.head.kind kind.Obj) p ++ (form.needs (codes "zone") form.is_zone p
+    ++ (form.needs (codes "schedules") (form.is_list 0 1_000) p ++ form.each (form.schedule_offences site) [] (inside_child (codes "schedules") p)))))
+    c.root-doc.ensures
+    (of_four (form.unless (same_kind p.object.head.kind kind.Obj) p) (form.needs (codes "zone") form.is_zone p) (form.needs (codes "schedules") (form.is_list 0 1_000) p)
+    (form.each (form.schedule_offences site) [] (inside_child (codes "schedules") p))
+    c.kind_offence-kind.result c.zone_offence-zone.result c.list_offence-list.result c.in_ok-schedules.schedules c.earlier-2.result c.earlier.result c.earlier-3.result
+    c.earlier-3.ensures c.earlier-2.ensures c.earlier.ensures c.kind_offence-kind.ensures c.zone_offence-zone.ensures c.list_offence-list.ensures c.in_ok-schedules.ensures)

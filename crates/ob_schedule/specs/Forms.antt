@@ -1,0 +1,186 @@
+-- The form of a file of schedules, as the parts of a document that offend against it. A part that is there and is wrong offends
+-- itself; where one that is needed is missing, the object round it does. Children of other names are passed over.
+use Rattle.std.specs.Prelude.{◌≡◌, ℕ, ◌%◌, ◌≤◌, Bool, true, false, cond, not, ◌&&◌, ◌==◌, nat_le, nat_lt, int_le, ℤ, pos, codes, List, [], ◌∷◌, ◌++◌, length, Option, Some, None, is_some, option_map, option_and_then}
+use Rattle.std.specs.List.{Contains, list_any}
+use Rattle.std.specs.Ordering.{int_eq}
+use Rattle.std.specs.Str.{bytes_eq}
+use Rattle.jiff_tz.specs.PosixReader.{read_whole}
+use Rattle.ob_values.specs.declared.value.Value.TheVariants as value
+use Rattle.ob_object.specs.declared.kind.Kind.{Kind}
+use Rattle.ob_object.specs.declared.kind.Kind.TheVariants as kind
+use Rattle.ob_object.specs.declared.head.Slot.{Slot}
+use Rattle.ob_object.specs.declared.head.Slot.TheVariants.{Absent, Null, Is}
+use Rattle.ob_object.specs.Default.{default_of}
+use Rattle.ob_object.specs.Kinds.{same_kind}
+use Rattle.ob_object.specs.Object.{Object, children}
+use Rattle.ob_object.specs.WellFormed.{named}
+use Rattle.ob_schedule.specs.Numbered.{Part, child, inside_child, root}
+use Rattle.ob_schedule.specs.PointRules.{PointRules, Text}
+
+-- ---- what an object holds
+
+abbrev pub str_in : Slot → Option Text
+str_in (Is (value.Str t)) = Some t
+str_in _ = None
+
+abbrev pub uri_in : Slot → Option Text
+uri_in (Is (value.Uri t)) = Some t
+uri_in _ = None
+
+abbrev pub int_in : Slot → Option ℤ
+int_in (Is (value.Int i)) = Some i
+int_in _ = None
+
+-- nanoseconds since the day began
+abbrev pub time_in : Slot → Option ℕ
+time_in (Is (value.Time t)) = Some t
+time_in _ = None
+
+-- what an object of this kind holds; one of another kind holds nothing
+abbrev pub if_kind : {A : Type 0} → Kind → Object → Option A → Option A
+if_kind k o a = cond (same_kind o.head.kind k) a None
+
+-- the slot that a value of a schedule stands for: where it is absent, the default of its kind
+abbrev pub slot_given : Kind → Slot → Slot
+slot_given k Absent = default_of k
+slot_given k slot = slot
+
+-- ---- the rules
+
+abbrev pub holds : {A : Type 0} → (A → Bool) → Option A → Bool
+holds test None = false
+holds test (Some a) = test a
+
+abbrev pub zone_text : Object → Option Text
+zone_text o = if_kind kind.Str o (str_in o.head.slot)
+
+abbrev pub point_text : Object → Option Text
+point_text o = if_kind kind.Uri o (uri_in o.head.slot)
+
+abbrev pub day_value : Object → Option ℤ
+day_value o = if_kind kind.Int o (int_in o.head.slot)
+
+abbrev pub time_value : Object → Option ℕ
+time_value o = if_kind kind.Time o (time_in o.head.slot)
+
+-- a POSIX rule, as jiff reads it
+abbrev pub is_zone : Object → Bool
+is_zone o = holds (λ t. is_some (read_whole t)) (zone_text o)
+
+-- a list of so many objects
+abbrev pub is_list : ℕ → ℕ → Object → Bool
+is_list least most o = same_kind o.head.kind kind.List && (nat_le least (length (children o)) && nat_le (length (children o)) most)
+
+-- Monday is 1 and Sunday 7
+abbrev pub is_day : Object → Bool
+is_day o = holds (λ i. int_le (pos 1) i && int_le i (pos 7)) (day_value o)
+
+-- a time of day, which is below 24 hours, in whole milliseconds
+abbrev pub is_time : Object → Bool
+is_time o = holds (λ t. nat_lt t 86_400_000_000_000 && (t % 1_000_000 == 0)) (time_value o)
+
+-- what an object says by its child of a name
+abbrev pub said : {A : Type 0} → List ℕ → (Object → Option A) → Object → Option A
+said name read o = option_and_then read (named name (children o))
+
+-- the text of the point of a schedule
+abbrev pub point_said : Object → Option Text
+point_said s = said (codes "point") point_text s
+
+abbrev pub is_text : Text → Option Text → Bool
+is_text t None = false
+is_text t (Some other) = bytes_eq other t
+
+-- the point that an object names, with its kind: the path of a writable one, as it stands, that no schedule before has
+abbrev pub right_point : PointRules → List Object → Object → Option (Text × Kind)
+right_point site before o =
+    option_and_then (λ t. cond (list_any (λ s. is_text t (point_said s)) before) None (option_map (λ k. (t, k)) (site.kind_at t))) (point_text o)
+
+abbrev pub is_point : PointRules → List Object → Object → Bool
+is_point site before o = is_some (right_point site before o)
+
+-- a slot that may be written to a point: null, or a value that a Put lets through
+abbrev pub is_written : PointRules → Text → Slot → Bool
+is_written site p Absent = false
+is_written site p Null = true
+is_written site p (Is v) = site.lets p v
+
+-- the kinds that have values
+abbrev pub is_given : Slot → Bool
+is_given Absent = false
+is_given _ = true
+
+-- the value of an entry: of the kind of the point, and it may be written there; where the point isn't one, of any kind that has values
+abbrev pub is_value : PointRules → Option (Text × Kind) → Object → Bool
+is_value site None o = is_given (default_of o.head.kind)
+is_value site (Some p) o = same_kind o.head.kind p.1 && is_written site p.0 (slot_given o.head.kind o.head.slot)
+
+-- the day and the time of an entry, if it has both
+abbrev pub both : {A B : Type 0} → Option A → Option B → Option (A × B)
+both None b = None
+both (Some a) None = None
+both (Some a) (Some b) = Some (a, b)
+
+abbrev pub week_time : Object → Option (ℤ × ℕ)
+week_time e = both (said (codes "day") day_value e) (said (codes "at") time_value e)
+
+abbrev pub is_same_time : Option (ℤ × ℕ) → Option (ℤ × ℕ) → Bool
+is_same_time (Some a) (Some b) = int_eq a.0 b.0 && (a.1 == b.1)
+is_same_time _ _ = false
+
+-- ---- the parts that offend
+
+-- the part offends where it isn't as it should be
+abbrev pub unless : Bool → Part → List ℕ
+unless is_right p = cond is_right [] (p.number ∷ [])
+
+abbrev pub judged : (Object → Bool) → Part → Option Part → List ℕ
+judged test p None = p.number ∷ []
+judged test p (Some c) = unless (test c.object) c
+
+-- the child of a name is needed, and it has to pass the test
+abbrev pub needs : List ℕ → (Object → Bool) → Part → List ℕ
+needs name test p = judged test p (child name p)
+
+-- each of these parts, with the objects before it
+abbrev pub each : (List Object → Part → List ℕ) → List Object → List Part → List ℕ
+each judge before [] = []
+each judge before (p ∷ ps) = judge before p ++ each judge (before ++ p.object ∷ []) ps
+
+-- an object with an int `day`, a time `at` and a `value`; and no entry before it has both its day and its time
+abbrev pub entry_offences : PointRules → Option (Text × Kind) → List Object → Part → List ℕ
+entry_offences site point before e =
+    unless (same_kind e.object.head.kind kind.Obj) e
+    ++ (needs (codes "day") is_day e
+    ++ (needs (codes "at") is_time e
+    ++ (needs (codes "value") (is_value site point) e
+    ++ unless (not (list_any (λ other. is_same_time (week_time other) (week_time e.object)) before)) e)))
+
+-- the point of a schedule, with its kind, where it is right
+abbrev pub point_of : PointRules → List Object → Object → Option (Text × Kind)
+point_of site before s = said (codes "point") (right_point site before) s
+
+-- an object with a uri `point` and a list `entries`
+abbrev pub schedule_offences : PointRules → List Object → Part → List ℕ
+schedule_offences site before s =
+    unless (same_kind s.object.head.kind kind.Obj) s
+    ++ (needs (codes "point") (is_point site before) s
+    ++ (needs (codes "entries") (is_list 1 100) s
+    ++ each (entry_offences site (point_of site before s.object)) [] (inside_child (codes "entries") s)))
+
+-- the numbers of all parts of a document that offend
+abbrev pub offences : PointRules → Object → List ℕ
+offences site doc =
+    unless (same_kind doc.head.kind kind.Obj) (root doc)
+    ++ (needs (codes "zone") is_zone (root doc)
+    ++ (needs (codes "schedules") (is_list 0 1_000) (root doc)
+    ++ each (schedule_offences site) [] (inside_child (codes "schedules") (root doc))))
+
+-- a document of the form
+abbrev pub IsFile : PointRules → Object → Type 0
+IsFile site doc = offences site doc ≡ []
+
+-- this part is the first that offends
+pub record IsFirstOffence (site : PointRules) (doc : Object) (part : ℕ) : Type 0 where
+  pub offends : Contains (offences site doc) part
+  pub first : (other : ℕ) → Contains (offences site doc) other → part ≤ other

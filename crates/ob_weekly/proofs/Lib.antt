@@ -1,0 +1,9 @@
+pub mod Adding
+pub mod Days
+pub mod Dates
+pub mod Order
+pub mod Told
+pub mod OneList
+pub mod Lists
+pub mod Force
+pub mod Rows

@@ -1,0 +1,6 @@
+pub mod Zones
+pub mod Schedules
+pub mod Firings
+pub mod Rows
+pub mod Laws
+pub mod Search

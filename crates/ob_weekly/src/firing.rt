@@ -1,0 +1,167 @@
+//! Firings, and the value in force.
+ghost use Rattle.std.specs.Prelude.{◌≡◌, ◌⊎◌, ◌<◌, ◌≤◌, length, map, slice_get, pos, neg_ℤ, ◌+ℤ◌, ◌-ℤ◌, ◌≤ℤ◌, Some, IfOk};
+ghost use Rattle.std.specs.List.{All};
+ghost use Rattle.jiff.specs.Words.{IsBetween, plain_zone};
+ghost use Rattle.ob_weekly.specs.declared.schedule.Entry.{Entry as Weekly};
+ghost use Rattle.ob_weekly.specs.Schedules.{IsEntry, IsWeekly};
+ghost use Rattle.ob_weekly.specs.Search.{IsDueIn, AreAll, AreDue};
+ghost use Rattle.ob_weekly.specs.Zones.{FiresAt};
+ghost use Rattle.ob_weekly.specs.Firings.{AreFirings, IsInForce, firing_of};
+
+use crate::due::{Due, Span, day_of, last_due, push_entries, push_schedules, put_in_order};
+use crate::instant::some_firing;
+use crate::schedule::{Entry, Schedule, Schedules, entries_at, entry_at};
+use jiff::tz::TimeZone;
+use ob_object::Slot;
+use ob_times::Moment;
+use std::alloc::{AllocError, Global};
+
+/// How long before a moment a firing may lie that is still told, in milliseconds.
+const WINDOW: i64 = 3_024_000_000;
+
+/// An entry fires.
+#[derive(Clone, Copy, PartialEq, Eq)]
+pub struct Firing {
+    /// The instant.
+    pub at: Moment,
+    /// The place of the schedule, from 0, in the file.
+    pub schedule: u32,
+    /// The place of the entry, from 0, in its schedule.
+    pub entry: u32,
+}
+
+/// The instant after which firings are told.
+fn window_start(from: Moment, to: Moment) -> i64
+    ensures least { (pos from ≤ℤ result) × (pos to ≤ℤ (result +ℤ pos 3_024_000_001)) }
+    ensures is { (result ≡ pos from) ⊎ ((result +ℤ pos 3_024_000_001) ≡ pos to) }
+    ensures fits { result ≤ℤ pos 253_402_300_799_999 }
+{
+    let from = from.ms() as i64;
+    let far = to.ms() as i64 - WINDOW - 1;
+    if from < far { far } else { from }
+}
+
+/// All that is due after an instant and up to another, in order.
+fn all_due(
+    alloc: Global,
+    zone: &TimeZone<'static>,
+    schedules: &[Schedule],
+    low: i64,
+    to: i64,
+) -> Result<Vec<Due>, AllocError>
+    requires few { length schedules.now ≤ 1_000 }
+    requires weekly { All IsWeekly schedules.now }
+    requires low { neg_ℤ (pos 1_036_800_000) ≤ℤ low }
+    requires within { (low ≤ℤ to) × (to ≤ℤ pos 253_402_300_799_999) }
+    ensures { IfOk result (λ dues. AreDue (plain_zone zone.now) schedules.now low to dues.items) }
+{
+    let mut dues = Vec::new(alloc);
+    push_schedules(&mut dues, zone, schedules, Span::between(low, to))?;
+    put_in_order(&mut dues)?;
+    Ok(dues)
+}
+
+/// An instant of the 12 days before another at which an entry fired.
+fn known_firing(zone: &TimeZone<'static>, entry: &Entry, to: i64) -> i64
+    requires entry { IsEntry entry.now }
+    requires range { IsBetween (pos 0) (pos 253_402_300_799_999) to }
+    ensures fires { FiresAt (plain_zone zone.now) entry.now result }
+    ensures near { IsBetween (to -ℤ pos 1_036_700_000) to result }
+{
+    some_firing(zone, day_of(to) - 9, entry)
+}
+
+/// All that is due of one schedule from an instant on and up to another, in order.
+fn due_in(
+    alloc: Global,
+    zone: &TimeZone<'static>,
+    schedule: u32,
+    entries: &[Entry],
+    from: i64,
+    to: i64,
+) -> Result<Vec<Due>, AllocError>
+    requires few { length entries.now ≤ 100 }
+    requires each { All IsEntry entries.now }
+    requires low { neg_ℤ (pos 1_036_799_999) ≤ℤ from }
+    requires within { (from ≤ℤ to) × (to ≤ℤ pos 253_402_300_799_999) }
+    ensures { IfOk result (λ dues. AreAll (IsDueIn (plain_zone zone.now) schedule entries.now (from -ℤ pos 1) to) dues.items) }
+{
+    let mut dues = Vec::new(alloc);
+    push_entries(
+        &mut dues,
+        zone,
+        schedule,
+        entries,
+        Span::between(from - 1, to),
+    )?;
+    put_in_order(&mut dues)?;
+    Ok(dues)
+}
+
+/// What is due, as firings, in the same order.
+fn firings_of(alloc: Global, dues: &[Due]) -> Result<Vec<Firing>, AllocError>
+    requires { All (λ d. IsBetween (pos 0) (pos 253_402_300_799_999) d.at) dues.now }
+    ensures { IfOk result (λ firings. firings.items ≡ map firing_of dues.now) }
+{
+    let mut firings = Vec::new(alloc);
+    for due in dues {
+        let Some(at) = Moment::new(due.at as u64) else {
+            unreachable!()
+        };
+        firings.push(Firing {
+            at,
+            schedule: due.schedule,
+            entry: due.entry,
+        })?;
+    }
+    Ok(firings)
+}
+
+/// The slot of the entry at a place.
+fn slot_at(entries: &[Entry], place: usize) -> &Slot
+    requires { place < length entries.now }
+    ensures { (e : Weekly) × (slice_get entries.now place ≡ Some e) × (result.now ≡ e.slot) }
+{
+    let entry = entry_at(entries, place);
+    &entry.slot
+}
+
+impl Schedules {
+    /// The firings after a moment and up to another, by instant, then by the place of the schedule, then by day and time; but
+    /// none that lies more than 3,024,000,000 ms before the second moment. An error only for want of memory.
+    pub fn firings(
+        &self,
+        alloc: Global,
+        from: Moment,
+        to: Moment,
+    ) -> Result<Vec<Firing>, AllocError>
+        ensures { IfOk result (λ firings. AreFirings (plain_zone self.now.zone) self.now.list.items from to firings.items) }
+    {
+        let low = window_start(from, to);
+        let to = to.ms() as i64;
+        if to < low {
+            return Ok(Vec::new(alloc));
+        }
+        let dues = all_due(alloc, &self.zone, &self.list, low, to)?;
+        firings_of(alloc, &dues)
+    }
+
+    /// The slot in force in a schedule at a moment: that of its last firing at or before it. An error only for want of memory.
+    pub fn in_force(
+        &self,
+        alloc: Global,
+        schedule: u32,
+        moment: Moment,
+    ) -> Result<&Slot, AllocError>
+        requires { schedule < length self.now.list.items }
+        ensures { IfOk result (λ slot. IsInForce (plain_zone self.now.zone) self.now.list.items schedule moment slot.now) }
+    {
+        let to = moment.ms() as i64;
+        let entries = entries_at(&self.list, schedule as usize);
+        // The last firing isn't before one that is known.
+        let known = known_firing(&self.zone, entry_at(entries, 0), to);
+        let dues = due_in(alloc, &self.zone, schedule, entries, known, to)?;
+        let last = last_due(&dues);
+        Ok(slot_at(entries, last.entry as usize))
+    }
+}
