@@ -2,6 +2,7 @@ pub mod FileLemmas
 pub mod DocumentLemmas
 pub mod CheckLemmas
 pub mod StdioLemmas
+pub mod ScheduleLemmas
 pub mod ServingLemmas
 pub mod ServeLemmas
 pub mod ApartLemmas
