@@ -20,8 +20,6 @@ use Rattle.ob_site_file.specs.declared.fault.LoadFault.{LoadFault}
 use Rattle.ob_site_laws.specs.SiteLaws.{acts, IsSoundSite}
 use Rattle.ob_site_rules.specs.Sites.{SiteState}
 use Rattle.ob_weekly.specs.declared.schedule.Schedules.{Schedules}
-use Rattle.ob_xml.specs.Judged.{Judged, Verdict, document, fault}
-use Rattle.ob_xml.specs.declared.doc.Doc.{Doc}
 use Rattle.ob_program.specs.Outside.{Streams, ClockTold}
 use Rattle.ob_program.specs.Reading.{Reads, ReadsFile}
 use Rattle.ob_program.specs.Form.{plain, end_of_document}
@@ -36,27 +34,16 @@ use Rattle.ob_program.specs.declared.form.FormEnd.TheVariants.{Stdio, NoDocument
 use Rattle.ob_program.specs.declared.stdio.StdioEnd.{StdioEnd}
 use Rattle.ob_program.specs.declared.stdio.StdioEnd.TheVariants.{Served, Refused, ReadFault, ClockFault, Memory}
 use Rattle.ob_command.specs.declared.server.Output.TheVariants.{Answers}
-use Rattle.ob_program.proofs.FileLemmas.{IsOnce, if_told}
+use Rattle.ob_program.proofs.FileLemmas.{IsOnce}
+use Rattle.ob_program.proofs.FormLemmas.{IsOnly, one_root}
 use Rattle.ob_program.proofs.StdioLemmas.{rose_later, unserved_cause, comes_refused, refused_serves_none, read_rose, write_rose, clock_rose, complete_told, exit_refused, few_moments, told_empty}
 
 -- ---- the file of the schedules
-
--- what its bytes are judged to be, they spell
-abbrev pub IsSpelled : Type 0
-IsSpelled = (bytes : List ℕ) (d : Doc) → Judged bytes true (document d) → Spells bytes d.ns d.root
-
-pub spells_file : (spelled : IsSpelled) (file : Option (List ℕ)) (doc : Doc) → ReadsFile file (Ok doc) → IfSome file (λ whole. Spells whole doc.ns doc.root)
-spells_file spelled file doc reads = if_told file _ _ (λ bytes judged. spelled bytes doc judged) reads.told
 
 pub unread_says_none : (file : Option (List ℕ)) (site : SiteState) (why : DocumentFault) → ReadsFile file (Err why) → SaysNone file site (end_of_document why)
 unread_says_none file site (documents.Refused refusal) reads = reads.told
 unread_says_none file site documents.Failed reads = tt
 unread_says_none file site documents.Memory reads = tt
-
-pub unread_rose : (why : DocumentFault) (A : Type 0) → (why ≡ documents.Failed → A) → end_of_document why ≡ Stdio ReadFault → A
-unread_rose (documents.Refused refusal) A h is = absurd (cc is)
-unread_rose documents.Failed A h is = h refl
-unread_rose documents.Memory A h is = absurd (cc is)
 
 pub formless_says_none : (file : Option (List ℕ)) (site : SiteState) (ns : Option (List ℕ)) (root : Object) (end : FormEnd) → IfSome file (λ whole. Spells whole ns root)
     → IsFormless (rules_of site) root end → SaysNone file site end
@@ -166,22 +153,10 @@ schedule_moments site file boot (Shape part) left taken left' taken' held held' 
 
 -- ---- files that are not refused
 
--- what bytes spell, they are judged to be
-abbrev pub IsOnly : Type 0
-IsOnly = (bytes : List ℕ) (ns : Option (List ℕ)) (o : Object) → Spells bytes ns o → Judged bytes true (document (record { ns = ns; root = o }))
-
 module _ (only : IsOnly) (once : IsOnce) where
-  one_root : (bytes : List ℕ) (ns ns' : Option (List ℕ)) (o o' : Object) → Spells bytes ns o → Spells bytes ns' o' → o ≡ o'
-  one_root bytes ns ns' o o' s s' =
-      let d : Doc = record { ns = ns; root = o } in
-      let d' : Doc = record { ns = ns'; root = o' } in
-      let same : document d ≡ document d' = once bytes true (document d) (document d') (only bytes ns o s) (only bytes ns' o' s') in
-      let docs : d ≡ d' = cc in
-      ap (λ (x : Doc). x.root) docs
-
   one_site : (bytes : List ℕ) (boot : ℕ) (ns ns' : Option (List ℕ)) (st st' : SiteState) → IsSite bytes boot ns st → IsSite bytes boot ns' st' → st ≡ st'
   one_site bytes boot ns ns' st st' a b =
-      let root = one_root bytes ns ns' a.0 b.0 a.1 b.1 in
+      let root = one_root only once bytes ns ns' a.0 b.0 a.1 b.1 in
       let same = sym a.2 ∙ ap (λ (o : Object). opening o boot) root ∙ b.2 in
       cc same
 
@@ -201,7 +176,7 @@ module _ (only : IsOnly) (once : IsOnce) where
       let o = opens boot in
       let none = comes.1 in
       let site : none.opening ≡ o.1 = one_site (site_bytes whole) boot none.ns o.0 none.opening o.1 none.opened o.2 in
-      let root : none.none.root ≡ o.4 = one_root other none.none.ns o.3 none.none.root o.4 none.none.spelled o.5 in
+      let root : none.none.root ≡ o.4 = one_root only once other none.none.ns o.3 none.none.root o.4 none.none.spelled o.5 in
       let no_offence : offences (rules_of none.opening) none.none.root ≡ [] = ap (λ (st : SiteState). offences (rules_of st) none.none.root) site ∙ ap (λ (r : Object). offences (rules_of o.1) r) root ∙ o.6 in
       let found = subst (λ (l : List ℕ). Contains l part) no_offence none.none.first.offends in
       absurd (omega (arith, found.1))

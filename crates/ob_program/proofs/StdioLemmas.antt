@@ -42,7 +42,7 @@ records_site file boot ns opening last left taken left' taken' held held' given 
 pub rose_later : (a b c : ℕ) → a ≤ b → Rose b c → Rose a c
 rose_later a b c le rose = omega arith
 
-never_rose : ¬ (Rose 0 0)
+pub never_rose : ¬ (Rose 0 0)
 never_rose rose = omega arith
 
 pub same_link : (e f : LinkEnd) → Served e ≡ Served f → e ≡ f
