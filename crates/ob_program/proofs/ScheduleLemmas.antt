@@ -1,6 +1,6 @@
 -- What the service of a file's site with schedules comes to, and what that says of the exit.
 use Rattle.std.proofs.Common.{◌≡◌, ◌≢◌, ◌⊎◌, ◌≤◌, ◌∙◌, ℕ, true, List, [], length, Option, Some, None, Result, Ok, Err, refl, sym, ap, subst, arith, inl, inr}
-use Rattle.std.specs.Prelude.{IfSome, IsSome, Contains, min}
+use Rattle.std.specs.Prelude.{IfSome, IsSome, IfOk, IfErr, Contains, min}
 use Rattle.ob_grammar.specs.Spelling.{Spells}
 use Rattle.ob_io.specs.Faults.{Rose}
 use Rattle.ob_io.specs.Links.{inlet}
@@ -63,6 +63,20 @@ formless_unread rules root (Stdio ReadFault) formless is = formless
 formless_unread rules root (Stdio ClockFault) formless is = formless
 formless_unread rules root (NoDocument refusal) formless is = formless
 formless_unread rules root (Shape part) formless is = cc is
+
+-- what a document says or doesn't, of a file that spells it
+module _ (file : Option (List ℕ)) (site : SiteState) (ns : Option (List ℕ)) (root : Object) (spelled : IfSome file (λ whole. Spells whole ns root)) where
+  pub scheduled_if_ok : (r : Result Schedules FormEnd) → IfOk r (λ schedules. IsFile (rules_of site) root × Says root schedules) → IfOk r (IsScheduled file site)
+  scheduled_if_ok (Ok schedules) said = record { ns = ns; root = root; spelled = spelled; form = said.0; says = said.1 }
+  scheduled_if_ok (Err end) said = tt
+
+  pub none_if_err : (r : Result Schedules FormEnd) → IfErr r (IsFormless (rules_of site) root) → IfErr r (SaysNone file site)
+  none_if_err (Ok schedules) formless = tt
+  none_if_err (Err end) formless = formless_says_none file site ns root end spelled formless
+
+pub rose_if_err : (rules : PointRules) (root : Object) (A : Type 0) (r : Result Schedules FormEnd) → IfErr r (IsFormless rules root) → IfErr r (λ end. end ≡ Stdio ReadFault → A)
+rose_if_err rules root A (Ok schedules) formless = tt
+rose_if_err rules root A (Err end) formless = λ is. absurd (formless_unread rules root end formless is)
 
 -- ---- the service
 
