@@ -1,0 +1,4 @@
+pub mod Scheduled
+pub mod Fitting
+pub mod Posted
+pub mod Kept
