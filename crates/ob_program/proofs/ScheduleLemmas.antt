@@ -170,8 +170,8 @@ schedule_moments site file boot (Shape part) left taken left' taken' held held' 
 module _ (only : IsOnly) (once : IsOnce) where
   one_site : (bytes : List ℕ) (boot : ℕ) (ns ns' : Option (List ℕ)) (st st' : SiteState) → IsSite bytes boot ns st → IsSite bytes boot ns' st' → st ≡ st'
   one_site bytes boot ns ns' st st' a b =
-      let root = one_root only once bytes ns ns' a.0 b.0 a.1 b.1 in
-      let same = sym a.2 ∙ ap (λ (o : Object). opening o boot) root ∙ b.2 in
+      let root = one_root only once bytes ns ns' a.0 b.0 a.1.0 b.1.0 in
+      let same = sym a.1.1 ∙ ap (λ (o : Object). opening o boot) root ∙ b.1.1 in
       cc same
 
   never_refused : (law : OpenedIsNotRefused) (whole other : List ℕ) (boot : ℕ) (end : FormEnd) (why : LoadFault) (left taken left' taken' held held' given given' : Option (List ℕ)) → plain end ≡ Refused why
@@ -184,14 +184,14 @@ module _ (only : IsOnly) (once : IsOnce) where
   never_refused law whole other boot (Stdio Memory) why left taken left' taken' held held' given given' is opens comes = cc is
   never_refused law whole other boot (NoDocument refusal) why left taken left' taken' held held' given given' is opens comes =
       let o = opens boot in
-      let same = once other true _ _ (only other o.3 o.4 o.5) comes.1.none in
+      let same = once other true _ _ (only other o.3.0 o.3.1 o.3.2) comes.1.none in
       cc same
   never_refused law whole other boot (Shape part) why left taken left' taken' held held' given given' is opens comes =
       let o = opens boot in
       let none = comes.1 in
       let site : none.opening ≡ o.1 = one_site (site_bytes whole) boot none.ns o.0 none.opening o.1 none.opened o.2 in
-      let root : none.none.root ≡ o.4 = one_root only once other none.none.ns o.3 none.none.root o.4 none.none.spelled o.5 in
-      let no_offence : offences (rules_of none.opening) none.none.root ≡ [] = ap (λ (st : SiteState). offences (rules_of st) none.none.root) site ∙ ap (λ (r : Object). offences (rules_of o.1) r) root ∙ o.6 in
+      let root : none.none.root ≡ o.3.1 = one_root only once other none.none.ns o.3.0 none.none.root o.3.1 none.none.spelled o.3.2 in
+      let no_offence : offences (rules_of none.opening) none.none.root ≡ [] = ap (λ (st : SiteState). offences (rules_of st) none.none.root) site ∙ ap (λ (r : Object). offences (rules_of o.1) r) root ∙ o.3.3 in
       let found = subst (λ (l : List ℕ). Contains l part) no_offence none.none.first.offends in
       absurd (omega (arith, found.1))
 

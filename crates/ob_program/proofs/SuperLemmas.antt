@@ -38,10 +38,10 @@ unread_follows_none config (documents.Refused refusal) reads = reads.told
 unread_follows_none config documents.Failed reads = tt
 unread_follows_none config documents.Memory reads = tt
 
-pub unformed_follows_none : {L : Type 0} (config : Option (List ℕ)) (ns : Option (List ℕ)) (root : Object) (why : ConfigFault) → IfSome config (λ whole. Spells whole ns root)
+pub unformed_follows_none : (L : Type 0) (config : Option (List ℕ)) (ns : Option (List ℕ)) (root : Object) (why : ConfigFault) → IfSome config (λ whole. Spells whole ns root)
     → Configures {L = L} root (Err why) → FollowsNone config (end_of_config why)
-unformed_follows_none config ns root (configs.Shape part) spelled first = record { ns = ns; root = root; spelled = spelled; first = first }
-unformed_follows_none config ns root configs.Memory spelled first = tt
+unformed_follows_none L config ns root (configs.Shape part) spelled first = record { ns = ns; root = root; spelled = spelled; first = first }
+unformed_follows_none L config ns root configs.Memory spelled first = tt
 
 pub unformed_unread : (why : ConfigFault) → end_of_config why ≡ Stdio ReadFault → ⊥
 unformed_unread (configs.Shape part) is = cc is
