@@ -1,5 +1,5 @@
 -- Writes that are done one after the other.
-use Rattle.std.proofs.Common.{◌≡◌, ◌⊎◌, ℕ, zero, suc, ◌+◌, ◌<◌, ◌≤◌, ◌^◌, List, [], ◌∷◌, ◌++◌, map, take, length, Some, None, Result, Ok, Err, refl, sym, ap, subst, ◌∙◌, arith, inl, inr, length-append, append-nil}
+use Rattle.std.proofs.Common.{◌≡◌, ℕ, zero, suc, ◌+◌, ◌≤◌, List, [], ◌∷◌, ◌++◌, map, take, length, Some, None, Result, Ok, Err, refl, sym, ap, subst, ◌∙◌, arith, inr, length-append, append-nil}
 use Rattle.std.specs.Prelude.{IsTrue, IfSome, OnErr, slice_get}
 use Rattle.std.specs.List.{All, Contains}
 use Rattle.std.specs.declared.alloc.AllocError.{AllocError}
@@ -7,7 +7,7 @@ use Rattle.std.proofs.lemmas.List.{take_all}
 use Rattle.jiff.specs.Types.{TimeZone}
 use Rattle.jiff.specs.Words.{plain_zone}
 use Rattle.ob_machine.specs.declared.call.Answer.TheVariants.{Done}
-use Rattle.ob_machine.specs.History.{IsCall, IsLegal, after, entry}
+use Rattle.ob_machine.specs.History.{IsLegal, after, entry}
 use Rattle.ob_machine.proofs.HistoryLemmas.{after-append, legal_append}
 use Rattle.ob_object.specs.Object.{Object}
 use Rattle.ob_object.specs.declared.head.Slot.{Slot}
@@ -25,7 +25,7 @@ use Rattle.ob_weekly.specs.Firings.{AreFirings, IsInForce, firing_of}
 use Rattle.ob_weekly.proofs.Lists.{at_place, all_below, at_in}
 use Rattle.ob_scheduling.specs.Fitting.{IsFitting, AreFitting}
 use Rattle.ob_scheduling.specs.Posted.{IsThere, Acts, AreAsked, Boots, Fires, FiresUpTo, FiresBetween}
-use Rattle.ob_scheduling.specs.Scheduled.{timed, AreFirstPosts, AreFirstOfBoot}
+use Rattle.ob_scheduling.specs.Scheduled.{timed, AreFirstPosts}
 
 -- ---- what fits
 

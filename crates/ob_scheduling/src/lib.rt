@@ -5,7 +5,9 @@
 
 mod asking;
 mod keeper;
+mod laws;
 mod posting;
 mod serving;
 
+pub use laws::files_fit;
 pub use serving::serve_scheduled;

@@ -7,3 +7,5 @@ pub mod OneList
 pub mod Lists
 pub mod Force
 pub mod Rows
+pub mod Again
+pub mod Behind

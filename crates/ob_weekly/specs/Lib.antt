@@ -3,4 +3,5 @@ pub mod Schedules
 pub mod Firings
 pub mod Rows
 pub mod Laws
+pub mod Behind
 pub mod Search

@@ -11,5 +11,5 @@ mod laws;
 mod schedule;
 
 pub use firing::Firing;
-pub use laws::{once_a_date, one_in_force, one_list};
+pub use laws::{in_force_behind, once_a_date, one_in_force, one_list};
 pub use schedule::{Entry, Schedule, Schedules};
