@@ -12,11 +12,12 @@ use Rattle.ob_object.specs.Fits.{fits_head, fits_slot}
 use Rattle.ob_object.specs.Kinds.{same_kind}
 use Rattle.ob_object.specs.Object.{Objects, none, node, Object, listed, children, parts}
 use Rattle.ob_object.specs.WellFormed.{IsWellFormed, RowIsWellFormed, has_name, named}
-use Rattle.ob_schedule.specs.Forms.{said, slot_given, is_zone, is_day, is_time, is_list, is_point, is_value, is_written, right_point, is_same_time, week_time, unless, judged, needs, each, entry_offences, schedule_offences, point_of, IsFile}
-use Rattle.ob_schedule.specs.Numbered.{Part, numbered_from, inside, child, inside_child, root}
+use Rattle.ob_schedule.specs.Forms.{slot_given, is_zone, is_day, is_time, is_list, is_point, is_value, is_written, right_point, is_same_time, week_time, entry_offences, schedule_offences, point_of, IsFile}
+use Rattle.ob_parts.specs.Numbered.{Part, plus, numbered_from, inside, child, inside_child, root}
+use Rattle.ob_parts.specs.Offences.{unless, judged, needs, said, each}
+use Rattle.ob_parts.proofs.Walk.{named_part}
 use Rattle.ob_schedule.specs.PointRules.{PointRules, Text}
 use Rattle.ob_schedule.specs.Weeks.{Says, week, week_of, entry_of, kind_of, kind_in, slot_in, listed_in, said_or}
-use Rattle.ob_schedule.proofs.Walk.{named_part}
 use Rattle.ob_weekly.specs.declared.schedule.Entry.{Entry}
 use Rattle.ob_weekly.specs.declared.schedule.Schedule.{Schedule}
 use Rattle.ob_weekly.specs.declared.schedule.Schedules.{Schedules}
@@ -31,11 +32,11 @@ pick false p r o s e f = f
 
 named_in : (name : List ℕ) (n : ℕ) (os : List Object) → option_map (λ (c : Part). c.object) (find (named_part name) (numbered_from n os)) ≡ named name os
 named_in name n [] = refl
-named_in name n (o ∷ os) = pick (has_name name o.head.name) (record { number = n; object = o }) (find (named_part name) (numbered_from (n + parts o) os)) o (named name os) refl (named_in name (n + parts o) os)
+named_in name n (o ∷ os) = pick (has_name name o.head.name) (record { number = n; object = o }) (find (named_part name) (numbered_from (plus n (parts o)) os)) o (named name os) refl (named_in name (plus n (parts o)) os)
 
 -- the child of a name, by its part
 named_is : (name : List ℕ) (p d : Part) → child name p ≡ Some d → named name (children p.object) ≡ Some d.object
-named_is name p d e = sym (named_in name (p.number + 1) (children p.object)) ∙ ap (option_map (λ (c : Part). c.object)) e
+named_is name p d e = sym (named_in name (plus p.number 1) (children p.object)) ∙ ap (option_map (λ (c : Part). c.object)) e
 
 said_is : {A : Type 0} (name : List ℕ) (read : Object → Option A) (p d : Part) → child name p ≡ Some d → said name read p.object ≡ read d.object
 said_is name read p d e = ap (option_and_then read) (named_is name p d e)
@@ -133,8 +134,8 @@ each_row judge P right b n none good e = tt
 each_row judge P right b n (node h below rest) good e =
     let o : Object = record { head = h; inner = below } in
     let p : Part = record { number = n; object = o } in
-    let two = append_nil (judge b p) (each judge (b ++ o ∷ []) (numbered_from (n + parts o) (listed rest))) e in
-    (right b p good.2 two.0, each_row judge P right (b ++ o ∷ []) (n + parts o) rest good.3 two.1)
+    let two = append_nil (judge b p) (each judge (b ++ o ∷ []) (numbered_from (plus n (parts o)) (listed rest))) e in
+    (right b p good.2 two.0, each_row judge P right (b ++ o ∷ []) (plus n (parts o)) rest good.3 two.1)
 
 -- and so each of the children of the child of a name
 listed_all : (judge : List Object → Part → List ℕ) (P : Object → Type 0) → ((b : List Object) (p : Part) → RowIsWellFormed p.object.inner → judge b p ≡ [] → P p.object)
@@ -143,7 +144,7 @@ listed_all judge P right name p d good e off =
     let found = good_named name p.object.inner d.object good (named_is name p d e) in
     let same : listed_in name p.object ≡ children d.object = ap (λ r. unwrap_or r []) (said_is name (λ c. Some (children c)) p d e) in
     subst (AllByRecursion P) (sym same)
-    (each_row judge P right [] (d.number + 1) d.object.inner found.1 (sym (ap (λ c. each judge [] (unwrap_or (option_map inside c) [])) e) ∙ off))
+    (each_row judge P right [] (plus d.number 1) d.object.inner found.1 (sym (ap (λ c. each judge [] (unwrap_or (option_map inside c) [])) e) ∙ off))
 
 -- ---- schedules
 
