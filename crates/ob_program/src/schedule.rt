@@ -28,7 +28,7 @@ use ob_io::{Clock, Files, Link, Pair, Sink, Source, Ticker};
 use ob_load::{Loaded, Site, load, opened_is_not_refused};
 use ob_object::Obj;
 use ob_schedule::{ScheduleFault, read_schedules};
-use ob_scheduling::serve_scheduled;
+use ob_scheduling::{files_fit, serve_scheduled};
 use ob_server::LinkEnd;
 use ob_times::Moment;
 use ob_weekly::Schedules;
@@ -40,6 +40,8 @@ fn schedules_in(alloc: Global, root: &Obj, site: &Site) -> Result<Schedules, For
     ensures fitting { IfOk result AreFitting }
     ensures none { IfErr result (IsFormless (rules_of site.now) root.now) }
 {
+    files_fit();
+    let _head = root.head();
     // No memory holds so many parts; their numbers are counted in 64 bits.
     if root.parts() == u64::MAX {
         return Err(FormEnd::Stdio(StdioEnd::Memory));
