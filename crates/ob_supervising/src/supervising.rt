@@ -3,10 +3,9 @@ ghost use Rattle.std.specs.Prelude.{◌≡◌, None};
 ghost use Rattle.std.specs.List.{AllByRecursion};
 ghost use Rattle.ob_io.specs.Links.{inlet};
 ghost use Rattle.ob_server.specs.Answered.{HasEndCause};
-ghost use Rattle.ob_server.specs.Answering.{ServesBy};
 ghost use Rattle.ob_server.specs.Complete.{ServesWhole};
 ghost use Rattle.ob_super.specs.Told as told;
-ghost use Rattle.ob_supervising.specs.Supervising.{Asks, SupervisesLink};
+ghost use Rattle.ob_supervising.specs.Supervising.{Asks, AnswersLink, SupervisesLink};
 
 use ob_io::{Dialer, Link, Ticker};
 use ob_object::Obj;
@@ -50,6 +49,15 @@ fn serve_requests<W: Dialer, L: Link>(
 ) -> LinkEnd
 where
     W::L: Drop,
+    ensures answers { AnswersLink W.L.left W.L.taken W.L.held
+        (told.outside (W.dials dialer.old) (W.visits dialer.old)) (told.outside (W.dials dialer.new) (W.visits dialer.new))
+        serving.old.upstreams.followed.items serving.new.upstreams.followed.items
+        (inlet (L.left link.old) (L.taken link.old)) (inlet (L.left link.new) (L.taken link.new))
+        (L.held link.old) (L.held link.new) result }
+    ensures cause { HasEndCause (L.read_faults link.old) (L.read_faults link.new)
+        (L.write_faults link.old) (L.write_faults link.new) 0 0 result }
+    ensures whole { ServesWhole (L.left link.old) (L.read_faults link.old) (L.read_faults link.new)
+        (L.write_faults link.old) (L.write_faults link.new) 0 0 result }
 {
     let mut ticker = Ticker {
         at: 0,
@@ -57,6 +65,18 @@ where
         k: 0,
     };
     serve_by(alloc, serving, dialer, None, link, &mut ticker)
+}
+
+/// Gives every link to an upstream back.
+fn finish<W: Dialer>(serving: Supervising<W::L>, dialer: &mut W)
+where
+    W::L: Drop,
+    ensures { told.EndsAll W.L.left W.L.taken W.L.held
+        (told.outside (W.dials dialer.old) (W.visits dialer.old)) (told.outside (W.dials dialer.new) (W.visits dialer.new))
+        serving.upstreams.followed.items }
+{
+    let Supervising { upstreams } = serving;
+    upstreams.end(dialer);
 }
 
 /// Has so many rounds over upstreams that are down, and then answers the requests that come over a link, with a round before each of
@@ -82,13 +102,15 @@ where
         (L.write_faults link.old) (L.write_faults link.new) 0 0 result }
 {
     let mut serving = Supervising { upstreams };
-    if serving.upstreams.rounds(dialer, rounds).is_err() {
-        let Supervising { upstreams } = serving;
-        upstreams.end(dialer);
-        return LinkEnd::Memory;
+    match serving.upstreams.rounds(dialer, rounds) {
+        Ok(()) => {
+            let end = serve_requests(alloc, &mut serving, dialer, link);
+            finish(serving, dialer);
+            end
+        }
+        Err(AllocError) => {
+            finish(serving, dialer);
+            LinkEnd::Memory
+        }
     }
-    let end = serve_requests(alloc, &mut serving, dialer, link);
-    let Supervising { upstreams } = serving;
-    upstreams.end(dialer);
-    end
 }
