@@ -1,7 +1,10 @@
 pub mod FileLemmas
 pub mod DocumentLemmas
 pub mod CheckLemmas
+pub mod FormLemmas
 pub mod StdioLemmas
+pub mod ScheduleLemmas
+pub mod SuperLemmas
 pub mod ServingLemmas
 pub mod ServeLemmas
 pub mod ApartLemmas

@@ -39,13 +39,13 @@ records_site file boot ns opening last left taken left' taken' held held' given 
 
 -- ---- counts
 
-rose_later : (a b c : ℕ) → a ≤ b → Rose b c → Rose a c
+pub rose_later : (a b c : ℕ) → a ≤ b → Rose b c → Rose a c
 rose_later a b c le rose = omega arith
 
-never_rose : ¬ (Rose 0 0)
+pub never_rose : ¬ (Rose 0 0)
 never_rose rose = omega arith
 
-same_link : (e f : LinkEnd) → Served e ≡ Served f → e ≡ f
+pub same_link : (e f : LinkEnd) → Served e ≡ Served f → e ≡ f
 same_link e f h = cc
 
 -- the cause of a link's end is that of the service
@@ -329,7 +329,7 @@ stdio_unrefused output law whole None tick fault left taken left' taken' held he
 stdio_unrefused output law whole (Some start) tick fault left taken left' taken' held held' given given' opens comes =
     comes_unrefused output law whole (min start last_moment) fault left taken left' taken' held held' (Some []) comes.1.0 opens comes.1.1
 
-exit_refused : (end : StdioEnd) → exit_of end ≡ exits.Refused → (fault : LoadFault) × (end ≡ Refused fault)
+pub exit_refused : (end : StdioEnd) → exit_of end ≡ exits.Refused → (fault : LoadFault) × (end ≡ Refused fault)
 exit_refused (Served ends.Closed) e = absurd (cc)
 exit_refused (Served ends.Asked) e = absurd (cc)
 exit_refused (Served ends.Truncated) e = absurd (cc)
@@ -371,10 +371,10 @@ stdio_ran output file at tick files files' s s' t t' end exit is law comes cause
 
 -- ---- moments
 
-few_moments : (n : ℕ) → n ≤ 2 ^ 40 → 0 + (n + 1) < 2 ^ 64 - 1
+pub few_moments : (n : ℕ) → n ≤ 2 ^ 40 → 0 + (n + 1) < 2 ^ 64 - 1
 few_moments n h = omega arith
 
-told_empty : (given : Option (List ℕ)) → given ≡ Some [] → IsSome given
+pub told_empty : (given : Option (List ℕ)) → given ≡ Some [] → IsSome given
 told_empty given is = subst (λ (g : Option (List ℕ)). IsSome g) (sym is) refl
 
 -- a clock that has given no moment yet still tells its moments when a service is over

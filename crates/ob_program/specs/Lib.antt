@@ -8,4 +8,7 @@ pub mod Serving
 pub mod Client
 pub mod Storm
 pub mod Audit
+pub mod Form
+pub mod Schedule
+pub mod Super
 pub mod Run

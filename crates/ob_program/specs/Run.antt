@@ -14,6 +14,8 @@ use Rattle.ob_program.specs.Serving.{ServeRan}
 use Rattle.ob_program.specs.Client.{ClientRan}
 use Rattle.ob_program.specs.Storm.{StormRan}
 use Rattle.ob_program.specs.Audit.{AuditRan}
+use Rattle.ob_program.specs.Schedule.{ScheduledRan}
+use Rattle.ob_program.specs.Super.{SuperRan}
 
 -- Memory was wanting to read the URL or a text of a client's words, and this is as it was.
 abbrev pub IsUnread : (words : List (List ℕ)) → Exit → (untouched : Type 0) → Type 0
@@ -26,6 +28,8 @@ module _ {D C : Type 0} (faults handed returned : D → ℕ) (visits : D → Opt
       → Command → Exit → Type 0
   Ran content files files' s s' p p' d d' t t' (commands.stdio output site at tick) exit =
       StdioRan output (content site) at tick files files' s s' t t' exit
+  Ran content files files' s s' p p' d d' t t' (commands.schedule site file at tick) exit =
+      ScheduledRan (content site) (content file) at tick files files' s s' t t' exit
   Ran content files files' s s' p p' d d' t t' (commands.serve site host port workers quota) exit =
       ServeRan faults handed returned visits closed given pace misses (content site) host port workers quota files files'
       s.held s'.held s.writes s'.writes p p' t t' exit
@@ -39,15 +43,20 @@ module _ {D C : Type 0} (faults handed returned : D → ℕ) (visits : D → Opt
       ClientRan (record { url = url; watched = Alarms subject ack user; polls = polls; retries = 0 }) s.held s'.held s.writes s'.writes d d' exit
   Ran content files files' s s' p p' d d' t t' (commands.storm asked) exit =
       StormRan asked s.held s'.held s.writes s'.writes exit
+  Ran content files files' s s' p p' d d' t t' (commands.supervise config rounds) exit =
+      SuperRan (content config) rounds files files' s s' d d' exit
 
 -- the parts of the outside that a command has nothing to do with are as they were
 abbrev pub LeavesAlone : Option Command → (files source sink port dialer clock : Type 0) → Type 0
 LeavesAlone None files source sink port dialer clock = files × source × sink × port × dialer × clock
 LeavesAlone (Some (commands.stdio output site None tick)) files source sink port dialer clock = port × dialer
 LeavesAlone (Some (commands.stdio output site (Some at) tick)) files source sink port dialer clock = port × dialer × clock
+LeavesAlone (Some (commands.schedule site file None tick)) files source sink port dialer clock = port × dialer
+LeavesAlone (Some (commands.schedule site file (Some at) tick)) files source sink port dialer clock = port × dialer × clock
 LeavesAlone (Some (commands.serve site host place workers quota)) files source sink port dialer clock = source × dialer
 LeavesAlone (Some (commands.auditing site file)) files source sink port dialer clock = source × port × dialer × clock
 LeavesAlone (Some (commands.check file)) files source sink port dialer clock = source × port × dialer × clock
 LeavesAlone (Some (commands.watch url hrefs polls retries)) files source sink port dialer clock = files × source × port × clock
 LeavesAlone (Some (commands.console url subject polls ack user)) files source sink port dialer clock = files × source × port × clock
 LeavesAlone (Some (commands.storm asked)) files source sink port dialer clock = files × source × port × dialer × clock
+LeavesAlone (Some (commands.supervise config rounds)) files source sink port dialer clock = port × clock

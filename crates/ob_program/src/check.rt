@@ -6,6 +6,7 @@ ghost use Rattle.ob_program.specs.Check.{printed, ChecksFile, CheckRan};
 
 use crate::document::{DocumentFault, read_file};
 use crate::exit::{Exit, tell};
+use crate::lines::refusal_line;
 use ob_io::{Files, Sink, write_all};
 use ob_xml::{Doc, Refused, encode};
 use std::alloc::{AllocError, Global};
@@ -48,12 +49,6 @@ impl CheckEnd {
             CheckEnd::Memory => b"obix: out of memory\n".to_vec(alloc),
         }
     }
-}
-
-/// What is printed of a document that is refused.
-fn refusal_line(alloc: Global, refused: &Refused) -> Result<Vec<u8>, AllocError> {
-    let text = format!(in alloc; "obix: refused: {refused}\n")?;
-    text.as_bytes().to_vec(alloc)
 }
 
 /// What isn't needed any more.

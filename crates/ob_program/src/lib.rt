@@ -2,7 +2,8 @@
 //!
 //! `stdio SITE` opens the site of a file and answers the requests of the source on the sink, and `serve SITE HOST PORT` those
 //! of links on threads. `check FILE` reads a document and writes its canonical text. `watch` and `console` are clients.
-//! `storm SEED CLIENTS REQUESTS` asks a site of its own.
+//! `storm SEED CLIENTS REQUESTS` asks a site of its own. `schedule SITE FILE` is `stdio SITE` with weekly schedules, and
+//! `super CONFIG` answers from a tree of what several servers show.
 #![tactic(auto)]
 
 mod audit;
@@ -10,11 +11,15 @@ mod check;
 mod client;
 mod document;
 mod exit;
+mod form;
 mod lines;
+mod points;
 mod program;
+mod schedule;
 mod serve;
 mod stdio;
 mod storm;
+mod supervise;
 
 pub use exit::Exit;
 pub use program::run;

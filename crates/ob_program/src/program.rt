@@ -9,9 +9,11 @@ use crate::audit::run_audit;
 use crate::check::run_check;
 use crate::client::{console_plan, run_client, watch_plan};
 use crate::exit::{Exit, tell};
+use crate::schedule::run_schedule;
 use crate::serve::run_serve;
 use crate::stdio::run_stdio;
 use crate::storm::run_storm;
+use crate::supervise::run_super;
 use ob_command::{Command, read_command};
 use ob_io::{Clock, Dialer, Door, Files, Pair, Port, Sink, Source, write_all};
 use std::alloc::Global;
@@ -22,11 +24,13 @@ use std::thread::Threads;
 ///
 /// `stdio SITE [--at MS] [--tick MS]` opens the site of a file, and answers the requests of the link's source on its sink.
 /// `record SITE [--at MS] [--tick MS]` asks them of the site in the same way, and writes the record of that run in their place.
+/// `schedule SITE FILE [--at MS] [--tick MS]` is `stdio SITE` whose site also gets the writes of the weekly schedules of a file.
 /// `audit SITE FILE` tells whether the record of a run is legal from a site file.
 /// `serve SITE HOST PORT [--workers N] [--quota M]` answers those of links that come to a port. `check FILE` writes the
 /// canonical text of a file's document, and a line feed. `watch URL HREF.. [--polls N] [--retry R]` and `console URL SUBJECT
 /// [--polls N] [--ack HREF] [--user NAME]` write what a server tells of objects and of alarms. `storm SEED CLIENTS REQUESTS`
-/// asks a site of its own what a seed draws, and writes what it counts in the replies. What went wrong is told on `errors`,
+/// asks a site of its own what a seed draws, and writes what it counts in the replies. `super CONFIG [--rounds N]` goes over
+/// the servers that a file names, and answers the source's requests from a tree of what they show. What went wrong is told on `errors`,
 /// whose own faults change nothing.
 ///
 /// The answers of `stdio` and `serve` are those of the site that the definition of the opening gives for the document that the
@@ -53,6 +57,7 @@ pub fn run<
 ) -> Exit
 where
     <P::D as Door>::L: Send,
+    W::L: Drop,
     // Status 1 comes exactly where the words are no command; but to read a client's words there may be no memory.
     ensures usage { ((result ≡ Exit.Usage) ↔ (command (map string_bytes words.now) ≡ None))
         ⊎ IsUnread (map string_bytes words.now) result ((link.new.sink ≡ link.old.sink) × (dialer.new ≡ dialer.old)) }
@@ -95,6 +100,7 @@ where
     };
     match command {
         Command::Stdio(service) => run_stdio(rt, alloc, service, files, link, errors, clock),
+        Command::Schedule(service) => run_schedule(alloc, service, files, link, errors, clock),
         Command::Audit(audit) => run_audit(alloc, audit, files, &mut link.sink, errors),
         Command::Serve(service) => run_serve(
             rt,
@@ -114,5 +120,6 @@ where
             run_client(alloc, console_plan(console), dialer, &mut link.sink, errors)
         }
         Command::Storm(asked) => run_storm(rt, alloc, asked, &mut link.sink, errors),
+        Command::Super(asked) => run_super(alloc, asked, files, link, errors, dialer),
     }
 }

@@ -44,7 +44,7 @@ impl StdioEnd {
     ghost use Rattle.ob_program.specs.Stdio.{exit_of, end_of_fault};
 
     /// The end that a refusal of a file leads to.
-    fn of_fault(fault: LoadFault) -> StdioEnd
+    pub(crate) fn of_fault(fault: LoadFault) -> StdioEnd
         ensures { result ≡ end_of_fault fault }
     {
         match fault {
@@ -61,7 +61,7 @@ impl StdioEnd {
     }
 
     /// The exit that it leads to.
-    fn exit(&self) -> Exit
+    pub(crate) fn exit(&self) -> Exit
         ensures { result ≡ exit_of self.now }
     {
         match self {
@@ -82,7 +82,7 @@ impl StdioEnd {
     }
 
     /// What is printed of it; nothing where all is well.
-    fn line(&self, alloc: Global) -> Result<Vec<u8>, AllocError> {
+    pub(crate) fn line(&self, alloc: Global) -> Result<Vec<u8>, AllocError> {
         match self {
             StdioEnd::Served(LinkEnd::Closed) => Ok(Vec::new(alloc)),
             StdioEnd::Served(LinkEnd::Asked) => Ok(Vec::new(alloc)),

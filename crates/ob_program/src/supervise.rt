@@ -1,0 +1,110 @@
+//! `super`: the requests of the source are answered from a tree of what the servers of a config show.
+ghost use Rattle.std.specs.Prelude.{◌≡◌, ◌≤◌, None, IfOk, IfErr};
+ghost use Rattle.std.specs.List.{AllByRecursion};
+ghost use Rattle.ob_io.specs.Faults.{Rose};
+ghost use Rattle.ob_server.specs.Complete.{ServesWhole};
+ghost use Rattle.ob_server.specs.declared.end.LinkEnd.{LinkEnd};
+ghost use Rattle.ob_super.specs.Told.{upstreams, outside};
+ghost use Rattle.ob_program.specs.Form.{plain};
+ghost use Rattle.ob_program.specs.Outside.{streams, dialled};
+ghost use Rattle.ob_program.specs.Stdio.{HasCause, IsUnserved};
+ghost use Rattle.ob_program.specs.Super.{end_of_config, IsFollowed, FollowsNone, SuperComes, SuperRan};
+ghost use Rattle.ob_program.specs.declared.form.FormEnd.TheVariants as variants;
+ghost use Rattle.ob_program.specs.declared.stdio.StdioEnd.TheVariants as plainly;
+
+use crate::document::read_file;
+use crate::exit::{Exit, tell};
+use crate::form::FormEnd;
+use crate::stdio::StdioEnd;
+use ob_command::Supervise;
+use ob_io::{Dialer, Files, Link, Pair, Sink, Source};
+use ob_super::{ConfigFault, Super};
+use ob_supervising::supervise;
+use std::alloc::Global;
+
+/// The end of a run whose config follows nothing.
+fn of_config(fault: ConfigFault) -> FormEnd
+    ensures { result ≡ end_of_config fault }
+{
+    match fault {
+        ConfigFault::Shape { part } => FormEnd::Shape { part },
+        ConfigFault::Memory => FormEnd::Stdio(StdioEnd::Memory),
+    }
+}
+
+/// The supervisor of what the config of a file tells, all of which is down.
+fn read_config<F: Files, L: Link + Drop>(
+    alloc: Global,
+    name: &str,
+    files: &mut F,
+) -> Result<Super<L>, FormEnd>
+    ensures follows { IfOk result (λ made. IsFollowed (F.content files.old name.now) (upstreams made.followed.items)) }
+    ensures down { IfOk result (λ made. AllByRecursion (λ f. f.live ≡ None) made.followed.items) }
+    ensures none { IfErr result (FollowsNone (F.content files.old name.now)) }
+    ensures later { F.faults files.old ≤ F.faults files.new }
+    ensures failed { IfErr result (λ end. end ≡ variants.Stdio plainly.ReadFault → Rose (F.faults files.old) (F.faults files.new)) }
+{
+    ob_documents::spelled();
+    let doc = match read_file(alloc, name, files) {
+        Ok(doc) => doc,
+        Err(fault) => return Err(FormEnd::of_document(fault)),
+    };
+    let (_ns, root) = doc.into_parts();
+    match Super::new(alloc, &root) {
+        Ok(made) => Ok(made),
+        Err(fault) => Err(of_config(fault)),
+    }
+}
+
+/// Follows what the config of a file tells, and answers the requests of a link from its tree.
+fn serve_tree<F: Files, L: Link, W: Dialer>(
+    alloc: Global,
+    asked: Supervise<'_>,
+    files: &mut F,
+    link: &mut L,
+    dialer: &mut W,
+) -> FormEnd
+where
+    W::L: Drop,
+    ensures comes { SuperComes (F.content files.old asked.entry.config.now) asked.entry.rounds result (L.left link.old) (L.taken link.old) (L.left link.new) (L.taken link.new) (L.held link.old) (L.held link.new)
+        (outside (W.dials dialer.old) (W.visits dialer.old)) (outside (W.dials dialer.new) (W.visits dialer.new)) }
+    ensures unused { IsUnserved (plain result) → (link.new ≡ link.old) × (dialer.new ≡ dialer.old) }
+    ensures cause { HasCause (plain result) (F.faults files.old) (F.faults files.new) (L.read_faults link.old) (L.read_faults link.new)
+        (L.write_faults link.old) (L.write_faults link.new) 0 0 }
+    ensures whole { (end : LinkEnd) → plain result ≡ plainly.Served end → ServesWhole (L.left link.old) (L.read_faults link.old) (L.read_faults link.new)
+        (L.write_faults link.old) (L.write_faults link.new) 0 0 end }
+{
+    match read_config(alloc, asked.config, files) {
+        Ok(made) => {
+            let end = supervise(alloc, made, asked.rounds, dialer, link);
+            FormEnd::Stdio(StdioEnd::Served(end))
+        }
+        Err(end) => end,
+    }
+}
+
+/// Follows what the config of a file tells, answers the requests of the link's source on its sink from the tree of that, and tells
+/// on `errors` what went wrong.
+pub(crate) fn run_super<F: Files, S: Source, K: Sink, E: Sink, W: Dialer>(
+    alloc: Global,
+    asked: Supervise<'_>,
+    files: &mut F,
+    link: &mut Pair<S, K>,
+    errors: &mut E,
+    dialer: &mut W,
+) -> Exit
+where
+    W::L: Drop,
+    ensures ran { SuperRan (F.content files.old asked.entry.config.now) asked.entry.rounds (F.faults files.old) (F.faults files.new)
+        (streams (S.left link.old.source) (K.held link.old.sink) (S.faults link.old.source) (K.faults link.old.sink))
+        (streams (S.left link.new.source) (K.held link.new.sink) (S.faults link.new.source) (K.faults link.new.sink))
+        (dialled (W.dials dialer.old) (W.visits dialer.old) (W.rose dialer.old) (W.faults dialer.old))
+        (dialled (W.dials dialer.new) (W.visits dialer.new) (W.rose dialer.new) (W.faults dialer.new)) result }
+    ensures refused { result ≡ Exit.Refused → (link.new ≡ link.old) × (dialer.new ≡ dialer.old) }
+{
+    ob_documents::only();
+    ob_xml::one_verdict();
+    let end = serve_tree(alloc, asked, files, link, dialer);
+    tell(errors, end.line(alloc, "Config"));
+    end.exit()
+}
