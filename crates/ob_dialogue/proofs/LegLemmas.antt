@@ -4,13 +4,13 @@ use Rattle.std.specs.Prelude.{is_some}
 use Rattle.ob_io.specs.Links.{Inlet, Takes, Takes-none, Takes-then}
 use Rattle.ob_io.specs.Told.{Gains, IsFront, Gains-none, Gains-then}
 use Rattle.ob_object.specs.Object.{Object}
-use Rattle.ob_http.specs.Asking.{request_text}
 use Rattle.ob_http.specs.Reply.{Response}
 use Rattle.ob_http.specs.Replies.{Replied, AreFirstReplies, AreTaken}
 use Rattle.ob_watching.specs.WatchOuts.{Text}
-use Rattle.ob_client.specs.Sessions.{body_text, Answers, Asks, Reads, Fails}
+use Rattle.ob_client.specs.Sessions.{Answers, Asks, Reads, Fails}
 use Rattle.ob_client.specs.declared.call_fault.CallFault.{CallFault}
 use Rattle.ob_client.specs.declared.call_fault.CallFault.TheVariants as fault
+use Rattle.ob_asking.specs.Wires.{text_of}
 use Rattle.ob_dialogue.specs.Plans.{Program, Request}
 use Rattle.ob_dialogue.specs.Stages.{Stage, Over, Lobby, Service, Make, Subject, Adding, Acking, Polling, Mending, Deleting, request_at}
 use Rattle.ob_dialogue.specs.Taking.{taken}
@@ -51,9 +51,6 @@ answers_none p (Err e) = tt
 pub after_none : (p : Program) (at : Reached) → after p at [] ≡ at
 after_none p (Ok s) = refl
 after_none p (Err e) = refl
-
-abbrev pub text_of : Text → Request → List ℕ
-text_of host q = request_text q.verb q.target host (body_text q.body)
 
 pub texts_asked : (host : Text) (r : Option Request) (q : Request) (qs : List Request) → r ≡ Some q → texts host (with_request r qs) ≡ text_of host q ++ texts host qs
 texts_asked host r q qs is = ap (λ x. texts host (with_request x qs)) is

@@ -1,46 +1,14 @@
--- Requests and lines, one part after the other.
-use Rattle.std.proofs.Common.{◌≡◌, ℕ, zero, suc, ◌+◌, ◌<◌, true, false, cond, List, [], ◌∷◌, ◌++◌, map, length, take, get_or, Option, Some, None, Result, Ok, Err, refl, sym, ap, ◌∙◌, append_assoc, append-nil, add-one, inl, inr}
+-- Lines, one after the other.
+use Rattle.std.proofs.Common.{◌≡◌, ℕ, zero, suc, ◌+◌, ◌<◌, true, false, cond, List, [], ◌∷◌, ◌++◌, length, take, get_or, Option, Some, None, refl, sym, ap, ◌∙◌, append_assoc, append-nil, add-one}
 use Rattle.std.specs.Prelude.{slice_get, option_map}
 use Rattle.std.specs.List.{filter}
-use Rattle.std.proofs.lemmas.List.{take_more, map-append}
+use Rattle.std.proofs.lemmas.List.{take_more}
 use Rattle.std.proofs.lemmas.List.Elements.{filter-append}
-use Rattle.ob_href.specs.Href.{Gives}
-use Rattle.ob_href.specs.declared.fault.HrefFault.{HrefFault}
-use Rattle.ob_href.specs.declared.fault.HrefFault.TheVariants as href
-use Rattle.ob_object.specs.Object.{Object, in_row, listed-in_row}
-use Rattle.ob_object.specs.WellFormed.{with_child}
-use Rattle.ob_watching.specs.WatchOuts.{Text, Held}
+use Rattle.ob_object.specs.Object.{Object}
+use Rattle.ob_watching.specs.WatchOuts.{Held}
 use Rattle.ob_client.specs.Entries.{is_err}
 use Rattle.ob_client.specs.Shown.{shown}
-use Rattle.ob_dialogue.specs.Plans.{some_of}
-use Rattle.ob_dialogue.specs.Stages.{uri_of, hrefs_of}
 use Rattle.ob_dialogue.specs.Printing.{line, lines_of, items_text}
-use Rattle.ob_dialogue.specs.Told.{Finds}
-
--- ---- places
-
-pub found_of : {T : Type 0} (answer expected : Result T HrefFault) (found : Option T) → Gives answer expected → Finds answer (Ok found) → found ≡ some_of expected
-found_of (Ok x) expected found g f = (let h : found ≡ Some x = cc in h) ∙ sym (ap some_of g)
-found_of (Err href.Memory) expected found g f = absurd f
-found_of (Err href.NotUrl) expected found g f =
-    elim g [ inl e ↦ (let h : found ≡ None = cc in h) ∙ sym (ap some_of e) | inr m ↦ absurd (let h : href.NotUrl ≡ href.Memory = m in cc) ]
-found_of (Err href.Fragment) expected found g f =
-    elim g [ inl e ↦ (let h : found ≡ None = cc in h) ∙ sym (ap some_of e) | inr m ↦ absurd (let h : href.Fragment ≡ href.Memory = m in cc) ]
-found_of (Err href.OtherOrigin) expected found g f =
-    elim g [ inl e ↦ (let h : found ≡ None = cc in h) ∙ sym (ap some_of e) | inr m ↦ absurd (let h : href.OtherOrigin ≡ href.Memory = m in cc) ]
-
--- ---- hrefs of an add
-
-hrefs_then : (ts : List Text) (t : Text) → with_child (hrefs_of ts) (uri_of t) ≡ hrefs_of (ts ++ t ∷ [])
-hrefs_then ts t =
-    ap (λ (os : List Object). let x : Object = record { head = (hrefs_of ts).head; inner = in_row (os ++ uri_of t ∷ []) } in x) (listed-in_row (map uri_of ts))
-    ∙ ap (λ (os : List Object). let x : Object = record { head = (hrefs_of ts).head; inner = in_row os } in x) (sym (map-append uri_of ts (t ∷ [])))
-
-pub hrefs_more : (ts : List Text) (i : ℕ) (t : Text) → i < length ts → t ≡ get_or ts i t → with_child (hrefs_of (take i ts)) (uri_of t) ≡ hrefs_of (take (i + 1) ts)
-hrefs_more ts i t lt at =
-    hrefs_then (take i ts) t ∙ ap (λ (x : Text). hrefs_of (take i ts ++ x ∷ [])) at ∙ sym (ap hrefs_of (take_more ts i t lt))
-
--- ---- lines
 
 items_next : (hs : List Held) (i : ℕ) (o : Object) → Some o ≡ option_map shown (slice_get hs i) → items_text (take i hs) ++ line o ≡ items_text (take (suc i) hs)
 items_next [] i o h = absurd (let e : Some o ≡ None = h in cc)

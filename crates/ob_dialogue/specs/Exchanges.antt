@@ -1,29 +1,16 @@
 -- A request and its reply.
-use Rattle.std.specs.Prelude.{◌≡◌, ℕ, List, Option, Some, None, Ok, Err}
-use Rattle.ob_io.specs.Links.{Inlet}
+use Rattle.std.specs.Prelude.{◌≡◌, Some, None, Ok, Err}
 use Rattle.ob_object.specs.Object.{Object}
-use Rattle.ob_http.specs.Asking.{request_text}
 use Rattle.ob_watching.specs.WatchOuts.{Text}
-use Rattle.ob_client.specs.Sessions.{body_text, Answers, Asks, Reads}
+use Rattle.ob_client.specs.Sessions.{Answers, Asks, Reads}
 use Rattle.ob_client.specs.declared.call_fault.CallFault.{CallFault}
 use Rattle.ob_client.specs.declared.call_fault.CallFault.TheVariants as fault
+-- a link, and the text of a request on it
+pub use Rattle.ob_asking.specs.Wires.{Wire, wire, text_of}
 use Rattle.ob_dialogue.specs.Plans.{Request}
 use Rattle.ob_dialogue.specs.Stages.{Stage, request_at}
 use Rattle.ob_dialogue.specs.declared.link.Exchange.{Exchange}
 use Rattle.ob_dialogue.specs.declared.link.Exchange.TheVariants as exchange
-
--- what is told of a link, and the bytes that are kept of it
-pub record Wire : Type 0 where
-  pub inlet : Inlet
-  pub sent : Option (List ℕ)
-  pub kept : List ℕ
-
-abbrev pub wire : Inlet → Option (List ℕ) → List ℕ → Wire
-wire inlet sent kept = record { inlet = inlet; sent = sent; kept = kept }
-
--- the text of a request, as this host is asked
-abbrev pub text_of : Text → Request → List ℕ
-text_of host q = request_text q.verb q.target host (body_text q.body)
 
 -- this was asked, and so was it answered
 pub record Called (host : Text) (s : Stage) (old new : Wire) (reply : Object) : Type 0 where

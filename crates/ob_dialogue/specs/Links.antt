@@ -3,15 +3,13 @@ use Rattle.std.specs.Prelude.{◌≡◌, ◌≢◌, ◌⊎◌, ℕ, ◌+◌, ◌
 use Rattle.ob_io.specs.Dials.{Dial, Visit}
 use Rattle.ob_io.specs.Told.{Gains, IsFront}
 use Rattle.ob_object.specs.Object.{Object}
-use Rattle.ob_grammar.specs.Spelling.{Spells}
 use Rattle.ob_xml.specs.Judged.{fault, Judged}
-use Rattle.ob_http.specs.Asking.{request_text}
 use Rattle.ob_http.specs.Reply.{Response}
 use Rattle.ob_http.specs.Replies.{Replied, AreFirstReplies}
 use Rattle.ob_http.specs.Stream.{resting, faulted}
-use Rattle.ob_watching.specs.WatchOuts.{Text}
-use Rattle.ob_client.specs.Sessions.{body_text}
-use Rattle.ob_dialogue.specs.Plans.{Program, Request, host_of, port_in, host_field}
+-- the texts of requests, and the objects of replies
+pub use Rattle.ob_asking.specs.Wires.{texts, AreReplies}
+use Rattle.ob_dialogue.specs.Plans.{Program, host_of, port_in, host_field}
 use Rattle.ob_dialogue.specs.Stages.{Over}
 use Rattle.ob_dialogue.specs.Turns.{Reached, Turn, on_links, asked, after, IsAsking, AreAnswers, polls, resumed, lines}
 use Rattle.ob_dialogue.specs.declared.ending.Peer.TheVariants as peer
@@ -19,17 +17,6 @@ use Rattle.ob_dialogue.specs.declared.ending.Ending.{Ending}
 use Rattle.ob_dialogue.specs.declared.ending.Ending.TheVariants as ending
 
 -- ---- bytes of a link
-
--- the texts of requests, one behind the other, as this host is asked
-abbrev pub texts : Text → List Request → List ℕ
-texts host [] = []
-texts host (q ∷ qs) = request_text q.verb q.target host (body_text q.body) ++ texts host qs
-
--- each reply has the status 200 and spells its object
-abbrev pub AreReplies : List Response → List Object → Type 0
-AreReplies [] [] = Unit {0}
-AreReplies (r ∷ rs) (o ∷ os) = ((r.status ≡ 200) × ((ns : Option (List ℕ)) × Spells r.body ns o)) × AreReplies rs os
-AreReplies _ _ = ⊥
 
 -- why no object comes behind these replies of the bytes, where the ending says so
 abbrev pub HasNext : List ℕ → List Response → Ending → Type 0

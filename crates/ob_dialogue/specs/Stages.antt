@@ -1,14 +1,13 @@
 -- How far a dialogue has come, and what is asked next.
-use Rattle.std.specs.Prelude.{ℕ, ◌+◌, Bool, true, false, cond, nat_lt, codes, List, [], ◌∷◌, map, Option, Some, None, option_map, unwrap_or}
+use Rattle.std.specs.Prelude.{ℕ, ◌+◌, Bool, true, false, cond, nat_lt, codes, List, [], Option, Some, None, option_map, unwrap_or}
 use Rattle.url.specs.Parts.{Parts}
-use Rattle.ob_values.specs.declared.value.Value.TheVariants as value
-use Rattle.ob_values.specs.declared.verb.Verb.TheVariants.{Get, Post}
-use Rattle.ob_object.specs.declared.kind.Kind.TheVariants as kind
-use Rattle.ob_object.specs.declared.head.Slot.TheVariants.{Is}
-use Rattle.ob_object.specs.Object.{Object, none, empty_head, in_row}
+use Rattle.ob_values.specs.declared.verb.Verb.TheVariants.{Post}
+use Rattle.ob_object.specs.Object.{Object}
 use Rattle.ob_watching.specs.WatchOuts.{Text, Held}
 use Rattle.ob_client.specs.Mirrors.{Asks, replied}
 use Rattle.ob_dialogue.specs.Plans.{Program, Place, Request, child_place}
+-- what is asked of a watch
+pub use Rattle.ob_asking.specs.Watches.{watch_in, get}
 
 -- the ops of a watch that are called; the refresh where broken polls are mended
 pub record Ops : Type 0 where
@@ -41,23 +40,6 @@ pub data Stage : Type 0 where
   -- the end of the watch; nothing more
   Deleting : Watching → Stage
   Over : Stage
-
-abbrev pub uri_of : Text → Object
-uri_of text = record { head = record (empty_head kind.Uri) { slot = Is (value.Uri text) }; inner = none }
-
-abbrev pub hrefs_of : List Text → Object
-hrefs_of texts =
-    record { head = record (empty_head kind.List) { name = Some (codes "hrefs") }; inner = in_row (map uri_of texts) }
-
--- WatchIn with these hrefs
-abbrev pub watch_in : List Text → Object
-watch_in texts = record {
-  head = record (empty_head kind.Obj) { is = Some (codes "obix:WatchIn" ∷ []) };
-  inner = in_row (hrefs_of texts ∷ []);
-}
-
-abbrev pub get : Place → Request
-get place = record { verb = Get; target = place.target; body = None }
 
 abbrev pub post : Place → Option Object → Request
 post place body = record { verb = Post; target = place.target; body = body }

@@ -2,8 +2,6 @@
 use Rattle.std.specs.Prelude.{◌≡◌, ℕ, ◌+◌, ◌<◌, ◌^◌, Bool, true, false, List, Vec, Option, Some, None, option_map, unwrap_or, Result}
 use Rattle.std.specs.declared.result.Result.TheVariants.{Ok, Err}
 use Rattle.std.specs.declared.alloc.AllocError.{AllocError}
-use Rattle.ob_href.specs.declared.fault.HrefFault.{HrefFault}
-use Rattle.ob_href.specs.declared.fault.HrefFault.TheVariants as href
 use Rattle.ob_values.specs.declared.verb.Verb.TheVariants.{Post}
 use Rattle.ob_object.specs.Object.{Object}
 use Rattle.ob_io.specs.Told.{Gains, IsFront}
@@ -24,7 +22,8 @@ use Rattle.ob_dialogue.specs.Legs as legs
 use Rattle.ob_dialogue.specs.declared.plan.Plan.{Plan}
 use Rattle.ob_dialogue.specs.declared.plan.Topic.{Topic}
 use Rattle.ob_dialogue.specs.declared.plan.Topic.TheVariants as topics
-use Rattle.ob_dialogue.specs.declared.place.Place.{Place}
+use Rattle.ob_asking.specs.declared.place.Place.{Place}
+pub use Rattle.ob_asking.specs.Told.{place}
 use Rattle.ob_dialogue.specs.declared.request.Request.{Request}
 use Rattle.ob_dialogue.specs.declared.stage.Ops.{Ops}
 use Rattle.ob_dialogue.specs.declared.stage.Watching.{Watching}
@@ -38,16 +37,6 @@ use Rattle.ob_dialogue.specs.declared.link.Pause.{Pause}
 use Rattle.ob_dialogue.specs.declared.link.Pause.TheVariants as pauses
 use Rattle.ob_dialogue.specs.declared.link.Turned.{Turned}
 use Rattle.ob_dialogue.specs.declared.link.Turned.TheVariants as turns
-
--- what is found, or there was no memory
-abbrev pub Finds : {T : Type 0} → Result T HrefFault → Result (Option T) AllocError → Type 0
-Finds (Ok x) result = result ≡ Ok (Some x)
-Finds (Err href.Memory) (Ok found) = ⊥
-Finds (Err href.Memory) (Err e) = Unit {0}
-Finds (Err _) result = result ≡ Ok None
-
-abbrev pub place : Place → plans.Place
-place p = record { url = p.base; target = p.target }
 
 abbrev pub request : Request → plans.Request
 request r = record { verb = r.verb; target = r.target; body = r.body }

@@ -10,7 +10,6 @@ mod ending;
 mod laws;
 mod lines;
 mod link;
-mod place;
 mod plan;
 mod request;
 mod stage;

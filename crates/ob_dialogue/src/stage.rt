@@ -4,8 +4,8 @@ ghost use Rattle.ob_dialogue.specs.Stages.{ops_of, refresh_in, begun, onward, me
 ghost use Rattle.ob_dialogue.specs.Plans.{place_at};
 ghost use Rattle.ob_dialogue.specs.Told as told;
 
-use crate::place::{Place, child_place, place_at};
 use crate::plan::Plan;
+use ob_asking::{Place, child_place, place_at};
 use ob_client::Mirror;
 use ob_href::Base;
 use ob_object::Obj;

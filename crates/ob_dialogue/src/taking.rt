@@ -10,9 +10,9 @@ ghost use Rattle.ob_dialogue.specs.Told as told;
 
 use crate::ending::Peer;
 use crate::lines::{add_heading, board_in, body, errs, poll_heading};
-use crate::place::{Place, child_place, place_at};
 use crate::plan::{Plan, Topic};
 use crate::stage::{Ops, Stage, Watching, begun, onward, ops_of};
+use ob_asking::{Place, child_place, place_at};
 use ob_client::MirrorFault;
 use ob_console::{AckFault, ack_in, ack_target};
 use ob_object::{Kind, Obj};

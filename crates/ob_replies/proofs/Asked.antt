@@ -1,9 +1,9 @@
 -- The first of a list that pass a test, so many at most, taken one by one.
-use Rattle.std.proofs.Common.{◌≡◌, ℕ, ◌+◌, ◌<◌, ◌≤◌, zero, suc, Bool, true, false, cond, ◌&&◌, nat_lt, List, [], ◌∷◌, ◌++◌, map, length, take, get_or, refl, sym, ap, ◌∙◌, subst, arith}
+use Rattle.std.proofs.Common.{◌≡◌, ℕ, ◌+◌, ◌<◌, ◌≤◌, zero, suc, Bool, true, false, cond, ◌&&◌, nat_lt, List, [], ◌∷◌, ◌++◌, map, length, take, drop, get_or, refl, sym, ap, ◌∙◌, subst, arith}
 use Rattle.std.specs.Prelude.{filter}
 use Rattle.std.specs.List.{list_all}
-use Rattle.std.proofs.lemmas.List.{append-nil, map-append, length-map, length-append, length-take, take_all, take-append-le}
-use Rattle.std.proofs.lemmas.List.Elements.{filter_more}
+use Rattle.std.proofs.lemmas.List.{append-nil, map-append, length-map, length-append, length-take, take_all, take-append-le, take-append-drop}
+use Rattle.std.proofs.lemmas.List.Elements.{filter_more, filter-append}
 use Rattle.std.proofs.lemmas.Bool.{ltb-true, ltb-false}
 use Rattle.ob_times.specs.Times.{Instant}
 use Rattle.ob_object.specs.Object.{Object}
@@ -94,6 +94,18 @@ given_as n p time object xs times ts objects os t o g = record { times = t ∙ g
 -- all were gone through
 pub given_all : {A : Type 0} (n : ℕ) (p : A → Bool) (time : A → Instant) (object : A → Object) (xs : List A) (times : List Instant) (objects : List Object) (k : ℕ) → IsGiven n p time object (take k xs) times objects → length xs ≤ k → IsGiven n p time object xs times objects
 given_all {A = A} n p time object xs times objects k g le = subst (λ (ys : List A). IsGiven n p time object ys times objects) (take_all k xs le) g
+
+-- there are as many as are asked for, so that what follows adds none
+pub given_enough : {A : Type 0} (n : ℕ) (p : A → Bool) (time : A → Instant) (object : A → Object) (xs : List A) (times : List Instant) (objects : List Object) (i : ℕ) → IsGiven n p time object (take i xs) times objects → n ≤ length objects → IsGiven n p time object xs times objects
+given_enough n p time object xs times objects i g full =
+    let many = so_many object (firsts n p (take i xs)) objects g.objects in
+    let e : firsts n p xs ≡ firsts n p (take i xs) =
+    ap (firsts n p) (sym (take-append-drop i xs))
+    ∙ (ap (take n) (filter-append p (take i xs) (drop i xs)) ∙ take_full n (filter p (take i xs)) (filter p (drop i xs)) (omega arith)) in
+    record {
+      times = g.times ∙ ap (map time) (sym e);
+      objects = g.objects ∙ ap (map object) (sym e);
+    }
 
 pub same_answer : (is of : Text) (ts us : List Instant) (os ps : List Object) → ts ≡ us → os ≡ ps → query_out is of ts os ≡ query_out is of us ps
 same_answer is of ts us os ps e h = ap (λ (t : List Instant). query_out is of t os) e ∙ ap (λ (o : List Object). query_out is of us o) h

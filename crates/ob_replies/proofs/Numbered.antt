@@ -1,7 +1,8 @@
 -- Alarms by their numbers, gone through one by one.
-use Rattle.std.proofs.Common.{◌≡◌, ℕ, ◌+◌, ◌-◌, ◌<◌, ◌≤◌, zero, suc, inl, inr, Bool, true, false, cond, ◌&&◌, nat_lt, List, [], ◌∷◌, ◌++◌, length, take, get_or, refl, sym, ap, ◌∙◌, subst, arith}
+use Rattle.std.proofs.Common.{◌≡◌, ℕ, ◌+◌, ◌-◌, ◌<◌, ◌≤◌, zero, suc, inl, inr, Bool, true, false, not, cond, ◌&&◌, nat_lt, List, [], ◌∷◌, ◌++◌, length, take, get_or, refl, sym, ap, ◌∙◌, subst, arith}
 use Rattle.std.specs.Prelude.{codes, is_none, Option, Some, None, option_map, slice_get}
 use Rattle.std.specs.List.{list_all}
+use Rattle.std.proofs.lemmas.Bool.{ltb-false}
 use Rattle.std.proofs.lemmas.Bool.Decides.{eqb_tells}
 use Rattle.ob_times.specs.Times.{Instant}
 use Rattle.ob_object.specs.Object.{Object}
@@ -9,7 +10,7 @@ use Rattle.ob_history.specs.declared.records.Filter.{Filter}
 use Rattle.ob_alarms.specs.declared.alarm.Alarm.{Alarm}
 use Rattle.ob_alarms.specs.Changes.{State as Board, alarm_of}
 use Rattle.ob_site_rules.specs.Entries.{alarm_object, alarms_out, numbered, query_out, raised_at, is_within}
-use Rattle.ob_replies.proofs.Asked.{IsGiven, given_more, given_same, given_as, given_all, firsts, same_answer}
+use Rattle.ob_replies.proofs.Asked.{IsGiven, given_more, given_same, given_as, given_all, given_enough, firsts, same_answer}
 use Rattle.ob_replies.proofs.Nameless.{alarms_nameless}
 
 -- the alarms that a filter gives among those that were gone through
@@ -85,9 +86,22 @@ alarms_plain f b es ts os g =
     ap (λ (ps : List Object). list_all (λ o. is_none o.head.name) ps) g.objects
     ∙ alarms_nameless b (firsts f.limit (λ e. is_within f (raised_at e.1)) es)
 
--- the answer, once all alarms were gone through
-pub alarms_answer : (f : Filter) (b : Board) (seen ts : List Instant) (os : List Object) (k : ℕ) → IsGivenOf f b (take k (numbered 1 b.alarms)) ts os → length b.alarms ≤ k → seen ≡ ts → query_out (codes "obix:AlarmQueryOut") (codes "obix:Alarm") seen os ≡ alarms_out b f
-alarms_answer f b seen ts os k g le same =
+-- all alarms were gone through
+pub alarms_gone : (f : Filter) (b : Board) (ts : List Instant) (os : List Object) (k : ℕ) → IsGivenOf f b (take k (numbered 1 b.alarms)) ts os → length b.alarms ≤ k → IsGivenOf f b (numbered 1 b.alarms) ts os
+alarms_gone f b ts os k g le =
     let many = length-numbered 1 b.alarms in
-    let all = given_all f.limit (λ (e : ℕ × Alarm). is_within f (raised_at e.1)) (λ (e : ℕ × Alarm). raised_at e.1) (λ (e : ℕ × Alarm). alarm_object b e.0) (numbered 1 b.alarms) ts os k g (omega arith) in
-    same_answer (codes "obix:AlarmQueryOut") (codes "obix:Alarm") seen _ os _ (same ∙ all.times) all.objects
+    given_all f.limit (λ e. is_within f (raised_at e.1)) (λ e. raised_at e.1) (λ e. alarm_object b e.0) (numbered 1 b.alarms) ts os k g (omega arith)
+
+not_is : (b : Bool) → not b ≡ true → b ≡ false
+not_is true h = sym h
+not_is false h = refl
+
+-- as many were given as are asked for
+pub alarms_enough : (f : Filter) (b : Board) (ts : List Instant) (objects given : List Object) (k : ℕ) (all : Bool) → IsGivenOf f b (take k (numbered 1 b.alarms)) ts objects → all ≡ not (nat_lt (length given) f.limit) → given ≡ objects → all ≡ true → IsGivenOf f b (numbered 1 b.alarms) ts objects
+alarms_enough f b ts objects given k all g e same is =
+    let few : nat_lt (length objects) f.limit ≡ false = not_is _ (ap (λ (os : List Object). not (nat_lt (length os) f.limit)) (sym same) ∙ (sym e ∙ is)) in
+    given_enough f.limit (λ x. is_within f (raised_at x.1)) (λ x. raised_at x.1) (λ x. alarm_object b x.0) (numbered 1 b.alarms) ts objects k g (ltb-false (length objects) f.limit few)
+
+-- the answer, once all that are asked for were given
+pub alarms_answer : (f : Filter) (b : Board) (seen ts : List Instant) (os : List Object) → IsGivenOf f b (numbered 1 b.alarms) ts os → seen ≡ ts → query_out (codes "obix:AlarmQueryOut") (codes "obix:Alarm") seen os ≡ alarms_out b f
+alarms_answer f b seen ts os all same = same_answer (codes "obix:AlarmQueryOut") (codes "obix:Alarm") seen _ os _ (same ∙ all.times) all.objects

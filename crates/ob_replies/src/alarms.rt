@@ -5,7 +5,7 @@ ghost use Rattle.ob_site_rules.specs.Entries.{alarm_object, event_object, event_
 
 use crate::build::put;
 use crate::contract::Contract;
-use crate::query::{is_asked, query_out};
+use crate::query::{has_all, is_asked, query_out};
 use ob_alarms::Alarms;
 use ob_history::Filter;
 use ob_object::{Kind, Obj};
@@ -48,7 +48,8 @@ pub fn event_objects(alloc: Global, alarms: &Alarms) -> Result<Vec<Obj>, AllocEr
     Ok(objects)
 }
 
-/// AlarmQueryOut: the first alarms that the filter passes by their timestamps, as many as it asks for.
+/// AlarmQueryOut: the first alarms that the filter passes by their timestamps, as many as it asks for. The
+/// alarms behind the last of these aren't looked at.
 ///
 /// Source: oBIX 1.1, chapter 15 (AlarmQueryOut).
 pub fn alarms_out(alloc: Global, filter: &Filter, alarms: &Alarms) -> Result<Obj, AllocError>
@@ -57,6 +58,9 @@ pub fn alarms_out(alloc: Global, filter: &Filter, alarms: &Alarms) -> Result<Obj
     let mut times = Vec::new(alloc);
     let mut objects = Vec::new(alloc);
     for place in 0..alarms.len() {
+        if has_all(filter, &objects) {
+            break;
+        }
         let time = raised_at(alarms, place);
         if is_asked(filter, &objects, time) {
             times.push(time)?;

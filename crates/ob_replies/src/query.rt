@@ -1,5 +1,5 @@
 //! The answer to a query.
-ghost use Rattle.std.specs.Prelude.{◌≡◌, ◌<◌, ◌^◌, ◌&&◌, [], nat_lt, length, slice_get, true, is_none, IfOk};
+ghost use Rattle.std.specs.Prelude.{◌≡◌, ◌<◌, ◌^◌, ◌&&◌, [], nat_lt, not, length, slice_get, true, is_none, IfOk};
 ghost use Rattle.std.specs.List.{list_all};
 ghost use Rattle.circular_buffer.specs.Buffer.{last_item};
 ghost use Rattle.ob_site_rules.specs.Entries.{query_out, is_within};
@@ -36,6 +36,13 @@ pub(crate) fn is_asked(filter: &Filter, given: &[Obj], time: Abstime) -> bool
     ensures { result ≡ (nat_lt (length given.now) filter.now.limit && is_within filter.now time) }
 {
     (given.len() as u64) < filter.limit && passes(filter, time)
+}
+
+/// Whether a query has given as many objects as it is asked for.
+pub(crate) fn has_all(filter: &Filter, given: &[Obj]) -> bool
+    ensures { result ≡ not (nat_lt (length given.now) filter.now.limit) }
+{
+    filter.limit <= given.len() as u64
 }
 
 /// The first time.

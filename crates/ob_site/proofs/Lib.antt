@@ -11,3 +11,4 @@ pub mod Renumbered
 pub mod Sound
 pub mod Stepped
 pub mod Crossing
+mod OwnAt

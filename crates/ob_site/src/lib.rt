@@ -7,6 +7,7 @@
 mod acting;
 mod ending;
 mod laws;
+mod points;
 mod quiet;
 mod room;
 mod site;

@@ -1,17 +1,21 @@
 //! A site.
-ghost use Rattle.std.specs.Prelude.{◌≡◌, ℕ, ◌+◌, ◌<◌, ◌≤◌, IfOk, OnErr};
+ghost use Rattle.std.specs.Prelude.{◌≡◌, ℕ, ◌+◌, ◌<◌, ◌≤◌, IfOk, OnErr, option_copied};
 ghost use Rattle.ob_watching.specs.Asked.{OneWatch, PollChanges};
 ghost use Rattle.ob_site_rules.specs.Locating.{locate};
 ghost use Rattle.ob_site_rules.specs.Sites.{site, step};
 ghost use Rattle.ob_site_watched.specs.Polls.{object_entries, steps_for};
+ghost use Rattle.ob_points.specs.Points.{point_at, passes};
 
+use crate::points::point;
 use crate::step::step;
 use ob_machine::Machine;
 use ob_object::Obj;
 use ob_site_rules::Request;
 use ob_site_state::State;
+use ob_site_writes::passes;
 use ob_steps::Steps;
 use ob_times::Moment;
+use ob_values::{Text, Value};
 use ob_watch::Watches;
 use std::alloc::AllocError;
 use std::marker::{Brand, Model};
@@ -89,6 +93,21 @@ impl Site {
             → steps.new ≤ steps.old + steps_for 32 (object_entries reply)) }
     {
         step(&mut self.state, &mut self.watches, request, moment, steps)
+    }
+
+    /// The own object of the writable point at a path, without its children; None at every other path. It takes no memory.
+    pub fn point(&self, path: &Text) -> Option<&Obj>
+        ensures { option_copied result ≡ point_at self.now.plan self.now.world.site path.now }
+    {
+        point(&self.state, path)
+    }
+
+    /// Whether the tests of a Put on a value let it through to what is shown at a path: its kind, a text too long, below min,
+    /// above max, not in range. Where nothing is shown, none is let through. An error only for want of memory.
+    pub fn passes(&self, path: &Text, value: &Value) -> Result<bool, AllocError>
+        ensures { IfOk result (λ yes. yes ≡ passes self.now.plan self.now.world.site path.now value.now) }
+    {
+        passes(&self.state, path, value)
     }
 
     /// The time of the last step.

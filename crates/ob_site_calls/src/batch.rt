@@ -13,6 +13,7 @@ ghost use Rattle.ob_requests.specs.BatchCalls.{is_batch_call};
 ghost use Rattle.ob_site_writes.specs.Stops.{IsDone, Stops};
 
 use crate::actions::act_at;
+use crate::refusing::is_refused;
 use ob_object::{Kind, Obj};
 use ob_plain_state::Place;
 use ob_replies::build::put;
@@ -71,6 +72,9 @@ fn item_at(state: &mut State, numbers: &[u64], request: &Request, path: &Text) -
     ensures stop { IfErr result (Stops state.old state.new
         (item_on state.old.plan state.old.now numbers.now state.old.time request.now (Some path.now))) }
 {
+    if is_refused(state, path, request.verb)? {
+        return Err(Stop::Refused(Fault::NotSupported));
+    }
     let Some(place) = named(state, path)? else {
         return Err(Stop::Refused(nowhere(state, numbers, path)));
     };
@@ -207,6 +211,9 @@ fn act_on(state: &mut State, numbers: &[u64], request: &Request, path: &Text) ->
     ensures stop { IfErr result (Stops state.old state.new
         (act_located locate state.old.plan state.old.now numbers.now state.old.time request.now (Some path.now))) }
 {
+    if is_refused(state, path, request.verb)? {
+        return Err(Stop::Refused(Fault::NotSupported));
+    }
     let Some(place) = named(state, path)? else {
         return Err(Stop::Refused(Fault::NoSuchObject));
     };

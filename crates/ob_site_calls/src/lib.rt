@@ -8,6 +8,7 @@ mod acks;
 mod actions;
 mod batch;
 mod calls;
+mod refusing;
 
 pub use acks::acknowledge;
 pub use actions::act_at;

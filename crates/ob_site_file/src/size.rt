@@ -5,12 +5,13 @@ ghost use Rattle.ob_object.specs.Object.{Object, children, count, in_row, listed
 ghost use Rattle.ob_object.specs.WellFormed.{has_name};
 ghost use Rattle.ob_contracts.specs.Found.{found, lent};
 ghost use Rattle.ob_contracts.specs.Inherit.{contract_of, present, sources, overridden, missing, is_new, or_else, words_in, result_of};
+ghost use Rattle.ob_contracts.specs.Telling.{TellTheSame};
 ghost use Rattle.ob_site_rules.specs.State.{Plan as SitePlan, State as SiteState};
 ghost use Rattle.ob_site_rules.specs.Shown.{node_path, derived, with_roles, shown_root};
 ghost use Rattle.ob_site_file.specs.Sizes.{has_text, HasNames, is_fresh, IsCounting, dressed_at, stood, row_count};
 
 use crate::derived::{Counting, Derived, Texts, derived_children};
-use ob_contracts::Library;
+use ob_contracts::{Library, telling, told_by};
 use ob_object::{Head, Obj, Words};
 use ob_roles::{Names, find_over, implied_by, names_in};
 use ob_steps::Steps;
@@ -266,6 +267,21 @@ fn left_after_added<'a>(
     left_after_missing(&mut there, from, left)
 }
 
+// The words that tell the same to the own children of an object, if it has any.
+fn told_if<'a>(
+    alloc: Global,
+    library: &'a Library,
+    object: &Obj,
+    gives: Option<&'a Words>,
+) -> Result<Option<Words>, AllocError>
+    ensures { IfOk result (λ told. TellTheSame library.now (or_else told (option_copied gives.entry)) (option_copied gives.entry)) }
+{
+    if object.is_empty() {
+        return Ok(None);
+    }
+    telling(alloc, library, gives)
+}
+
 // What is left of a limit behind the parts that an own object shows, where a list or a feed round it gives words, and where
 // it overrides a child of a source. Nothing is looked at behind the child with which nothing is left.
 fn left_after_shown<'a>(
@@ -283,10 +299,12 @@ fn left_after_shown<'a>(
     let from = sources(alloc, counting.library, head, implied, over)?;
     let gives = implied_by(head, from.as_slice());
     let names = names_in(alloc, from.as_slice())?;
+    let told = told_if(alloc, counting.library, object, gives)?;
+    let given = told_by(&told, gives);
     let mut left = most.saturating_sub(1);
     for child in object.children() {
         let below = find_over(&names, child.head());
-        left = left_after_shown(alloc, counting, child, gives, below, left)?;
+        left = left_after_shown(alloc, counting, child, given, below, left)?;
         if left == 0 {
             return Ok(0);
         }

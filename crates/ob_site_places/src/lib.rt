@@ -9,5 +9,5 @@ mod places;
 mod queries;
 
 pub use objects::{object_at, reply_at};
-pub use places::{event_place, place_at};
+pub use places::{computed_place, event_place, place_at};
 pub use queries::{kept_log, query_alarms, query_records};

@@ -337,8 +337,8 @@ fn role_place(
     event_or_alarm(alloc, plan, contents, path)
 }
 
-/// The place among those whose paths are computed, but those of watches.
-fn computed_place(
+/// The place among those whose paths are computed, but those of watches. Nothing is shown for it.
+pub fn computed_place(
     alloc: Global,
     plan: &Plan,
     contents: &Contents,

@@ -4,12 +4,15 @@
 //! as it was; want of memory leaves all but the state now, so that `undo` gives that back.
 #![tactic(auto)]
 
+mod passing;
 mod putting;
 mod reading;
 mod stop;
 mod value;
 mod written;
 
+pub use passing::passes;
 pub use putting::{put, write_by};
 pub use reading::{replied, shown};
 pub use stop::Stop;
+pub use value::is_value_kind;

@@ -1,5 +1,6 @@
 //! What is wrong with a write.
 ghost use Rattle.std.specs.Prelude.{◌≡◌, Some, is_some, option_map, option_and_then, option_copied, IfOk};
+ghost use Rattle.ob_object.specs.declared.head.Slot.TheVariants.{Is};
 ghost use Rattle.ob_object.specs.Write.{verdict};
 ghost use Rattle.ob_history.specs.Records.{is_value_kind};
 ghost use Rattle.ob_replies.specs.Told as told;
@@ -15,7 +16,7 @@ use ob_values::{Text, Value};
 use std::alloc::AllocError;
 
 /// Whether a kind is one of the ten that have values.
-fn is_value_kind(kind: Kind) -> bool
+pub fn is_value_kind(kind: Kind) -> bool
     ensures { result ≡ is_value_kind kind }
 {
     match kind {
@@ -119,15 +120,24 @@ fn listed_fault(object: &Obj, value: &Value, listed: bool) -> Option<Fault>
     ))
 }
 
+/// What is wrong with a value that is to stand in an object's slot.
+pub(crate) fn held_fault(
+    state: &State,
+    object: &Obj,
+    value: &Value,
+) -> Result<Option<Fault>, AllocError>
+    ensures { IfOk result (λ fault. option_map told.fault fault ≡ slot_fault state.now.plan state.now.now object.now.head (Is value.now)) }
+{
+    let listed = is_listed(state, object.head(), value)?;
+    Ok(listed_fault(object, value, listed))
+}
+
 /// What is wrong with a slot for an object. Null is allowed.
 fn slot_fault(state: &State, object: &Obj, slot: &Slot) -> Result<Option<Fault>, AllocError>
     ensures { IfOk result (λ fault. option_map told.fault fault ≡ slot_fault state.now.plan state.now.now object.now.head slot.now) }
 {
     match slot {
-        Slot::Is(value) => {
-            let listed = is_listed(state, object.head(), value)?;
-            Ok(listed_fault(object, value, listed))
-        }
+        Slot::Is(value) => held_fault(state, object, value),
         Slot::Null | Slot::Absent => Ok(None),
     }
 }

@@ -5,7 +5,8 @@ use Rattle.std.proofs.lemmas.Result.{IfOk-weaker}
 use Rattle.ob_object.specs.declared.head.Head.{Head}
 use Rattle.ob_object.specs.Object.{Object, parts, children, count, in_row, listed}
 use Rattle.ob_contracts.specs.Found.{found, lent}
-use Rattle.ob_contracts.specs.Inherit.{Contracts, Words, sources, inherited_head, implied_by, overridden, result_of, missing}
+use Rattle.ob_contracts.specs.Inherit.{Contracts, Words, or_else, sources, inherited_head, implied_by, overridden, result_of, missing}
+use Rattle.ob_contracts.specs.Telling.{TellTheSame}
 use Rattle.ob_contracts.proofs.At.{fewer_parts}
 use Rattle.ob_contracts.proofs.Bare.{child_here}
 use Rattle.ob_roles.proofs.PartRows.{row_more, row_past, inner_row}
@@ -64,6 +65,13 @@ module _ (most : ℕ) (lib : Contracts) (plan : Plan) (s : State) (o : Object) (
       (p ∙ ap (λ r. most - (1 + row_count lib G F (with_roles plan s r))) (inner_row o all same))
       ∙ ap (λ (m : ℕ). most - m) (sym (dressed_parts lib plan s o implied over))
 
+-- words that tell a child the same leave the same
+as_told : (lib own : Contracts) (plan : Plan) (s : State) (x : Object) (given told gives : Option Words) (below : Option Object) (left n : ℕ) → own ≡ lib → given ≡ or_else told gives → TellTheSame own (or_else told gives) gives
+    → n ≡ left - parts (result_of lib (dressed_at plan s x) given below) → n ≡ left - parts (result_of lib (dressed_at plan s x) gives below)
+as_told lib own plan s x given told gives below left n e is same p =
+    p ∙ ap (λ (w : Option Words). left - parts (result_of lib (dressed_at plan s x) w below)) is
+    ∙ ap (λ (o : Object). left - parts o) (subst (λ (l : Contracts). TellTheSame l (or_else told gives) gives) e same (dressed_at plan s x) below)
+
 -- what the next child inherits from
 under : (lib own : Contracts) (plan : Plan) (s : State) (o x : Object) (h : Head) (implied gives : Option Words) (over below : Option Object) (fs : List Object) (left n : ℕ) → own ≡ lib → h ≡ o.head → fs ≡ sources lib o.head implied over
     → gives ≡ implied_by (inherited_head h fs) → below ≡ overridden x.head.name fs → n ≡ left - parts (result_of lib (dressed_at plan s x) gives below)
@@ -94,7 +102,8 @@ loop-child-preserved t c = λ plan s k.
     let below : option_copied c.find_over-below.result ≡ overridden x.head.name fs = c.find_over-below.ensures fs names ∙ ap (λ (j : Head). overridden j.name fs) c.head.ensures.value in
     let gives : option_copied c.implied_by-gives.result ≡ implied_by (inherited_head h fs) = c.implied_by-gives.ensures ∙ ap (λ (l : List Object). implied_by (inherited_head h l)) (ap lent c.as_slice.ensures.value) in
     step c.args.most lib plan s o implied over c.children-child-items.result.now c.loop-child.child-index c.loop-child.left c.in_ok-left.left x c.loop-child-test.true c.child-item.is
-    (under lib own plan s o x h implied (option_copied c.implied_by-gives.result) over (option_copied c.find_over-below.result) fs c.loop-child.left c.in_ok-left.left k.library c.head-head.ensures.value there gives below (c.in_ok-left.ensures plan s k))
+    (under lib own plan s o x h implied (option_copied c.implied_by-gives.result) over (option_copied c.find_over-below.result) fs c.loop-child.left c.in_ok-left.left k.library c.head-head.ensures.value there gives below
+    (as_told lib own plan s x (option_copied c.told_by-given.result) c.in_ok-told.told (option_copied c.implied_by-gives.result) (option_copied c.find_over-below.result) c.loop-child.left c.in_ok-left.left k.library c.told_by-given.ensures c.in_ok-told.ensures (c.in_ok-left.ensures plan s k)))
     (c.loop-child.invariant plan s k)
 
 pub returns-then-left-eq0 : goal.returns-then-left-eq0
@@ -113,7 +122,8 @@ returns-then-left-eq0 t c = λ plan s k.
     let gives : option_copied c.implied_by-gives.result ≡ implied_by (inherited_head h fs) = c.implied_by-gives.ensures ∙ ap (λ (l : List Object). implied_by (inherited_head h l)) (ap lent c.as_slice.ensures.value) in
     over_limit c.args.most lib plan s o implied over c.children-child-items.result.now (c.loop-child.child-index + 1) c.in_ok-left.left c.children-child-items.ensures.value c.if-left-eq0.true
     (step c.args.most lib plan s o implied over c.children-child-items.result.now c.loop-child.child-index c.loop-child.left c.in_ok-left.left x c.loop-child-test.true c.child-item.is
-    (under lib own plan s o x h implied (option_copied c.implied_by-gives.result) over (option_copied c.find_over-below.result) fs c.loop-child.left c.in_ok-left.left k.library c.head-head.ensures.value there gives below (c.in_ok-left.ensures plan s k))
+    (under lib own plan s o x h implied (option_copied c.implied_by-gives.result) over (option_copied c.find_over-below.result) fs c.loop-child.left c.in_ok-left.left k.library c.head-head.ensures.value there gives below
+    (as_told lib own plan s x (option_copied c.told_by-given.result) c.in_ok-told.told (option_copied c.implied_by-gives.result) (option_copied c.find_over-below.result) c.loop-child.left c.in_ok-left.left k.library c.told_by-given.ensures c.in_ok-told.ensures (c.in_ok-left.ensures plan s k)))
     (c.loop-child.invariant plan s k))
 
 -- what is added, by the sources and the words

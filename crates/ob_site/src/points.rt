@@ -1,0 +1,31 @@
+//! The writable points of a site.
+ghost use Rattle.std.specs.Prelude.{◌≡◌, option_map, option_copied};
+ghost use Rattle.ob_points.specs.Points.{point_at};
+ghost use Rattle.ob_site_rules.specs.Build.{leaf};
+ghost use Rattle.ob_site_rules.specs.Shown.{node_of};
+
+use ob_object::Obj;
+use ob_site_state::State;
+use ob_tree::Tree;
+use ob_values::Text;
+
+/// The own object at a path, without its children.
+fn own_at<'a>(tree: &'a Tree, path: &Text) -> Option<&'a Obj>
+    ensures { option_copied result ≡ option_map (λ o. leaf o.head) (node_of path.now tree.now.root) }
+{
+    match tree.get(path) {
+        Some(node) => Some(tree.own(node)),
+        None => None,
+    }
+}
+
+/// The own object of the writable point at a path, without its children; None at every other path.
+pub(crate) fn point<'a>(state: &'a State, path: &Text) -> Option<&'a Obj>
+    ensures { option_copied result ≡ point_at state.now.plan state.now.now path.now }
+{
+    if state.contents().roles.is_point(path) {
+        own_at(state.tree(), path)
+    } else {
+        None
+    }
+}

@@ -1,0 +1,41 @@
+//! Whether a value may be put to what is shown at a path.
+ghost use Rattle.std.specs.Prelude.{◌≡◌, not, is_some, option_map, IfOk};
+ghost use Rattle.ob_replies.specs.Told as told;
+ghost use Rattle.ob_points.specs.Points.{suits, passes};
+
+use crate::reading::shown;
+use crate::value::held_fault;
+use ob_object::Obj;
+use ob_replies::Fault;
+use ob_site_state::State;
+use ob_values::{Text, Value};
+use std::alloc::AllocError;
+
+/// Whether no fault was found.
+fn is_nothing(fault: Option<Fault>) -> bool
+    ensures { result ≡ not (is_some (option_map told.fault fault)) }
+{
+    match fault {
+        Some(_) => false,
+        None => true,
+    }
+}
+
+/// Whether nothing is wrong with a value for an object. An error only for want of memory.
+fn suits(state: &State, object: &Obj, value: &Value) -> Result<bool, AllocError>
+    ensures { IfOk result (λ yes. yes ≡ suits state.now.plan state.now.now value.now object.now) }
+{
+    let fault = held_fault(state, object, value)?;
+    Ok(is_nothing(fault))
+}
+
+/// Whether the tests of a Put on a value let it through to what is shown at a path: its kind, a text too long, below min,
+/// above max, not in range. Where nothing is shown, none is let through. An error only for want of memory.
+pub fn passes(state: &State, path: &Text, value: &Value) -> Result<bool, AllocError>
+    ensures { IfOk result (λ yes. yes ≡ passes state.now.plan state.now.now path.now value.now) }
+{
+    match shown(state, path)? {
+        Some(object) => suits(state, &object, value),
+        None => Ok(false),
+    }
+}
