@@ -124,6 +124,7 @@ MAKE = request("POST", "/obix/watchService/make")
 REFRESH = request("POST", "/obix/watch/1/pollRefresh")
 CHANGES = request("POST", "/obix/watch/1/pollChanges")
 LATE = '<obj name="in"><abstime name="start" val="2999-01-01T00:00:00Z"/></obj>'
+NONE = '<obj name="in"><int name="limit" val="0"/></obj>'
 HEAD = b"GET /obix/n HTTP/1.1\r\n"
 
 
@@ -164,6 +165,7 @@ STREAMS = {
     "writes to logs": (50_000, lambda n: logged(n)),
     "acknowledgements": (10_000, lambda n: behind(logged(n), batches(n // 2, lambda k: item("Invoke", f"/obix/alarm/{k + 1}/ack")))),
     "queries of logs that pass nothing": (20_000, lambda n: behind(logged(n), batches(100, lambda k: item("Invoke", ("/obix/h/query", "/obix/r/query", "/obix/a/query")[k % 3], LATE)))),
+    "n turns, n/10 queries of no alarm": (40_000, lambda n: behind(logged(n), batches(n // 10, lambda k: item("Invoke", "/obix/a/query", NONE)))),
     "queries of all records": (20_000, lambda n: behind(logged(n), request("POST", "/obix/h/query", f'<obj><int name="limit" val="{n}"/></obj>') + request("POST", "/obix/a/query", f'<obj><int name="limit" val="{n}"/></obj>'))),
     "feeds that pass nothing": (10_000, lambda n: behind(logged(n), MAKE + asking("add", [f"//h{k}/obix/{'a' if k % 2 else 'h'}/feed" for k in range(50)], LATE) + REFRESH)),
     "events of feeds": (5_000, lambda n: (logged(n)[0], MAKE + asking("add", ["/obix/a/feed", "/obix/h/feed", "/obix/r/feed"]) + logged(n)[1] + CHANGES + REFRESH)),

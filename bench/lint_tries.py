@@ -14,7 +14,7 @@ sys.path.insert(0, str(TOP / "tools"))
 from lint.asking import Program          # noqa: E402
 from lint.parts import parts_of          # noqa: E402
 from lint.slips import BUILT_IN          # noqa: E402
-from site_lint import lint               # noqa: E402
+from site_lint import lint, lint_schedule   # noqa: E402
 
 SIGNS = {"␣": " ", "␉": "\t", "␊": "\n", "␍": "\r", "⏎": "\r\n", "␀": "\0", "␡": "\x7f"}
 failed = 0
@@ -157,6 +157,29 @@ def try_statuses(program):
         judge(start(["site.xml"], "/nowhere")[0] == 3, "no program")
 
 
+WEEKS = (   # what is altered in examples/heating.xml, and what is said of it then
+    ("CET-1CEST,M3.5.0,M10.5.0/3", "Europe/Berlin", "no rule of POSIX", 1), ('<str name="zone"', '<int name="zone"', "an int", None),
+    ('name="zone"', 'name="zona"', "no str named zone", 0), ("/obix/boiler/setpoint", "boiler/setpoint", "shows nothing", 4),
+    ("/obix/boiler/setpoint", "/obix/boiler/flow", "no writable point", 4), ('name="entries"', 'name="items"', "no list named entries", 3),
+    ('<list name="entries">', '<list name="entries"><bool/>', "has to be an obj", 6), ('name="day" val="6"', 'name="day" val="8"', "1 (Monday)", 47),
+    ('val="08:00:00"', 'val="08:00:00.0001"', "whole milliseconds", 48), ('val="62.5"', 'val="162.5"', "doesn't take this value", 49),
+    ('<real name="value" val="62.5"/>', '<int name="value" val="62"/>', "of one kind", 49), ('val="13:00:00"', 'val="08:00:00"', "its day and its time", 50),
+    ('val="13:00:00"', 'val="25:00:00"', "wanted is a time", None),
+)
+
+
+def try_schedules(program):
+    """Files of weekly schedules for the plant room: the part that the program refuses, and why."""
+    site, text = str(TOP / "examples" / "plant-room.xml"), (TOP / "examples" / "heating.xml").read_text()
+    judge(lint_schedule(str(TOP / "examples" / "heating.xml"), site, program)[0] == 0, "examples/heating.xml")
+    for old, new, why, number in WEEKS:
+        Path("weeks.xml").write_text(text.replace(old, new, 1))
+        status, lines = lint_schedule("weeks.xml", site, program)
+        said = f"[Schedule {number}]" if number is not None else "]"
+        judge(status == 2 and why in lines[0] and lines[0].endswith(said), f"{old} => {new}", f"\ncame out: {lines[0]}")
+    print(f"{len(WEEKS)} files of schedules are refused at their part")
+
+
 def try_tables():
     """The built-in contracts are those of docs/PROFILE.md; the tools are of Python 3.9, and of fewer than 300 lines each."""
     table = (TOP / "docs" / "PROFILE.md").read_text().partition("The built-in contracts")[2].partition("Every other word")[0]
@@ -176,6 +199,7 @@ def main():
         try_places()
         try_altered(program)
         try_statuses(program)
+        try_schedules(program)
         try_tables()
         for example in sorted((TOP / "examples").glob("*.xml")):
             lines = say(example.read_bytes(), program)[1]

@@ -1,9 +1,9 @@
 #!/usr/bin/env python3
 """Says where and why `obix` refuses a site file, and what in it passes in silence though it is likely a slip.
 
-    tools/site_lint.py SITE [--obix PROGRAM]
+    tools/site_lint.py SITE [--schedule FILE] [--obix PROGRAM]
 
-What is refused, where hrefs lead and what the site shows is asked of the program itself, in runs that end at once. A
+With --schedule the same is said of FILE, the weekly schedules of `obix schedule`, for a site that opens. What is refused, where hrefs lead and what the site shows is asked of the program itself, in runs that end at once. A
 finding is a line FILE:LINE:COLUMN: refused, warning or note: TEXT, then the line of the file, and a caret below its place;
 columns count characters from 1. This tool stands beside the proved program, and isn't proved.
 
@@ -17,9 +17,9 @@ import signal
 import sys
 import tempfile
 
-from lint import openings, refusals, slips
+from lint import openings, refusals, schedules, slips
 from lint.asking import Program, Site, Trouble
-from lint.parts import File
+from lint.parts import File, parts_of
 
 
 class Words(argparse.ArgumentParser):
@@ -74,13 +74,48 @@ def find(told, copy, program):
     return 2
 
 
+def lint_schedule(name, site, program):
+    """The same of a file of schedules, for the site of a file that opens."""
+    with open(name, "rb") as file:
+        data = file.read(1 << 25)
+    with tempfile.NamedTemporaryFile(prefix="site_lint.", suffix=".xml") as copy:
+        copy.write(data)
+        copy.flush()
+        told = File(name, data)
+        cause = program.run("schedule", site, copy.name)[1]
+        place = re.fullmatch(r"(.*) at (\d+)", cause or "")
+        number = re.fullmatch(r"Schedule (\d+)", cause or "")
+        if cause is None:
+            told.lines.append(f"{told.name}: {count(data)}")
+            return 0, told.lines
+        if place:
+            found = refusals.of_document(data, place[1], int(place[2]))
+        elif number:
+            found = schedules.of_schedule(parts_of(data)[0], int(number[1]), program, site)
+        else:
+            raise Trouble(f"{site}: refused for {cause}: ask about the site alone first")
+        for at, text in found:
+            told.say(at, "refused", f"{text} [{cause}]")
+        return 2, told.lines
+
+
+def count(data):
+    """How many schedules and entries a file of them has."""
+    parts = parts_of(data)[0]
+    weeks = parts[0].child("schedules").children
+    entries = sum(len(it.child("entries").children) for it in weeks)
+    return f"{len(weeks)} schedule{'s' if len(weeks) != 1 else ''}, {entries} entries: nothing is refused"
+
+
 def main():
     words = Words(description=__doc__, formatter_class=argparse.RawDescriptionHelpFormatter)
     words.add_argument("site", metavar="SITE", help="the site file")
+    words.add_argument("--schedule", metavar="FILE", help="the file of weekly schedules that is looked at in place of the site's")
     words.add_argument("--obix", metavar="PROGRAM", help="the program; without it out/bin/obix beside the tools, or obix on the PATH")
     given = words.parse_args()
     try:
-        status, lines = lint(given.site, Program(given.obix))
+        program = Program(given.obix)
+        status, lines = lint_schedule(given.schedule, given.site, program) if given.schedule else lint(given.site, program)
         sys.stdout.reconfigure(errors="backslashreplace")
         signal.signal(signal.SIGPIPE, signal.SIG_DFL)   # a reader may have seen enough
         print("\n".join(lines), flush=True)
@@ -88,7 +123,7 @@ def main():
     except KeyboardInterrupt:
         return 130
     except (OSError, ValueError) as fault:
-        trouble = f"{given.site}: {getattr(fault, 'strerror', None) or fault}"
+        trouble = f"{getattr(fault, 'filename', None) or given.site}: {getattr(fault, 'strerror', None) or fault}"
     except Trouble as fault:
         trouble = str(fault)
     except RecursionError:

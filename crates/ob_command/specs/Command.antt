@@ -17,6 +17,9 @@ pub data Command : Type 0 where
   -- what is written for the requests; the site file; the moment that the clock begins at, if it is given; the milliseconds from one
   -- moment to the next
   stdio : Output → (site : List ℕ) → (at : Option ℕ) → (tick : ℕ) → Command
+  -- the site file and that of the schedules; the moment that the clock begins at, if it is given; the milliseconds from one
+  -- moment to the next
+  schedule : (site file : List ℕ) → (at : Option ℕ) → (tick : ℕ) → Command
   -- the site file; where it listens; how many workers there are, and how many links each of them serves
   serve : (site host : List ℕ) → (port workers quota : ℕ) → Command
   -- the site file; the record's file
@@ -29,6 +32,8 @@ pub data Command : Type 0 where
   console : (url : Parts) → (subject : List ℕ) → (polls : ℕ) → (ack : Option (List ℕ)) → (user : List ℕ) → Command
   -- the seed, the clients and the requests
   storm : Storm → Command
+  -- the file that names the servers, and how many rounds over them come first
+  supervise : (config : List ℕ) → (rounds : ℕ) → Command
 
 -- ---- the values of an option, which is given at most once
 
@@ -68,6 +73,17 @@ stdio_of output given =
     then stdio_with output (operands given) (number_given 0 last_moment (values (codes "--at") given)) (number_or 0 largest_number 0 (values (codes "--tick") given))
     else None
 
+abbrev pub schedule_with : (operands : List (List ℕ)) → (at : Option (Option ℕ)) → (tick : Option ℕ) → Option Command
+schedule_with (site ∷ (file ∷ [])) (Some at) (Some tick) = Some (schedule site file at tick)
+schedule_with _ _ _ = None
+
+-- `SITE FILE [--at MS] [--tick MS]`
+abbrev pub schedule_of : List Argument → Option Command
+schedule_of given =
+    if has_only (codes "--at" ∷ codes "--tick" ∷ []) given
+    then schedule_with (operands given) (number_given 0 last_moment (values (codes "--at") given)) (number_or 0 largest_number 0 (values (codes "--tick") given))
+    else None
+
 abbrev pub auditing_with : List (List ℕ) → Option Command
 auditing_with (site ∷ (file ∷ [])) = Some (auditing site file)
 auditing_with _ = None
@@ -99,6 +115,17 @@ check_with _ = None
 -- `FILE`
 abbrev pub check_of : List Argument → Option Command
 check_of given = if has_only [] given then check_with (operands given) else None
+
+abbrev pub supervise_with : (operands : List (List ℕ)) → (rounds : Option ℕ) → Option Command
+supervise_with (config ∷ []) (Some rounds) = Some (supervise config rounds)
+supervise_with _ _ = None
+
+-- `CONFIG [--rounds N]`
+abbrev pub supervise_of : List Argument → Option Command
+supervise_of given =
+    if has_only (codes "--rounds" ∷ []) given
+    then supervise_with (operands given) (number_or 0 1_000_000 1 (values (codes "--rounds") given))
+    else None
 
 abbrev http_only : Result Parts HrefFault → Option Parts
 http_only (Ok url) = if bytes_eq url.scheme (codes "https") then None else Some url
@@ -150,13 +177,15 @@ abbrev pub named : List ℕ → List Argument → Option Command
 named word given =
     if bytes_eq word (codes "stdio") then stdio_of Answers given
     else (if bytes_eq word (codes "record") then stdio_of Record given
+    else (if bytes_eq word (codes "schedule") then schedule_of given
     else (if bytes_eq word (codes "audit") then auditing_of given
     else (if bytes_eq word (codes "serve") then serve_of given
     else (if bytes_eq word (codes "check") then check_of given
     else (if bytes_eq word (codes "watch") then watch_of given
     else (if bytes_eq word (codes "console") then console_of given
     else (if bytes_eq word (codes "storm") then option_map storm (storm_of given)
-    else None)))))))
+    else (if bytes_eq word (codes "super") then supervise_of given
+    else None)))))))))
 
 -- one of the commands above with its arguments; all other words are no command
 abbrev pub command : List (List ℕ) → Option Command

@@ -15,12 +15,14 @@ storm_values s = record { seed = s.seed; clients = s.clients; requests = s.reque
 
 abbrev pub command_of : Command → commands.Command
 command_of (variants.Stdio service) = commands.stdio service.output service.site.now service.at service.tick
+command_of (variants.Schedule service) = commands.schedule service.site.now service.file.now service.at service.tick
 command_of (variants.Audit audit) = commands.auditing audit.site.now audit.file.now
 command_of (variants.Serve service) = commands.serve service.site.now service.host.now service.port service.workers service.quota
 command_of (variants.Check file) = commands.check file.now
 command_of (variants.Watch client) = commands.watch client.url client.hrefs.items client.polls client.retries
 command_of (variants.Console client) = commands.console client.url client.subject client.polls client.ack client.user
 command_of (variants.Storm asked) = commands.storm (storm_values asked)
+command_of (variants.Super asked) = commands.supervise asked.config.now asked.rounds
 
 -- what the words of a client's command come to, once its URL is read
 abbrev pub watch_from : WatchWords → Option commands.Command

@@ -7,10 +7,12 @@ ghost use Rattle.ob_command.specs.Named.{command_of};
 
 use crate::argument::Arguments;
 use crate::client::{Console, Watch, console_of, watch_of};
-use crate::number::number_between;
+use crate::number::{LARGEST_NUMBER, number_between};
 use crate::record::{Audit, audit_of};
+use crate::schedule::{Scheduled, schedule_of};
 use crate::server::{Output, Serve, Stdio, check_of, serve_of, stdio_of};
 use crate::storm::Storm;
+use crate::supervise::{Supervise, supervise_of};
 use crate::text::are_texts;
 use std::alloc::{AllocError, Global};
 
@@ -19,6 +21,8 @@ use std::alloc::{AllocError, Global};
 pub enum Command<'a> {
     /// The requests of the source are asked of a site file's site, and answered or recorded.
     Stdio(Stdio<'a>),
+    /// The requests of the source are answered from a site file's site, which also gets the writes of weekly schedules.
+    Schedule(Scheduled<'a>),
     /// Whether a record is legal from a site file.
     Audit(Audit<'a>),
     /// The requests of links that come to a port are answered from a site file.
@@ -31,10 +35,9 @@ pub enum Command<'a> {
     Console(Console),
     /// A site of its own is asked what a seed draws.
     Storm(Storm),
+    /// The requests of the source are answered from a tree of what several servers show.
+    Super(Supervise<'a>),
 }
-
-/// The largest number of 18 digits.
-const LARGEST_NUMBER: u64 = 999_999_999_999_999_999;
 
 /// The storm that the arguments `SEED CLIENTS REQUESTS` ask for.
 fn storm_of(given: Arguments<'_>) -> Option<Command<'_>>
@@ -63,12 +66,14 @@ fn storm_of(given: Arguments<'_>) -> Option<Command<'_>>
 ///
 /// - `stdio SITE [--at MS] [--tick MS]`
 /// - `record SITE [--at MS] [--tick MS]`
+/// - `schedule SITE FILE [--at MS] [--tick MS]`
 /// - `audit SITE FILE`
 /// - `serve SITE HOST PORT [--workers N] [--quota M]`
 /// - `check FILE`
 /// - `watch URL HREF.. [--polls N] [--retry R]`
 /// - `console URL SUBJECT [--polls N] [--ack HREF] [--user NAME]`
 /// - `storm SEED CLIENTS REQUESTS`
+/// - `super CONFIG [--rounds N]`
 ///
 /// An option stands anywhere behind the command, at most once, as `--x V` or `--x=V`; `--` ends the options. Numbers
 /// have 1 to 18 digits, and each word is text that XML can carry. URL is an http URL without a fragment, and SUBJECT names
@@ -91,12 +96,14 @@ pub fn read_command<'a>(
     match word.as_str() {
         "stdio" => Ok(stdio_of(Output::Answers, given)),
         "record" => Ok(stdio_of(Output::Record, given)),
+        "schedule" => Ok(schedule_of(given)),
         "audit" => Ok(audit_of(given)),
         "serve" => Ok(serve_of(given)),
         "check" => Ok(check_of(given)),
         "watch" => watch_of(alloc, given),
         "console" => console_of(alloc, given),
         "storm" => Ok(storm_of(given)),
+        "super" => Ok(supervise_of(given)),
         _ => Ok(None),
     }
 }

@@ -9,12 +9,16 @@ mod client;
 mod command;
 mod number;
 mod record;
+mod schedule;
 mod server;
 mod storm;
+mod supervise;
 mod text;
 
 pub use client::{Console, Watch};
 pub use command::{Command, read_command};
 pub use record::Audit;
+pub use schedule::Scheduled;
 pub use server::{Output, Serve, Stdio};
 pub use storm::Storm;
+pub use supervise::Supervise;

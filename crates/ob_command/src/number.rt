@@ -4,6 +4,9 @@ ghost use Rattle.ob_command.specs.Number.{number_up_to, number_between};
 
 use ob_spelling::split_number;
 
+/// The largest number of 18 digits.
+pub(crate) const LARGEST_NUMBER: u64 = 999_999_999_999_999_999;
+
 /// The number that a text of 1 to 18 digits writes, where it is at most `most`.
 fn number_up_to(text: &[u8], most: u64) -> Option<u64>
     requires { most < 10 ^ 18 }

@@ -6,13 +6,10 @@ ghost use Rattle.ob_command.specs.Named.{command_of};
 
 use crate::argument::Arguments;
 use crate::command::Command;
-use crate::number::number_between;
+use crate::number::{LARGEST_NUMBER, number_between};
 
 /// The last moment that there is, in milliseconds since 1970.
-const LAST_MOMENT: u64 = 253_402_300_799_999;
-
-/// The largest number of 18 digits.
-const LARGEST_NUMBER: u64 = 999_999_999_999_999_999;
+pub(crate) const LAST_MOMENT: u64 = 253_402_300_799_999;
 
 /// What is written for the requests of the source.
 #[derive(Clone, Copy)]

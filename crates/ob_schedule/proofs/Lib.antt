@@ -1,3 +1,1 @@
-pub mod Earliest
-pub mod Walk
 pub mod Right

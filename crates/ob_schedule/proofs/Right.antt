@@ -9,25 +9,16 @@ use Rattle.ob_object.specs.Object.{Object, children, parts}
 use Rattle.ob_object.specs.Kinds.{same_kind}
 use Rattle.ob_object.specs.declared.kind.Kind.{Kind}
 use Rattle.ob_object.specs.declared.kind.Kind.TheVariants as kind
-use Rattle.ob_object.specs.WellFormed.{named, has_name}
+use Rattle.ob_object.specs.WellFormed.{named}
 use Rattle.ob_weekly.specs.Schedules.{IsEntry, IsWeekly}
 use Rattle.ob_weekly.specs.declared.schedule.Schedule.{Schedule}
-use Rattle.ob_schedule.specs.Forms.{holds, said, zone_text, day_value, time_value, is_zone, is_day, is_time, is_list, is_point, is_value, is_same_time, week_time, unless, judged, needs, each, entry_offences, schedule_offences, offences, point_of}
-use Rattle.ob_schedule.specs.Numbered.{Part, numbered_from, inside, child, inside_child, root}
+use Rattle.ob_schedule.specs.Forms.{holds, zone_text, day_value, time_value, is_zone, is_day, is_time, is_list, is_point, is_value, is_same_time, week_time, entry_offences, schedule_offences, offences, point_of}
+use Rattle.ob_parts.specs.Numbered.{Part, plus, numbered_from, inside, child, inside_child, root}
+use Rattle.ob_parts.specs.Offences.{unless, judged, needs, said, each}
+use Rattle.ob_parts.proofs.Needed.{said_some}
 use Rattle.ob_schedule.specs.PointRules.{PointRules, Text}
 use Rattle.ob_schedule.specs.Right.{IsRightEntry, IsRightSchedule, IsRightFile}
 use Rattle.ob_schedule.specs.Weeks.{week, week_of, entry_of, listed_in}
-use Rattle.ob_schedule.proofs.Walk.{named_part}
-
-pick : (b : Bool) (p : Part) (r : Option Part) (o : Object) (s : Option Object) → p.object ≡ o → option_map (λ (c : Part). c.object) r ≡ s
-    → option_map (λ (c : Part). c.object) (cond b (Some p) r) ≡ cond b (Some o) s
-pick true p r o s e f = ap Some e
-pick false p r o s e f = f
-
--- the child of a name has its number
-named_in : (name : List ℕ) (n : ℕ) (os : List Object) → option_map (λ (c : Part). c.object) (find (named_part name) (numbered_from n os)) ≡ named name os
-named_in name n [] = refl
-named_in name n (o ∷ os) = pick (has_name name o.head.name) (record { number = n; object = o }) (find (named_part name) (numbered_from (n + parts o) os)) o (named name os) refl (named_in name (n + parts o) os)
 
 unless_nil : (b : Bool) (p : Part) → unless b p ≡ [] → b ≡ true
 unless_nil true p e = refl
@@ -40,10 +31,6 @@ judged_nil test p (Some d) e = (d, refl, unless_nil (test d.object) d e)
 append_nil : (xs ys : List ℕ) → xs ++ ys ≡ [] → (xs ≡ []) × (ys ≡ [])
 append_nil [] ys e = (refl, e)
 append_nil (x ∷ xs) ys e = absurd (let f : x ∷ (xs ++ ys) ≡ [] = e in cc)
-
--- what is said by a child that is there
-said_is : {A : Type 0} (name : List ℕ) (read : Object → Option A) (p d : Part) → child name p ≡ Some d → said name read p.object ≡ read d.object
-said_is name read p d e = ap (option_and_then read) (sym (named_in name (p.number + 1) (children p.object)) ∙ ap (option_map (λ (c : Part). c.object)) e)
 
 both_true : (a b : Bool) → (a && b) ≡ true → (a ≡ true) × (b ≡ true)
 both_true true b e = (refl, e)
@@ -58,8 +45,8 @@ right_entry site point before p e =
     let d = judged_nil is_day p (child (codes "day") p) day.0 in
     let t = judged_nil is_time p (child (codes "at") p) time.0 in
     record {
-      day = ap (holds (λ i. int_le (pos 1) i && int_le i (pos 7))) (said_is (codes "day") day_value p d.0 d.1) ∙ d.2;
-      time = ap (holds (λ t. nat_lt t 86_400_000_000_000 && (t % 1_000_000 == 0))) (said_is (codes "at") time_value p t.0 t.1) ∙ t.2;
+      day = ap (holds (λ i. int_le (pos 1) i && int_le i (pos 7))) (said_some (codes "day") day_value p d.0 d.1) ∙ d.2;
+      time = ap (holds (λ t. nat_lt t 86_400_000_000_000 && (t % 1_000_000 == 0))) (said_some (codes "at") time_value p t.0 t.1) ∙ t.2;
     }
 
 all_cons : {A : Type 0} (P : A → Type 0) (x : A) (xs : List A) → P x → All P xs → All P (x ∷ xs)
@@ -72,17 +59,17 @@ each_nil : (judge : List Object → Part → List ℕ) (P : Object → Type 0) �
 each_nil judge P right b n [] e = λ k d h. absurd (omega (arith, h))
 each_nil judge P right b n (o ∷ os) e =
     let p : Part = record { number = n; object = o } in
-    let two = append_nil (judge b p) (each judge (b ++ o ∷ []) (numbered_from (n + parts o) os)) e in
-    all_cons P o os (right b p two.0) (each_nil judge P right (b ++ o ∷ []) (n + parts o) os two.1)
+    let two = append_nil (judge b p) (each judge (b ++ o ∷ []) (numbered_from (plus n (parts o)) os)) e in
+    all_cons P o os (right b p two.0) (each_nil judge P right (b ++ o ∷ []) (plus n (parts o)) os two.1)
 
 listed_is : (name : List ℕ) (p d : Part) → child name p ≡ Some d → listed_in name p.object ≡ children d.object
-listed_is name p d e = ap (λ r. unwrap_or r []) (said_is name (λ c. Some (children c)) p d e)
+listed_is name p d e = ap (λ r. unwrap_or r []) (said_some name (λ c. Some (children c)) p d e)
 
 all_listed : (judge : List Object → Part → List ℕ) (P : Object → Type 0) → ((b : List Object) (p : Part) → judge b p ≡ [] → P p.object)
     → (name : List ℕ) (p d : Part) → child name p ≡ Some d → each judge [] (inside_child name p) ≡ [] → All P (listed_in name p.object)
 all_listed judge P right name p d e none =
     subst (All P) (sym (listed_is name p d e))
-    (each_nil judge P right [] (d.number + 1) (children d.object) (sym (ap (λ c. each judge [] (unwrap_or (option_map inside c) [])) e) ∙ none))
+    (each_nil judge P right [] (plus d.number 1) (children d.object) (sym (ap (λ c. each judge [] (unwrap_or (option_map inside c) [])) e) ∙ none))
 
 least_of : (a b : ℕ) → nat_le a b ≡ true → a ≤ b
 least_of a b e = leb-true a b e
@@ -121,7 +108,7 @@ right_file site doc e =
     let z = judged_nil is_zone p (child (codes "zone") p) zone.0 in
     let d = judged_nil (is_list 0 1_000) p (child (codes "schedules") p) list.0 in
     record {
-      zone = ap (holds (λ t. is_some (read_whole t))) (said_is (codes "zone") zone_text p z.0 z.1) ∙ z.2;
+      zone = ap (holds (λ t. is_some (read_whole t))) (said_some (codes "zone") zone_text p z.0 z.1) ∙ z.2;
       few = (few_listed 0 1_000 (codes "schedules") p d.0 d.1 d.2).1;
       schedules = all_listed (schedule_offences site) IsRightSchedule (right_schedule site) (codes "schedules") p d.0 d.1 list.1;
     }

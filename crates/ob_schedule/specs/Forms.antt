@@ -1,7 +1,7 @@
 -- The form of a file of schedules, as the parts of a document that offend against it. A part that is there and is wrong offends
 -- itself; where one that is needed is missing, the object round it does. Children of other names are passed over.
-use Rattle.std.specs.Prelude.{◌≡◌, ℕ, ◌%◌, ◌≤◌, Bool, true, false, cond, not, ◌&&◌, ◌==◌, nat_le, nat_lt, int_le, ℤ, pos, codes, List, [], ◌∷◌, ◌++◌, length, Option, Some, None, is_some, option_map, option_and_then}
-use Rattle.std.specs.List.{Contains, list_any}
+use Rattle.std.specs.Prelude.{◌≡◌, ℕ, ◌%◌, Bool, true, false, cond, not, ◌&&◌, ◌==◌, nat_le, nat_lt, int_le, ℤ, pos, codes, List, [], ◌∷◌, ◌++◌, length, Option, Some, None, is_some, option_map, option_and_then}
+use Rattle.std.specs.List.{list_any}
 use Rattle.std.specs.Ordering.{int_eq}
 use Rattle.std.specs.Str.{bytes_eq}
 use Rattle.jiff_tz.specs.PosixReader.{read_whole}
@@ -13,8 +13,9 @@ use Rattle.ob_object.specs.declared.head.Slot.TheVariants.{Absent, Null, Is}
 use Rattle.ob_object.specs.Default.{default_of}
 use Rattle.ob_object.specs.Kinds.{same_kind}
 use Rattle.ob_object.specs.Object.{Object, children}
-use Rattle.ob_object.specs.WellFormed.{named}
-use Rattle.ob_schedule.specs.Numbered.{Part, child, inside_child, root}
+use Rattle.ob_parts.specs.Numbered.{Part, inside_child, root}
+use Rattle.ob_parts.specs.Offences.{IsFirst}
+pub use Rattle.ob_parts.specs.Offences.{unless, needs, said, each}
 use Rattle.ob_schedule.specs.PointRules.{PointRules, Text}
 
 -- ---- what an object holds
@@ -79,10 +80,6 @@ is_day o = holds (λ i. int_le (pos 1) i && int_le i (pos 7)) (day_value o)
 abbrev pub is_time : Object → Bool
 is_time o = holds (λ t. nat_lt t 86_400_000_000_000 && (t % 1_000_000 == 0)) (time_value o)
 
--- what an object says by its child of a name
-abbrev pub said : {A : Type 0} → List ℕ → (Object → Option A) → Object → Option A
-said name read o = option_and_then read (named name (children o))
-
 -- the text of the point of a schedule
 abbrev pub point_said : Object → Option Text
 point_said s = said (codes "point") point_text s
@@ -130,23 +127,6 @@ is_same_time _ _ = false
 
 -- ---- the parts that offend
 
--- the part offends where it isn't as it should be
-abbrev pub unless : Bool → Part → List ℕ
-unless is_right p = cond is_right [] (p.number ∷ [])
-
-abbrev pub judged : (Object → Bool) → Part → Option Part → List ℕ
-judged test p None = p.number ∷ []
-judged test p (Some c) = unless (test c.object) c
-
--- the child of a name is needed, and it has to pass the test
-abbrev pub needs : List ℕ → (Object → Bool) → Part → List ℕ
-needs name test p = judged test p (child name p)
-
--- each of these parts, with the objects before it
-abbrev pub each : (List Object → Part → List ℕ) → List Object → List Part → List ℕ
-each judge before [] = []
-each judge before (p ∷ ps) = judge before p ++ each judge (before ++ p.object ∷ []) ps
-
 -- an object with an int `day`, a time `at` and a `value`; and no entry before it has both its day and its time
 abbrev pub entry_offences : PointRules → Option (Text × Kind) → List Object → Part → List ℕ
 entry_offences site point before e =
@@ -181,6 +161,5 @@ abbrev pub IsFile : PointRules → Object → Type 0
 IsFile site doc = offences site doc ≡ []
 
 -- this part is the first that offends
-pub record IsFirstOffence (site : PointRules) (doc : Object) (part : ℕ) : Type 0 where
-  pub offends : Contains (offences site doc) part
-  pub first : (other : ℕ) → Contains (offences site doc) other → part ≤ other
+abbrev pub IsFirstOffence : PointRules → Object → ℕ → Type 0
+IsFirstOffence site doc part = IsFirst (offences site doc) part

@@ -1,8 +1,6 @@
-pub mod Numbered
 pub mod PointRules
 pub mod Forms
 pub mod Weeks
 pub mod Refusals
 pub mod Right
-pub mod Least
 pub mod Views

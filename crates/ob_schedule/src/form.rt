@@ -1,87 +1,65 @@
 //! The first part of a document that offends against the form of a file of schedules.
-ghost use Rattle.std.specs.Prelude.{◌≡◌, ◌+◌, ◌<◌, ◌^◌, [], codes, not, IfOk, IfErr, OnOk, option_map};
-ghost use Rattle.ob_object.specs.Object.{parts};
+ghost use Rattle.std.specs.Prelude.{◌≡◌, [], codes, not, IfOk, IfErr, OnOk, option_map};
 ghost use Rattle.ob_object.specs.Kinds.{same_kind};
 ghost use Rattle.ob_object.specs.declared.kind.Kind.TheVariants as kind;
 ghost use Rattle.std.specs.List.{list_any};
 ghost use Rattle.ob_schedule.specs.Forms as form;
-ghost use Rattle.ob_schedule.specs.Least as order;
-ghost use Rattle.ob_schedule.specs.Numbered.{inside, inside_child};
+ghost use Rattle.ob_parts.specs.Least as order;
+ghost use Rattle.ob_parts.specs.Numbered.{inside, inside_child};
 ghost use Rattle.ob_schedule.specs.Refusals.{Refuses};
-ghost use Rattle.ob_schedule.specs.Views.{part_of, point_of, IsNumbered};
+ghost use Rattle.ob_parts.specs.Views.{part_of};
+ghost use Rattle.ob_schedule.specs.Views.{point_of};
 
 use crate::fault::ScheduleFault;
 use crate::judged::{have_time, is_day, is_list, is_time, is_value, is_zone, right_point};
-use crate::part::{Part, Point, next_number, object_at};
+use crate::point::{Point, object_at};
 use crate::points::Points;
 use ob_object::{Kind, Obj};
+use ob_parts::{Part, earlier, number_behind};
 use std::alloc::AllocError;
-
-/// The earlier of two parts, where there are any.
-fn earlier(one: Option<u64>, other: Option<u64>) -> Option<u64>
-    ensures { result ≡ order.earlier one other }
-{
-    match one {
-        Some(one) => match other {
-            Some(other) => Some(one.min(other)),
-            None => Some(one),
-        },
-        None => other,
-    }
-}
-
-/// The part, unless it is as it should be.
-fn unless(is_right: bool, part: Part<'_>) -> Option<u64>
-    ensures { result ≡ order.least (form.unless is_right (part_of part.entry)) }
-{
-    if is_right { None } else { Some(part.number) }
-}
 
 /// The part, unless it is an obj.
 fn kind_offence(part: Part<'_>) -> Option<u64>
     ensures { result ≡ order.least (form.unless (same_kind part.entry.object.now.head.kind kind.Obj) (part_of part.entry)) }
 {
-    unless(part.object.kind().same(Kind::Obj), part)
+    part.unless(part.object.kind().same(Kind::Obj))
 }
 
 /// An entry, where one before it has both its day and its time.
 fn twice_offence(before: &[Obj], entry: Part<'_>) -> Option<u64>
     ensures { result ≡ order.least (form.unless (not (list_any (λ other. form.is_same_time (form.week_time other) (form.week_time entry.entry.object.now)) before.now)) (part_of entry.entry)) }
 {
-    unless(!have_time(before, entry.object), entry)
+    entry.unless(!have_time(before, entry.object))
 }
 
 /// The zone of a document, unless it is one.
 fn zone_offence(doc: Part<'_>) -> Option<u64>
-    requires { IsNumbered doc }
     ensures { result ≡ order.least (form.needs (codes "zone") form.is_zone (part_of doc.entry)) }
 {
     match doc.child("zone") {
-        Some(zone) => unless(is_zone(zone.object), zone),
+        Some(zone) => zone.unless(is_zone(zone.object)),
         None => Some(doc.number),
     }
 }
 
 /// The list of a name, unless it has so many objects.
 fn list_offence(part: Part<'_>, name: &str, least: usize, most: usize) -> Option<u64>
-    requires { IsNumbered part }
     ensures { result ≡ order.least (form.needs name.now (form.is_list least most) (part_of part.entry)) }
 {
     match part.child(name) {
-        Some(list) => unless(is_list(list.object, least, most), list),
+        Some(list) => list.unless(is_list(list.object, least, most)),
         None => Some(part.number),
     }
 }
 
 /// The point of a schedule, unless it is one.
 fn point_offence<P: Points>(points: &P, before: &[Obj], schedule: Part<'_>) -> Option<u64>
-    requires { IsNumbered schedule }
     ensures { result ≡ order.least (form.needs (codes "point") (form.is_point (P.rules points.now) before.now) (part_of schedule.entry)) }
 {
     match schedule.child("point") {
         Some(point) => {
             let is_right = right_point(points, before, point.object).is_some();
-            unless(is_right, point)
+            point.unless(is_right)
         }
         None => Some(schedule.number),
     }
@@ -89,22 +67,20 @@ fn point_offence<P: Points>(points: &P, before: &[Obj], schedule: Part<'_>) -> O
 
 /// The day of an entry, unless it is one.
 fn day_offence(entry: Part<'_>) -> Option<u64>
-    requires { IsNumbered entry }
     ensures { result ≡ order.least (form.needs (codes "day") form.is_day (part_of entry.entry)) }
 {
     match entry.child("day") {
-        Some(day) => unless(is_day(day.object), day),
+        Some(day) => day.unless(is_day(day.object)),
         None => Some(entry.number),
     }
 }
 
 /// The time of an entry, unless it is one.
 fn time_offence(entry: Part<'_>) -> Option<u64>
-    requires { IsNumbered entry }
     ensures { result ≡ order.least (form.needs (codes "at") form.is_time (part_of entry.entry)) }
 {
     match entry.child("at") {
-        Some(time) => unless(is_time(time.object), time),
+        Some(time) => time.unless(is_time(time.object)),
         None => Some(entry.number),
     }
 }
@@ -115,13 +91,12 @@ fn value_offence<P: Points>(
     point: Option<Point<'_>>,
     entry: Part<'_>,
 ) -> Result<Option<u64>, AllocError>
-    requires { IsNumbered entry }
     ensures { IfOk result (λ first. first ≡ order.least (form.needs (codes "value") (form.is_value (P.rules points.now) (option_map point_of point.entry)) (part_of entry.entry))) }
 {
     match entry.child("value") {
         Some(value) => {
             let is_right = is_value(points, point, value.object)?;
-            Ok(unless(is_right, value))
+            Ok(value.unless(is_right))
         }
         None => Ok(Some(entry.number)),
     }
@@ -134,7 +109,6 @@ fn entry_offence<P: Points>(
     before: &[Obj],
     entry: Part<'_>,
 ) -> Result<Option<u64>, AllocError>
-    requires { IsNumbered entry }
     ensures { IfOk result (λ first. first ≡ order.least (form.entry_offences (P.rules points.now) (option_map point_of point.entry) before.now (part_of entry.entry))) }
 {
     let kind = kind_offence(entry);
@@ -151,17 +125,16 @@ fn entries_offence<P: Points>(
     point: Option<Point<'_>>,
     list: Part<'_>,
 ) -> Result<Option<u64>, AllocError>
-    requires { IsNumbered list }
     ensures { IfOk result (λ first. first ≡ order.least (form.each (form.entry_offences (P.rules points.now) (option_map point_of point.entry)) [] (inside (part_of list.entry)))) }
 {
     let entries = list.object.children();
-    let mut number = list.number + 1;
+    let mut number = list.number_inside();
     let mut first = None;
     for place in 0..entries.len() {
         let object = object_at(entries, place);
         let found = entry_offence(points, point, &entries[..place], Part { number, object })?;
         first = earlier(first, found);
-        number = next_number(number, object);
+        number = number_behind(number, object);
     }
     Ok(first)
 }
@@ -172,7 +145,6 @@ fn listed_entries<P: Points>(
     point: Option<Point<'_>>,
     schedule: Part<'_>,
 ) -> Result<Option<u64>, AllocError>
-    requires { IsNumbered schedule }
     ensures { IfOk result (λ first. first ≡ order.least (form.each (form.entry_offences (P.rules points.now) (option_map point_of point.entry)) [] (inside_child (codes "entries") (part_of schedule.entry)))) }
 {
     match schedule.child("entries") {
@@ -187,7 +159,6 @@ fn schedule_offence<P: Points>(
     before: &[Obj],
     schedule: Part<'_>,
 ) -> Result<Option<u64>, AllocError>
-    requires { IsNumbered schedule }
     ensures { IfOk result (λ first. first ≡ order.least (form.schedule_offences (P.rules points.now) before.now (part_of schedule.entry))) }
 {
     let kind = kind_offence(schedule);
@@ -210,24 +181,22 @@ fn point_of<'a, P: Points>(points: &P, before: &[Obj], schedule: &'a Obj) -> Opt
 
 /// The first part of schedules that offends.
 fn schedules_offence<P: Points>(points: &P, list: Part<'_>) -> Result<Option<u64>, AllocError>
-    requires { IsNumbered list }
     ensures { IfOk result (λ first. first ≡ order.least (form.each (form.schedule_offences (P.rules points.now)) [] (inside (part_of list.entry)))) }
 {
     let schedules = list.object.children();
-    let mut number = list.number + 1;
+    let mut number = list.number_inside();
     let mut first = None;
     for place in 0..schedules.len() {
         let object = object_at(schedules, place);
         let found = schedule_offence(points, &schedules[..place], Part { number, object })?;
         first = earlier(first, found);
-        number = next_number(number, object);
+        number = number_behind(number, object);
     }
     Ok(first)
 }
 
 /// The first part of the schedules of a document that offends.
 fn listed_schedules<P: Points>(points: &P, doc: Part<'_>) -> Result<Option<u64>, AllocError>
-    requires { IsNumbered doc }
     ensures { IfOk result (λ first. first ≡ order.least (form.each (form.schedule_offences (P.rules points.now)) [] (inside_child (codes "schedules") (part_of doc.entry)))) }
 {
     match doc.child("schedules") {
@@ -238,7 +207,6 @@ fn listed_schedules<P: Points>(points: &P, doc: Part<'_>) -> Result<Option<u64>,
 
 /// The first part of a document that offends, if one does.
 fn first_offence<P: Points>(points: &P, doc: &Obj) -> Result<Option<u64>, AllocError>
-    requires { parts doc.now < 2 ^ 64 }
     ensures { IfOk result (λ first. first ≡ order.least (form.offences (P.rules points.now) doc.now)) }
 {
     let doc = Part::root(doc);
@@ -253,7 +221,6 @@ fn first_offence<P: Points>(points: &P, doc: &Obj) -> Result<Option<u64>, AllocE
 ///
 /// `Shape` comes exactly where it isn't, with the first part that offends. `Memory` comes for want of memory alone.
 pub fn check_form<P: Points>(doc: &Obj, points: &P) -> Result<(), ScheduleFault>
-    requires { parts doc.now < 2 ^ 64 }
     ensures is { OnOk result (form.IsFile (P.rules points.now) doc.now) }
     ensures refuses { IfErr result (Refuses (P.rules points.now) doc.now) }
 {

@@ -5,7 +5,7 @@ ghost use Rattle.ob_object.specs.Default.{default_of};
 ghost use Rattle.ob_schedule.specs.Forms as form;
 ghost use Rattle.ob_schedule.specs.Views as view;
 
-use crate::part::Point;
+use crate::point::Point;
 use crate::points::Points;
 use jiff::tz::TimeZone;
 use ob_object::{Kind, Obj, Slot};

@@ -7,7 +7,7 @@
 mod fault;
 mod form;
 mod judged;
-mod part;
+mod point;
 mod points;
 mod read;
 

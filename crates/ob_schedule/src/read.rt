@@ -1,9 +1,8 @@
 //! Reading a file of schedules.
-ghost use Rattle.std.specs.Prelude.{◌≡◌, ◌≤◌, ◌<◌, ◌/◌, ◌^◌, [], codes, length, map, unsigned_abs, pos, IfOk, IfErr, option_copied};
+ghost use Rattle.std.specs.Prelude.{◌≡◌, ◌≤◌, ◌<◌, ◌/◌, [], codes, length, map, unsigned_abs, pos, IfOk, IfErr, option_copied};
 ghost use Rattle.std.specs.List.{All};
 ghost use Rattle.jiff.specs.Words.{plain_zone};
 ghost use Rattle.jiff.specs.Placed.{IsPosixZone};
-ghost use Rattle.ob_object.specs.Object.{parts};
 ghost use Rattle.ob_object.specs.declared.head.Slot.TheVariants.{Null};
 ghost use Rattle.ob_schedule.specs.Forms as form;
 ghost use Rattle.ob_schedule.specs.Refusals.{Refuses};
@@ -180,7 +179,6 @@ pub fn read_schedules<P: Points>(
     doc: &Obj,
     points: &P,
 ) -> Result<Schedules, ScheduleFault>
-    requires { parts doc.now < 2 ^ 64 }
     ensures is { IfOk result (λ _. form.IsFile (P.rules points.now) doc.now) }
     ensures says { IfOk result (says.Says doc.now) }
     ensures refuses { IfErr result (Refuses (P.rules points.now) doc.now) }

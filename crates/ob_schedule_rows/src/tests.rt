@@ -84,10 +84,6 @@ fn told(alloc: Global, document: &str) -> Result<String, AllocError> {
         told.push_str("no document")?;
         return Ok(told);
     };
-    if root.parts() == u64::MAX {
-        told.push_str("too large")?;
-        return Ok(told);
-    }
     let schedules = match read_schedules(alloc, &root, &OnePoint) {
         Ok(schedules) => schedules,
         Err(ScheduleFault::Memory) => return Err(AllocError),

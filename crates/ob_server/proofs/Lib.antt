@@ -4,6 +4,7 @@ pub mod ServeLemmas
 pub mod CompleteLemmas
 pub mod SortLemmas
 pub mod AloneLemmas
+pub mod AnsweringLemmas
 pub mod WorkLemmas
 pub mod TogetherLemmas
 pub mod BackLemmas

@@ -6,6 +6,7 @@ pub mod Passes
 pub mod Complete
 pub mod Next
 pub mod Alone
+pub mod Answering
 pub mod Working
 pub mod Together
 pub mod GivenBack

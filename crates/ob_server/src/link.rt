@@ -29,12 +29,13 @@ use std::alloc::Global;
 use std::sync::Wait;
 
 /// The most bytes that one link may give.
-const BUDGET: u64 = 1 << 40;
+pub(crate) const BUDGET: u64 = 1 << 40;
 
-const PIECE: usize = 4096;
+/// The most bytes that are read at once.
+pub(crate) const PIECE: usize = 4096;
 
 /// Writes an answer, by way of the text, whose content isn't needed.
-fn write_out<L: Link>(
+pub(crate) fn write_out<L: Link>(
     alloc: Global,
     text: &mut Vec<u8>,
     link: &mut L,
@@ -104,7 +105,7 @@ fn answer_one<M: Machine<Request = Request, Reply = Obj>, R: Wait, L: Link, C: C
 }
 
 /// Writes the bytes that refuse what follows.
-fn refuse<L: Link>(link: &mut L, fault: FrameFault) -> Result<(), Break>
+pub(crate) fn refuse<L: Link>(link: &mut L, fault: FrameFault) -> Result<(), Break>
     requires { fault ≢ Memory }
     ensures sends { Sends (L.held link.old) (L.held link.new) result (refusal_text fault) }
     ensures apart { (L.left link.new ≡ L.left link.old) × (L.taken link.new ≡ L.taken link.old)

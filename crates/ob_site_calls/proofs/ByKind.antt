@@ -56,13 +56,16 @@ own_refuses plan s p verb kind differ own r free =
     let n = own.number in
     let part = part_there n s.tree own.head own.there in
     let x : Object = part.0 in
-    let c : Context = under (handed_at s.library n s.tree) own.head.name in
-    (comes_to c (dressed_own plan s x),
-    (ap₂ (λ (i : Option Place) (j : Option Object). or_else i (option_map Node j)) free
-    ((own_trees_tell plan s).shows_own p n differ own.here
-    ∙ ap₂ (λ (i : Option Context) (j : Option Object). option_and_then (λ c. option_map (λ o. comes_to c (dressed_own plan s o)) j) i)
-    (ap (option_map (λ (g : Head). under (handed_at s.library n s.tree) g.name)) own.there) part.1),
-    ap (refuses verb) (effective_kind c.library (dressed_own plan s x) c.implied c.over ∙ status_at plan s x.head (node_path x.head) ∙ ap (λ (g : Head). g.kind) part.2 ∙ own.kind) ∙ r))
+    let c : Context = under (handed_at s.library n s.tree) own.head.name in (
+      comes_to c (dressed_own plan s x),
+      (
+        ap₂ (λ (i : Option Place) (j : Option Object). or_else i (option_map Node j)) free
+            ((own_trees_tell plan s).shows_own p n differ own.here
+            ∙ ap₂ (λ (i : Option Context) (j : Option Object). option_and_then (λ c. option_map (λ o. comes_to c (dressed_own plan s o)) j) i)
+            (ap (option_map (λ (g : Head). under (handed_at s.library n s.tree) g.name)) own.there) part.1),
+        ap (refuses verb) (effective_kind c.library (dressed_own plan s x) c.implied c.over ∙ status_at plan s x.head (node_path x.head) ∙ ap (λ (g : Head). g.kind) part.2 ∙ own.kind) ∙ r,
+      ),
+    )
 
 no_value : (h : Head) → not (is_value_kind h.kind) ≡ true → target_fault h ≡ Some NotSupported
 no_value h e = ap (λ b. cond b (Some NotSupported) (first_fault ((not (is_writable h.facets.writable), NotWritable) ∷ []))) e

@@ -1,6 +1,5 @@
 -- What hrefs are added as.
-use Rattle.std.proofs.Common.{◌≡◌, ℕ, ◌+◌, ◌<◌, ◌≤◌, List, [], ◌∷◌, ◌++◌, length, take, get_or, Option, Some, refl, sym, ap, ◌∙◌, subst, arith}
-use Rattle.std.proofs.lemmas.List.{take_more}
+use Rattle.std.proofs.Common.{◌≡◌, ℕ, ◌≤◌, List, Option, Some, refl, sym, ap, ◌∙◌, subst, arith}
 use Rattle.ob_object.specs.Object.{Object as Node}
 use Rattle.ob_tree.specs.Laid.{head_at, paths}
 use Rattle.ob_tree.specs.Paths.{place_of}
@@ -28,8 +27,7 @@ use Rattle.ob_watch.specs.Marks.{AreStampsPast}
 use Rattle.ob_watch.proofs.LawLemmas.{counts_stay, reports_agree}
 use Rattle.ob_site_watched.specs.declared.offering.Offer.{Offer}
 use Rattle.ob_site_watched.specs.declared.offering.Offer.TheVariants as offer
-use Rattle.ob_site_watched.specs.Entries.{reading_entry}
-use Rattle.ob_site_watched.specs.Offered.{AreOffered, IsItemFor, IsOffered, IsRefusedFor, refused_entry}
+use Rattle.ob_site_watched.specs.Offered.{IsItemFor, IsOffered, IsRefusedFor, refused_entry}
 
 module _ (plan : Plan) (c : Contents) where
   abbrev m : Site
@@ -60,10 +58,10 @@ module _ (plan : Plan) (c : Contents) where
   there ns asked = found locate plan s ns asked.0 asked.1
 
   -- what is found is offered
-  pub item_offered : (ns : List ℕ) (asked : Asked) (text : Text) (f : SiteFound) (item : Item) (o : Node) → text ≡ asked.0 → f ≡ there ns asked
-      → IsItemFor plan c text f item → o ≡ reading_entry plan c item → IsOffered plan c ns asked (offer.Item item o)
-  item_offered ns asked text f item o same_text same_found is e =
-      (subst (λ (g : SiteFound). IsItemFor plan c asked.0 g item) same_found (subst (λ (x : Text). IsItemFor plan c x f item) same_text is), e)
+  pub item_offered : (ns : List ℕ) (asked : Asked) (text : Text) (f : SiteFound) (item : Item) → text ≡ asked.0 → f ≡ there ns asked
+      → IsItemFor plan c text f item → IsOffered plan c ns asked (offer.Item item)
+  item_offered ns asked text f item same_text same_found is =
+      subst (λ (g : SiteFound). IsItemFor plan c asked.0 g item) same_found (subst (λ (x : Text). IsItemFor plan c x f item) same_text is)
 
   pub refusal_offered : (ns : List ℕ) (asked : Asked) (text : Text) (f : SiteFound) (fault : Fault) (o : Node) → text ≡ asked.0 → f ≡ there ns asked
       → IsRefusedFor plan c text f (told.fault fault) → o ≡ refused_entry asked.0 (told.fault fault) → IsOffered plan c ns asked (offer.Refused o)
@@ -73,17 +71,3 @@ module _ (plan : Plan) (c : Contents) where
       here : (items : List (Flagged m)) → add_found m s items asked.0 (there ns asked) ≡ (items, record { text = asked.0; content = Refuses (err (told.fault fault)) })
       here items = subst (λ (g : SiteFound). add_found m s items asked.0 g ≡ (items, record { text = asked.0; content = Refuses (err (told.fault fault)) })) same_found
           (subst (λ (x : Text). add_found m s items x f ≡ (items, record { text = x; content = Refuses (err (told.fault fault)) })) same_text (is items))
-
-  offered_push : (ns : List ℕ) (asked : List Asked) (offers : List Offer) (a : Asked) (o : Offer) → AreOffered plan c ns asked offers → IsOffered plan c ns a o
-      → AreOffered plan c ns (asked ++ a ∷ []) (offers ++ o ∷ [])
-  offered_push ns [] [] a o all one = (one, record {})
-  offered_push ns [] (x ∷ offers) a o all one = absurd all
-  offered_push ns (b ∷ asked) [] a o all one = absurd all
-  offered_push ns (b ∷ asked) (x ∷ offers) a o all one = (all.0, offered_push ns asked offers a o all.1 one)
-
-  -- one more is offered
-  pub offered_more : (ns : List ℕ) (all : List Asked) (k : ℕ) (a : Asked) (offers : List Offer) (o : Offer) → k < length all → a ≡ get_or all k a
-      → AreOffered plan c ns (take k all) offers → IsOffered plan c ns a o → AreOffered plan c ns (take (k + 1) all) (offers ++ o ∷ [])
-  offered_more ns all k a offers o l at so_far one =
-      subst (λ (asked : List Asked). AreOffered plan c ns asked (offers ++ o ∷ [])) (sym (take_more all k a l ∙ ap (λ b. take k all ++ b ∷ []) (sym at)))
-      (offered_push ns (take k all) offers a o so_far one)

@@ -1,9 +1,9 @@
 -- A watch into which something was put, one after the other.
-use Rattle.std.proofs.Common.{◌≡◌, ℕ, ◌+◌, ◌<◌, ◌==◌, Bool, true, false, cond, List, [], ◌∷◌, ◌++◌, length, take, get_or, Option, Some, None, Result, Ok, Err, refl, sym, ap, ap₂, ◌∙◌, subst, arith}
-use Rattle.std.specs.Prelude.{IfOk, IfSome, IsErr, MatchOption, is_none, is_some, nat_eq, option_map}
-use Rattle.std.specs.List.{IsDistinct, list_all}
+use Rattle.std.proofs.Common.{◌≡◌, ℕ, ◌+◌, ◌<◌, ◌==◌, Bool, true, false, cond, List, [], ◌∷◌, ◌++◌, length, take, get_or, Option, Some, None, Result, Ok, Err, refl, sym, ap, ◌∙◌, subst}
+use Rattle.std.specs.Prelude.{IfOk, IfSome, IsErr, MatchOption, is_some, nat_eq, option_map}
+use Rattle.std.specs.List.{IsDistinct}
 use Rattle.std.specs.declared.alloc.AllocError.{AllocError}
-use Rattle.std.proofs.lemmas.List.{take_all, take_more}
+use Rattle.std.proofs.lemmas.List.{take_more}
 use Rattle.std.proofs.lemmas.Result.{IfOk-from_err, IfOk-weaker}
 use Rattle.ob_object.specs.Object.{Object}
 use Rattle.ob_watching.specs.Tables.{lookup, numbers_of, replace}
@@ -20,16 +20,23 @@ use Rattle.ob_watch.specs.Undo.{Undo, Undoes}
 use Rattle.ob_watch.proofs.LawLemmas.{lapses_commute}
 use Rattle.ob_site_watched.specs.declared.offering.Offer.{Offer}
 use Rattle.ob_site_watched.specs.declared.offering.Offer.TheVariants as offer
-use Rattle.ob_site_watched.specs.Putting.{ArePut, Grows, HasPut, IsPut, entries_put, entry_put, put_offer, put_offers}
+use Rattle.ob_site_rules.specs.State.{Plan}
+use Rattle.ob_site_rules.specs.Watched.{Asked}
+use Rattle.ob_site_state.specs.declared.contents.Contents.{Contents}
+use Rattle.ob_site_watched.specs.Entries.{reading_entry}
+use Rattle.ob_site_watched.specs.Offered.{IsOffered, refused_entry}
+use Rattle.ob_site_watched.specs.Putting.{ArePut, Grows, HasAdded, HasPut, IsPut}
+use Rattle.ob_site_watched.proofs.Put.{added_more, added_none}
 use Rattle.ob_site_watched.proofs.Undone.{same_put, undone}
 
 abbrev Numbered : Type 0
 Numbered = List (ℕ × Leased)
 
--- What was put into the watch of a number of the first so many that are offered, and their entries.
-pub record IsOnTheWay (n : ℕ) (all : List Offer) (k : ℕ) (old new : Table) (undo undone : Undo) (es : List Object) (w : Leased) : Type 0 where
-  pub grows : Grows n w (put_offers (take k all) w) old new undo undone
-  pub entries : es ≡ entries_put (take k all) w
+-- What was put into the watch of a number of what is asked for, and the entries.
+pub record IsOnTheWay (plan : Plan) (c : Contents) (ns : List ℕ) (asked : List Asked) (n : ℕ) (old new : Table) (undo undone : Undo) (es : List Object) (w : Leased) : Type 0 where
+  pub left : Leased
+  pub grows : Grows n w left old new undo undone
+  pub added : HasAdded plan c ns asked w left es
 
 -- ---- the watch of a number
 
@@ -92,121 +99,133 @@ module _ (n : ℕ) where
       undone n old mid new w left distinct there grows.table grows.same
       (subst (λ (o : Option Leased). IfSome o (λ (v : Leased). Undoes undone_by v.items w.items → new ≡ holding (at_number n (watching w.items) mid.watches) mid)) (grown_there old mid undo undone_by w left there grows) (takes w.items) (grows.back w.items nothing))
 
-  -- ---- one that is offered
+  module _ (plan : Plan) (c : Contents) where
+    -- ---- one that is offered
 
-  module _ (item : Item) (own : Object) (old new : Table) (undo undone_by : Undo) (r : Added) (w : Leased) where
-    to_held : lookup n old.watches ≡ Some w → AddsAt n item old new undo undone_by r → AddsTo n item old new undo undone_by r w
-    to_held there adds = subst (λ (o : Option Leased). MatchOption o (AddsNothing old new undo undone_by r) (AddsTo n item old new undo undone_by r)) there adds
+    -- nothing is put, as there is no memory
+    pub put_nothing : (o : Offer) (old : Table) (undo : Undo) (w : Leased) (result : Result Object AllocError) → IsErr result → IsDistinct nat_eq (numbers_of old.watches)
+        → lookup n old.watches ≡ Some w → IsPut plan c n o old old undo undo result w
+    put_nothing o old undo w result cut distinct there = record { left = w; grows = grows_none old undo w distinct there; put = IfOk-from_err result _ cut }
 
-    abbrev Taken : Bool → Leased
-    Taken b = cond b w (watching (put_item item w.items) w)
+    -- an href that was refused before
+    pub put_refused : (o : Object) (old : Table) (undo : Undo) (w : Leased) → IsDistinct nat_eq (numbers_of old.watches) → lookup n old.watches ≡ Some w
+        → IsPut plan c n (offer.Refused o) old old undo undo (Ok o) w
+    put_refused o old undo w distinct there = record { left = w; grows = grows_none old undo w distinct there; put = (refl, refl) }
 
-    abbrev Entry : Bool → Object
-    Entry b = cond b (under_href own.head.href (err TooManyItems)) own
+    -- an item that the watch has no room for
+    pub put_aside : (item : Item) (old : Table) (undo : Undo) (w : Leased) (result : Result Object AllocError) → IsDistinct nat_eq (numbers_of old.watches) → lookup n old.watches ≡ Some w
+        → is_refused w item.text ≡ true → IfOk result (λ o. o ≡ refused_entry item.text TooManyItems) → IsPut plan c n (offer.Item item) old old undo undo result w
+    put_aside item old undo w result distinct there full told = record {
+      left = w;
+      grows = grows_none old undo w distinct there;
+      put = IfOk-weaker result _ _
+          (λ o e. (
+            ap (λ (b : Bool). (let v : Leased = cond b w (watching (put_item item w.items) w) in v)) (sym full),
+            e ∙ ap (λ (b : Bool). (let p : Object = cond b (refused_entry item.text TooManyItems) (reading_entry plan c item) in p)) (sym full),
+          )) told;
+    }
 
-    -- it is added
-    pub put_added : (done : Unit {0}) → lookup n old.watches ≡ Some w → r ≡ Ok done → AddsAt n item old new undo undone_by r → IsPut n (offer.Item item own) old new undo undone_by (Ok own) w
-    put_added done there is adds =
-        let to : AddsTo n item old new undo undone_by (Ok done) w = subst (λ (x : Added). AddsTo n item old new undo undone_by x w) is (to_held there adds) in
-        let fact : (is_refused w item.text ≡ false) × (to.left ≡ watching (put_item item w.items) w) = to.adds in
-        record {
-          left = to.left;
-          grows = record { table = to.table; same = fact.1 ∙ ap (λ (v : Leased). watching v.items w) (sym fact.1); back = to.back };
-          put = (fact.1 ∙ ap Taken (sym fact.0), ap Entry (sym fact.0));
+    module _ (item : Item) (old new : Table) (undo undone_by : Undo) (r : Added) (w : Leased) where
+      to_held : lookup n old.watches ≡ Some w → AddsAt n item old new undo undone_by r → AddsTo n item old new undo undone_by r w
+      to_held there adds = subst (λ (o : Option Leased). MatchOption o (AddsNothing old new undo undone_by r) (AddsTo n item old new undo undone_by r)) there adds
+
+      abbrev Taken : Bool → Leased
+      Taken b = cond b w (watching (put_item item w.items) w)
+
+      abbrev Entry : Bool → Object
+      Entry b = cond b (refused_entry item.text TooManyItems) (reading_entry plan c item)
+
+      -- it is added
+      pub put_added : (done : Unit {0}) (own : Object) → lookup n old.watches ≡ Some w → own ≡ reading_entry plan c item → r ≡ Ok done → AddsAt n item old new undo undone_by r
+          → IsPut plan c n (offer.Item item) old new undo undone_by (Ok own) w
+      put_added done own there told is adds =
+          let to : AddsTo n item old new undo undone_by (Ok done) w = subst (λ (x : Added). AddsTo n item old new undo undone_by x w) is (to_held there adds) in
+          let fact : (is_refused w item.text ≡ false) × (to.left ≡ watching (put_item item w.items) w) = to.adds in
+          record {
+            left = to.left;
+            grows = record { table = to.table; same = fact.1 ∙ ap (λ (v : Leased). watching v.items w) (sym fact.1); back = to.back };
+            put = (fact.1 ∙ ap Taken (sym fact.0), told ∙ ap Entry (sym fact.0));
+          }
+
+      -- it is refused
+      pub put_full : (result : Result Object AllocError) (own : Object) → lookup n old.watches ≡ Some w → own ≡ reading_entry plan c item → r ≡ Err ItemsFull → AddsAt n item old new undo undone_by r
+          → IfOk result (λ o. o ≡ under_href own.head.href (err TooManyItems)) → IsPut plan c n (offer.Item item) old new undo undone_by result w
+      put_full result own there read is adds told =
+          let to : AddsTo n item old new undo undone_by (Err ItemsFull) w = subst (λ (x : Added). AddsTo n item old new undo undone_by x w) is (to_held there adds) in
+          let fact : (to.left ≡ w) × (is_refused w item.text ≡ true) = to.adds in
+          record {
+            left = to.left;
+            grows = record { table = to.table; same = fact.0 ∙ ap (λ (v : Leased). watching v.items w) (sym fact.0); back = to.back };
+            put = IfOk-weaker result _ _ (λ o e. (fact.0 ∙ ap Taken (sym fact.1), e ∙ ap (λ (p : Object). under_href p.head.href (err TooManyItems)) read ∙ ap Entry (sym fact.1))) told;
+          }
+
+      -- there is no memory
+      pub put_failed : (fault : WatchFault) (why : AllocError) → lookup n old.watches ≡ Some w → r ≡ Err fault → AddsAt n item old new undo undone_by r
+          → IsPut plan c n (offer.Item item) old new undo undone_by (Err why) w
+      put_failed fault why there is adds =
+          let to : AddsTo n item old new undo undone_by (Err fault) w = subst (λ (x : Added). AddsTo n item old new undo undone_by x w) is (to_held there adds) in
+          let fact : (to.left ≡ w) × IsNotAdded w item fault = to.adds in
+          record {
+            left = to.left;
+            grows = record { table = to.table; same = fact.0 ∙ ap (λ (v : Leased). watching v.items w) (sym fact.0); back = to.back };
+            put = record {};
+          }
+
+    -- ---- all that is asked for, one after the other
+
+    module _ (ns : List ℕ) where
+      -- nothing was put
+      pub way_starts : (old : Table) (undo : Undo) (w : Leased) → IsDistinct nat_eq (numbers_of old.watches) → lookup n old.watches ≡ Some w → IsOnTheWay plan c ns [] n old old undo undo [] w
+      way_starts old undo w distinct there = record { left = w; grows = grows_none old undo w distinct there; added = added_none plan c ns w }
+
+      -- no memory was found before
+      pub none_put : (asked : List Asked) (old : Table) (undo : Undo) (w : Leased) (result : Result Object AllocError) → IsErr result → IsDistinct nat_eq (numbers_of old.watches)
+          → lookup n old.watches ≡ Some w → ArePut plan c ns asked n old old undo undo result w
+      none_put asked old undo w result cut distinct there = record { left = w; grows = grows_none old undo w distinct there; put = IfOk-from_err result _ cut }
+
+      module _ (all : List Asked) (k : ℕ) (old mid new : Table) (undo kept undone_by : Undo) (es : List Object) (w : Leased) (way : IsOnTheWay plan c ns (take k all) n old mid undo kept es w) where
+        -- what is put next goes into the watch that has grown
+        pub way_there : lookup n old.watches ≡ Some w → lookup n mid.watches ≡ Some way.left
+        way_there there = grown_there old mid undo kept w way.left there way.grows
+
+        -- one more was put
+        pub way_more : (a : Asked) (o : Offer) (e : Object) → k < length all → a ≡ get_or all k a → IsOffered plan c ns a o → IsPut plan c n o mid new kept undone_by (Ok e) way.left
+            → IsOnTheWay plan c ns (take (k + 1) all) n old new undo undone_by (es ++ e ∷ []) w
+        way_more a o e l is offered one = record {
+          left = one.left;
+          grows = grows_more old mid new undo kept undone_by w way.left one.left way.grows one.grows;
+          added = subst (λ (asked : List Asked). HasAdded plan c ns asked w one.left (es ++ e ∷ [])) (sym more) (added_more plan c ns (take k all) a o w way.left one.left es e way.added offered one.put.0 one.put.1);
+        }
+          where
+            more : take (k + 1) all ≡ take k all ++ a ∷ []
+            more = take_more all k a l ∙ ap (λ (y : Asked). take k all ++ y ∷ []) (sym is)
+
+        -- no memory was found for the next
+        pub way_stops : (asked : List Asked) (result : Result Object AllocError) → IsErr result → ArePut plan c ns asked n old mid undo kept result w
+        way_stops asked result cut = record { left = way.left; grows = way.grows; put = IfOk-from_err result _ cut }
+
+        pub way_cut : (asked : List Asked) (o : Offer) (r result : Result Object AllocError) → IsErr result → IsPut plan c n o mid new kept undone_by r way.left → ArePut plan c ns asked n old new undo undone_by result w
+        way_cut asked o r result cut one = record { left = one.left; grows = grows_more old mid new undo kept undone_by w way.left one.left way.grows one.grows; put = IfOk-from_err result _ cut }
+
+        -- all was put
+        pub way_ends : (asked : List Asked) (result : Result Object AllocError) → take k all ≡ asked → IfOk result (λ o. o ≡ watch_out es) → ArePut plan c ns asked n old mid undo kept result w
+        way_ends asked result whole told = record {
+          left = way.left;
+          grows = way.grows;
+          put = IfOk-weaker result _ _ (λ o e. (es, (subst (λ (these : List Asked). HasAdded plan c ns these w way.left es) whole way.added, e))) told;
         }
 
-    -- it is refused
-    pub put_full : (result : Result Object AllocError) → lookup n old.watches ≡ Some w → r ≡ Err ItemsFull → AddsAt n item old new undo undone_by r
-        → IfOk result (λ o. o ≡ under_href own.head.href (err TooManyItems)) → IsPut n (offer.Item item own) old new undo undone_by result w
-    put_full result there is adds told =
-        let to : AddsTo n item old new undo undone_by (Err ItemsFull) w = subst (λ (x : Added). AddsTo n item old new undo undone_by x w) is (to_held there adds) in
-        let fact : (to.left ≡ w) × (is_refused w item.text ≡ true) = to.adds in
-        record {
-          left = to.left;
-          grows = record { table = to.table; same = fact.0 ∙ ap (λ (v : Leased). watching v.items w) (sym fact.0); back = to.back };
-          put = IfOk-weaker result _ _ (λ o e. (fact.0 ∙ ap Taken (sym fact.1), e ∙ ap Entry (sym fact.1))) told;
-        }
-
-    -- there is no memory
-    pub put_failed : (fault : WatchFault) (why : AllocError) → lookup n old.watches ≡ Some w → r ≡ Err fault → AddsAt n item old new undo undone_by r → IsPut n (offer.Item item own) old new undo undone_by (Err why) w
-    put_failed fault why there is adds =
-        let to : AddsTo n item old new undo undone_by (Err fault) w = subst (λ (x : Added). AddsTo n item old new undo undone_by x w) is (to_held there adds) in
-        let fact : (to.left ≡ w) × IsNotAdded w item fault = to.adds in
-        record {
-          left = to.left;
-          grows = record { table = to.table; same = fact.0 ∙ ap (λ (v : Leased). watching v.items w) (sym fact.0); back = to.back };
-          put = record {};
-        }
-
-  -- an href that was refused before
-  pub put_refused : (o : Object) (old : Table) (undo : Undo) (w : Leased) → IsDistinct nat_eq (numbers_of old.watches) → lookup n old.watches ≡ Some w → IsPut n (offer.Refused o) old old undo undo (Ok o) w
-  put_refused o old undo w distinct there = record { left = w; grows = grows_none old undo w distinct there; put = (refl, refl) }
-
-  -- ---- all that is offered, one after the other
-
-  puts_push : (xs : List Offer) (x : Offer) (w : Leased) → put_offers (xs ++ x ∷ []) w ≡ put_offer x (put_offers xs w)
-  puts_push [] x w = refl
-  puts_push (y ∷ ys) x w = puts_push ys x (put_offer y w)
-
-  entries_push : (xs : List Offer) (x : Offer) (w : Leased) → entries_put (xs ++ x ∷ []) w ≡ entries_put xs w ++ entry_put x (put_offers xs w) ∷ []
-  entries_push [] x w = refl
-  entries_push (y ∷ ys) x w = ap (λ (es : List Object). entry_put y w ∷ es) (entries_push ys x (put_offer y w))
-
-  module _ (all : List Offer) where
-    -- nothing was put
-    pub way_starts : (old : Table) (undo : Undo) (w : Leased) → IsDistinct nat_eq (numbers_of old.watches) → lookup n old.watches ≡ Some w → IsOnTheWay n all 0 old old undo undo [] w
-    way_starts old undo w distinct there = record { grows = grows_none old undo w distinct there; entries = refl }
-
-    module _ (k : ℕ) (old mid new : Table) (undo kept undone_by : Undo) (es : List Object) (w : Leased) (way : IsOnTheWay n all k old mid undo kept es w) where
-      -- what is put next goes into the watch that has grown
-      pub way_there : lookup n old.watches ≡ Some w → lookup n mid.watches ≡ Some (put_offers (take k all) w)
-      way_there there = grown_there old mid undo kept w (put_offers (take k all) w) there way.grows
-
-      -- one more was put
-      pub way_more : (x : Offer) (e : Object) → k < length all → x ≡ get_or all k x → IsPut n x mid new kept undone_by (Ok e) (put_offers (take k all) w)
-          → IsOnTheWay n all (k + 1) old new undo undone_by (es ++ e ∷ []) w
-      way_more x e l is one = record {
-        grows = subst (λ (v : Leased). Grows n w v old new undo undone_by) next (grows_more old mid new undo kept undone_by w (put_offers (take k all) w) one.left way.grows one.grows);
-        entries =
-            ap₂ (λ (fs : List Object) (f : Object). fs ++ f ∷ []) way.entries one.put.1
-            ∙ sym (entries_push (take k all) x w)
-            ∙ ap (λ (os : List Offer). entries_put os w) (sym more);
+      -- all was put, or taken back
+      pub has_put : (asked : List Asked) (old new : Table) (undo undone_by : Undo) (o : Object) (w : Leased) → ArePut plan c ns asked n old new undo undone_by (Ok o) w → HasPut plan c ns asked n old new o w
+      has_put asked old new undo undone_by o w are = record {
+        left = are.left;
+        table = are.grows.table;
+        same = are.grows.same;
+        entries = are.put.0;
+        added = are.put.1.0;
+        reply = are.put.1.1;
       }
-        where
-          more : take (k + 1) all ≡ take k all ++ x ∷ []
-          more = take_more all k x l ∙ ap (λ (y : Offer). take k all ++ y ∷ []) (sym is)
 
-          next : one.left ≡ put_offers (take (k + 1) all) w
-          next = one.put.0 ∙ sym (puts_push (take k all) x w) ∙ ap (λ (os : List Offer). put_offers os w) (sym more)
-
-      -- no memory was found
-      pub way_cut : (x : Offer) (r result : Result Object AllocError) → IsErr result → IsPut n x mid new kept undone_by r (put_offers (take k all) w) → ArePut n all old new undo undone_by result w
-      way_cut x r result cut one = record { left = one.left; grows = grows_more old mid new undo kept undone_by w (put_offers (take k all) w) one.left way.grows one.grows; put = IfOk-from_err result _ cut }
-
-      -- all was put
-      whole : k ≡ length all → take k all ≡ all
-      whole l = take_all k all (omega (arith, l))
-
-      way_entries : k ≡ length all → es ≡ entries_put all w
-      way_entries l = way.entries ∙ ap (λ (os : List Offer). entries_put os w) (whole l)
-
-      pub way_named : k ≡ length all → list_all (λ (o : Object). is_none o.head.name) (entries_put all w) ≡ true → list_all (λ (o : Object). is_none o.head.name) es ≡ true
-      way_named l named = ap (list_all (λ (o : Object). is_none o.head.name)) (way_entries l) ∙ named
-
-      pub way_ends : (result : Result Object AllocError) → k ≡ length all → IfOk result (λ o. o ≡ watch_out es) → ArePut n all old mid undo kept result w
-      way_ends result l told = record {
-        left = put_offers (take k all) w;
-        grows = way.grows;
-        put = IfOk-weaker result _ _ (λ o e. (ap (λ (os : List Offer). put_offers os w) (whole l), e ∙ ap watch_out (way_entries l))) told;
-      }
-
-  -- all was put, or taken back
-  pub has_put : (all : List Offer) (old new : Table) (undo undone_by : Undo) (o : Object) (w : Leased) → ArePut n all old new undo undone_by (Ok o) w → HasPut n all old new o w
-  has_put all old new undo undone_by o w are = record {
-    table = are.grows.table ∙ ap (λ (v : Leased). holding (at_number n (λ _. v) old.watches) old) are.put.0;
-    reply = are.put.1;
-  }
-
-  pub all_back : (all : List Offer) (old mid new : Table) (undo undone_by : Undo) (result : Result Object AllocError) (w : Leased) → IsDistinct nat_eq (numbers_of old.watches) → lookup n old.watches ≡ Some w
-      → ArePut n all old mid undo undone_by result w → Undoes undo w.items w.items → TakesBack n undone_by mid new → new ≡ old
-  all_back all old mid new undo undone_by result w distinct there are nothing takes = grown_back old mid new undo undone_by w are.left distinct there are.grows nothing takes
+      pub all_back : (asked : List Asked) (old mid new : Table) (undo undone_by : Undo) (result : Result Object AllocError) (w : Leased) → IsDistinct nat_eq (numbers_of old.watches) → lookup n old.watches ≡ Some w
+          → ArePut plan c ns asked n old mid undo undone_by result w → Undoes undo w.items w.items → TakesBack n undone_by mid new → new ≡ old
+      all_back asked old mid new undo undone_by result w distinct there are nothing takes = grown_back old mid new undo undone_by w are.left distinct there are.grows nothing takes

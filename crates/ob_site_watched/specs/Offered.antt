@@ -1,8 +1,8 @@
 -- An href that is asked for, before it is added.
-use Rattle.std.specs.Prelude.{◌≡◌, ℕ, List, [], ◌∷◌, Result, Ok, Err}
+use Rattle.std.specs.Prelude.{◌≡◌, ℕ, List, Result, Ok, Err}
 use Rattle.ob_object.specs.Object.{Object}
 use Rattle.ob_watching.specs.Asked.{Refuses}
-use Rattle.ob_watching.specs.Watches.{Item as Flagged, add_found, added, reading}
+use Rattle.ob_watching.specs.Watches.{Item as Flagged, add_found, added}
 use Rattle.ob_site_rules.specs.Build.{Text}
 use Rattle.ob_site_rules.specs.Faults.{err}
 use Rattle.ob_site_rules.specs.Faults as faults
@@ -44,16 +44,8 @@ IsLeft items done o = (done.0 ≡ items) × (entry done.1 ≡ o)
 abbrev pub refused_entry : Text → faults.Fault → Object
 refused_entry text fault = entry (record { text = text; content = Refuses (err fault) })
 
--- the entry beside it
+-- what it is to be added as
 abbrev pub IsOffered : Plan → Contents → List ℕ → Asked → Offer → Type 0
-IsOffered plan c numbers asked (offer.Item item o) =
-    IsItemFor plan c asked.0 (found locate plan (state_in c) numbers asked.0 asked.1) item × (o ≡ entry (reading (of_plan plan) (state_in c) (flags c.tree item)))
+IsOffered plan c numbers asked (offer.Item item) = IsItemFor plan c asked.0 (found locate plan (state_in c) numbers asked.0 asked.1) item
 IsOffered plan c numbers asked (offer.Refused o) =
     (items : List (Flagged (of_plan plan))) → IsLeft items (add_found (of_plan plan) (state_in c) items asked.0 (found locate plan (state_in c) numbers asked.0 asked.1)) o
-
--- what each of these hrefs is to be added as
-abbrev pub AreOffered : Plan → Contents → List ℕ → List Asked → List Offer → Type 0
-AreOffered plan c numbers [] [] = Unit {0}
-AreOffered plan c numbers [] (o ∷ os) = ⊥
-AreOffered plan c numbers (a ∷ asked) [] = ⊥
-AreOffered plan c numbers (a ∷ asked) (o ∷ os) = IsOffered plan c numbers a o × AreOffered plan c numbers asked os

@@ -1,10 +1,10 @@
-//! What is offered to a watch is put into it, or taken back.
-ghost use Rattle.std.specs.Prelude.{◌≡◌, true, IfOk, OnErr, is_none, is_some};
-ghost use Rattle.std.specs.List.{list_all};
+//! What is asked for is put into a watch, or taken back.
+ghost use Rattle.std.specs.Prelude.{◌≡◌, true, IfOk, OnErr, is_some};
 ghost use Rattle.ob_replies.specs.Plans.{plan as plan_of};
 ghost use Rattle.ob_site_places.specs.Complete.{IsComplete};
 ghost use Rattle.ob_site_rules.specs.Build.{under_href};
 ghost use Rattle.ob_site_rules.specs.Faults.{TooManyItems, err};
+ghost use Rattle.ob_watch.specs.Adding.{is_refused};
 ghost use Rattle.ob_watch.specs.Marks.{AreStampsPast};
 ghost use Rattle.ob_watch.specs.Tables.{lapsed_at};
 ghost use Rattle.ob_watch.specs.Undo.{Undoes};
@@ -12,15 +12,15 @@ ghost use Rattle.ob_requests.specs.Calls.{firsts as firsts_of};
 ghost use Rattle.ob_watching.specs.Asked.{Add};
 ghost use Rattle.ob_watching.specs.Tables.{lookup, numbers_of};
 ghost use Rattle.ob_site_watched.specs.Answers.{AllKnown, IsDone};
-ghost use Rattle.ob_site_watched.specs.Offered.{AreOffered};
-ghost use Rattle.ob_site_watched.specs.Putting.{ArePut, HasPut, IsPut, OfHeld, entries_put};
+ghost use Rattle.ob_site_watched.specs.Putting.{ArePut, HasPut, IsPlaced, IsPut, OfHeld};
 
-use crate::offering::{Offer, offers};
+use crate::entries::reading;
+use crate::offering::{Offer, offered, refused};
 use ob_object::{Obj, copy_text};
 use ob_replies::{Fault, Plan, refusal, watch_out};
-use ob_requests::{Asked, as_the_site_says};
+use ob_requests::{Asked, as_the_site_says, firsts};
 use ob_site_state::Contents;
-use ob_values::Moment;
+use ob_values::{Moment, Text};
 use ob_watch::{Additions, WatchFault, Watches};
 use std::alloc::{AllocError, Global};
 
@@ -30,6 +30,17 @@ pub struct Adding<'a> {
     pub number: u64,
     pub moment: Moment,
     pub asked: &'a [Asked],
+}
+
+/// Whether a watch whose lease hasn't run out has its most items, and none of this href.
+fn is_refused(watches: &Watches, adding: &Adding<'_>, text: &Text) -> bool
+    ensures { result ≡ true → OfHeld adding.now.number watches.now (λ w. is_refused w text.now ≡ true) }
+{
+    let _numbers = watches.numbers();
+    match watches.get(adding.number, adding.moment) {
+        Some(watch) => watch.is_full() && !watch.has(text),
+        None => false,
+    }
 }
 
 /// The entry of an href that is refused as its watch has the most items, in place of its own entry.
@@ -42,44 +53,58 @@ fn too_many(alloc: Global, own: &Obj) -> Result<Obj, AllocError>
     Ok(entry)
 }
 
-/// Puts what is offered into a watch, and gives its entry.
+/// Puts what is offered into a watch, and gives its entry. Nothing is read for an href that the watch has no room for.
 fn put_offer(
     alloc: Global,
+    plan: &Plan,
+    contents: &Contents,
     watches: &mut Watches,
-    number: u64,
+    adding: &Adding<'_>,
     offer: Offer,
     undo: &mut Additions,
 ) -> Result<Obj, AllocError>
-    ensures { OfHeld number watches.old (IsPut number offer watches.old watches.new undo.old undo.new result) }
+    requires complete { IsComplete (plan_of plan.now) contents.now }
+    requires placed { IsPlaced contents.now offer }
+    ensures { OfHeld adding.now.number watches.old (IsPut (plan_of plan.now) contents.now adding.now.number offer watches.old watches.new undo.old undo.new result) }
 {
     let _numbers = watches.numbers();
-    match offer {
-        Offer::Refused(entry) => Ok(entry),
-        Offer::Item(item, entry) => match watches.add(number, item, undo) {
-            Ok(()) => Ok(entry),
-            Err(WatchFault::ItemsFull) => too_many(alloc, &entry),
-            Err(_) => Err(AllocError),
-        },
+    let item = match offer {
+        Offer::Refused(entry) => return Ok(entry),
+        Offer::Item(item) => item,
+    };
+    if is_refused(watches, adding, item.text()) {
+        return refused(alloc, item.text(), Fault::TooManyItems);
+    }
+    let entry = reading(alloc, plan, contents, &item)?;
+    match watches.add(adding.number, item, undo) {
+        Ok(()) => Ok(entry),
+        Err(WatchFault::ItemsFull) => too_many(alloc, &entry),
+        Err(_) => Err(AllocError),
     }
 }
 
-/// Puts all that is offered into a watch, in its order, and gives the reply. After an error `undo` takes back what was
-/// put.
-fn put_offers(
+/// Puts the first of each of equal hrefs into a watch, in their order, and gives the reply. What an href names is read when
+/// it is put, and not before. After an error `undo` takes back what was put.
+fn put_all(
     alloc: Global,
+    plan: &Plan,
+    contents: &Contents,
     watches: &mut Watches,
-    number: u64,
-    offers: Vec<Offer>,
+    adding: &Adding<'_>,
     undo: &mut Additions,
 ) -> Result<Obj, AllocError>
-    requires held { is_some (lookup number watches.old.watches) ≡ true }
-    requires named { OfHeld number watches.old (λ w. list_all (λ o. is_none o.head.name) (entries_put offers.items w) ≡ true) }
-    ensures { OfHeld number watches.old (ArePut number offers.items watches.old watches.new undo.old undo.new result) }
+    requires complete { IsComplete (plan_of plan.now) contents.now }
+    requires past { AreStampsPast contents.now.tree }
+    requires held { is_some (lookup adding.now.number watches.old.watches) ≡ true }
+    ensures { OfHeld adding.now.number watches.old (ArePut (plan_of plan.now) contents.now (numbers_of (lapsed_at adding.now.moment watches.old).watches) (firsts_of adding.now.asked.now) adding.now.number watches.old watches.new undo.old undo.new result) }
 {
     let _numbers = watches.numbers();
+    let numbers = watches.live_numbers(adding.moment)?;
+    let firsts = firsts(alloc, adding.asked)?;
     let mut entries = Vec::new(alloc);
-    for offer in offers {
-        let entry = put_offer(alloc, watches, number, offer, undo)?;
+    for a in &firsts {
+        let offer = offered(alloc, plan, contents, &numbers, a)?;
+        let entry = put_offer(alloc, plan, contents, watches, adding, offer, undo)?;
         entries.push(entry)?;
     }
     watch_out(alloc, entries)
@@ -88,41 +113,27 @@ fn put_offers(
 /// The same, and an error leaves the watches as they were.
 fn put_or_leave(
     alloc: Global,
+    plan: &Plan,
+    contents: &Contents,
     watches: &mut Watches,
-    number: u64,
-    offers: Vec<Offer>,
+    adding: &Adding<'_>,
     mut undo: Additions,
 ) -> Result<Obj, AllocError>
-    requires held { is_some (lookup number watches.old.watches) ≡ true }
-    requires named { OfHeld number watches.old (λ w. list_all (λ o. is_none o.head.name) (entries_put offers.items w) ≡ true) }
-    requires nothing { OfHeld number watches.old (λ w. Undoes undo w.items w.items) }
-    ensures put { IfOk result (λ out. OfHeld number watches.old (HasPut number offers.items watches.old watches.new out)) }
+    requires complete { IsComplete (plan_of plan.now) contents.now }
+    requires past { AreStampsPast contents.now.tree }
+    requires held { is_some (lookup adding.now.number watches.old.watches) ≡ true }
+    requires nothing { OfHeld adding.now.number watches.old (λ w. Undoes undo w.items w.items) }
+    ensures put { IfOk result (λ out. OfHeld adding.now.number watches.old (HasPut (plan_of plan.now) contents.now (numbers_of (lapsed_at adding.now.moment watches.old).watches) (firsts_of adding.now.asked.now) adding.now.number watches.old watches.new out)) }
     ensures err { OnErr result (watches.new ≡ watches.old) }
 {
     let _numbers = watches.numbers();
-    match put_offers(alloc, watches, number, offers, &mut undo) {
+    match put_all(alloc, plan, contents, watches, adding, &mut undo) {
         Ok(reply) => Ok(reply),
         Err(AllocError) => {
-            watches.take_back(number, undo);
+            watches.take_back(adding.number, undo);
             Err(AllocError)
         }
     }
-}
-
-/// What the hrefs that are asked for are to be added as, where these watches stand.
-fn offers_to(
-    alloc: Global,
-    plan: &Plan,
-    contents: &Contents,
-    watches: &Watches,
-    adding: &Adding<'_>,
-) -> Result<Vec<Offer>, AllocError>
-    requires complete { IsComplete (plan_of plan.now) contents.now }
-    requires past { AreStampsPast contents.now.tree }
-    ensures { IfOk result (λ offers. AreOffered (plan_of plan.now) contents.now (numbers_of (lapsed_at adding.now.moment watches.now).watches) (firsts_of adding.now.asked.now) offers.items) }
-{
-    let numbers = watches.live_numbers(adding.moment)?;
-    offers(alloc, plan, contents, &numbers, adding.asked)
 }
 
 /// Watch.add: what it makes of the watches, and the reply. An error only for want of memory, and it leaves the watches
@@ -149,9 +160,8 @@ pub(crate) fn add(
         return refusal(alloc, Fault::NoSuchObject);
     };
     let _lease = watch.lease();
-    let offers = offers_to(alloc, plan, contents, watches, adding)?;
     let undo = Additions::new(alloc, watch.items());
-    let reply = put_or_leave(alloc, watches, adding.number, offers, undo)?;
+    let reply = put_or_leave(alloc, plan, contents, watches, adding, undo)?;
     watches.touch(adding.number, adding.moment);
     Ok(reply)
 }

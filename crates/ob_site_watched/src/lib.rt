@@ -12,5 +12,4 @@ mod operations;
 
 pub use entries::{changes, reading, readings};
 pub use making::make;
-pub use offering::{Offer, offered, offers};
 pub use operations::{Call, on_watch};

@@ -6,24 +6,23 @@ ghost use Rattle.ob_own_laws.specs.Watched.{IsOwnFound};
 ghost use Rattle.ob_site_places.specs.Complete.{IsComplete};
 ghost use Rattle.ob_site_state.specs.Contents.{state_in};
 ghost use Rattle.ob_watch.specs.Marks.{AreStampsPast};
-ghost use Rattle.ob_requests.specs.Calls.{firsts as firsts_of, found as found_of};
-ghost use Rattle.ob_site_watched.specs.Offered.{AreOffered, IsFor, IsOffered, refused_entry};
+ghost use Rattle.ob_requests.specs.Calls.{found as found_of};
+ghost use Rattle.ob_site_watched.specs.Offered.{IsFor, IsOffered, refused_entry};
 
-use crate::entries::reading;
 use ob_object::Obj;
 use ob_own_laws::watched_are_own;
 use ob_replies::{Fault, Plan, entry, refusal};
-use ob_requests::{Asked, Found, firsts};
+use ob_requests::{Asked, Found};
 use ob_site_reads::{count_at, found};
 use ob_site_state::Contents;
 use ob_values::Text;
 use ob_watch::Item;
 use std::alloc::{AllocError, Global};
 
-/// An href that is asked for: the item that it is to be added as, and its entry, or the entry of its refusal.
+/// An href that is asked for: the item that it is to be added as, or the entry of its refusal.
 #[derive(Drop)]
 pub enum Offer {
-    Item(Item, Obj),
+    Item(Item),
     Refused(Obj),
 }
 
@@ -54,8 +53,8 @@ fn item_for(
     }
 }
 
-/// The entry of an href that is refused.
-fn refused(alloc: Global, text: &Text, fault: Fault) -> Result<Obj, AllocError>
+/// The entry of an href that is refused. An error only for want of memory.
+pub(crate) fn refused(alloc: Global, text: &Text, fault: Fault) -> Result<Obj, AllocError>
     ensures { IfOk result (λ o. o ≡ refused_entry text.now (told.fault fault)) }
 {
     let object = refusal(alloc, fault)?;
@@ -63,11 +62,12 @@ fn refused(alloc: Global, text: &Text, fault: Fault) -> Result<Obj, AllocError>
     Ok(entry(object, text))
 }
 
-/// What an href that is asked for is to be added as, among watches of these numbers. An error only for want of memory.
+/// What an href that is asked for is to be added as, among watches of these numbers; of an item nothing is read for it. An
+/// error only for want of memory.
 ///
 /// Source: oBIX 1.1, chapter 12 (Watch.add).
 #[tactic(auto, using(crate::proofs::Found::item_offered, crate::proofs::Found::refusal_offered))]
-pub fn offered(
+pub(crate) fn offered(
     alloc: Global,
     plan: &Plan,
     contents: &Contents,
@@ -82,36 +82,10 @@ pub fn offered(
     let found = found(alloc, plan, contents, numbers, asked)?;
     let text = asked.0.copy()?;
     match item_for(alloc, plan, contents, text, found)? {
-        Ok(item) => {
-            let entry = reading(alloc, plan, contents, &item)?;
-            Ok(Offer::Item(item, entry))
-        }
+        Ok(item) => Ok(Offer::Item(item)),
         Err(fault) => {
             let entry = refused(alloc, &asked.0, fault)?;
             Ok(Offer::Refused(entry))
         }
     }
-}
-
-/// What each of the first of equal hrefs is to be added as, in their order. An error only for want of memory.
-///
-/// Source: oBIX 1.1, chapter 12 (Watch.add).
-pub fn offers(
-    alloc: Global,
-    plan: &Plan,
-    contents: &Contents,
-    numbers: &[u64],
-    asked: &[Asked],
-) -> Result<Vec<Offer>, AllocError>
-    requires complete { IsComplete (plan_of plan.now) contents.now }
-    requires past { AreStampsPast contents.now.tree }
-    ensures { IfOk result (λ offers. AreOffered (plan_of plan.now) contents.now numbers.now (firsts_of asked.now) offers.items) }
-{
-    let firsts = firsts(alloc, asked)?;
-    let mut offers = Vec::new(alloc);
-    for a in &firsts {
-        let offer = offered(alloc, plan, contents, numbers, a)?;
-        offers.push(offer)?;
-    }
-    Ok(offers)
 }

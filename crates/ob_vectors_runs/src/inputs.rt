@@ -16,6 +16,15 @@ pub(crate) enum Inputs<'a> {
     /// 200; or all of its bytes, where it begins with `HTTP/`. `fails N ` before the replies says that this call of the link
     /// fails, reads and writes counted as one, the first being 0.
     Dials(&'a str),
+    /// The bytes of the source, and those of the file `schedules`.
+    Scheduled { source: &'a str, file: &'a str },
+    /// The bytes of the source, and the replies on links that are dialled. A link `undialled` says that the dial fails.
+    Supervised { source: &'a str, dials: &'a str },
+}
+
+/// What comes from the outside in two parts: ` || ` stands between them.
+pub(crate) fn two_parts(input: &str) -> (&str, &str) {
+    input.split_once(" || ").unwrap_or((input, ""))
 }
 
 /// What a link waits for.

@@ -23,8 +23,10 @@ use std::{fs, io};
 fn main(rt: HostRuntime) -> io::Result<()> {
     let texts = fs::read_to_string(&rt, "texts.txt")?;
     run_rows(&rt, "stdio.rows", texts.as_str())?;
+    run_rows(&rt, "schedule.rows", texts.as_str())?;
     run_rows(&rt, "serve.rows", texts.as_str())?;
     run_rows(&rt, "clients.rows", texts.as_str())?;
+    run_rows(&rt, "super.rows", texts.as_str())?;
     run(&rt, "sessions.rows", &mut Sessions)?;
     run(&rt, "mirrors.rows", &mut Mirrors::new(rt.alloc()))?;
     run_polls(&rt, "polls.rows", texts.as_str())?;

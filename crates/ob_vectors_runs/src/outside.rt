@@ -128,8 +128,12 @@ impl Maker<'_> {
         if let Ok(file) = named(self.alloc, "site", self.case.document) {
             let _ = files.push(file);
         }
-        if let Inputs::Record(text) = self.case.inputs {
-            self.push_record(&mut files, text);
+        match self.case.inputs {
+            Inputs::Record(text) => self.push_file(&mut files, "record", text),
+            Inputs::Scheduled { source: _, file } => {
+                self.push_file(&mut files, "schedules", file);
+            }
+            _ => (),
         }
         Scarce {
             files: MemFiles::new(files, self.plan(Part::Files)),
@@ -137,17 +141,19 @@ impl Maker<'_> {
         }
     }
 
-    // The file `record`.
-    fn push_record(self, files: &mut Vec<NamedFile>, text: &str) {
+    // The file of a name, with the bytes that a text stands for.
+    fn push_file(self, files: &mut Vec<NamedFile>, name: &str, text: &str) {
         let bytes = meant(self.alloc, text);
-        if let Ok(file) = named(self.alloc, "record", &bytes) {
+        if let Ok(file) = named(self.alloc, name, &bytes) {
             let _ = files.push(file);
         }
     }
 
     fn source(self) -> MemSource {
         let bytes = match self.case.inputs {
-            Inputs::Source(text) => meant(self.alloc, text),
+            Inputs::Source(source)
+            | Inputs::Scheduled { source, file: _ }
+            | Inputs::Supervised { source, dials: _ } => meant(self.alloc, source),
             Inputs::Record(_) | Inputs::Doors(_) | Inputs::Dials(_) => Vec::new(self.alloc),
         };
         MemSource::new(bytes, self.piece(), self.plan(Part::Source))
@@ -208,7 +214,7 @@ impl Maker<'_> {
     fn port(self, words: &Words) -> MemPort<Gated<MemLink>> {
         let doors = match self.case.inputs {
             Inputs::Doors(text) => self.doors(words, text),
-            Inputs::Source(_) | Inputs::Record(_) | Inputs::Dials(_) => Vec::new(self.alloc),
+            _ => Vec::new(self.alloc),
         };
         MemPort::new(self.alloc, doors, self.plan(Part::Port))
     }
@@ -224,20 +230,30 @@ impl Maker<'_> {
         Fresh::new(MemLink::new(self.alloc, bytes, self.piece(), failing))
     }
 
-    fn dialled(self, text: &str) -> Vec<Fresh<MemLink>> {
+    // The links that are dialled, and behind `failing` the numbers of the dials that fail.
+    fn dialled(self, text: &str, failing: &mut Vec<u64>) -> Vec<Fresh<MemLink>> {
         let mut links = Vec::new(self.alloc);
         for (place, link) in text.split(" | ").enumerate() {
-            let _ = links.push(self.answering(place as u64, link));
+            if link == "undialled" {
+                let _ = failing.push(place as u64);
+            } else {
+                let _ = links.push(self.answering(place as u64, link));
+            }
         }
         links
     }
 
     fn dialer(self) -> MemDialer<MemLink> {
+        let mut failing = self.plan(Part::Dialer);
         let links = match self.case.inputs {
-            Inputs::Dials(text) => self.dialled(text),
-            Inputs::Source(_) | Inputs::Record(_) | Inputs::Doors(_) => Vec::new(self.alloc),
+            Inputs::Dials(text)
+            | Inputs::Supervised {
+                source: _,
+                dials: text,
+            } => self.dialled(text, &mut failing),
+            _ => Vec::new(self.alloc),
         };
-        MemDialer::new(self.alloc, links, self.plan(Part::Dialer))
+        MemDialer::new(self.alloc, links, failing)
     }
 
     fn outside(self, words: &Words) -> Outside {

@@ -3,6 +3,17 @@ use crate::failing::Part;
 use ob_rows::push_bytes;
 use std::alloc::AllocError;
 
+/// What a fault of a link does to a run.
+#[derive(Clone, Copy, PartialEq, Eq)]
+pub(crate) enum LinkFaults {
+    /// It ends it.
+    End,
+    /// It changes what is written to links, which come to doors.
+    Cut,
+    /// It changes what is shown, as does a dial that fails.
+    Show,
+}
+
 /// How a run went: its status, what is told on standard error, what is written, and what is written to links.
 pub(crate) struct Ran {
     pub(crate) status: u8,
@@ -54,9 +65,15 @@ impl Ran {
         self.status == status && self.line.as_slice() == line.as_bytes() && self.is_front(whole)
     }
 
-    // The same, and a front of what the other one has written to links.
-    fn is_cut(&self, whole: &Ran, status: u8, line: &str) -> bool {
-        self.is_ended(whole, status, line) && whole.links.starts_with(&self.links)
+    // The same, and a front of what the other one has written to links, unless there may be several at once.
+    fn is_cut(&self, whole: &Ran, faults: LinkFaults, status: u8, line: &str) -> bool {
+        self.is_ended(whole, status, line)
+            && (faults == LinkFaults::Show || whole.links.starts_with(&self.links))
+    }
+
+    // Whether it ended as the other one.
+    fn is_ended_as(&self, whole: &Ran) -> bool {
+        self.status == whole.status && self.line.as_slice() == whole.line.as_slice()
     }
 
     // Whether it went as the other one, but for what is told on standard error.
@@ -76,20 +93,23 @@ impl Ran {
 
     /// Whether this is how a run goes that otherwise goes so, where a call of a part of the outside fails: the status and
     /// the line are those of what failed, and what is written is a front. A link that comes to a door changes nothing but
-    /// what is written to links, and standard error nothing but what is told there.
-    pub(crate) fn is_broken(&self, whole: &Ran, part: Part, is_service: bool) -> bool {
+    /// what is written to links, and standard error nothing but what is told there. A run that shows which links are broken
+    /// ends as it does otherwise.
+    pub(crate) fn is_broken(&self, whole: &Ran, part: Part, faults: LinkFaults) -> bool {
         match part {
-            Part::Files => self.is_cut(whole, 3, "obix: read fault\n"),
-            Part::Source => self.is_cut(whole, 3, "obix: read fault\n"),
-            Part::Sink => self.is_cut(whole, 4, "obix: write fault\n"),
+            Part::Files => self.is_cut(whole, faults, 3, "obix: read fault\n"),
+            Part::Source => self.is_cut(whole, faults, 3, "obix: read fault\n"),
+            Part::Sink => self.is_cut(whole, faults, 4, "obix: write fault\n"),
             Part::Errors => self.is_untold(whole),
-            Part::Clock => self.is_cut(whole, 10, "obix: clock fault\n"),
+            Part::Clock => self.is_cut(whole, faults, 10, "obix: clock fault\n"),
             Part::Twin(_) => self.is_ended(whole, 10, "obix: clock fault\n"),
-            Part::Port => self.is_cut(whole, 9, "obix: port fault\n"),
+            Part::Port => self.is_cut(whole, faults, 9, "obix: port fault\n"),
             Part::Door(_) => self.is_ended(whole, 9, "obix: port fault\n"),
-            Part::Dialer => self.is_cut(whole, 7, "obix: link fault\n"),
-            Part::Link(_) if is_service => self.is_unanswered(whole),
-            Part::Link(_) => self.is_cut(whole, 7, "obix: link fault\n"),
+            Part::Dialer | Part::Link(_) => match faults {
+                LinkFaults::End => self.is_cut(whole, faults, 7, "obix: link fault\n"),
+                LinkFaults::Cut => self.is_unanswered(whole),
+                LinkFaults::Show => self.is_ended_as(whole),
+            },
         }
     }
 

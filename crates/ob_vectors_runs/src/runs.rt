@@ -1,8 +1,8 @@
 //! Rows of whole runs.
 use crate::failing::{Failing, PARTS, Part};
-use crate::inputs::Inputs;
+use crate::inputs::{Inputs, two_parts};
 use crate::outside::{Case, ran};
-use crate::ran::Ran;
+use crate::ran::{LinkFaults, Ran};
 use ob_rows::{Tally, asked_of, named_part, push_meant, split_word};
 use std::alloc::{AllocError, Global};
 use std::rt::Files;
@@ -59,7 +59,24 @@ fn inputs_of<'a>(command: &str, input: &'a str) -> Inputs<'a> {
         "serve" => Inputs::Doors(input),
         "watch" | "console" => Inputs::Dials(input),
         "audit" => Inputs::Record(input),
+        "schedule" => {
+            let (source, file) = two_parts(input);
+            Inputs::Scheduled { source, file }
+        }
+        "super" => {
+            let (source, dials) = two_parts(input);
+            Inputs::Supervised { source, dials }
+        }
         _ => Inputs::Source(input),
+    }
+}
+
+// What a fault of a link does to a run that takes this.
+fn link_faults(inputs: Inputs<'_>) -> LinkFaults {
+    match inputs {
+        Inputs::Doors(_) => LinkFaults::Cut,
+        Inputs::Supervised { .. } => LinkFaults::Show,
+        _ => LinkFaults::End,
     }
 }
 
@@ -74,13 +91,13 @@ fn count_calls<R: Threads + Wait + Sync + AllocGlobal>(
     whole: &Ran,
     part: Part,
 ) -> Result<Result<u64, u64>, AllocError> {
-    let is_service = matches!(case.inputs, Inputs::Doors(_));
+    let faults = link_faults(case.inputs);
     for call in 0..CALLS {
         let ran = ran(rt, case, Some(Failing { part, call }))?;
         if ran.is(whole) {
             return Ok(Ok(call));
         }
-        if !ran.is_broken(whole, part, is_service) {
+        if !ran.is_broken(whole, part, faults) {
             return Ok(Err(call));
         }
     }

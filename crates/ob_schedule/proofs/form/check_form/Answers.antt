@@ -1,6 +1,6 @@
 use Rattle.std.proofs.Common.{sym, ◌∙◌}
 use Rattle.ob_schedule.specs.Forms as form
-use Rattle.ob_schedule.proofs.Earliest.{least_none, least_some}
+use Rattle.ob_parts.proofs.Earliest.{least_none, least_some}
 use Rattle.ob_schedule.proofs.form.check_form.Goals as goal
 
 pub returns-in-Some-clause-refuses : goal.returns-in-Some-clause-refuses

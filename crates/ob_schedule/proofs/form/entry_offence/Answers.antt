@@ -3,8 +3,9 @@ use Rattle.std.specs.List.{list_any}
 use Rattle.ob_object.specs.Kinds.{same_kind}
 use Rattle.ob_object.specs.declared.kind.Kind.TheVariants as kind
 use Rattle.ob_schedule.specs.Forms as form
-use Rattle.ob_schedule.specs.Views.{part_of, point_of}
-use Rattle.ob_schedule.proofs.Earliest.{of_five}
+use Rattle.ob_parts.specs.Views.{part_of}
+use Rattle.ob_schedule.specs.Views.{point_of}
+use Rattle.ob_parts.proofs.Earliest.{of_five}
 use Rattle.ob_schedule.proofs.form.entry_offence.Goals as goal
 
 pub returns : goal.returns

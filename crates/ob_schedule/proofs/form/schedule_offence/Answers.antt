@@ -3,10 +3,10 @@ use Rattle.std.specs.Prelude.{codes}
 use Rattle.ob_object.specs.Kinds.{same_kind}
 use Rattle.ob_object.specs.declared.kind.Kind.TheVariants as kind
 use Rattle.ob_schedule.specs.Forms as form
-use Rattle.ob_schedule.specs.Least.{least}
-use Rattle.ob_schedule.specs.Numbered.{inside_child}
-use Rattle.ob_schedule.specs.Views.{part_of}
-use Rattle.ob_schedule.proofs.Earliest.{of_four}
+use Rattle.ob_parts.specs.Least.{least}
+use Rattle.ob_parts.specs.Numbered.{inside_child}
+use Rattle.ob_parts.specs.Views.{part_of}
+use Rattle.ob_parts.proofs.Earliest.{of_four}
 use Rattle.ob_schedule.proofs.form.schedule_offence.Goals as goal
 
 pub returns : goal.returns

@@ -9,7 +9,7 @@ use Rattle.ob_watch.specs.Undo.{Undoes}
 use Rattle.ob_requests.specs.Calls.{firsts as firsts_of}
 use Rattle.ob_site_watched.proofs.Answering.{known_there, live_there, none_stands}
 use Rattle.ob_site_watched.proofs.Grown.{held_there, one_held}
-use Rattle.ob_site_watched.proofs.Put.{added_known, added_stands, all_named}
+use Rattle.ob_site_watched.proofs.Put.{added_known, added_stands}
 use Rattle.ob_site_watched.proofs.adding.add.Goals as goal
 
 pub returns-in_default-clause-done : goal.returns-in_default-clause-done
@@ -23,10 +23,6 @@ put_or_leave-requires-clause-held c =
     let old = c.args.watches.now in
     let w = c.in-Some.watch.now in
     held_there (lookup n old.watches) w (live_there c.args.adding.now.moment n old.watches w c.numbers-numbers.ensures.differ (sym c.in-Some.ensures))
-
-pub put_or_leave-requires-clause-named : goal.put_or_leave-requires-clause-named
-put_or_leave-requires-clause-named c =
-    λ w there. all_named (plan_of c.args.plan.now) c.args.contents.now (numbers_of (live c.args.adding.now.moment c.args.watches.now.watches)) (firsts_of c.args.adding.now.asked.now) c.in_ok-offers.offers.items w c.in_ok-offers.ensures
 
 pub put_or_leave-requires-clause-nothing : goal.put_or_leave-requires-clause-nothing
 put_or_leave-requires-clause-nothing c =
@@ -45,8 +41,8 @@ returns-clause-done c =
     let w = c.in-Some.watch.now in
     let differ = c.numbers-numbers.ensures.differ in
     let there = live_there now n old.watches w differ (sym c.in-Some.ensures) in
-    added_stands plan c.args.contents.now now n old c.put_or_leave.new.watches c.touch.new.self c.args.adding.now.asked.now c.in_ok-offers.offers.items w c.in_ok-reply.reply (c.as_the_site_says.ensures plan)
-    differ there (sym c.in-Some.ensures) (subst IsLease c.lease-lease.ensures.value c.lease-lease.ensures.bounded) c.in_ok-offers.ensures (c.in_ok-reply.ensures.put w there) c.touch.ensures.touched
+    added_stands plan c.args.contents.now now n old c.put_or_leave.new.watches c.touch.new.self c.args.adding.now.asked.now w c.in_ok-reply.reply (c.as_the_site_says.ensures plan)
+    differ there (sym c.in-Some.ensures) (subst IsLease c.lease-lease.ensures.value c.lease-lease.ensures.bounded) (c.in_ok-reply.ensures.put w there) c.touch.ensures.touched
 
 pub returns-clause-known : goal.returns-clause-known
 returns-clause-known c =
@@ -57,5 +53,5 @@ returns-clause-known c =
     let old = c.args.watches.now in
     let w = c.in-Some.watch.now in
     let there = live_there now n old.watches w c.numbers-numbers.ensures.differ (sym c.in-Some.ensures) in
-    added_known plan contents now n old c.put_or_leave.new.watches c.touch.new.self (firsts_of c.args.adding.now.asked.now) (numbers_of (live now old.watches)) c.in_ok-offers.offers.items w c.in_ok-reply.reply there
-    c.requires.known (known_there plan contents now n old w c.requires.known (sym c.in-Some.ensures)) c.in_ok-offers.ensures (c.in_ok-reply.ensures.put w there) c.touch.ensures.touched
+    added_known plan contents now n old c.put_or_leave.new.watches c.touch.new.self (firsts_of c.args.adding.now.asked.now) (numbers_of (live now old.watches)) w c.in_ok-reply.reply there
+    c.requires.known (known_there plan contents now n old w c.requires.known (sym c.in-Some.ensures)) (c.in_ok-reply.ensures.put w there) c.touch.ensures.touched

@@ -1,0 +1,43 @@
+-- The child of a name that is needed.
+use Rattle.std.proofs.Common.{◌≡◌, ℕ, Bool, true, false, List, [], ◌∷◌, ◌++◌, Option, Some, None, refl, ap, sym, ◌∙◌, find}
+use Rattle.std.specs.Prelude.{option_map, unwrap_or, option_and_then}
+use Rattle.ob_object.specs.Object.{Object, children, parts}
+use Rattle.ob_object.specs.WellFormed.{has_name, named}
+use Rattle.ob_parts.specs.Numbered.{Part, plus, numbered_from, inside, child, inside_child}
+use Rattle.ob_parts.specs.Offences.{unless, judged, needs, said}
+use Rattle.ob_parts.specs.Least.{least}
+use Rattle.ob_parts.proofs.Walk.{named_part}
+
+abbrev object_of : Part → Object
+object_of p = p.object
+
+-- the first object of a name is that of the first part of it
+named_of : (name : List ℕ) (n : ℕ) (os : List Object) → named name os ≡ option_map object_of (find (named_part name) (numbered_from n os))
+named_of name n [] = refl
+named_of name n (o ∷ os) = go (has_name name o.head.name) refl (named_of name (plus n (parts o)) os)
+  where
+    go : (b : Bool) → has_name name o.head.name ≡ b → named name os ≡ option_map object_of (find (named_part name) (numbered_from (plus n (parts o)) os))
+        → named name (o ∷ os) ≡ option_map object_of (find (named_part name) (numbered_from n (o ∷ os)))
+    go true e rest = rw e refl
+    go false e rest = rw e rest
+
+pub needs_none : (name : List ℕ) (test : Object → Bool) (p : Part) → child name p ≡ None → needs name test p ≡ p.number ∷ []
+needs_none name test p e = ap (judged test p) e
+
+pub needs_some : (name : List ℕ) (test : Object → Bool) (p c : Part) → child name p ≡ Some c → needs name test p ≡ unless (test c.object) c
+needs_some name test p c e = ap (judged test p) e
+
+pub inside_none : (name : List ℕ) (p : Part) → child name p ≡ None → inside_child name p ≡ []
+inside_none name p e = ap (λ c. unwrap_or (option_map inside c) []) e
+
+pub inside_some : (name : List ℕ) (p c : Part) → child name p ≡ Some c → inside_child name p ≡ inside c
+inside_some name p c e = ap (λ c. unwrap_or (option_map inside c) []) e
+
+pub said_some : {A : Type 0} (name : List ℕ) (read : Object → Option A) (p c : Part) → child name p ≡ Some c → said name read p.object ≡ read c.object
+said_some name read p c e = ap (option_and_then read) (named_of name (plus p.number 1) (children p.object) ∙ ap (option_map object_of) e)
+
+pub unless_right : (b : Bool) (p : Part) → b ≡ true → unless b p ≡ []
+unless_right b p e = ap (λ c. unless c p) e
+
+pub unless_wrong : (b : Bool) (p : Part) → b ≡ false → unless b p ≡ p.number ∷ []
+unless_wrong b p e = ap (λ c. unless c p) e

@@ -1,0 +1,4 @@
+pub mod Numbered
+pub mod Offences
+pub mod Least
+pub mod Views

@@ -1,0 +1,3 @@
+mod Writes
+mod Chain
+pub mod Files

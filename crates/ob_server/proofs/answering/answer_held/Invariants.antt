@@ -1,0 +1,17 @@
+use Rattle.std.proofs.Common.{◌≡◌, ◌≤◌, length, option_copied}
+use Rattle.ob_server.proofs.AnsweringLemmas.{Holding}
+use Rattle.ob_server.proofs.answering.answer_held.Given as goal
+
+abbrev pub invariant-next : goal.invariant-next
+invariant-next g l = record {
+  holding : Holding g.A.Answerer.asks (option_copied l.ns) (l.fn.answerer, l.fn.outside) (l.answerer, l.outside) l.fn.framer l.framer (g.L.Link.held l.fn.link) (g.L.Link.held l.link) (g.C.Clock.given l.fn.clock) (g.C.Clock.given l.clock);
+  pace : g.C.Clock.pace l.clock ≡ g.C.Clock.pace l.fn.clock;
+  left : g.L.Link.left l.link ≡ g.L.Link.left l.fn.link;
+  took : g.L.Link.taken l.link ≡ g.L.Link.taken l.fn.link;
+  reads : g.L.Link.read_faults l.link ≡ g.L.Link.read_faults l.fn.link;
+  writes : g.L.Link.write_faults l.fn.link ≤ g.L.Link.write_faults l.link;
+  clocks : g.C.Clock.faults l.fn.clock ≤ g.C.Clock.faults l.clock;
+}
+
+abbrev pub decreases-next : goal.decreases-next
+decreases-next g l = length l.framer.kept

@@ -1,0 +1,239 @@
+-- Rounds one behind the other, and the replies to requests.
+use Rattle.std.proofs.Common.{◌≡◌, ◌⊎◌, ℕ, zero, suc, ◌+◌, ◌-◌, ◌<◌, List, [], ◌∷◌, ◌++◌, Option, Some, None, Result, Ok, Err, refl, sym, ap, subst, ◌∙◌, append_assoc, append-nil, add-one, inl, inr, arith}
+use Rattle.std.specs.Prelude.{IsSome, IsErr, IfOk, unwrap_or, is_some}
+use Rattle.std.specs.declared.alloc.AllocError.{AllocError}
+use Rattle.ob_io.specs.Dials.{Dial, Visit}
+use Rattle.ob_values.specs.declared.verb.Verb.TheVariants.{Get, Put, Post}
+use Rattle.ob_object.specs.Object.{Object}
+use Rattle.ob_watching.specs.WatchOuts.{Text, Held}
+use Rattle.ob_asking.specs.Places.{Place, Request, place_at}
+use Rattle.ob_super.specs.declared.upstream.Live.{Live}
+use Rattle.ob_super.specs.declared.upstream.Followed.{Followed}
+use Rattle.ob_super.specs.Upstreams.{Upstream}
+use Rattle.ob_super.specs.Turns.{Standing, Down, Up, held_of}
+use Rattle.ob_super.specs.Trees.{View, Entry, shown_in, shown_at, view_of, views_of, entry_at}
+use Rattle.ob_super.specs.Rounds.{Rounds, Stops, Part, PutsHere, Sends, SendsIf, SendsTo, Puts, not_supported}
+use Rattle.ob_super.specs.Supervised.{no_such_object, refused_at, RepliesBy, Replies, Lacking, RepliesTo, ManyRounds, StopsAmong}
+use Rattle.ob_super.specs.Told as told
+use Rattle.ob_super.specs.Told.{Outside, Goes, Stands, StandAll, RoundsAll, PutsAll, ManyAll, RepliesOr, RepliesAll, AnswersAll}
+use Rattle.ob_super.proofs.WireLemmas.{never}
+use Rattle.ob_super.proofs.SuperLemmas.{told_before, part_less, goes_none, goes_then, held_stands}
+
+-- ---- what is told less
+
+module _ (T U : Type 0) (less : U → T) where
+  pub rounds_less : (us : List Upstream) (olds news : List Standing) (ds : List Dial) (vs : List Visit) → Rounds T us olds news ds vs → Rounds U us olds news ds vs
+  rounds_less [] [] [] ds vs r = r
+  rounds_less [] [] (n ∷ news) ds vs r = absurd r
+  rounds_less [] (o ∷ olds) news ds vs r = absurd r
+  rounds_less (u ∷ us) [] news ds vs r = absurd r
+  rounds_less (u ∷ us) (o ∷ olds) [] ds vs r = absurd r
+  rounds_less (u ∷ us) (o ∷ olds) (n ∷ news) ds vs (d, e, v, w, dials, visits, part, rest) =
+      (d, e, v, w, dials, visits, part_less T U less u o n d v part, rounds_less us olds news e w rest)
+
+  pub many_less : (us : List Upstream) (n : ℕ) (olds news : List Standing) (ds : List Dial) (vs : List Visit) → ManyRounds T us n olds news ds vs → ManyRounds U us n olds news ds vs
+  many_less us zero olds news ds vs r = r
+  many_less us (suc n) olds news ds vs (mids, d, e, v, w, dials, visits, round, rest) =
+      (mids, d, e, v, w, dials, visits, rounds_less us olds mids d v round, many_less us n mids news e w rest)
+
+-- ---- one more round
+
+more_rounds : (T : Type 0) (us : List Upstream) (n : ℕ) (olds mids news : List Standing) (d e : List Dial) (v w : List Visit) → ManyRounds T us n olds mids d v → Rounds T us mids news e w
+    → ManyRounds T us (suc n) olds news (d ++ e) (v ++ w)
+more_rounds T us zero olds mids news d e v w (same, none, nothing) round = (
+  news,
+  e,
+  [],
+  w,
+  [],
+  ap (λ (x : List Dial). x ++ e) none ∙ sym (append-nil e),
+  ap (λ (x : List Visit). x ++ w) nothing ∙ sym (append-nil w),
+  subst (λ (s : List Standing). Rounds T us s news e w) same round,
+  (refl, refl, refl),
+)
+more_rounds T us (suc n) olds mids news d e v w (first, a, b, p, q, dials, visits, round, rest) last = (
+  first,
+  a,
+  b ++ e,
+  p,
+  q ++ w,
+  ap (λ (x : List Dial). x ++ e) dials ∙ append_assoc a b e,
+  ap (λ (x : List Visit). x ++ w) visits ∙ append_assoc p q w,
+  round,
+  more_rounds T us n first mids news b e q w rest last,
+)
+
+-- memory was wanting in the one behind so many
+then_stops : (T : Type 0) (us : List Upstream) (n m : ℕ) (olds mids news : List Standing) (d e : List Dial) (v w : List Visit) → n < m → ManyRounds T us n olds mids d v → Stops T us mids news e w
+    → StopsAmong T us m olds news (d ++ e) (v ++ w)
+then_stops T us n zero olds mids news d e v w lt many stops = absurd (let x : ⊥ = omega (arith, lt) in x)
+then_stops T us zero (suc m) olds mids news d e v w lt (same, none, nothing) stops =
+    inl (subst (λ (x : List Dial). Stops T us olds news (x ++ e) (v ++ w)) (sym none) (subst (λ (y : List Visit). Stops T us olds news e (y ++ w)) (sym nothing) (subst (λ (s : List Standing). Stops T us s news e w) same stops)))
+then_stops T us (suc n) (suc m) olds mids news d e v w lt (first, a, b, p, q, dials, visits, round, rest) stops =
+    inr (
+      first,
+      a,
+      b ++ e,
+      p,
+      q ++ w,
+      ap (λ (x : List Dial). x ++ e) dials ∙ append_assoc a b e,
+      ap (λ (x : List Visit). x ++ w) visits ∙ append_assoc p q w,
+      round,
+      then_stops T us n m first mids news b e q w (omega (arith, lt)) rest stops,
+    )
+
+-- ---- a PUT of a place that nothing holds
+
+sent_not : (T : Type 0) (u : Upstream) (old new : Standing) (entry : Entry) (body : Option Object) (vs : List Visit) → Sends T u old new entry body vs (Ok None) → ⊥
+sent_not T u Down new entry body vs s = s
+sent_not T u (Up calls) new entry body vs s = of (place_at u.lobby.url entry.asked) s
+  where
+    of : (p : Option Place) → SendsIf T u calls new entry.path p body vs (Ok None) → ⊥
+    of (Some place) s = s
+    of None s = absurd (let x : None ≡ Some not_supported = s.0 in cc)
+
+same_here : (T : Type 0) (u : Upstream) (o n : Standing) (olds news : List Standing) (body : Option Object) (vs : List Visit) (behind : Type 0) → (behind → news ≡ olds) → (e : Option Entry)
+    → PutsHere e (λ (entry : Entry). (news ≡ olds) × Sends T u o n entry body vs (Ok None)) ((n ≡ o) × behind) → (n ∷ news) ≡ (o ∷ olds)
+same_here T u o n olds news body vs behind same None (here, rest) = ap (λ (s : Standing). s ∷ news) here ∙ ap (λ (ss : List Standing). o ∷ ss) (same rest)
+same_here T u o n olds news body vs behind same (Some entry) (there, sends) = absurd (sent_not T u o n entry body vs sends)
+
+puts_same : (T : Type 0) (us : List Upstream) (olds news : List Standing) (path : Text) (body : Option Object) (vs : List Visit) → Puts T us olds news path body vs (Ok None) → news ≡ olds
+puts_same T [] [] [] path body vs p = refl
+puts_same T [] [] (n ∷ news) path body vs p = absurd p
+puts_same T [] (o ∷ olds) news path body vs p = absurd p
+puts_same T (u ∷ us) [] news path body vs p = absurd p
+puts_same T (u ∷ us) (o ∷ olds) [] path body vs p = absurd p
+puts_same T (u ∷ us) (o ∷ olds) (n ∷ news) path body vs p =
+    same_here T u o n olds news body vs (Puts T us olds news path body vs (Ok None)) (puts_same T us olds news path body vs) (entry_at u o path) p
+
+module _ {L : Type 0} (left taken held : L → Option (List ℕ)) where
+  abbrev AllStand : List Standing → List (Followed L) → Type 0
+  AllStand ss all = StandAll left taken held ss all
+
+  -- ---- what is shown
+
+  view_at : (u : Upstream) (s : Standing) (live : Option (Live L)) → Stands left taken held u s live → view_of u s ≡ (let v : View = (u, told.held_in live) in v)
+  view_at u Down None stands = refl
+  view_at u Down (Some l) stands = absurd stands
+  view_at u (Up calls) None stands = absurd stands
+  view_at u (Up calls) (Some l) is = ap (λ (hs : List Held). let v : View = (u, Some hs) in v) (held_stands left taken held u (Up calls) (Some l) is)
+
+  views_at : (all : List (Followed L)) (ss : List Standing) → AllStand ss all → views_of (told.upstreams all) ss ≡ told.views all
+  views_at [] [] are = refl
+  views_at [] (s ∷ ss) are = absurd are
+  views_at (f ∷ fs) [] are = absurd are
+  views_at (f ∷ fs) (s ∷ ss) (first, others) =
+      ap (λ (v : View). v ∷ views_of (told.upstreams fs) ss) (view_at (told.upstream f.upstream) s f.live first) ∙ ap (λ (vs : List View). told.view f ∷ vs) (views_at fs ss others)
+
+  shown_standing : (all : List (Followed L)) (ss : List Standing) (path : Text) → AllStand ss all → shown_in (told.views all) path ≡ shown_at (told.upstreams all) ss path
+  shown_standing all ss path are = ap (λ (vs : List View). shown_in vs path) (sym (views_at all ss are))
+
+  -- ---- replies
+
+  pub replies_got : (o : Outside) (all : List (Followed L)) (path : Text) (body : Option Object) (r : Result Object AllocError) → IfOk r (λ x. x ≡ unwrap_or (shown_in (told.views all) path) no_such_object)
+      → RepliesAll left taken held o o all all (told.request Get path body) (told.replied_by r)
+  replies_got o all path body r is = λ olds are. (olds, [], goes_none o, of olds are r is, are)
+    where
+      of : (olds : List Standing) → AllStand olds all → (r : Result Object AllocError) → IfOk r (λ x. x ≡ unwrap_or (shown_in (told.views all) path) no_such_object)
+          → RepliesOr left taken held (IsSome o.visits) (told.upstreams all) olds olds (told.request Get path body) [] (told.replied_by r)
+      of olds are (Ok x) is = (is ∙ ap (λ (s : Option Object). unwrap_or s no_such_object) (shown_standing all olds path are), refl, refl)
+      of olds are (Err e) is = (refl, refl)
+
+  pub replies_post : (o : Outside) (all : List (Followed L)) (path : Text) (body : Option Object) (r : Result Object AllocError) → IfOk r (λ x. x ≡ refused_at (is_some (shown_in (told.views all) path)))
+      → RepliesAll left taken held o o all all (told.request Post path body) (told.replied_by r)
+  replies_post o all path body r is = λ olds are. (olds, [], goes_none o, of olds are r is, are)
+    where
+      of : (olds : List Standing) → AllStand olds all → (r : Result Object AllocError) → IfOk r (λ x. x ≡ refused_at (is_some (shown_in (told.views all) path)))
+          → RepliesOr left taken held (IsSome o.visits) (told.upstreams all) olds olds (told.request Post path body) [] (told.replied_by r)
+      of olds are (Ok x) is = (is ∙ ap (λ (s : Option Object). refused_at (is_some s)) (shown_standing all olds path are), refl, refl)
+      of olds are (Err e) is = (refl, refl)
+
+  pub replies_put : (before after : Outside) (old new : List (Followed L)) (path : Text) (body : Option Object) (reply : Object) → PutsAll left taken held before after old new path body (Ok (Some reply))
+      → RepliesAll left taken held before after old new (told.request Put path body) (Some reply)
+  replies_put before after old new path body reply puts = λ olds are. let p = puts olds are in (p.0, p.1, p.2, (Some reply, p.3, refl), p.4)
+
+  pub replies_unput : (before after : Outside) (old new : List (Followed L)) (path : Text) (body : Option Object) (r : Result Object AllocError) → told.upstreams new ≡ told.upstreams old
+      → PutsAll left taken held before after old new path body (Ok None) → IfOk r (λ x. x ≡ refused_at (is_some (shown_in (told.views new) path)))
+      → RepliesAll left taken held before after old new (told.request Put path body) (told.replied_by r)
+  replies_unput before after old new path body r same puts is = λ olds are. let p = puts olds are in (p.0, p.1, p.2, of olds p.0 p.1 p.3 p.4 r is, p.4)
+    where
+      of : (olds news : List Standing) (vs : List Visit) → Puts (IsSome after.visits) (told.upstreams old) olds news path body vs (Ok None) → AllStand news new → (r : Result Object AllocError)
+          → IfOk r (λ x. x ≡ refused_at (is_some (shown_in (told.views new) path))) → RepliesOr left taken held (IsSome after.visits) (told.upstreams old) olds news (told.request Put path body) vs (told.replied_by r)
+      of olds news vs p stand (Ok x) is = (
+        None,
+        p,
+        is ∙ ap (λ (s : Option Object). refused_at (is_some s)) (shown_standing new news path stand
+            ∙ ap (λ (us : List Upstream). shown_at us news path) same ∙ ap (λ (ss : List Standing). shown_at (told.upstreams old) ss path) (puts_same (IsSome after.visits) (told.upstreams old) olds news path body vs p)),
+      )
+      of olds news vs p stand (Err e) is = (Ok None, tt, p)
+
+  pub replies_lacked : (before after : Outside) (old new : List (Followed L)) (path : Text) (body : Option Object) (r : Result Object AllocError) {e : AllocError} → IsErr r
+      → PutsAll left taken held before after old new path body (Err e) → RepliesAll left taken held before after old new (told.request Put path body) (told.replied_by r)
+  replies_lacked before after old new path body (Ok x) is puts = never is
+  replies_lacked before after old new path body (Err x) {e} is puts = λ olds are. let p = puts olds are in (p.0, p.1, p.2, (Err e, tt, p.3), p.4)
+
+  -- ---- a round, and a reply
+
+  pub answers : (before mid after : Outside) (old mids new : List (Followed L)) (q : Request) (r : Option Object) (x : Unit {0}) → told.upstreams mids ≡ told.upstreams old
+      → RoundsAll left taken held before mid old mids (Ok x) → RepliesAll left taken held mid after mids new q r → AnswersAll left taken held before after old new q r
+  answers before mid after old mids new q r x same rounds replies = λ olds are.
+      let p = rounds olds are in
+      let a = replies p.0 p.5 in (
+        a.0,
+        p.1,
+        p.2 ++ a.1,
+        subst (λ (ds : List Dial). Goes before ds (p.2 ++ a.1) after) (append-nil p.1) (goes_then before mid after p.1 [] p.2 a.1 p.3 a.2),
+        of r olds p.0 a.0 p.1 p.2 a.1
+            (rounds_less (IsSome mid.visits) (IsSome after.visits) (λ t. told_before mid.visits after.visits a.1 a.2.back t) (told.upstreams old) olds p.0 p.1 p.2 p.4)
+            (subst (λ (us : List Upstream). RepliesOr left taken held (IsSome after.visits) us p.0 a.0 q a.1 r) same a.3),
+        a.4,
+      )
+    where
+      of : (r : Option Object) (olds rounded news : List Standing) (ds : List Dial) (v w : List Visit) → Rounds (IsSome after.visits) (told.upstreams old) olds rounded ds v
+          → RepliesOr left taken held (IsSome after.visits) (told.upstreams old) rounded news q w r → RepliesTo (IsSome after.visits) (told.upstreams old) olds news q r ds (v ++ w)
+      of (Some reply) olds rounded news ds v w round replies = record { rounded = rounded; in_round = v; in_reply = w; visits_are = refl; round = round; replies = replies }
+      of None olds rounded news ds v w round lacks = record { rounded = rounded; in_round = v; in_reply = w; visits_are = refl; lacks = inr (round, lacks) }
+
+  pub answers_not : (before after : Outside) (old new : List (Followed L)) (q : Request) (r : Result Object AllocError) {e : AllocError} → IsErr r
+      → RoundsAll left taken held before after old new (Err e) → AnswersAll left taken held before after old new q (told.replied_by r)
+  answers_not before after old new q (Ok x) is rounds = never is
+  answers_not before after old new q (Err x) is rounds = λ olds are.
+      let p = rounds olds are in
+      (p.0, p.1, p.2, p.3, record { rounded = p.0; in_round = p.2; in_reply = []; visits_are = sym (append-nil p.2); lacks = inl (p.4, refl, refl) }, p.5)
+
+  -- ---- many rounds
+
+  pub many_none : (o : Outside) (all : List (Followed L)) → ManyAll left taken held o o all all 0 (Ok tt)
+  many_none o all = λ olds are. (olds, [], [], goes_none o, (refl, refl, refl), are)
+
+  pub many_more : (before mid after : Outside) (old mids new : List (Followed L)) (n : ℕ) (x y z : Unit {0}) → told.upstreams mids ≡ told.upstreams old
+      → ManyAll left taken held before mid old mids n (Ok x) → RoundsAll left taken held mid after mids new (Ok y) → ManyAll left taken held before after old new (n + 1) (Ok z)
+  many_more before mid after old mids new n x y z same many rounds = λ olds are.
+      let p = many olds are in
+      let a = rounds p.0 p.5 in (
+        a.0,
+        p.1 ++ a.1,
+        p.2 ++ a.2,
+        goes_then before mid after p.1 a.1 p.2 a.2 p.3 a.3,
+        subst (λ (m : ℕ). ManyRounds (IsSome after.visits) (told.upstreams old) m olds a.0 (p.1 ++ a.1) (p.2 ++ a.2)) (sym (add-one n))
+            (more_rounds (IsSome after.visits) (told.upstreams old) n olds p.0 a.0 p.1 a.1 p.2 a.2
+            (many_less (IsSome mid.visits) (IsSome after.visits) (λ t. told_before mid.visits after.visits a.2 a.3.back t) (told.upstreams old) n olds p.0 p.1 p.2 p.4)
+            (subst (λ (us : List Upstream). Rounds (IsSome after.visits) us p.0 a.0 a.1 a.2) same a.4)),
+        a.5,
+      )
+
+  pub many_stop : (before mid after : Outside) (old mids new : List (Followed L)) (n m : ℕ) (x : Unit {0}) (r : Result (Unit {0}) AllocError) {e : AllocError} → IsErr r → n < m → told.upstreams mids ≡ told.upstreams old
+      → ManyAll left taken held before mid old mids n (Ok x) → RoundsAll left taken held mid after mids new (Err e) → ManyAll left taken held before after old new m r
+  many_stop before mid after old mids new n m x (Ok y) is lt same many rounds = never is
+  many_stop before mid after old mids new n m x (Err y) is lt same many rounds = λ olds are.
+      let p = many olds are in
+      let a = rounds p.0 p.5 in (
+        a.0,
+        p.1 ++ a.1,
+        p.2 ++ a.2,
+        goes_then before mid after p.1 a.1 p.2 a.2 p.3 a.3,
+        then_stops (IsSome after.visits) (told.upstreams old) n m olds p.0 a.0 p.1 a.1 p.2 a.2 lt
+            (many_less (IsSome mid.visits) (IsSome after.visits) (λ t. told_before mid.visits after.visits a.2 a.3.back t) (told.upstreams old) n olds p.0 p.1 p.2 p.4)
+            (subst (λ (us : List Upstream). Stops (IsSome after.visits) us p.0 a.0 a.1 a.2) same a.4),
+        a.5,
+      )

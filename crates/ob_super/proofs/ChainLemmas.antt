@@ -1,0 +1,212 @@
+-- A whole run, from the rounds before any request to the end.
+use Rattle.std.proofs.Common.{◌≡◌, ◌⊎◌, ℕ, zero, suc, List, [], ◌∷◌, ◌++◌, map, Option, Some, None, Result, Ok, Err, refl, sym, ap, subst, ◌∙◌, append_assoc, append-nil, inl, inr}
+use Rattle.std.specs.Prelude.{IsSome}
+use Rattle.std.specs.List.{AllByRecursion}
+use Rattle.std.specs.declared.alloc.AllocError.{AllocError}
+use Rattle.ob_io.specs.Dials.{Dial, Visit}
+use Rattle.ob_values.specs.declared.verb.Verb.{Verb}
+use Rattle.ob_values.specs.declared.verb.Verb.TheVariants.{Get, Put, Post}
+use Rattle.ob_object.specs.Object.{Object}
+use Rattle.ob_watching.specs.WatchOuts.{Text}
+use Rattle.ob_asking.specs.Places.{Place, Request, place_at}
+use Rattle.ob_super.specs.declared.upstream.Live.{Live}
+use Rattle.ob_super.specs.declared.upstream.Followed.{Followed}
+use Rattle.ob_super.specs.Upstreams.{Upstream}
+use Rattle.ob_super.specs.Calls.{Call, stage_of}
+use Rattle.ob_super.specs.Turns.{Standing, Down, Up, after}
+use Rattle.ob_super.specs.Trees.{Entry, entry_at}
+use Rattle.ob_super.specs.Rounds.{Rounds, Stops, Lacks, BackForMemory, PutsHere, Sends, SendsIf, SendsTo, Puts, Ends}
+use Rattle.ob_super.specs.Supervised.{RepliesBy, LacksReply, Replies, Lacking, Asked, RepliesTo, Supervises, ManyRounds, StopsAmong, all_down, Supervised, StoppedEarly}
+use Rattle.ob_super.specs.Told as told
+use Rattle.ob_super.specs.Told.{Outside, Goes, Stands, StandAll, EndsAll, ManyAll, AnswersAll, SupervisesAll, RunsAll, StopsAll}
+use Rattle.ob_super.proofs.SuperLemmas.{told_before, comes_less, breaks_next_less, back_less, part_less, goes_none, goes_then}
+use Rattle.ob_super.proofs.AnswerLemmas.{rounds_less, many_less}
+
+-- ---- what is told less
+
+module _ (T U : Type 0) (less : U → T) where
+  for_memory_less : (u : Upstream) (s : Standing) (vs : List Visit) → BackForMemory T u s vs → BackForMemory U u s vs
+  for_memory_less u Down vs b = b
+  for_memory_less u (Up calls) vs b = breaks_next_less T U less u calls (stage_of u calls) _ vs b
+
+  lacks_less : (u : Upstream) (old : Standing) (ds : List Dial) (vs : List Visit) → Lacks T u old ds vs → Lacks U u old ds vs
+  lacks_less u old ds vs l =
+      record { turns = l.turns; dials_are = l.dials_are; none = back_less T U less u old l.turns [] l.none; back = for_memory_less u (after u old l.turns) vs l.back }
+
+  stops_less : (us : List Upstream) (olds news : List Standing) (ds : List Dial) (vs : List Visit) → Stops T us olds news ds vs → Stops U us olds news ds vs
+  stops_less [] olds news ds vs s = s
+  stops_less (u ∷ us) [] news ds vs s = s
+  stops_less (u ∷ us) (o ∷ olds) [] ds vs s = s
+  stops_less (u ∷ us) (o ∷ olds) (n ∷ news) ds vs s = elim s [
+    | inl l ↦ inl (lacks_less u o ds vs l.0, l.1, l.2)
+    | inr (d, e, v, w, dials, visits, part, rest) ↦ inr (d, e, v, w, dials, visits, part_less T U less u o n d v part, stops_less us olds news e w rest)
+  ]
+
+  sends_to_less : (u : Upstream) (calls : List Call) (new : Standing) (path : Text) (q : Request) (vs : List Visit) (r : Result (Option Object) AllocError) → SendsTo T u calls new path q vs r → SendsTo U u calls new path q vs r
+  sends_to_less u calls new path q vs (Ok None) s = s
+  sends_to_less u calls new path q vs (Ok (Some reply)) s = elim s [
+    | inl a ↦ inl a
+    | inr (is, down, (e, fault, (v, one, back))) ↦ inr (is, down, (e, fault, (v, one, λ t. back (less t))))
+  ]
+  sends_to_less u calls new path q vs (Err e) (down, s) = (
+    down,
+    elim s [
+      | inl (v, one, back) ↦ inl (v, one, λ t. back (less t))
+      | inr (o, (v, one, back)) ↦ inr (o, (v, one, λ t. back (less t)))
+    ],
+  )
+
+  sends_if_less : (u : Upstream) (calls : List Call) (new : Standing) (path : Text) (place : Option Place) (body : Option Object) (vs : List Visit) (r : Result (Option Object) AllocError)
+      → SendsIf T u calls new path place body vs r → SendsIf U u calls new path place body vs r
+  sends_if_less u calls new path (Some place) body vs r s = sends_to_less u calls new path _ vs r s
+  sends_if_less u calls new path None body vs (Ok reply) s = s
+  sends_if_less u calls new path None body vs (Err e) (down, (v, one, back)) = (down, (v, one, λ t. back (less t)))
+
+  sends_less : (u : Upstream) (old new : Standing) (entry : Entry) (body : Option Object) (vs : List Visit) (r : Result (Option Object) AllocError) → Sends T u old new entry body vs r → Sends U u old new entry body vs r
+  sends_less u Down new entry body vs r s = s
+  sends_less u (Up calls) new entry body vs r s = sends_if_less u calls new entry.path (place_at u.lobby.url entry.asked) body vs r s
+
+  here_less : (u : Upstream) (o n : Standing) (olds news : List Standing) (body : Option Object) (vs : List Visit) (r : Result (Option Object) AllocError) (more fewer : Type 0) → (more → fewer) → (e : Option Entry)
+      → PutsHere e (λ (entry : Entry). (news ≡ olds) × Sends T u o n entry body vs r) ((n ≡ o) × more)
+      → PutsHere e (λ (entry : Entry). (news ≡ olds) × Sends U u o n entry body vs r) ((n ≡ o) × fewer)
+  here_less u o n olds news body vs r more fewer f None (same, rest) = (same, f rest)
+  here_less u o n olds news body vs r more fewer f (Some entry) (same, sends) = (same, sends_less u o n entry body vs r sends)
+
+  puts_less : (us : List Upstream) (olds news : List Standing) (path : Text) (body : Option Object) (vs : List Visit) (r : Result (Option Object) AllocError) → Puts T us olds news path body vs r → Puts U us olds news path body vs r
+  puts_less [] [] [] path body vs r p = p
+  puts_less [] [] (n ∷ news) path body vs r p = absurd p
+  puts_less [] (o ∷ olds) news path body vs r p = absurd p
+  puts_less (u ∷ us) [] news path body vs r p = absurd p
+  puts_less (u ∷ us) (o ∷ olds) [] path body vs r p = absurd p
+  puts_less (u ∷ us) (o ∷ olds) (n ∷ news) path body vs r p =
+      here_less u o n olds news body vs r (Puts T us olds news path body vs r) (Puts U us olds news path body vs r) (puts_less us olds news path body vs r) (entry_at u o path) p
+
+  by_less : (us : List Upstream) (olds news : List Standing) (verb : Verb) (path : Text) (body : Option Object) (vs : List Visit) (reply : Object) → RepliesBy T us olds news verb path body vs reply → RepliesBy U us olds news verb path body vs reply
+  by_less us olds news Get path body vs reply r = r
+  by_less us olds news Put path body vs reply (put, puts, is) = (put, puts_less us olds news path body vs (Ok put) puts, is)
+  by_less us olds news Post path body vs reply r = r
+
+  lacks_reply_less : (us : List Upstream) (olds news : List Standing) (verb : Verb) (path : Text) (body : Option Object) (vs : List Visit) → LacksReply T us olds news verb path body vs → LacksReply U us olds news verb path body vs
+  lacks_reply_less us olds news Get path body vs r = r
+  lacks_reply_less us olds news Put path body vs (put, none, puts) = (put, none, puts_less us olds news path body vs put puts)
+  lacks_reply_less us olds news Post path body vs r = r
+
+  replies_less : (us : List Upstream) (olds news : List Standing) (q : Request) (reply : Option Object) (ds : List Dial) (vs : List Visit) → RepliesTo T us olds news q reply ds vs → RepliesTo U us olds news q reply ds vs
+  replies_less us olds news q (Some reply) ds vs r = record {
+    rounded = r.rounded;
+    in_round = r.in_round;
+    in_reply = r.in_reply;
+    visits_are = r.visits_are;
+    round = rounds_less T U less us olds r.rounded ds r.in_round r.round;
+    replies = by_less us r.rounded news q.verb q.target q.body r.in_reply reply r.replies;
+  }
+  replies_less us olds news q None ds vs r = record {
+    rounded = r.rounded;
+    in_round = r.in_round;
+    in_reply = r.in_reply;
+    visits_are = r.visits_are;
+    lacks = elim r.lacks [
+      | inl s ↦ inl (stops_less us olds r.rounded ds r.in_round s.0, s.1, s.2)
+      | inr s ↦ inr (rounds_less T U less us olds r.rounded ds r.in_round s.0, lacks_reply_less us r.rounded news q.verb q.target q.body r.in_reply s.1)
+    ];
+  }
+
+  supervises_less : (us : List Upstream) (olds news : List Standing) (qs : List Asked) (ds : List Dial) (vs : List Visit) → Supervises T us olds news qs ds vs → Supervises U us olds news qs ds vs
+  supervises_less us olds news [] ds vs s = s
+  supervises_less us olds news (a ∷ qs) ds vs (mids, d, e, v, w, dials, visits, first, rest) =
+      (mids, d, e, v, w, dials, visits, replies_less us olds mids a.request a.reply d v first, supervises_less us mids news qs e w rest)
+
+module _ {L : Type 0} (left taken held : L → Option (List ℕ)) where
+  abbrev AllStand : List Standing → List (Followed L) → Type 0
+  AllStand ss all = StandAll left taken held ss all
+
+  -- ---- requests, one behind the other
+
+  pub supervises_none : (o : Outside) (all : List (Followed L)) → SupervisesAll left taken held o o all all []
+  supervises_none o all = λ olds are. (olds, [], [], goes_none o, (refl, refl, refl), are)
+
+  pub supervises_more : (before mid after : Outside) (old mids new : List (Followed L)) (q : Request) (reply : Option Object) (qs : List Asked) → told.upstreams mids ≡ told.upstreams old
+      → AnswersAll left taken held before mid old mids q reply → SupervisesAll left taken held mid after mids new qs → SupervisesAll left taken held before after old new (told.asked q reply ∷ qs)
+  supervises_more before mid after old mids new q reply qs same first rest = λ olds are.
+      let p = first olds are in
+      let a = rest p.0 p.5 in (
+        a.0,
+        p.1 ++ a.1,
+        p.2 ++ a.2,
+        goes_then before mid after p.1 a.1 p.2 a.2 p.3 a.3,
+        (
+          p.0,
+          p.1,
+          a.1,
+          p.2,
+          a.2,
+          refl,
+          refl,
+          replies_less (IsSome mid.visits) (IsSome after.visits) (λ t. told_before mid.visits after.visits a.2 a.3.back t) (told.upstreams old) olds p.0 q reply p.1 p.2 p.4,
+          subst (λ (us : List Upstream). Supervises (IsSome after.visits) us p.0 a.0 qs a.1 a.2) same a.4,
+        ),
+        a.5,
+      )
+
+  -- ---- a whole run
+
+  pub down_stand : (all : List (Followed L)) → AllByRecursion (λ (f : Followed L). f.live ≡ None) all → AllStand (all_down (told.upstreams all)) all
+  down_stand [] down = tt
+  down_stand (f ∷ fs) (none, rest) = (subst (λ (live : Option (Live L)). Stands left taken held (told.upstream f.upstream) Down live) (sym none) tt, down_stand fs rest)
+
+  pub runs : (before mid late after : Outside) (old begun last : List (Followed L)) (n : ℕ) (x : Unit {0}) (qs : List Asked) → AllByRecursion (λ (f : Followed L). f.live ≡ None) old
+      → told.upstreams begun ≡ told.upstreams old → told.upstreams last ≡ told.upstreams begun
+      → ManyAll left taken held before mid old begun n (Ok x) → SupervisesAll left taken held mid late begun last qs → EndsAll left taken held late after last
+      → RunsAll before after (told.upstreams old) n qs
+  runs before mid late after old begun last n x qs down same still many asked ends =
+      let p = many (all_down (told.upstreams old)) (down_stand old down) in
+      let a = asked p.0 p.5 in
+      let e = ends a.0 a.5 in
+      let us = told.upstreams old in
+      let lost = λ (t : IsSome after.visits). told_before late.visits after.visits e.0 e.1.back t in (
+        p.1 ++ a.1,
+        p.2 ++ (a.2 ++ e.0),
+        subst (λ (ds : List Dial). Goes before (p.1 ++ ds) (p.2 ++ (a.2 ++ e.0)) after) (append-nil a.1)
+            (goes_then before mid after p.1 (a.1 ++ []) p.2 (a.2 ++ e.0) p.3 (goes_then mid late after a.1 [] a.2 e.0 a.3 e.1)),
+        record {
+          begun = p.0;
+          last = a.0;
+          dials_before = p.1;
+          dials_asked = a.1;
+          back_before = p.2;
+          back_asked = a.2;
+          back_last = e.0;
+          dials_are = refl;
+          visits_are = refl;
+          before = many_less (IsSome mid.visits) (IsSome after.visits) (λ t. told_before mid.visits late.visits a.2 a.3.back (lost t)) us n (all_down us) p.0 p.1 p.2 p.4;
+          replies = subst (λ (vs : List Upstream). Supervises (IsSome after.visits) vs p.0 a.0 qs a.1 a.2) same (supervises_less (IsSome late.visits) (IsSome after.visits) lost (told.upstreams begun) p.0 a.0 qs a.1 a.2 a.4);
+          ends = subst (λ (vs : List Upstream). Ends (IsSome after.visits) vs a.0 e.0) (still ∙ same) e.2;
+        },
+      )
+
+  among_less : (T U : Type 0) → (U → T) → (us : List Upstream) (n : ℕ) (olds news : List Standing) (ds : List Dial) (vs : List Visit) → StopsAmong T us n olds news ds vs → StopsAmong U us n olds news ds vs
+  among_less T U less us zero olds news ds vs s = s
+  among_less T U less us (suc n) olds news ds vs s = elim s [
+    | inl a ↦ inl (stops_less T U less us olds news ds vs a)
+    | inr (mids, d, e, v, w, dials, visits, round, rest) ↦ inr (mids, d, e, v, w, dials, visits, rounds_less T U less us olds mids d v round, among_less T U less us n mids news e w rest)
+  ]
+
+  pub stops : (before mid after : Outside) (old last : List (Followed L)) (n : ℕ) (x : AllocError) → AllByRecursion (λ (f : Followed L). f.live ≡ None) old
+      → told.upstreams last ≡ told.upstreams old → ManyAll left taken held before mid old last n (Err x) → EndsAll left taken held mid after last
+      → StopsAll before after (told.upstreams old) n
+  stops before mid after old last n x down same many ends =
+      let p = many (all_down (told.upstreams old)) (down_stand old down) in
+      let e = ends p.0 p.5 in
+      let us = told.upstreams old in (
+        p.1,
+        p.2 ++ e.0,
+        subst (λ (ds : List Dial). Goes before ds (p.2 ++ e.0) after) (append-nil p.1) (goes_then before mid after p.1 [] p.2 e.0 p.3 e.1),
+        record {
+          last = p.0;
+          back_before = p.2;
+          back_last = e.0;
+          visits_are = refl;
+          before = among_less (IsSome mid.visits) (IsSome after.visits) (λ t. told_before mid.visits after.visits e.0 e.1.back t) us n (all_down us) p.0 p.1 p.2 p.4;
+          ends = subst (λ (vs : List Upstream). Ends (IsSome after.visits) vs p.0 e.0) same e.2;
+        },
+      )

@@ -1,0 +1,16 @@
+pub mod WireLemmas
+pub mod SaidLemmas
+pub mod NeedLemmas
+pub mod OpenLemmas
+pub mod TurnLemmas
+pub mod PartLemmas
+pub mod LiveLemmas
+pub mod SuperLemmas
+pub mod PlaceLemmas
+pub mod TreeLemmas
+pub mod NameLemmas
+pub mod AnswerLemmas
+pub mod ChainLemmas
+pub mod ConfigLemmas
+pub mod ConfigNames
+pub mod DownLemmas

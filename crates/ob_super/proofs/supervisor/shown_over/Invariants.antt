@@ -1,0 +1,6 @@
+use Rattle.std.proofs.Common.{◌≡◌, drop}
+use Rattle.ob_super.specs.Told as told
+use Rattle.ob_super.proofs.supervisor.shown_over.Given as goal
+
+abbrev pub invariant-loop-followed : goal.invariant-loop-followed
+invariant-loop-followed g l = told.shown_over l.all l.path ≡ told.shown_over (drop l.followed-index l.all) l.path

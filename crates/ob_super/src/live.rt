@@ -1,0 +1,187 @@
+//! Upstreams, and the links to those that are up.
+ghost use Rattle.std.specs.Prelude.{◌≡◌, List, None, IsSome, IfSome, IsOk, OnErr, option_copied};
+ghost use Rattle.ob_super.specs.Calls.{Call, put_on};
+ghost use Rattle.ob_super.specs.Rounds.{host};
+ghost use Rattle.ob_super.specs.Turns.{Standing, Down, Up};
+ghost use Rattle.ob_super.specs.Told as told;
+
+use crate::asking::{call, open, poll};
+use crate::upstream::{Followed, Live, Upstream};
+use ob_asking::{Fault, host_field};
+use ob_client::Session;
+use ob_io::{Dialer, Link};
+use ob_object::Obj;
+use ob_values::{Text, Verb};
+use std::alloc::{AllocError, Global};
+
+// Gives a link back.
+fn give_back<W: Dialer>(dialer: &mut W, session: Session<W::L>)
+    ensures back { told.ComesBack W.L.left W.L.taken W.L.held W.L.read_faults W.L.write_faults session.link (W.visits dialer.old) (W.visits dialer.new) }
+    ensures apart { W.dials dialer.new ≡ W.dials dialer.old }
+{
+    dialer.back(session.end());
+}
+
+// A link that ended so was given back: the upstream is down, or there was no memory.
+fn down<T>(fault: Fault) -> Result<Option<T>, AllocError>
+    ensures { told.IsDown fault result }
+{
+    match fault {
+        Fault::Memory => Err(AllocError),
+        _ => Ok(None),
+    }
+}
+
+// A session over a link that was dialled; without memory the link is given back.
+fn begin<W: Dialer>(
+    alloc: Global,
+    upstream: &Upstream,
+    link: W::L,
+    dialer: &mut W,
+) -> Result<Session<W::L>, AllocError>
+    ensures ok { told.Begins link (host (told.upstream upstream.now)) result }
+    ensures none { IsOk result → dialer.new ≡ dialer.old }
+    ensures back { OnErr result (told.ComesBack W.L.left W.L.taken W.L.held W.L.read_faults W.L.write_faults link (W.visits dialer.old) (W.visits dialer.new)) }
+    ensures apart { W.dials dialer.new ≡ W.dials dialer.old }
+{
+    let Ok(host) = host_field(alloc, &upstream.lobby.base) else {
+        dialer.back(link);
+        return Err(AllocError);
+    };
+    match Session::new(alloc, link, host) {
+        Ok(session) => Ok(session),
+        Err((link, _)) => {
+            dialer.back(link);
+            Err(AllocError)
+        }
+    }
+}
+
+// Dials a link to an upstream that is down, and opens a watch over it.
+fn connect<W: Dialer>(
+    alloc: Global,
+    upstream: &Upstream,
+    dialer: &mut W,
+) -> Result<Option<Live<W::L>>, AllocError>
+    ensures { told.Parts W.L.left W.L.taken W.L.held (told.outside (W.dials dialer.old) (W.visits dialer.old)) (told.outside (W.dials dialer.new) (W.visits dialer.new)) (told.upstream upstream.now) Down result }
+{
+    let base = &upstream.lobby.base;
+    let Ok(link) = dialer.dial(base.host(), base.port()) else {
+        return Ok(None);
+    };
+    let mut session = begin(alloc, upstream, link, dialer)?;
+    match open(alloc, upstream, &mut session) {
+        Ok(watch) => Ok(Some(Live { session, watch })),
+        Err(fault) => {
+            give_back(dialer, session);
+            down(fault)
+        }
+    }
+}
+
+// Asks an upstream that is up for its changes.
+fn refresh<W: Dialer>(
+    upstream: &Upstream,
+    live: Live<W::L>,
+    dialer: &mut W,
+) -> Result<Option<Live<W::L>>, AllocError>
+    ensures { (calls : List Call) → told.IsLive W.L.left W.L.taken W.L.held (told.upstream upstream.now) calls live
+        → told.Parts W.L.left W.L.taken W.L.held (told.outside (W.dials dialer.old) (W.visits dialer.old)) (told.outside (W.dials dialer.new) (W.visits dialer.new)) (told.upstream upstream.now) (Up calls) result }
+{
+    let Live {
+        mut session,
+        mut watch,
+    } = live;
+    match poll(&mut session, &mut watch) {
+        Ok(()) => Ok(Some(Live { session, watch })),
+        Err(fault) => {
+            drop(watch);
+            give_back(dialer, session);
+            down(fault)
+        }
+    }
+}
+
+// What a round makes of an upstream.
+fn next<W: Dialer>(
+    alloc: Global,
+    upstream: &Upstream,
+    live: Option<Live<W::L>>,
+    dialer: &mut W,
+) -> Result<Option<Live<W::L>>, AllocError>
+    ensures { (old : Standing) → told.Stands W.L.left W.L.taken W.L.held (told.upstream upstream.now) old live
+        → told.Parts W.L.left W.L.taken W.L.held (told.outside (W.dials dialer.old) (W.visits dialer.old)) (told.outside (W.dials dialer.new) (W.visits dialer.new)) (told.upstream upstream.now) old result }
+{
+    match live {
+        None => connect(alloc, upstream, dialer),
+        Some(live) => refresh(upstream, live, dialer),
+    }
+}
+
+/// Has a round's part with an upstream. Without memory it is down.
+pub(crate) fn follow<W: Dialer>(
+    alloc: Global,
+    followed: &mut Followed<W::L>,
+    dialer: &mut W,
+) -> Result<(), AllocError>
+    ensures same { followed.new.upstream ≡ followed.old.upstream }
+    ensures follows { (old : Standing) → told.Stands W.L.left W.L.taken W.L.held (told.upstream followed.old.upstream) old followed.old.live
+        → told.Follows W.L.left W.L.taken W.L.held (told.outside (W.dials dialer.old) (W.visits dialer.old)) (told.outside (W.dials dialer.new) (W.visits dialer.new)) (told.upstream followed.old.upstream) old followed.new.live result }
+{
+    let live = followed.live.take();
+    let live = next(alloc, &followed.upstream, live, dialer)?;
+    put_live(followed, live, dialer);
+    Ok(())
+}
+
+// Puts the link of an upstream that has none.
+fn put_live<W: Dialer>(followed: &mut Followed<W::L>, live: Option<Live<W::L>>, dialer: &mut W)
+    requires { followed.old.live ≡ None }
+    ensures put { followed.new ≡ record followed.old { live = live } }
+    ensures apart { dialer.new ≡ dialer.old }
+{
+    let old = std::mem::replace(&mut followed.live, live);
+    end_live(old, dialer);
+}
+
+/// Gives the link back, if there is one.
+pub(crate) fn end_live<W: Dialer>(live: Option<Live<W::L>>, dialer: &mut W)
+    ensures none { live ≡ None → dialer.new ≡ dialer.old }
+    ensures back { IfSome live (λ l. told.ComesBack W.L.left W.L.taken W.L.held W.L.read_faults W.L.write_faults l.session.link (W.visits dialer.old) (W.visits dialer.new)) }
+    ensures apart { W.dials dialer.new ≡ W.dials dialer.old }
+{
+    if let Some(live) = live {
+        let Live { session, watch } = live;
+        drop(watch);
+        give_back(dialer, session);
+    }
+}
+
+/// Sends a PUT on, and gives the object of its reply; None where the upstream then is down.
+pub(crate) fn send_put<W: Dialer>(
+    followed: &mut Followed<W::L>,
+    target: &Text,
+    body: Option<&Obj>,
+    dialer: &mut W,
+) -> Result<Option<Obj>, AllocError>
+    requires { IsSome followed.old.live }
+    ensures same { followed.new.upstream ≡ followed.old.upstream }
+    ensures sends { (calls : List Call) → told.Stands W.L.left W.L.taken W.L.held (told.upstream followed.old.upstream) (Up calls) followed.old.live
+        → told.SendsOn W.L.left W.L.taken W.L.held (told.outside (W.dials dialer.old) (W.visits dialer.old)) (told.outside (W.dials dialer.new) (W.visits dialer.new)) (told.upstream followed.old.upstream) calls (put_on target.now (option_copied body.entry)) followed.new.live result }
+{
+    let Some(live) = followed.live.take() else {
+        return Ok(None);
+    };
+    let Live { mut session, watch } = live;
+    match call(&mut session, Verb::Put, target, body) {
+        Ok(reply) => {
+            put_live(followed, Some(Live { session, watch }), dialer);
+            Ok(Some(reply))
+        }
+        Err(fault) => {
+            drop(watch);
+            give_back(dialer, session);
+            down(fault)
+        }
+    }
+}

@@ -1,0 +1,293 @@
+//! The supervisor.
+ghost use Rattle.std.specs.Prelude.{◌≡◌, ◌<◌, ◌++◌, ℕ, List, [], ◌∷◌, None, Some, IsSome, IfSome, IfOk, OnOk, is_some, option_copied, option_map, slice_get, length};
+ghost use Rattle.ob_client.specs.Mirrors.{found};
+ghost use Rattle.ob_asking.specs.Places.{place_at};
+ghost use Rattle.ob_super.specs.Calls.{Call};
+ghost use Rattle.ob_super.specs.Trees.{object_at, entry_in, with_children, subtree, shown_among, shown_in};
+ghost use Rattle.ob_super.specs.Turns.{Up};
+ghost use Rattle.ob_super.specs.Told as told;
+
+use crate::config::upstreams;
+use crate::config_fault::ConfigFault;
+use crate::live::{end_live, follow, send_put};
+use crate::place::{ROOT, behind_list, is_list_path, is_number, object_path};
+use crate::refusal::{err, not_supported};
+use crate::state::Super;
+use crate::tree::{placed, placed_at, subtree, tree};
+use crate::upstream::{Followed, Upstream};
+use ob_asking::place_at;
+use ob_client::Mirror;
+use ob_io::{Dialer, Link};
+use ob_object::Obj;
+use ob_values::Text;
+use std::alloc::{AllocError, Global};
+
+// The place of the href of an upstream whose object is held, and has this path.
+fn held_place<L>(followed: &Followed<L>, path: &str) -> Option<usize>
+    ensures live { IsSome result → IsSome followed.now.live }
+    ensures finds { told.FindsEntry (told.upstream followed.now.upstream) (told.held_now followed.now.live) path.now result }
+{
+    let Some(live) = &followed.live else {
+        return None;
+    };
+    held_among(&followed.upstream, &live.watch.mirror, path)
+}
+
+// The same of what a mirror holds.
+fn held_among(upstream: &Upstream, mirror: &Mirror, path: &str) -> Option<usize>
+    ensures { told.FindsEntry (told.upstream upstream.now) mirror.now.held path.now result }
+{
+    let Some(rest) = behind_list(&upstream.name, path) else {
+        return None;
+    };
+    for place in 0..upstream.hrefs.len() {
+        if is_number(rest, place) && holds(mirror, &upstream.hrefs[place]) {
+            return Some(place);
+        }
+    }
+    None
+}
+
+// Whether something is held under an href.
+fn holds(mirror: &Mirror, href: &Text) -> bool
+    ensures { result ≡ is_some (found href.now mirror.now.held) }
+{
+    mirror.get(href.as_str()).is_some()
+}
+
+// What an upstream shows at the path of one of its objects.
+fn object_shown<L>(
+    alloc: Global,
+    followed: &Followed<L>,
+    path: &str,
+) -> Result<Option<Obj>, AllocError>
+    ensures { IfOk result (λ o. o ≡ option_map (λ e. e.object) (entry_in (told.upstream followed.now.upstream) (told.held_now followed.now.live) path.now)) }
+{
+    let Some(live) = &followed.live else {
+        return Ok(None);
+    };
+    match held_among(&followed.upstream, &live.watch.mirror, path) {
+        Some(place) => placed_at(alloc, &followed.upstream, &live.watch.mirror, place),
+        None => Ok(None),
+    }
+}
+
+// What an upstream shows at a path.
+fn shown_of<L>(alloc: Global, followed: &Followed<L>, path: &str) -> Result<Option<Obj>, AllocError>
+    ensures { IfOk result (λ o. o ≡ shown_among (with_children (subtree (told.view followed.now))) path.now) }
+{
+    if is_list_path(&followed.upstream.name, path) {
+        return Ok(Some(subtree(alloc, followed)?));
+    }
+    object_shown(alloc, followed, path)
+}
+
+// Sends a PUT on to the href at a place of an upstream that is up.
+fn put_at<W: Dialer>(
+    alloc: Global,
+    followed: &mut Followed<W::L>,
+    place: usize,
+    dialer: &mut W,
+    body: Option<&Obj>,
+) -> Result<Obj, AllocError>
+    requires live { IsSome followed.old.live }
+    requires there { place < length followed.old.upstream.hrefs.items }
+    ensures same { followed.new.upstream ≡ followed.old.upstream }
+    ensures puts { (calls : List Call) → (href : List ℕ) → told.Stands W.L.left W.L.taken W.L.held (told.upstream followed.old.upstream) (Up calls) followed.old.live
+        → slice_get followed.old.upstream.hrefs.items place ≡ Some href
+        → told.MayPut W.L.left W.L.taken W.L.held (told.outside (W.dials dialer.old) (W.visits dialer.old)) (told.outside (W.dials dialer.new) (W.visits dialer.new)) (told.upstream followed.old.upstream) calls (object_at followed.old.upstream.name place) (place_at followed.old.upstream.lobby.base href) (option_copied body.entry) followed.new.live result }
+{
+    let path = object_path(alloc, &followed.upstream.name, place)?;
+    let upstream = &followed.upstream;
+    let href = upstream.hrefs[place].as_str();
+    let Some(asked) = place_at(alloc, &upstream.lobby.base, href)? else {
+        return not_supported(alloc);
+    };
+    let target = asked.into_target();
+    match send_put(followed, &target, body, dialer)? {
+        Some(reply) => placed(alloc, &reply, path),
+        None => err(alloc, "upstream down"),
+    }
+}
+
+// Has a round over upstreams, in order.
+fn round_over<W: Dialer>(
+    alloc: Global,
+    all: &mut [Followed<W::L>],
+    dialer: &mut W,
+) -> Result<(), AllocError>
+    ensures same { told.upstreams all.new ≡ told.upstreams all.old }
+    ensures rounds { told.RoundsAll W.L.left W.L.taken W.L.held (told.outside (W.dials dialer.old) (W.visits dialer.old)) (told.outside (W.dials dialer.new) (W.visits dialer.new)) all.old all.new result }
+{
+    let Some((first, rest)) = all.split_first_mut() else {
+        return Ok(());
+    };
+    follow(alloc, first, dialer)?;
+    round_over(alloc, rest, dialer)
+}
+
+// Takes an upstream down.
+fn take_down<W: Dialer>(followed: &mut Followed<W::L>, dialer: &mut W)
+    ensures down { followed.new ≡ record followed.old { live = None } }
+    ensures none { followed.old.live ≡ None → dialer.new ≡ dialer.old }
+    ensures back { IfSome followed.old.live (λ l. told.ComesBack W.L.left W.L.taken W.L.held W.L.read_faults W.L.write_faults l.session.link (W.visits dialer.old) (W.visits dialer.new)) }
+    ensures apart { W.dials dialer.new ≡ W.dials dialer.old }
+{
+    let live = followed.live.take();
+    end_live(live, dialer);
+}
+
+// The same as `put_at`; without memory the upstream is down.
+fn put_or_down<W: Dialer>(
+    alloc: Global,
+    followed: &mut Followed<W::L>,
+    place: usize,
+    dialer: &mut W,
+    body: Option<&Obj>,
+) -> Result<Option<Obj>, AllocError>
+    requires live { IsSome followed.old.live }
+    requires there { place < length followed.old.upstream.hrefs.items }
+    ensures same { followed.new.upstream ≡ followed.old.upstream }
+    ensures puts { (calls : List Call) → (href : List ℕ) → told.Stands W.L.left W.L.taken W.L.held (told.upstream followed.old.upstream) (Up calls) followed.old.live
+        → slice_get followed.old.upstream.hrefs.items place ≡ Some href
+        → told.PutsTo W.L.left W.L.taken W.L.held (told.outside (W.dials dialer.old) (W.visits dialer.old)) (told.outside (W.dials dialer.new) (W.visits dialer.new)) (told.upstream followed.old.upstream) calls (object_at followed.old.upstream.name place) (place_at followed.old.upstream.lobby.base href) (option_copied body.entry) followed.new.live result }
+{
+    match put_at(alloc, followed, place, dialer, body) {
+        Ok(reply) => Ok(Some(reply)),
+        Err(AllocError) => {
+            take_down(followed, dialer);
+            Err(AllocError)
+        }
+    }
+}
+
+// An upstream that is down stands last.
+fn push_down<L: Drop>(all: &mut Vec<Followed<L>>, upstream: Upstream) -> Result<(), AllocError>
+    ensures { OnOk result (all.new.items ≡ all.old.items ++ told.down upstream ∷ []) }
+{
+    all.push(Followed {
+        upstream,
+        live: None,
+    })?;
+    Ok(())
+}
+
+// Upstreams that are down.
+fn all_down<L: Drop>(
+    alloc: Global,
+    upstreams: Vec<Upstream>,
+) -> Result<Vec<Followed<L>>, AllocError>
+    ensures { IfOk result (λ all. told.AreDown upstreams.items all.items) }
+{
+    let mut all = Vec::new(alloc);
+    for upstream in upstreams {
+        push_down(&mut all, upstream)?;
+    }
+    Ok(all)
+}
+
+// Sends a PUT on to the first of upstreams that holds an object at this path.
+fn put_over<W: Dialer>(
+    alloc: Global,
+    all: &mut [Followed<W::L>],
+    dialer: &mut W,
+    path: &str,
+    body: Option<&Obj>,
+) -> Result<Option<Obj>, AllocError>
+    ensures same { told.upstreams all.new ≡ told.upstreams all.old }
+    ensures puts { told.PutsAll W.L.left W.L.taken W.L.held (told.outside (W.dials dialer.old) (W.visits dialer.old)) (told.outside (W.dials dialer.new) (W.visits dialer.new)) all.old all.new path.now (option_copied body.entry) result }
+{
+    let Some((first, rest)) = all.split_first_mut() else {
+        return Ok(None);
+    };
+    match held_place(first, path) {
+        Some(place) => put_or_down(alloc, first, place, dialer, body),
+        None => put_over(alloc, rest, dialer, path, body),
+    }
+}
+
+// Gives the links of upstreams back, in order.
+fn end_over<W: Dialer>(all: &mut [Followed<W::L>], dialer: &mut W)
+    ensures { told.EndsAll W.L.left W.L.taken W.L.held (told.outside (W.dials dialer.old) (W.visits dialer.old)) (told.outside (W.dials dialer.new) (W.visits dialer.new)) all.old }
+{
+    let Some((first, rest)) = all.split_first_mut() else {
+        return;
+    };
+    take_down(first, dialer);
+    end_over(rest, dialer)
+}
+
+// What the first of upstreams that has a place of this path shows there.
+fn shown_over<L>(alloc: Global, all: &[Followed<L>], path: &str) -> Result<Option<Obj>, AllocError>
+    ensures { IfOk result (λ shown. shown ≡ told.shown_over all.now path.now) }
+{
+    for followed in all {
+        if let Some(shown) = shown_of(alloc, followed, path)? {
+            return Ok(Some(shown));
+        }
+    }
+    Ok(None)
+}
+
+impl<L: Link + Drop> Super<L> {
+    /// Follows the upstreams of a config, each of which is down. Shape where a part of the config isn't as it has to be, with
+    /// the number of the first such part.
+    pub fn new(alloc: Global, config: &Obj) -> Result<Super<L>, ConfigFault>
+        ensures configured { told.Configures config.now result }
+    {
+        match upstreams(alloc, config) {
+            Ok(upstreams) => {
+                let followed = all_down(alloc, upstreams)?;
+                Ok(Super { alloc, followed })
+            }
+            Err(fault) => Err(fault),
+        }
+    }
+
+    /// Has a round over the upstreams, in order: one that is down is dialled and a watch opened over the link, one that is up is
+    /// asked for its changes. Without memory the upstream in hand is down.
+    pub fn round<W: Dialer<L = L>>(&mut self, dialer: &mut W) -> Result<(), AllocError>
+        ensures same { told.upstreams self.new.followed.items ≡ told.upstreams self.old.followed.items }
+        ensures rounds { told.RoundsAll L.left L.taken L.held (told.outside (W.dials dialer.old) (W.visits dialer.old)) (told.outside (W.dials dialer.new) (W.visits dialer.new)) self.old.followed.items self.new.followed.items result }
+    {
+        round_over(self.alloc, &mut self.followed, dialer)
+    }
+
+    /// What the tree shows at the place of this path; None where it has no such place.
+    pub fn shown(&self, path: &str) -> Result<Option<Obj>, AllocError>
+        ensures { IfOk result (λ shown. shown ≡ shown_in (told.views self.now.followed.items) path.now) }
+    {
+        if path == ROOT {
+            return Ok(Some(tree(self.alloc, &self.followed)?));
+        }
+        shown_over(self.alloc, &self.followed, path)
+    }
+
+    /// Sends a PUT on to the upstream of an object that is held at this path; None where none is held there. The reply stands at
+    /// that path; where the call fails, the upstream is down, and the reply is the err `upstream down`. Where the href that was
+    /// asked leads to no place of the upstream's server, nothing is sent, and the reply is the err of a verb that isn't supported.
+    /// Without memory the upstream is down.
+    pub fn put<W: Dialer<L = L>>(
+        &mut self,
+        dialer: &mut W,
+        path: &str,
+        body: Option<&Obj>,
+    ) -> Result<Option<Obj>, AllocError>
+        ensures same { told.upstreams self.new.followed.items ≡ told.upstreams self.old.followed.items }
+        ensures puts { told.PutsAll L.left L.taken L.held (told.outside (W.dials dialer.old) (W.visits dialer.old)) (told.outside (W.dials dialer.new) (W.visits dialer.new)) self.old.followed.items self.new.followed.items path.now (option_copied body.entry) result }
+    {
+        put_over(self.alloc, &mut self.followed, dialer, path, body)
+    }
+
+    /// Gives every link back.
+    pub fn end<W: Dialer<L = L>>(self, dialer: &mut W)
+        ensures { told.EndsAll L.left L.taken L.held (told.outside (W.dials dialer.old) (W.visits dialer.old)) (told.outside (W.dials dialer.new) (W.visits dialer.new)) self.followed.items }
+    {
+        let Super {
+            alloc: _,
+            mut followed,
+        } = self;
+        end_over(&mut followed, dialer);
+        drop(followed);
+    }
+}

@@ -1,0 +1,40 @@
+//! What is followed.
+ghost use Rattle.std.specs.Prelude.{◌≡◌, false};
+
+use crate::asking::Watch;
+use ob_asking::Place;
+use ob_client::Session;
+use ob_values::Text;
+
+/// A server that is followed: its name, its lobby, and the hrefs that are watched.
+pub(crate) struct Upstream {
+    pub(crate) name: Text,
+    pub(crate) lobby: Place,
+    pub(crate) hrefs: Vec<Text>,
+}
+
+impl Drop for Upstream {
+    // By one call for each part.
+    fn drop(self) {
+        let Upstream { name, lobby, hrefs } = self;
+        drop(name);
+        drop(lobby);
+        drop(hrefs);
+    }
+}
+
+/// A link to an upstream that is up, and what is held over it: its last call was answered, and no reply was lost.
+#[derive(Drop)]
+pub(crate) struct Live<L> {
+    pub(crate) session: Session<L>,
+    pub(crate) watch: Watch,
+    ghost alive: { session.is_dead ≡ false },
+    ghost fresh: { watch.mirror.stale ≡ false },
+}
+
+/// An upstream: up where it has a link, else down.
+#[derive(Drop)]
+pub(crate) struct Followed<L> {
+    pub(crate) upstream: Upstream,
+    pub(crate) live: Option<Live<L>>,
+}

@@ -1,0 +1,94 @@
+//! One link and one supervisor.
+ghost use Rattle.std.specs.Prelude.{◌≡◌, None};
+ghost use Rattle.std.specs.List.{AllByRecursion};
+ghost use Rattle.ob_io.specs.Links.{inlet};
+ghost use Rattle.ob_server.specs.Answered.{HasEndCause};
+ghost use Rattle.ob_server.specs.Answering.{ServesBy};
+ghost use Rattle.ob_server.specs.Complete.{ServesWhole};
+ghost use Rattle.ob_super.specs.Told as told;
+ghost use Rattle.ob_supervising.specs.Supervising.{Asks, SupervisesLink};
+
+use ob_io::{Dialer, Link, Ticker};
+use ob_object::Obj;
+use ob_server::{Answerer, LinkEnd, serve_by};
+use ob_site_rules::Request;
+use ob_super::Super;
+use ob_times::Moment;
+use std::alloc::{AllocError, Global};
+
+/// A supervisor that answers requests.
+#[derive(Drop)]
+pub(crate) struct Supervising<L> {
+    upstreams: Super<L>,
+}
+
+impl<L: Link + Drop, W: Dialer<L = L>> Answerer<W> for Supervising<L> {
+    ghost asks = { Asks L.left L.taken L.held W.dials W.visits };
+
+    fn answer(
+        &mut self,
+        outside: &mut W,
+        request: &Request,
+        moment: Moment,
+    ) -> Result<Obj, AllocError> {
+        let _ = moment;
+        self.upstreams.answer(
+            outside,
+            request.verb,
+            request.target.as_str(),
+            request.body.as_ref(),
+        )
+    }
+}
+
+/// Answers the requests of a link. The moments count from 0: none of them matters.
+fn serve_requests<W: Dialer, L: Link>(
+    alloc: Global,
+    serving: &mut Supervising<W::L>,
+    dialer: &mut W,
+    link: &mut L,
+) -> LinkEnd
+where
+    W::L: Drop,
+{
+    let mut ticker = Ticker {
+        at: 0,
+        tick: 0,
+        k: 0,
+    };
+    serve_by(alloc, serving, dialer, None, link, &mut ticker)
+}
+
+/// Has so many rounds over upstreams that are down, and then answers the requests that come over a link, with a round before each of
+/// them, until the link ends. Every link to an upstream is given back at the end, whatever it is. The end is `Memory` also where
+/// memory was wanting in the rounds before the first request.
+pub fn supervise<W: Dialer, L: Link>(
+    alloc: Global,
+    upstreams: Super<W::L>,
+    rounds: u32,
+    dialer: &mut W,
+    link: &mut L,
+) -> LinkEnd
+where
+    W::L: Drop,
+    requires down { AllByRecursion (λ f. f.live ≡ None) upstreams.followed.items }
+    ensures supervises { SupervisesLink (told.upstreams upstreams.followed.items) rounds
+        (told.outside (W.dials dialer.old) (W.visits dialer.old)) (told.outside (W.dials dialer.new) (W.visits dialer.new))
+        (inlet (L.left link.old) (L.taken link.old)) (inlet (L.left link.new) (L.taken link.new))
+        (L.held link.old) (L.held link.new) result }
+    ensures cause { HasEndCause (L.read_faults link.old) (L.read_faults link.new)
+        (L.write_faults link.old) (L.write_faults link.new) 0 0 result }
+    ensures whole { ServesWhole (L.left link.old) (L.read_faults link.old) (L.read_faults link.new)
+        (L.write_faults link.old) (L.write_faults link.new) 0 0 result }
+{
+    let mut serving = Supervising { upstreams };
+    if serving.upstreams.rounds(dialer, rounds).is_err() {
+        let Supervising { upstreams } = serving;
+        upstreams.end(dialer);
+        return LinkEnd::Memory;
+    }
+    let end = serve_requests(alloc, &mut serving, dialer, link);
+    let Supervising { upstreams } = serving;
+    upstreams.end(dialer);
+    end
+}
