@@ -1,0 +1,13 @@
+pub mod Ends
+pub mod Places
+pub mod Slots
+pub mod Shows
+pub mod Passing
+pub mod Following
+pub mod Leaving
+pub mod Staying
+pub mod Posting
+pub mod Right
+pub mod Firings
+pub mod Merging
+pub mod InForce
