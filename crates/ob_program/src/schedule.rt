@@ -42,10 +42,6 @@ fn schedules_in(alloc: Global, root: &Obj, site: &Site) -> Result<Schedules, For
 {
     files_fit();
     let _head = root.head();
-    // No memory holds so many parts; their numbers are counted in 64 bits.
-    if root.parts() == u64::MAX {
-        return Err(FormEnd::Stdio(StdioEnd::Memory));
-    }
     match read_schedules(alloc, root, &SitePoints { site }) {
         Ok(schedules) => Ok(schedules),
         Err(ScheduleFault::Shape { part }) => Err(FormEnd::Shape { part }),
