@@ -8,7 +8,7 @@ use Rattle.ob_io.specs.Ticks.{last_moment}
 use Rattle.ob_load.specs.Loads.{IsSite, OpenedIsNotRefused, RefusesBytes, IsOutside}
 use Rattle.ob_object.specs.Object.{Object}
 use Rattle.ob_opening.specs.Opening.{opening}
-use Rattle.ob_schedule.specs.Forms.{offences, IsFile}
+use Rattle.ob_schedule.specs.Forms.{offences, IsFile, IsFirstOffence}
 use Rattle.ob_schedule.specs.PointRules.{PointRules}
 use Rattle.ob_schedule.specs.Weeks.{Says}
 use Rattle.ob_schedule_rules.specs.Rules.{rules_of}
@@ -21,10 +21,10 @@ use Rattle.ob_site_laws.specs.SiteLaws.{acts, IsSoundSite}
 use Rattle.ob_site_rules.specs.Sites.{SiteState}
 use Rattle.ob_weekly.specs.declared.schedule.Schedules.{Schedules}
 use Rattle.ob_program.specs.Outside.{Streams, ClockTold}
-use Rattle.ob_program.specs.Reading.{ReadsFile}
+use Rattle.ob_program.specs.Reading.{Reads, ReadsFile}
 use Rattle.ob_program.specs.Form.{plain, end_of_document}
-use Rattle.ob_program.specs.Schedule.{IsScheduled, IsFormless, SaysNone, ServesSchedules, ScheduleComesAt, ScheduleComes, OpensScheduled, ScheduledRan}
-use Rattle.ob_program.specs.Stdio.{exit_of, end_of_fault, site_bytes, Comes, IsIdle, HasCause}
+use Rattle.ob_program.specs.Schedule.{IsScheduled, IsFormless, Offends, SaysNone, ServesSchedules, IsUnscheduled, ScheduleComesAt, ScheduleComes, OpensScheduled, ScheduledRan}
+use Rattle.ob_program.specs.Stdio.{exit_of, end_of_fault, site_bytes, Comes, IsIdle, IsRefusedAs, HasCause}
 use Rattle.ob_program.specs.declared.document.DocumentFault.{DocumentFault}
 use Rattle.ob_program.specs.declared.document.DocumentFault.TheVariants as documents
 use Rattle.ob_program.specs.declared.exit.Exit.{Exit}
