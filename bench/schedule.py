@@ -103,13 +103,17 @@ def try_values(folder):
 
 
 def measure(folder):
+    quiet = "GET /obix/p0 HTTP/1.1\r\n\r\n"
+    far = [[(4, it * 864 + number % 60, it) for it in range(100)] for number in range(1000)]
+    write(folder, far)
+    once, twice = (run(folder, ms(MONDAY) + 3600_000, 1, quiet * many) for many in (500, 1000))
+    print(f"100,000 entries of 1,000 points, all of a Thursday: a request on Monday {(twice[0] - once[0]) / 500 * 1e6:.0f} us")
     weeks = [[(1 + it // 15 % 7, it * 864 + number % 60, it) for it in range(100)] for number in range(1000)]
     write(folder, weeks)
-    quiet = "GET /obix/p0 HTTP/1.1\r\n\r\n"
     opened = run(folder, ms(MONDAY) + 3600_000, 0, "")
     once, twice = (run(folder, ms(MONDAY) + 3600_000, 0, quiet * many) for many in (200, 400))
     print(f"100,000 entries of 1,000 points ({os.path.getsize(f'{folder}/weeks') / 1e6:.1f} MB): opening {opened[0]:.2f} s, {opened[1]:.0f} MB at the most")
-    print(f"a request with nothing due: {(twice[0] - once[0]) / 200 * 1e6:.0f} us")
+    print(f"spread over the week, three of ten near enough that the zone is asked: a request with nothing due {(twice[0] - once[0]) / 200 * 1e6:.0f} us")
     once, twice = (run(folder, ms(MONDAY), 86_400_000, quiet * many) for many in (8, 15))
     print(f"a day's firings, {100_000 / 7:,.0f} on average: {(twice[0] - once[0]) / 7 * 1e3:.0f} ms")
 
