@@ -28,6 +28,7 @@ module _ (m : Site) where
   RecordLasts = (old new : World m) → IsRestartOf m old new → (noted : List (Noted m)) → IsRecorded m old new noted →
       IsRestartOf m (after m old (calls_of m noted)) (replayed m new (notes_of m old noted))
 
+  -- a run of this site
   abbrev pub Run : Type 0
   Run = Segment (World m) m.Request m.Sent
 
@@ -41,6 +42,7 @@ module _ (m : Site) where
       × ((r : m.Request) (moment : ℕ) → run.lost ≡ Some (r, moment) →
       next.start ≡ renewed m led (Request r (max (after m run.start run.calls).time moment)) → GoesOn (act m) (IsRestartOf m) run next)
 
+  -- runs of this site, each from a restart of where the one before it may have ended
   abbrev pub IsHistory : List Run → Type 0
   IsHistory = IsHistoryWithRestarts (act m) (IsRestartOf m)
 

@@ -19,6 +19,7 @@ pub data Noting : Type 0 where
   NumbersBelow : (below : ℕ) → Noting
 
 module _ (m : Site) where
+  -- a note of a record of this site
   abbrev pub Note : Type 0
   Note = NoteOf m.Request
 
@@ -36,6 +37,7 @@ module _ (m : Site) where
   abbrev pub Noted : Type 0
   Noted = Asking m × Noting
 
+  -- the calls alone
   abbrev pub calls_of : List Noted → List (Asking m)
   calls_of noted = map (λ n. n.0) noted
 
@@ -45,6 +47,7 @@ module _ (m : Site) where
   notes_at w e TheRequest = Request e.request (max w.time e.moment) ∷ []
   notes_at w e (NumbersBelow below) = Numbers below ∷ []
 
+  -- the notes of all calls of a history from this state
   abbrev pub notes_of : World m → List Noted → List Note
   notes_of w [] = []
   notes_of w (n ∷ noted) = notes_at w n.0 n.1 ++ notes_of (step m w n.0) noted

@@ -22,6 +22,7 @@ module _ {S Q P : Type 0} (act : S → Q → ℕ → S × P) where
   abbrev pub MayEnd : Segment S Q P → S → Type 0
   MayEnd run end = IsLeftBy (after act run.start run.calls) run.lost end
 
+  -- the moment of a request, if there is one, is a moment
   abbrev pub IsAtMoment : Option (Q × ℕ) → Type 0
   IsAtMoment None = Unit {0}
   IsAtMoment (Some q) = IsMoment q.1

@@ -25,6 +25,7 @@ SiteIsApart = (plan : Plan) → IsApart (of_plan plan)
 abbrev pub SiteDoneAgain : Type 0
 SiteDoneAgain = (plan : Plan) → DoneAgain (of_plan plan)
 
+-- and after any restart, numbers passed over, it leaves a restart of what it left
 abbrev pub SiteDoneAgainFurther : Type 0
 SiteDoneAgainFurther = (plan : Plan) → DoneAgainFurther (of_plan plan)
 
@@ -47,6 +48,7 @@ ReadsLeaveAll = (st : SiteState) → IsSoundSite st → (r : Request) → r.verb
 abbrev pub WatchesLeaveAll : Type 0
 WatchesLeaveAll = (st : SiteState) → IsSoundSite st → (n : ℕ) (e : Call) → IsOn (of_plan st.plan) n e → LeavesAll st (acts st e.request e.moment).0
 
+-- a call of the site of a plan, and what is noted of it
 abbrev pub SiteNoted : Plan → Type 0
 SiteNoted plan = Noted (of_plan plan)
 
@@ -57,6 +59,7 @@ SiteRecordLasts = (old new : SiteState) → IsSoundSite old → IsSiteRestartOf 
     IsSiteRestartOf (after acts old (calls_of (of_plan old.plan) noted))
     (record { plan = old.plan; world = replayed (of_plan old.plan) new.world (notes_of (of_plan old.plan) old.world noted) })
 
+-- a run of the whole site
 abbrev pub Run : Type 0
 Run = Segment SiteState Request Object
 
