@@ -1,5 +1,5 @@
 -- The laws of watches over restarts.
-use Rattle.std.proofs.Common.{◌≡◌, ℕ, ◌^◌, ◌<◌, ◌≤◌, Bool, true, false, cond, List, [], ◌∷◌, ◌++◌, Some, None, sym, ◌∙◌, ap, subst, arith, le_refl, le_trans, inl, inr}
+use Rattle.std.proofs.Common.{◌≡◌, ℕ, ◌^◌, ◌<◌, ◌≤◌, Bool, true, false, cond, List, [], ◌∷◌, ◌++◌, Some, None, refl, sym, ◌∙◌, ap, subst, arith, le_refl, le_trans, inl, inr}
 use Rattle.std.specs.List.{AllByRecursion}
 use Rattle.ob_machine.specs.History.{entry, left_by, IsAnswer, IsCall}
 use Rattle.ob_machine.specs.declared.call.Answer.TheVariants.{Done, NoMemory}
@@ -12,8 +12,8 @@ use Rattle.ob_watching.specs.Clients.{Replied, Asking}
 use Rattle.ob_watching.specs.Laws.{step, after, Legal, IsMake, WasMade}
 use Rattle.ob_watching.proofs.Laws.{sound_after, watch_stays_gone, watch_replays}
 use Rattle.ob_lasting.specs.Lasting.{IsRestartOf}
-use Rattle.ob_lasting.specs.LastingLaws.{Run, IsHistory, StartsSound, EachStartsSound, IsGoneIn, WatchStaysGoneOverRestarts, WatchReplaysOverRestarts}
-use Rattle.ob_lasting.proofs.Histories.{all_at, first_run, history_back, later_starts}
+use Rattle.ob_lasting.specs.LastingLaws.{Run, IsHistory, CutOff, StartsSound, EachStartsSound, IsGoneIn, WatchStaysGoneOverRestarts, WatchReplaysOverRestarts}
+use Rattle.ob_lasting.proofs.Histories.{all_at, first_run, history_back, run_cut, history_cut, later_starts}
 
 all_mapped : {A : Type 0} (P Q : A → Type 0) → ((x : A) → P x → Q x) → (xs : List A) → AllByRecursion P xs → AllByRecursion Q xs
 all_mapped P Q f [] h = tt
@@ -45,6 +45,12 @@ module _ (m : Site) where
     texts = subst (λ ws. AllByRecursion (λ e. Distinct m e.1.items) ws) (sym h.watches) tt;
     rolled = ap m.roll h.site ∙ sound.rolled ∙ sym h.site;
   }
+
+  pub cut_off : CutOff m
+  cut_off earlier run later h before rest is lost at =
+      let back : IsHistory m (run ∷ later) = history_back (act m) (IsRestartOf m) earlier run later h in
+      history_cut (act m) (IsRestartOf m) earlier run later h (record { start = run.start; calls = before; lost = lost }) refl
+      (run_cut (act m) (IsRestartOf m) run (first_run (act m) (IsRestartOf m) run later back) before rest is lost at)
 
   module _ (law : IsLawful m) where
     sound_act : (w : World m) (r : m.Request) (moment : ℕ) → IsSound m w → IsSound m (act m w r moment).0

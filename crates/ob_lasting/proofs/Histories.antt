@@ -1,11 +1,12 @@
 -- What holds at the start of each run of a history with restarts.
-use Rattle.std.proofs.Common.{ℕ, List, [], ◌∷◌, ◌++◌, Option, Some, None, sym, subst, inl, inr}
+use Rattle.std.proofs.Common.{◌≡◌, ℕ, List, [], ◌∷◌, ◌++◌, Option, Some, None, sym, subst, inl, inr}
 use Rattle.std.specs.List.{AllByRecursion}
 use Rattle.ob_machine.specs.declared.call.Answer.{Answer}
 use Rattle.ob_machine.specs.declared.call.Answer.TheVariants.{Done, NoMemory}
 use Rattle.ob_machine.specs.declared.call.Entry.{Entry}
-use Rattle.ob_machine.specs.History.{left_by, after}
-use Rattle.ob_lasting.specs.Runs.{Segment, IsLeftBy, IsRun, IsHistoryWithRestarts}
+use Rattle.ob_machine.specs.History.{left_by, after, IsLegal}
+use Rattle.ob_machine.proofs.HistoryLemmas.{legal_front}
+use Rattle.ob_lasting.specs.Runs.{Segment, IsLeftBy, IsAtMoment, IsRun, IsHistoryWithRestarts}
 
 -- what holds of all holds of one among them
 pub all_at : {A : Type 0} (P : A → Type 0) (xs : List A) (x : A) (ys : List A) → AllByRecursion P (xs ++ x ∷ ys) → P x
@@ -22,6 +23,19 @@ module _ {S Q P : Type 0} (act : S → Q → ℕ → S × P) (IsRestart : S → 
   history_back [] run later h = h
   history_back (e ∷ []) run later h = h.2
   history_back (e ∷ f ∷ earlier) run later h = history_back (f ∷ earlier) run later h.2
+
+  -- a run that is cut off is one, whatever request was on its way
+  pub run_cut : (run : Segment S Q P) → IsRun act run → (before rest : List (Entry Q P)) → before ++ rest ≡ run.calls → (lost : Option (Q × ℕ)) → IsAtMoment act lost → IsRun act (record { start = run.start; calls = before; lost = lost })
+  run_cut run h before rest is lost at = record {
+    calls = legal_front act run.start before rest (subst (λ (es : List (Entry Q P)). IsLegal act run.start es) (sym is) h.calls);
+    lost = at;
+  }
+
+  -- and so is a history with that run as its last
+  pub history_cut : (earlier : List (Segment S Q P)) (run : Segment S Q P) (later : List (Segment S Q P)) → IsHistoryWithRestarts act IsRestart (earlier ++ run ∷ later) → (cut : Segment S Q P) → cut.start ≡ run.start → IsRun act cut → IsHistoryWithRestarts act IsRestart (earlier ++ cut ∷ [])
+  history_cut [] run later h cut same is = is
+  history_cut (e ∷ []) run later h cut same is = (h.0, record { end = h.1.end; ended = h.1.ended; restart = subst (IsRestart h.1.end) (sym same) h.1.restart }, is)
+  history_cut (e ∷ f ∷ earlier) run later h cut same is = (h.0, h.1, history_cut (f ∷ earlier) run later h.2 cut same is)
 
   -- what each step keeps, and a restart turns into what holds at a start
   module _ (Keeps Starts : S → Type 0) (kept : (s : S) (q : Q) (t : ℕ) → Keeps s → Keeps (act s q t).0) (first : (s : S) → Starts s → Keeps s) (goes_on : (s u : S) → IsRestart s u → Keeps s → Starts u) where

@@ -1,5 +1,5 @@
 -- The laws of a site that is restarted.
-use Rattle.std.specs.Prelude.{◌≡◌, ◌≢◌, ℕ, ◌^◌, ◌<◌, max, List, [], ◌∷◌, ◌++◌, Some, None}
+use Rattle.std.specs.Prelude.{◌≡◌, ◌≢◌, ℕ, ◌^◌, ◌<◌, max, List, [], ◌∷◌, ◌++◌, Option, Some, None}
 use Rattle.std.specs.List.{AllByRecursion}
 use Rattle.ob_watching.specs.Asked.{Itself, NewWatch}
 use Rattle.ob_watching.specs.Sites.{Site}
@@ -9,7 +9,7 @@ use Rattle.ob_watching.specs.Clients.{Asking}
 use Rattle.ob_watching.specs.Laws.{after, Begins, Ends, Holds, IsMake, IsOn, IsNotFound, WasMade}
 use Rattle.ob_lasting.specs.Lasting.{IsRestartOf}
 use Rattle.ob_lasting.specs.Records.{Request, Noted, calls_of, notes_of, renewed, replayed, IsRecorded}
-use Rattle.ob_lasting.specs.Runs.{Segment, GoesOn, IsHistoryWithRestarts}
+use Rattle.ob_lasting.specs.Runs.{Segment, IsAtMoment, GoesOn, IsHistoryWithRestarts}
 
 module _ (m : Site) where
   -- In a sound state only the site's own request may change the site: one for a watch, or for nothing, leaves it as it was.
@@ -45,6 +45,12 @@ module _ (m : Site) where
   -- runs of this site, each from a restart of where the one before it may have ended
   abbrev pub IsHistory : List Run → Type 0
   IsHistory = IsHistoryWithRestarts (act m) (IsRestartOf m)
+
+  -- A history that is cut off at any place of a run is one, whatever request was on its way then.
+  abbrev pub CutOff : Type 0
+  CutOff = (earlier : List Run) (run : Run) (later : List Run) → IsHistory (earlier ++ run ∷ later) →
+      (before rest : List (Asking m)) → before ++ rest ≡ run.calls → (lost : Option (m.Request × ℕ)) → IsAtMoment (act m) lost →
+      IsHistory (earlier ++ record { start = run.start; calls = before; lost = lost } ∷ [])
 
   -- the first run starts in a sound state
   abbrev pub StartsSound : List Run → Type 0

@@ -9,7 +9,7 @@
 
 ghost use Rattle.ob_watching.specs.Small.{small};
 ghost use Rattle.ob_lasting.specs.Lasting.{DoneAgain, DoneAgainFurther};
-ghost use Rattle.ob_lasting.specs.LastingLaws.{LeavesNext, LeavesSite, RecordGoesOn, RecordLasts};
+ghost use Rattle.ob_lasting.specs.LastingLaws.{CutOff, LeavesNext, LeavesSite, RecordGoesOn, RecordLasts};
 ghost use Rattle.ob_lasting.specs.LastingRows.{AgainAtItsTime, AnsweredIsNotLost, AtItsTime, DayReplayed, DaysNotes, InABatchAfter, InABatchBefore, IsTheDaysRecord, LostWasDone, LostWasNotDone, MadeWithoutThem, NextOne, NoWatchStands, NumbersPassedOver, RefusedAtAThousand, StillRecorded, StillWritten};
 
 /// A step done again after a restart, at the time that the site had at it, leaves the same site, the same number of the next
@@ -39,6 +39,12 @@ pub fn record_lasts()
 /// was never answered.
 pub fn record_goes_on()
     ensures { RecordGoesOn small }
+{}
+
+/// A history with restarts that is cut off at any place of a run is one, whatever request was on its way: a process may be killed
+/// at any moment.
+pub fn cut_off()
+    ensures { CutOff small }
 {}
 
 /// Worked rows, each computed from the definitions.

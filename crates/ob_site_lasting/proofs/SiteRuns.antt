@@ -18,9 +18,9 @@ use Rattle.ob_site_laws.proofs.Lawful.{lawful}
 use Rattle.ob_site_laws.proofs.SiteHistories.{stays, gone_for_good}
 use Rattle.ob_seen_laws.specs.Seen.{KeepsWatches}
 use Rattle.ob_seen_laws.proofs.Seen.{keeps_watches}
-use Rattle.ob_lasting.proofs.Histories.{all_at, first_run, history_back, kept_after, later_starts}
+use Rattle.ob_lasting.proofs.Histories.{all_at, first_run, history_back, run_cut, history_cut, kept_after, later_starts}
 use Rattle.ob_lasting.proofs.Gone.{act_next, sound_restart, made_next}
-use Rattle.ob_site_lasting.specs.SiteLasting.{IsSiteRestartOf, KeepsNumbers, Run, IsSiteHistory, StartsSound, EachRunKeepsWatches, IsGoneIn, GoneOverRestarts}
+use Rattle.ob_site_lasting.specs.SiteLasting.{IsSiteRestartOf, KeepsNumbers, Run, IsSiteHistory, StartsSound, SiteCutOff, EachRunKeepsWatches, IsGoneIn, GoneOverRestarts}
 
 all_mapped : {A : Type 0} (P Q : A → Type 0) → ((x : A) → P x → Q x) → (xs : List A) → AllByRecursion P xs → AllByRecursion Q xs
 all_mapped P Q f [] h = tt
@@ -35,6 +35,12 @@ sound_restarted old new h sound = subst (λ (plan : Plan). IsSound (of_plan plan
 
 pub restarts_keep_numbers : KeepsNumbers IsSiteRestartOf
 restarts_keep_numbers = record { sound = sound_restarted; watches = λ old new h. h.world.watches; next = λ old new h. h.world.next }
+
+pub site_cut_off : (IsRestart : SiteState → SiteState → Type 0) → SiteCutOff IsRestart
+site_cut_off IsRestart earlier run later h before rest is lost at =
+    let back : IsSiteHistory IsRestart (run ∷ later) = history_back acts IsRestart earlier run later h in
+    history_cut acts IsRestart earlier run later h (record { start = run.start; calls = before; lost = lost }) refl
+    (run_cut acts IsRestart run (first_run acts IsRestart run later back) before rest is lost at)
 
 abbrev whole : (plan : Plan) → World (of_plan plan) → SiteState
 whole plan w = record { plan = plan; world = w }

@@ -1,5 +1,5 @@
 -- What lasts of the whole site, and its laws over restarts.
-use Rattle.std.specs.Prelude.{◌≡◌, ℕ, ◌^◌, ◌<◌, ◌≤◌, max, List, [], ◌∷◌, ◌++◌, Some, None}
+use Rattle.std.specs.Prelude.{◌≡◌, ℕ, ◌^◌, ◌<◌, ◌≤◌, max, List, [], ◌∷◌, ◌++◌, Option, Some, None}
 use Rattle.std.specs.List.{AllByRecursion}
 use Rattle.ob_values.specs.declared.verb.Verb.TheVariants.{Get}
 use Rattle.ob_machine.specs.History.{after}
@@ -15,7 +15,7 @@ use Rattle.ob_site_laws.specs.SiteLaws.{acts, of_plan, Call, IsSoundSite}
 use Rattle.ob_seen_laws.specs.Seen.{KeepsWatches}
 use Rattle.ob_lasting.specs.Lasting.{IsRestartOf, IsApart, DoneAgain, DoneAgainFurther}
 use Rattle.ob_lasting.specs.Records.{Request as TheRequest, Noted, calls_of, notes_of, renewed, replayed, IsRecorded}
-use Rattle.ob_lasting.specs.Runs.{Segment, GoesOn, IsHistoryWithRestarts}
+use Rattle.ob_lasting.specs.Runs.{Segment, IsAtMoment, GoesOn, IsHistoryWithRestarts}
 
 -- what a request leaves of the site of a plan doesn't depend on which watches stand
 abbrev pub SiteIsApart : Type 0
@@ -97,6 +97,12 @@ module _ (IsRestart : SiteState → SiteState → Type 0) where
   -- one run of the site after the other, each from a restart of where the one before it may have ended
   abbrev pub IsSiteHistory : List Run → Type 0
   IsSiteHistory = IsHistoryWithRestarts acts IsRestart
+
+  -- A history that is cut off at any place of a run is one, whatever request was on its way then.
+  abbrev pub SiteCutOff : Type 0
+  SiteCutOff = (earlier : List Run) (run : Run) (later : List Run) → IsSiteHistory (earlier ++ run ∷ later) →
+      (before rest : List Call) → before ++ rest ≡ run.calls → (lost : Option (Request × ℕ)) → IsAtMoment acts lost →
+      IsSiteHistory (earlier ++ record { start = run.start; calls = before; lost = lost } ∷ [])
 
   -- each run starts in a sound state, and keeps the laws of watches in all that was seen of it
   abbrev pub EachRunKeepsWatches : Type 0

@@ -6,7 +6,7 @@
 #![tactic(auto)]
 
 ghost use Rattle.ob_site_lasting.specs.RestartRows.{AfterAReplay, AfterARestart, AlarmsStay};
-ghost use Rattle.ob_site_lasting.specs.SiteLasting.{EachRunKeepsWatches, GoneOverRestarts, IsSiteRestartOf, ReadsLeaveAll, SiteDoneAgain, SiteDoneAgainFurther, SiteIsApart, SiteRecordGoesOn, SiteRecordLasts, WatchesLeaveAll};
+ghost use Rattle.ob_site_lasting.specs.SiteLasting.{EachRunKeepsWatches, GoneOverRestarts, IsSiteRestartOf, ReadsLeaveAll, SiteCutOff, SiteDoneAgain, SiteDoneAgainFurther, SiteIsApart, SiteRecordGoesOn, SiteRecordLasts, WatchesLeaveAll};
 
 /// What a request leaves of a site doesn't depend on which watches stand: in a batch an item for a watch is refused, whether the
 /// watch stands or not.
@@ -40,6 +40,12 @@ pub fn record_lasts()
 /// request that was never answered.
 pub fn record_goes_on()
     ensures { SiteRecordGoesOn }
+{}
+
+/// A history with restarts that is cut off at any place of a run is one, whatever request was on its way: a process may be killed
+/// at any moment.
+pub fn cut_off()
+    ensures { SiteCutOff IsSiteRestartOf }
 {}
 
 /// In each run of a history with restarts that begins in a sound state the laws of watches hold.
