@@ -141,6 +141,6 @@ impl Ground {
     {
         let words = Some(self.told.words());
         self.tree
-            .standing_counted(self.told.library(), words, id, steps)
+            .standing_told_counted(self.told.library(), words, id, steps)
     }
 }

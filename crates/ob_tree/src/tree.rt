@@ -302,8 +302,22 @@ impl Tree {
         uncounted_standing::<Brand>(Lore { library, told }, leaves, spots, at, Blank::new(1))
     }
 
-    /// The same, counted as one step for each object round it.
+    /// The same as `standing`, counted as one step for each object round it.
     pub fn standing_counted<'a, L: Ledger>(
+        &'a self,
+        library: &'a Library,
+        id: NodeId,
+        steps: &mut Steps<L>,
+    ) -> Standing<'a>
+        requires { id.number < parts self.now.root }
+        ensures stands { Some (context result) ≡ standing_at library.now id.number self.now.root }
+        ensures steps { steps.new ≡ steps.old + depth_at id.number self.now.root }
+    {
+        self.standing_told_counted(library, None, id, steps)
+    }
+
+    /// The same as `standing_told`, counted as one step for each object round it.
+    pub fn standing_told_counted<'a, L: Ledger>(
         &'a self,
         library: &'a Library,
         told: Option<&'a BTreeMap<u64, Words>>,
@@ -346,10 +360,10 @@ impl Tree {
 
     /// The same, counted: where it succeeds it adds one step for each object round the one that is shown, and one
     /// for each object of the answer (`Obj::parts`).
-    pub fn whole_counted<'a, L: Ledger>(
-        &'a self,
+    pub fn whole_counted<L: Ledger>(
+        &self,
         alloc: Global,
-        library: &'a Library,
+        library: &Library,
         id: NodeId,
         steps: &mut Steps<L>,
     ) -> Result<Obj, AllocError>
@@ -359,7 +373,7 @@ impl Tree {
             ≡ steps.old + depth_at id.number self.now.root + min (parts made) (2 ^ 64 - 1)) }
     {
         let object = self.copy(alloc, id)?;
-        let standing = self.standing_counted(library, None, id, steps);
+        let standing = self.standing_counted(library, id, steps);
         standing.whole_counted(alloc, &object, steps)
     }
 }

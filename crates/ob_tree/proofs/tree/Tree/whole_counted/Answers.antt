@@ -3,12 +3,8 @@ use Rattle.std.proofs.lemmas.Result.{IfOk-weaker}
 use Rattle.ob_standing.specs.Contexts.{comes_to}
 use Rattle.ob_standing.specs.Standings.{context}
 use Rattle.ob_tree.specs.Shown.{shown_at}
-use Rattle.ob_tree.proofs.Giving.{none_told}
 use Rattle.ob_tree.proofs.Wholes.{whole_shown}
 use Rattle.ob_tree.proofs.tree.Tree.whole_counted.Goals as goal
-
-pub standing_counted-standing-requires : goal.standing_counted-standing-requires
-standing_counted-standing-requires g c = record { within = c.requires; told = none_told c.args.library.now c.args.self.now.root }
 
 pub returns-clause-whole : goal.returns-clause-whole
 returns-clause-whole g c =
