@@ -13,8 +13,7 @@ pub trait Devices {
     /// How often a device could not be opened, or came back that had failed.
     ghost faults: { Self → ℕ };
 
-    /// The device of a name, which is made where there is none; it has not failed. As long as it isn't back, no other is opened
-    /// by that name.
+    /// The device of a name, which is made where there is none. It has not failed.
     fn open(&mut self, alloc: Global, name: &str) -> Result<Self::D, DeviceFault>
         // What a read gives is what is on the disk.
         ensures durable { IfOk result (λ device. Self.D.is_told → Only (Self.D.seen device) (Self.D.may_leave device)) }

@@ -88,7 +88,8 @@ impl Device for DiskFile {
     }
 }
 
-/// The files of the disk. A file that another process has locked, or that is no regular one, can't be opened.
+/// The files of the disk. A file that another handle has locked, of this process or another, or that is no regular one, can't
+/// be opened.
 #[derive(Drop)]
 pub struct DiskDevices<'a, R> {
     disk: &'a R,

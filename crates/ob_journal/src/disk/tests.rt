@@ -74,29 +74,26 @@ fn what_cannot_be_opened_is_counted(rt: HostRuntime) -> Result<(), Fail> {
     let alloc = rt.alloc();
     emptied(&rt)?;
     let mut devices = DiskDevices::new(&rt);
-    let names = [
-        FOLDER,
-        "/nowhere/at/all",
-        "/dev/null/record",
-        "/dev/full",
-        "/dev/zero",
-        "",
-    ];
-    let mut faults = 0;
-    for name in names {
+    for (name, faults) in [
+        (FOLDER, 1),
+        ("/nowhere/at/all", 2),
+        ("/dev/null/record", 3),
+        ("/dev/full", 4),
+        ("/dev/zero", 5),
+        ("", 6),
+    ] {
         let opened = devices.open(alloc, name);
         assert!(rt;
             opened.is_err_and(|fault| fault == DeviceFault::Failed),
             "{name}"
         );
-        faults += 1;
         assert!(rt; devices.faults == faults, "{name}");
     }
     fs::write(&rt, NAME, b"obix-record 1\0".as_slice())?;
     fs::set_permissions(&rt, NAME, fs::Permissions::from_mode(0o444))?;
     let is_refused = OpenOptions::new().write(true).open(&rt, NAME).is_err();
     assert!(rt; devices.open(alloc, NAME).is_err() == is_refused);
-    assert!(rt; devices.faults == faults + u64::from(is_refused));
+    assert!(rt; devices.faults == 6 + u64::from(is_refused));
     Ok(())
 }
 
