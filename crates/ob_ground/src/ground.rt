@@ -52,7 +52,7 @@ impl Model for Ground {
 impl Ground {
     /// A library and a tree, with the words that the library tells the lists of the tree. An error only for want of memory.
     pub fn new(alloc: Global, library: Library, tree: Tree) -> Result<Ground, AllocError>
-        ensures { IfOk result (λ ground. ground ≡ record { library = library; tree = tree }) }
+        ensures { IfOk result (λ made. made ≡ record { library = library; tree = tree }) }
     {
         let told = Told::of(alloc, library, &tree)?;
         Ok(Ground { told, tree })
