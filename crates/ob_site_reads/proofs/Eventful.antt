@@ -1,12 +1,15 @@
 -- The events of feeds, told in parts.
-use Rattle.std.proofs.Common.{◌≡◌, ◌≤◌, ◌<◌, ℕ, zero, suc, ◌+◌, ◌-◌, Bool, true, false, cond, List, [], ◌∷◌, ◌++◌, map, length, drop, take, get_or, Option, Some, None, refl, sym, ap, ap₂, ◌∙◌, arith}
+use Rattle.std.proofs.Common.{◌≡◌, ◌≤◌, ◌<◌, ℕ, zero, suc, ◌+◌, ◌-◌, Bool, true, false, not, ◌&&◌, cond, List, [], ◌∷◌, ◌++◌, map, length, drop, take, get_or, Option, Some, None, refl, sym, ap, ap₂, ◌∙◌, arith}
 use Rattle.std.specs.Prelude.{option_to_list}
 use Rattle.std.specs.List.{filter}
-use Rattle.std.proofs.lemmas.List.{map-append, take_more}
+use Rattle.std.proofs.lemmas.List.{map-append, take_more, take_all}
+use Rattle.ob_object.specs.declared.kind.Kind.TheVariants as kind
+use Rattle.ob_object.specs.declared.head.Slot.TheVariants.{Null}
 use Rattle.ob_object.specs.Object.{Object}
 use Rattle.ob_alarms.specs.Changes.{State as Board}
 use Rattle.ob_history.specs.declared.records.Record.{Record}
 use Rattle.ob_history.specs.declared.records.Filter.{Filter}
+use Rattle.ob_history.specs.Records.{is_before, is_after, passes as passes_record}
 use Rattle.ob_watching.specs.Asked.{Lists}
 use Rattle.ob_watching.specs.Watches.{Feed, changes_of, lists_some}
 use Rattle.ob_site_rules.specs.Build.{Text, Path}
@@ -67,9 +70,52 @@ drop_map zero rs = refl
 drop_map (suc n) [] = refl
 drop_map (suc n) (r ∷ rs) = drop_map n rs
 
-pub in_two : (f : Filter) (n : ℕ) (kept front back : List Record) → front ++ back ≡ drop n kept
+-- the object of a record passes where the record does
+object_passes : (f : Filter) (r : Record) → passes f (record_object r) ≡ passes_record f r
+object_passes f r =
+    let s : Record = record { time = r.time; kind = kind.Abstime; slot = Null } in
+    let early : is_before f.start s ≡ is_before f.start r = elim f.start as (λ o. is_before o s ≡ is_before o r) [ None ↦ refl | Some t ↦ refl ] in
+    let late : is_after f.end s ≡ is_after f.end r = elim f.end as (λ o. is_after o s ≡ is_after o r) [ None ↦ refl | Some t ↦ refl ] in
+    ap (λ b. not b && not (is_after f.end s)) early ∙ ap (λ b. not (is_before f.start r) && not b) late
+
+mapped : (f : Filter) (rs : List Record) → some_records f rs ≡ map record_object (filter (passes_record f) rs)
+mapped f [] = refl
+mapped f (r ∷ rs) =
+    ap₂ (λ (b : Bool) (os : List Object). cond b (record_object r ∷ os) os) (object_passes f r) (mapped f rs) ∙ go (passes_record f r)
+  where
+    go : (b : Bool) → cond b (record_object r ∷ map record_object (filter (passes_record f) rs)) (map record_object (filter (passes_record f) rs)) ≡ map record_object (cond b (r ∷ filter (passes_record f) rs) (filter (passes_record f) rs))
+    go true = refl
+    go false = refl
+
+pub in_two : (f : Filter) (n : ℕ) (kept front back : List Record) → filter (passes_record f) (front ++ back) ≡ filter (passes_record f) (drop n kept)
     → some_records f front ++ some_records f back ≡ filter (passes f) (drop n (map record_object kept))
-in_two f n kept front back e = sym (both_some f front back) ∙ ap (some_records f) e ∙ ap (filter (passes f)) (sym (drop_map n kept))
+in_two f n kept front back e =
+    sym (both_some f front back) ∙ mapped f (front ++ back) ∙ ap (map record_object) e ∙ sym (mapped f (drop n kept)) ∙ ap (filter (passes f)) (sym (drop_map n kept))
+
+-- what a filter asks for without a limit passes, and all that passes is among it
+again : (p : Record → Bool) (rs : List Record) → filter p (filter p rs) ≡ filter p rs
+again p [] = refl
+again p (r ∷ rs) = go (p r) refl (again p rs)
+  where
+    go : (b : Bool) → p r ≡ b → filter p (filter p rs) ≡ filter p rs → filter p (cond b (r ∷ filter p rs) (filter p rs)) ≡ cond b (r ∷ filter p rs) (filter p rs)
+    go true e rest = ap (λ c. cond c (r ∷ filter p (filter p rs)) (filter p (filter p rs))) e ∙ ap (λ (l : List Record). r ∷ l) rest
+    go false e rest = rest
+
+fewer : (p : Record → Bool) (rs : List Record) → length (filter p rs) ≤ length rs
+fewer p [] = omega arith
+fewer p (r ∷ rs) = go (p r) (fewer p rs)
+  where
+    go : (b : Bool) → length (filter p rs) ≤ length rs → length (cond b (r ∷ filter p rs) (filter p rs)) ≤ suc (length rs)
+    go true rest = omega (arith, rest)
+    go false rest = omega (arith, rest)
+
+pub all_asked : (f : Filter) (limit given gone : ℕ) (kept given_out : List Record) → length kept ≤ limit → given ≤ gone → given_out ≡ take limit (filter (passes_record f) kept)
+    → filter (passes_record f) given_out ≡ filter (passes_record f) (drop (given - gone) kept)
+all_asked f limit given gone kept given_out le none is =
+    let zero_is : given - gone ≡ 0 = omega arith in
+    ap (filter (passes_record f)) (is ∙ take_all limit (filter (passes_record f) kept) (omega (arith, fewer (passes_record f) kept)))
+    ∙ again (passes_record f) kept
+    ∙ ap (λ (n : ℕ). filter (passes_record f) (drop n kept)) (sym zero_is)
 
 -- the alarm events
 pub length-first_events : (b : Board) (n : ℕ) → length (first_events b n) ≡ n

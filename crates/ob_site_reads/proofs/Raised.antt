@@ -1,6 +1,7 @@
 -- An event of an alarm has the moment at which the alarm was raised, however it stood just after the event.
-use Rattle.std.proofs.Common.{◌≡◌, ℕ, zero, suc, ◌+◌, ◌-◌, Bool, true, false, cond, nat_eq, List, [], ◌∷◌, take, drop, ◌++◌, append-nil, filter, reverse, Option, Some, None, refl, sym, ap, ◌∙◌}
-use Rattle.std.specs.Prelude.{slice_get, unwrap_or}
+use Rattle.std.proofs.Common.{◌≡◌, ◌≤◌, ◌<◌, inl, inr, ℕ, zero, suc, ◌+◌, ◌-◌, length, subst, arith, Bool, true, false, cond, nat_eq, List, [], ◌∷◌, take, drop, ◌++◌, append-nil, filter, reverse, Option, Some, None, refl, sym, ap, ◌∙◌}
+use Rattle.std.specs.Prelude.{slice_get, slice_index_or, unwrap_or}
+use Rattle.std.proofs.lemmas.Bool.Decides.{leb_tells}
 use Rattle.ob_object.specs.Object.{Object}
 use Rattle.ob_history.specs.declared.records.Filter.{Filter}
 use Rattle.ob_alarms.specs.declared.alarm.Alarm.{Alarm}
@@ -12,8 +13,12 @@ use Rattle.ob_alarms.specs.declared.rule.Rule.{Rule}
 use Rattle.ob_alarms.specs.AlarmObjects.{object_in, shown_alarm, shown_event, before_all, alarms_after}
 use Rattle.ob_alarms.specs.Changes.{State, alarm_of, before, before_what}
 use Rattle.ob_alarms.specs.Lists.{changed_at}
+use Rattle.ob_alarms.specs.Soundness.{At}
+use Rattle.ob_alarms.specs.Within.{HasAllWithin, is_before, is_after}
+use Rattle.ob_replies.proofs.Numbered.{early_out, late_out}
 use Rattle.ob_site_rules.specs.Entries.{empty_object, event_object, is_within, raised_at}
 use Rattle.ob_site_rules.specs.Watched.{passes}
+use Rattle.ob_site_reads.proofs.Eventful.{some_events, none_yet, one_event}
 
 some_same : {A : Type 0} {a b : A} → Some a ≡ Some b → a ≡ b
 some_same e = cc
@@ -79,3 +84,54 @@ raised_late f s event e within there is late =
 
 pub dropped : (f : Filter) (o : Object) (es : List Object) → passes f o ≡ false → es ≡ es ++ filter (passes f) (o ∷ [])
 dropped f o es late = sym (ap (λ (b : Bool). es ++ cond b (o ∷ []) []) late ∙ append-nil es)
+
+-- an event of an alarm that a filter doesn't pass doesn't pass it
+alarm_out : (f : Filter) (s : State) (event : ℕ) (e : Event) → slice_get s.events event ≡ Some e
+    → ((a : Alarm) → alarm_of e.number s.alarms ≡ Some a → is_within f (raised_at a) ≡ false) → passes f (event_object s event) ≡ false
+alarm_out f s event e there out = raised_late f s event e false there (λ a at. sym (out a at)) refl
+
+-- nor does one of an alarm that was raised before the start
+pub early_event : (f : Filter) (s : State) (event : ℕ) (e : Event) → slice_get s.events event ≡ Some e → At (is_before f.start) (alarm_of e.number s.alarms) → passes f (event_object s event) ≡ false
+early_event f s event e there before = alarm_out f s event e there (λ a at. early_out f a (subst (At (is_before f.start)) at before))
+
+-- nor does any, where each alarm was raised before the start or after the end
+pub no_event : (f : Filter) (s : State) (from to : ℕ) → HasAllWithin f.start f.end s.alarms from to → from ≡ to → (event : ℕ) (e : Event) → slice_get s.events event ≡ Some e → passes f (event_object s event) ≡ false
+no_event f s from to has none event e there = alarm_out f s event e there (λ a at. numbered_out (nat_eq e.number 0) a at)
+  where
+    index_is : (alarms : List Alarm) (n : ℕ) (a : Alarm) → slice_get alarms n ≡ Some a → (n < length alarms) × (slice_index_or alarms n a ≡ a)
+    index_is [] n a e = absurd cc
+    index_is (x ∷ xs) zero a e = (omega arith, some_same e)
+    index_is (x ∷ xs) (suc n) a e = let later = index_is xs n a e in let lt = later.0 in (omega arith, later.1)
+
+    out : (n : ℕ) (a : Alarm) → slice_get s.alarms n ≡ Some a → is_within f (raised_at a) ≡ false
+    out n a at =
+        let here = index_is s.alarms n a at in
+        elim (leb_tells from n) [
+          | inl h ↦ let past = h.1 in late_out f a (subst (λ (b : Alarm). is_after f.end b ≡ true) here.1 (has.after n a (omega arith) here.0))
+          | inr h ↦ early_out f a (subst (λ (b : Alarm). is_before f.start b ≡ true) here.1 (has.before n a (omega arith) h.1))
+        ]
+
+    numbered_out : (b : Bool) (a : Alarm) → cond b None (slice_get s.alarms (e.number - 1)) ≡ Some a → is_within f (raised_at a) ≡ false
+    numbered_out true a at = absurd cc
+    numbered_out false a at = out (e.number - 1) a at
+
+-- so those that pass are among those from one on in front of which none passes
+pub none_early : (f : Filter) (s : State) (given first from : ℕ) → from ≤ length s.events → ((n : ℕ) → given ≤ n → n < from → n < first)
+    → ((event : ℕ) (e : Event) → slice_get s.events event ≡ Some e → event < first → passes f (event_object s event) ≡ false) → some_events f s given from ≡ []
+none_early f s given first zero le low early = none_yet f s given zero (omega arith)
+none_early f s given first (suc n) le low early =
+    elim (leb_tells given n) [
+      | inl h ↦
+          let there = event_there s.events n (omega arith) in
+          let next : suc n ≡ n + 1 = omega arith in
+          ap (λ (k : ℕ). some_events f s given k) next
+          ∙ one_event f s given n h.1
+          ∙ sym (dropped f (event_object s n) (some_events f s given n) (early n there.0 there.1 (low n h.1 (omega arith))))
+          ∙ none_early f s given first n (omega arith) (λ k above below. low k above (omega arith)) early
+      | inr h ↦ let below = h.1 in none_yet f s given (suc n) (omega arith)
+    ]
+  where
+    event_there : (es : List Event) (n : ℕ) → n < length es → (e : Event) × (slice_get es n ≡ Some e)
+    event_there [] n lt = absurd (omega arith)
+    event_there (e ∷ es) zero lt = (e, refl)
+    event_there (e ∷ es) (suc n) lt = event_there es n (omega arith)

@@ -1,8 +1,10 @@
 //! Events of feeds as objects, those alone that are asked for.
-ghost use Rattle.std.specs.Prelude.{◌≡◌, ◌-◌, [], ◌∷◌, ◌++◌, false, drop, map, Some, IsTrue, IfOk};
+ghost use Rattle.std.specs.Prelude.{◌≡◌, ℕ, ◌-◌, ◌<◌, [], ◌∷◌, ◌++◌, false, drop, map, slice_get, Some, All, IsTrue, IfOk};
 ghost use Rattle.std.specs.List.{filter};
 ghost use Rattle.ob_alarms.specs.Changes.{alarm_of};
 ghost use Rattle.ob_alarms.specs.declared.alarm.Alarm.{Alarm};
+ghost use Rattle.ob_alarms.specs.declared.alarm.Event.{Event};
+ghost use Rattle.ob_history.specs.Records.{IsRecord, passes as passes_record};
 ghost use Rattle.ob_replies.specs.Queries.{values_fit};
 ghost use Rattle.ob_site_rules.specs.Entries.{is_within, raised_at, record_object, event_object, event_objects};
 ghost use Rattle.ob_site_rules.specs.Watched.{passes as passes_event};
@@ -32,6 +34,23 @@ fn put_passing(
     Ok(())
 }
 
+/// The records of a log among which are those that pass a filter, from an event number on, in two slices: where all
+/// kept ones are asked for, those that pass, found by halves; and else all from there on.
+fn looked_at<'a>(log: &'a Log, bounds: &Filter, given: u64) -> (&'a [Record], &'a [Record])
+    ensures passing { filter (passes_record bounds.now) (result.0.now ++ result.1.now) ≡ filter (passes_record bounds.now) (drop (given - log.entry.now.gone) log.entry.now.kept) }
+    ensures records { All IsRecord (result.0.now ++ result.1.now) }
+{
+    let _counted = log.len();
+    if given > log.gone() {
+        return log.since(given);
+    }
+    log.range(&Filter {
+        limit: u64::MAX,
+        start: bounds.start,
+        end: bounds.end,
+    })
+}
+
 /// The records of a log that pass a filter, from an event number on, those that rolled off counted.
 pub(crate) fn log_events(
     alloc: Global,
@@ -41,7 +60,7 @@ pub(crate) fn log_events(
 ) -> Result<Vec<Obj>, AllocError>
     ensures { IfOk result (λ events. events.items ≡ filter (passes_event bounds.now) (drop (given - log.now.gone) (map record_object log.now.kept))) }
 {
-    let (front, back) = log.since(given);
+    let (front, back) = looked_at(log, bounds, given);
     let mut events = Vec::new(alloc);
     put_passing(alloc, &mut events, bounds, front)?;
     put_passing(alloc, &mut events, bounds, back)?;
@@ -112,7 +131,19 @@ fn put_event(
     Ok(())
 }
 
-/// The alarm events that pass a filter, from an event number on.
+/// The number of an event in front of which none passes a filter, by the moments at which alarms were raised.
+fn first_passing(alarms: &Alarms, bounds: &Filter) -> u64
+    ensures { (event : ℕ) (told : Event) → slice_get alarms.now.events event ≡ Some told → event < result → passes_event bounds.now (event_object alarms.now event) ≡ false }
+{
+    let (from, to) = alarms.raised_within(&bounds.start, &bounds.end);
+    if from == to {
+        return alarms.events(0).len() as u64;
+    }
+    alarms.first_event(&bounds.start)
+}
+
+/// The alarm events that pass a filter, from an event number on. Where no alarm was raised within its bounds none is
+/// looked at, and else none in front of the first of such an alarm.
 pub(crate) fn alarm_events(
     alloc: Global,
     alarms: &Alarms,
@@ -126,7 +157,8 @@ pub(crate) fn alarm_events(
     if count < given {
         return Ok(events);
     }
-    for event in given..count {
+    let first = first_passing(alarms, bounds).max(given).min(count);
+    for event in first..count {
         put_event(alloc, &mut events, alarms, bounds, event)?;
     }
     Ok(events)
