@@ -6,3 +6,5 @@ pub mod Numbers
 pub mod Told
 pub mod Paths
 pub mod Rewound
+pub mod Ordered
+pub mod Early

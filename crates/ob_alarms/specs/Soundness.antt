@@ -6,6 +6,7 @@ use Rattle.ob_alarms.specs.Limits.{IsRule}
 use Rattle.ob_alarms.specs.Lists.{count, first_place}
 use Rattle.ob_alarms.specs.States.{is_in_alarm, is_acked}
 use Rattle.ob_alarms.specs.Changes.{is_open, before}
+use Rattle.ob_alarms.specs.Within.{InOrder}
 use Rattle.ob_alarms.specs.declared.alarm.Alarm.{Alarm}
 use Rattle.ob_alarms.specs.declared.alarm.Event.{Event}
 use Rattle.ob_alarms.specs.declared.alarm.Turn.{Turn}
@@ -84,10 +85,11 @@ rule_of source rules = first_place (λ r. nat_eq r.source source) rules
 abbrev pub AreFound : BTreeMap ℕ ℕ → List Rule → Type 0
 AreFound places rules = (source : ℕ) → get nat_cmp places source ≡ rule_of source rules
 
-pub record IsSound (rules : List Rule) (places : BTreeMap ℕ ℕ) (list : Tracking) (events : List Event) (capacity : ℕ) : Type 0 where
+pub record IsSound (rules : List Rule) (places : BTreeMap ℕ ℕ) (list : Tracking) (events : List Event) (capacity : ℕ) (in_order : Bool) : Type 0 where
   pub sources_differ : SourcesDiffer rules
   pub are_rules : All IsRule rules
   pub found : AreFound places rules
   pub each_rule : list.rules ≡ length rules
   pub told : AreTold list.rules (reverse events) list.alarms
   pub room : capacity ≤ list.capacity
+  pub order : IsTrue in_order → InOrder list.alarms

@@ -1,5 +1,5 @@
 //! The alarms that rules raise.
-ghost use Rattle.std.specs.Prelude.{◌≡◌, ◌↔◌, ◌+◌, ◌≤◌, ◌<◌, ◌^◌, length, Option, Some, None, slice_get, drop, option_map, option_copied, not, is_some, IsTrue, IfOk, OnOk, OnErr, All, []};
+ghost use Rattle.std.specs.Prelude.{ℕ, ◌≡◌, ◌↔◌, ◌+◌, ◌≤◌, ◌<◌, ◌^◌, length, Option, Some, None, slice_get, drop, option_map, option_copied, not, is_some, IsTrue, IfOk, OnOk, OnErr, All, []};
 ghost use Rattle.ob_alarms.specs.AlarmObjects.{alarm_obj, event_obj};
 ghost use Rattle.ob_alarms.specs.AsOf.{told_event};
 ghost use Rattle.ob_alarms.specs.Limits.{IsRule, Takes};
@@ -7,14 +7,17 @@ ghost use Rattle.ob_alarms.specs.Changes.{State, on_value, on_ack, raise, end, a
 ghost use Rattle.ob_alarms.specs.Changes.{alarm_of, current, before_what, outside_of, acked_if_needed};
 ghost use Rattle.ob_alarms.specs.States.{status_of, is_in_alarm, is_acked};
 ghost use Rattle.ob_alarms.specs.Soundness.{At, AtMostOne, CanGoBack, SourcesDiffer, AreFound, rule_of};
+ghost use Rattle.ob_alarms.specs.Within.{HasAllWithin, is_before};
+ghost use Rattle.ob_alarms.specs.declared.alarm.Event.{Event as Told};
 
 use crate::alarm::{Ack, Alarm, Event, Turn, What};
 use crate::copying::{copy_events, copy_rules};
 use crate::objects::{ack_up_to, alarm_object, up_to};
 use crate::rule::{Num, Rule};
 use crate::tracking::Tracking;
+use crate::within::{has_none_after, part_within};
 use ob_object::{Obj, Status};
-use ob_values::{Moment, Text};
+use ob_values::{Abstime, Moment, Text};
 use std::alloc::{AllocError, Global};
 use std::collections::BTreeMap;
 use std::marker::Model;
@@ -46,6 +49,8 @@ pub struct Alarms {
     places: BTreeMap<u64, u64>,
     list: Tracking,
     events: Vec<Event>,
+    // Whether each alarm was raised no earlier than the one in front of it, so far as is known.
+    in_order: bool,
 }
 
 impl Drop for Alarms {
@@ -58,6 +63,7 @@ impl Drop for Alarms {
             places,
             list,
             events,
+            in_order: _,
         } = self;
         drop(root);
         drop(rules);
@@ -77,7 +83,7 @@ impl Model for Alarms {
 
     ghost view = { λ a. record { root = a.root; rules = a.rules.items; alarms = a.list.alarms; events = a.events.items; spare = vec_capacity a.events - length a.events.items } };
 
-    ghost invariant = { λ a. IsSound a.rules.items a.places a.list a.events.items (vec_capacity a.events) };
+    ghost invariant = { λ a. IsSound a.rules.items a.places a.list a.events.items (vec_capacity a.events) a.in_order };
 }
 
 /// Takes an event back that the alarms show as their last, of the alarm at a place.
@@ -120,6 +126,7 @@ impl Alarms {
             places,
             list,
             events: Vec::new(alloc),
+            in_order: true,
         })
     }
 
@@ -140,6 +147,7 @@ impl Alarms {
             places,
             list,
             events,
+            in_order: self.in_order,
         })
     }
 
@@ -197,6 +205,32 @@ impl Alarms {
         ensures { result ≡ option_map (λ a. a.raised.at) (alarm_of number self.now.alarms) }
     {
         self.alarm(number).map(|alarm| alarm.raised.at)
+    }
+
+    /// The part of the alarms, from a place up to another, outside of which none was raised within these
+    /// bounds, both compared as instants. The first alarm has the place 0.
+    ///
+    /// It costs two searches by halves, where no alarm was raised before the one in front of it; where one
+    /// was, the part is all alarms.
+    pub fn raised_within(&self, start: &Option<Abstime>, end: &Option<Abstime>) -> (u64, u64)
+        ensures { HasAllWithin start.now end.now self.now.alarms result.0 result.1 }
+    {
+        let (from, to) = part_within(self.list.all(), self.in_order, start, end);
+        (from as u64, to as u64)
+    }
+
+    /// The number of an event in front of which each event is of an alarm that was raised before a start, if
+    /// there is one. The first event ever is 0.
+    ///
+    /// It costs what `raised_within` does, and is that of the first alarm that was raised from there on.
+    pub fn first_event(&self, start: &Option<Abstime>) -> u64
+        ensures { (event : ℕ) (told : Told) → slice_get self.now.events event ≡ Some told → event < result → At (is_before start.now) (alarm_of told.number self.now.alarms) }
+    {
+        let (from, _) = self.raised_within(start, &None);
+        match self.list.get(from) {
+            Some(alarm) => alarm.raised.event,
+            None => self.events.len() as u64,
+        }
     }
 
     /// Whether there is a rule at that place, and a value, if one is given, is of the kind of its limits,
@@ -372,6 +406,7 @@ impl Alarms {
             at: now,
             event: self.events.len() as u64,
         };
+        self.in_order = self.in_order && has_none_after(self.list.all(), now);
         self.list.push_reserved(Alarm {
             rule,
             value,

@@ -12,6 +12,7 @@ mod copying;
 mod objects;
 mod rule;
 mod tracking;
+mod within;
 
 pub use alarm::{Ack, Alarm, Event, Turn, What};
 pub use board::{AckResult, Alarms, Turned};

@@ -25,6 +25,7 @@ pub record StaysConsistent (plan : Plan) (s : State) : Type 0 where
   pub board : (b : Board) → IsConsistent plan (with_board s b)
   pub rolls : IsConsistent plan (roll s)
 
+-- law: of every consistent state
 abbrev pub StepsStayConsistent : Type 0
 StepsStayConsistent = (plan : Plan) (s : State) → IsConsistent plan s → StaysConsistent plan s
 
@@ -36,5 +37,6 @@ pub record PathsStay (plan : Plan) (s : State) : Type 0 where
   pub board : (b : Board) → PathsDiffer (row (dressed plan (with_board s b)))
   pub rolls : PathsDiffer (row (dressed plan (roll s)))
 
+-- law: of every state no two of whose nodes have one path
 abbrev pub StepsKeepPaths : Type 0
 StepsKeepPaths = (plan : Plan) (s : State) → PathsDiffer (row (dressed plan s)) → PathsStay plan s

@@ -7,7 +7,7 @@ use Rattle.ob_object.specs.declared.head.Head.{Head}
 use Rattle.ob_object.specs.Kinds.{is_ref, same_kind, has_of, has_input, has_output}
 use Rattle.ob_object.specs.Object.{Object, Objects, none, node, listed, in_row, children}
 use Rattle.ob_object.specs.WellFormed.{named, is_taken, has_name}
-use Rattle.ob_contracts.specs.Telling.{TellTheSame, Gave, IsTold, Same, named_by, StandFor}
+use Rattle.ob_contracts.specs.Telling.{TellTheSame, Gave, IsTold, Same, named_by, StandFor, StandIn}
 use Rattle.ob_contracts.specs.Inherit.{Contracts, Words, words_in, contract_of, present, or_else, only_if, given, first_given, overridden, is_new, missing, bare, sources, implied_by, inherited_head, row_results, result_of}
 use Rattle.ob_contracts.specs.HandedDown.{MayGive}
 use Rattle.ob_contracts.specs.Shown.{shown_result, own_child_of, view_sources}
@@ -220,17 +220,25 @@ map-append F (x ∷ xs) ys = ap (λ l. F x ∷ l) (map-append F xs ys)
 pub named_by-append : (lib : Contracts) (vs ws : Words) → named_by lib (vs ++ ws) ≡ named_by lib vs ++ named_by lib ws
 named_by-append lib vs ws = ap present (map-append (contract_of lib) vs ws) ∙ present-append (map (contract_of lib) vs) (map (contract_of lib) ws)
 
--- such words tell the same
-pub tell_the_same : (lib : Contracts) (ts ws : Words) → StandFor lib ts ws → TellTheSame lib (Some ts) (Some ws)
-tell_the_same lib ts ws e = λ o over. result_same lib o (Some ts) (Some ws) over (go over o.head.is (is_ref o.head.kind))
+-- the sources of an object are the same by words that stand for others
+pub same_sources : (lib : Contracts) (told words : Option Words) → StandFor lib (words_in told) (words_in words) → (h : Head) (over : Option Object) → Same (sources lib h told over) (sources lib h words over)
+same_sources lib told words e h over = go h.is (is_ref h.kind)
   where
-    go : (over : Option Object) (is : Option Words) (r : Bool)
-        → Same (present (cond r [] (map (contract_of lib) (words_in (or_else is (Some ts))) ++ over ∷ []))) (present (cond r [] (map (contract_of lib) (words_in (or_else is (Some ws))) ++ over ∷ [])))
-    go over (Some vs) r = same_refl (present (cond r [] (map (contract_of lib) vs ++ over ∷ [])))
-    go over None true = same_refl []
-    go over None false =
-        subst (λ (x : List Object). Same x (present (map (contract_of lib) ws ++ over ∷ []))) (sym (present-append (map (contract_of lib) ts) (over ∷ [])))
-        (subst (λ (x : List Object). Same (named_by lib ts ++ present (over ∷ [])) x) (sym (present-append (map (contract_of lib) ws) (over ∷ []))) (e (present (over ∷ []))))
+    go : (is : Option Words) (r : Bool)
+        → Same (present (cond r [] (map (contract_of lib) (words_in (or_else is told)) ++ over ∷ []))) (present (cond r [] (map (contract_of lib) (words_in (or_else is words)) ++ over ∷ [])))
+    go (Some vs) r = same_refl (present (cond r [] (map (contract_of lib) vs ++ over ∷ [])))
+    go None true = same_refl []
+    go None false =
+        subst (λ (x : List Object). Same x (present (map (contract_of lib) (words_in words) ++ over ∷ []))) (sym (present-append (map (contract_of lib) (words_in told)) (over ∷ [])))
+        (subst (λ (x : List Object). Same (named_by lib (words_in told) ++ present (over ∷ [])) x) (sym (present-append (map (contract_of lib) (words_in words)) (over ∷ []))) (e (present (over ∷ []))))
+
+-- such words tell the same
+pub tell_the_same : (lib : Contracts) (told words : Option Words) → StandFor lib (words_in told) (words_in words) → TellTheSame lib told words
+tell_the_same lib told words e = λ o over. result_same lib o told words over (same_sources lib told words e o.head over)
+
+-- where no words are told, a list's own stand for themselves
+pub stand_in_none : (lib : Contracts) (words : Option Words) → StandIn lib None words
+stand_in_none lib words = λ R. same_refl (named_by lib (words_in words) ++ R)
 
 -- one word more, put to both
 pub stand_kept : (lib : Contracts) (ts ws : Words) (w : List ℕ) → StandFor lib ts ws → StandFor lib (ts ++ w ∷ []) (ws ++ w ∷ [])

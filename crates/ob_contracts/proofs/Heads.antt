@@ -278,16 +278,6 @@ module _ (lib : Contracts) (ts looked : Words) (seen new : Texts) (known : Known
       go None is = stand_none lib ts looked w is t.stand
       go (Some c) is = stand_told lib ts looked w c is (t.are_told w there c is) t.stand
 
-  pub no_contract : None ≡ contract_of lib w → IsTelling lib ts (looked ++ w ∷ []) new known
-  no_contract gone = record {
-    stand = stand_none lib ts looked w (sym gone) t.stand;
-    knows = t.knows;
-    are_told = seen_more (named_by lib ts) t.are_told (λ c is. none_some c (gone ∙ is));
-  }
-    where
-      none_some : (c : Object) → ◌≡◌ {A = Option Object} None (Some c) → IsTold (named_by lib ts) c
-      none_some c e = absurd (true≢false (ap is_some (sym e)))
-
   pub nothing_new : (c : Object) (after : Known) → Some c ≡ contract_of lib w → IsPut after (named_by lib ts) c false → IsTelling lib ts (looked ++ w ∷ []) new after
   nothing_new c after is p = record {
     stand = stand_told lib ts looked w c (sym is) p.1 t.stand;
@@ -305,6 +295,14 @@ module _ (lib : Contracts) (ts looked : Words) (seen new : Texts) (known : Known
         are_told = λ n e d at. subst (λ Q. IsTold Q d) (sym more)
             (seen_more (P ++ c ∷ []) (λ m h x y. told_still P (c ∷ []) x (t.are_told m h x y)) (λ x y. subst (IsTold (P ++ c ∷ [])) (some_same c x (is ∙ y)) (told_by_itself P c)) n e d at);
       }
+
+-- a word that names no contract
+pub no_contract : (lib : Contracts) (ts looked : Words) (seen : Texts) (known : Known) (w : List ℕ) → IsTelling lib ts looked seen known → None ≡ contract_of lib w → IsTelling lib ts (looked ++ w ∷ []) seen known
+no_contract lib ts looked seen known w t gone = record {
+  stand = stand_none lib ts looked w (sym gone) t.stand;
+  knows = t.knows;
+  are_told = t.are_told;
+}
 
 -- before the first word
 pub telling_none : (lib : Contracts) (ts looked : Words) (seen : Texts) (known : Known) → ts ≡ [] → looked ≡ [] → seen.keys ≡ [] → known.heads.items ≡ [] → known.names.keys ≡ [] → IsTelling lib ts looked seen known

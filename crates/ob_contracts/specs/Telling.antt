@@ -11,7 +11,7 @@ use Rattle.ob_object.specs.Kinds.{same_kind, has_of, has_input, has_output}
 use Rattle.ob_object.specs.Object.{Object, children}
 use Rattle.ob_object.specs.WellFormed.{named, is_taken}
 use Rattle.ob_contracts.specs.Found.{lent}
-use Rattle.ob_contracts.specs.Inherit.{Contracts, Words, contract_of, present, only_if, given, first_given, overridden, missing, inherited_head, result_of}
+use Rattle.ob_contracts.specs.Inherit.{Contracts, Words, contract_of, words_in, present, or_else, only_if, given, first_given, overridden, missing, inherited_head, result_of}
 use Rattle.ob_contracts.specs.Shown.{has_part}
 use Rattle.ob_contracts.specs.declared.fewer.Known.{Known}
 use Rattle.ob_contracts.specs.declared.reading.Part.{Part}
@@ -89,6 +89,10 @@ named_by lib ws = present (map (contract_of lib) ws)
 -- words that may stand for others in front of any sources
 abbrev pub StandFor : Contracts → Words → Words → Type 0
 StandFor lib ts ws = (R : List Object) → Same (named_by lib ts ++ R) (named_by lib ws ++ R)
+
+-- some words, where they are told, stand for those that a list gives
+abbrev pub StandIn : Contracts → Option Words → Option Words → Type 0
+StandIn lib told words = StandFor lib (words_in (or_else told words)) (words_in words)
 
 -- some words stand for those that were looked at, what they tell is known, and what was seen is told
 pub record IsTelling (lib : Contracts) (telling looked : Words) (seen : BTreeSet (Bor (List ℕ))) (known : Known) : Type 0 where

@@ -6,7 +6,7 @@ ghost use Rattle.ob_object.specs.WellFormed.{has_name};
 ghost use Rattle.ob_object.specs.Words.{is_word};
 ghost use Rattle.ob_contracts.specs.Found.{lent};
 ghost use Rattle.ob_contracts.specs.Inherit.{or_else};
-ghost use Rattle.ob_contracts.specs.Telling.{TellTheSame, Knows, IsPut, IsTelling, ArePut, tells_part, has_one, has_text, head_parts};
+ghost use Rattle.ob_contracts.specs.Telling.{TellTheSame, StandFor, StandIn, Knows, IsPut, IsTelling, ArePut, tells_part, has_one, has_text, head_parts};
 
 use crate::library::Library;
 use crate::reading::{Part, has_part};
@@ -132,7 +132,8 @@ fn put_word(words: &mut Words, word: &Text) -> Result<(), AllocError>
     }
 }
 
-/// Puts a word last that wasn't seen, if it names a contract that tells something new.
+/// Puts a word last that wasn't seen, if it names a contract that tells something new. A word that names none isn't kept
+/// as seen: to look for its contract again costs less.
 fn put_if_new<'a>(
     library: &'a Library,
     seen: &mut BTreeSet<&'a str>,
@@ -143,13 +144,13 @@ fn put_if_new<'a>(
     requires { IsTrue (is_word word.now) }
     ensures { OnOk result ((looked : List (List ℕ)) → IsTelling library.now telling.old looked seen.old known.old → IsTelling library.now telling.new (looked ++ word.now ∷ []) seen.new known.new) }
 {
+    let Some(contract) = library.get(word.as_str()) else {
+        return Ok(());
+    };
     let fresh = seen.insert(word.as_str())?;
     if !fresh {
         return Ok(());
     }
-    let Some(contract) = library.get(word.as_str()) else {
-        return Ok(());
-    };
     let new = put_source(known, contract)?;
     if new {
         return put_word(telling, word);
@@ -163,7 +164,7 @@ fn telling_words<'a>(
     library: &'a Library,
     words: &'a Words,
 ) -> Result<Words, AllocError>
-    ensures { IfOk result (λ telling. TellTheSame library.now (Some telling) (Some words.now)) }
+    ensures { IfOk result (λ telling. StandFor library.now telling words.now) }
 {
     let mut seen = BTreeSet::new(alloc);
     let mut known = Known {
@@ -184,7 +185,8 @@ pub fn telling<'a>(
     library: &'a Library,
     words: Option<&'a Words>,
 ) -> Result<Option<Words>, AllocError>
-    ensures { IfOk result (λ told. TellTheSame library.now (or_else told (option_copied words.entry)) (option_copied words.entry)) }
+    ensures stand { IfOk result (λ told. StandIn library.now told (option_copied words.entry)) }
+    ensures same { IfOk result (λ told. TellTheSame library.now (or_else told (option_copied words.entry)) (option_copied words.entry)) }
 {
     let Some(words) = words else {
         return Ok(None);

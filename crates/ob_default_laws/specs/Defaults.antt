@@ -21,6 +21,7 @@ abbrev pub unslotted_row : Objects → Objects
 unslotted_row none = none
 unslotted_row (node h inner rest) = node (without_slot h) (unslotted_row inner) (unslotted_row rest)
 
+-- an object without any values
 abbrev pub unslotted : Object → Object
 unslotted o = record { head = without_slot o.head; inner = unslotted_row o.inner }
 

@@ -1,5 +1,5 @@
 -- A request to the site itself takes no slot away.
-use Rattle.std.proofs.Common.{◌≡◌, ℕ, Bool, true, false, not, cond, List, [], ◌∷◌, map, Option, Some, None, option_map, refl, sym, ap, ap₂, ◌∙◌, subst, true≢false}
+use Rattle.std.proofs.Common.{◌≡◌, ℕ, Bool, true, false, not, cond, List, [], ◌∷◌, Option, Some, None, option_map, refl, sym, ap, ap₂, ◌∙◌, subst, true≢false}
 use Rattle.std.specs.Prelude.{is_some, unwrap_or, IsTrue}
 use Rattle.std.specs.Option.{option_or}
 use Rattle.url.specs.Parts.{Parts}
@@ -20,14 +20,13 @@ use Rattle.ob_site_rules.specs.Build.{Text, Path}
 use Rattle.ob_site_rules.specs.Faults.{Fault, NotSupported, NotWritable, OtherKind, NotInBatch, err, first_fault}
 use Rattle.ob_site_rules.specs.State.{Plan, Log, State, is_among, is_path}
 use Rattle.ob_site_rules.specs.Sameness.{same_slot}
-use Rattle.ob_site_rules.specs.Shown.{rule_of, node_path, node_in, node_of, with_status, with_status_at, with_status_by, dressed, shown}
+use Rattle.ob_site_rules.specs.Shown.{rule_of, node_path, node_in, node_of, with_status_at, with_status_by, dressed, shown}
 use Rattle.ob_site_rules.specs.Places.{Place, About, Batch, Service, Make, AlarmAt, AckOf, WritePointOf, QueryOf, FeedOf, AlarmQuery, AlarmFeed, Node, place_at}
-use Rattle.ob_site_rules.specs.Writes.{with_slot, site_contracts, is_in_contract, recorded, write, written, unless, value_fault, slot_fault, overfills, is_writable, write_by, put, given_by, target_fault}
-use Rattle.ob_site_rules.specs.Posts.{child_of_obj, or_nil, call, write_point}
+use Rattle.ob_site_rules.specs.Writes.{with_slot, site_contracts, is_in_contract, recorded, write, written, unless, value_fault, is_writable, write_by, put, given_by, target_fault}
+use Rattle.ob_site_rules.specs.Posts.{call, write_point}
 use Rattle.ob_site_rules.specs.Actions.{is_post, put_at, act_at, is_left_out, item_at, item_on, item_request, act_item, act_all, batch_or, batch, act_on, act_located}
-use Rattle.ob_shown_laws.specs.Alike.{row, without_slot, without_values, AreAlike, DifferInSlots, DifferInValues, paths_of}
+use Rattle.ob_shown_laws.specs.Alike.{row, without_values, AreAlike, DifferInSlots, paths_of}
 use Rattle.ob_shown_laws.specs.Changed.{is_in, PathsDiffer}
-use Rattle.ob_shown_laws.specs.Own.{dressed_own}
 use Rattle.ob_shown_laws.specs.OwnShown.{own_standing, dressed_standing}
 use Rattle.ob_shown_laws.specs.Numbered.{root_row}
 use Rattle.ob_shown_laws.specs.Standing.{Standing, effective, standing_at, standing_in}
@@ -36,13 +35,13 @@ use Rattle.ob_shown_laws.proofs.Touches.{there}
 use Rattle.ob_shown_laws.proofs.Reaching.{roles_alike}
 use Rattle.ob_shown_laws.proofs.Owning.{steps_alike}
 use Rattle.ob_shown_laws.proofs.OwnStanding.{own_is_enough}
-use Rattle.ob_default_laws.specs.Defaults.{StayGiven, DifferInDefaults, defaults_off}
+use Rattle.ob_default_laws.specs.Defaults.{StayGiven, defaults_off}
 use Rattle.ob_default_laws.proofs.Unslotted.{defaults_differ}
 use Rattle.ob_default_laws.proofs.Either.{given_itself}
 use Rattle.ob_standing.specs.Contexts.{HandedDown, handed_down, under}
 use Rattle.ob_plain_state.specs.declared.place.Place.TheVariants as named
 use Rattle.ob_requests.proofs.Places.{point_there}
-use Rattle.ob_given_laws.specs.Given.{IsMade, PointsHaveValues, TakesNoneAway, StepsTakeNoneAway}
+use Rattle.ob_given_laws.specs.Given.{IsMade, PointsHaveValues, StepsTakeNoneAway}
 use Rattle.ob_given_laws.proofs.Slotted.{given_slotted, differ_slotted, unslotted_object, contracts_stay, value_given, kind_given}
 
 -- what a step leaves
@@ -62,7 +61,7 @@ given_then (node h below rest) (node k inner more) none d g f = tt
 given_then (node h below rest) (node k inner more) (node j deep last) d g f =
     (λ e. g.0 (f.0 e), given_then below inner deep d.2 g.1 f.1, given_then rest more last d.3 g.2 f.2)
 
-slots_then : (os qs rs : Objects) → DifferInSlots os qs → DifferInSlots qs rs → DifferInSlots os rs
+pub slots_then : (os qs rs : Objects) → DifferInSlots os qs → DifferInSlots qs rs → DifferInSlots os rs
 slots_then none none rs d f = f
 slots_then none (node k inner more) rs d f = absurd d
 slots_then (node h below rest) none rs d f = absurd d
@@ -82,25 +81,30 @@ on s u v a b = record {
   made = λ e. b.made (a.made e);
 }
 
--- a write of a value that is given
-paths_recorded : (plan : Plan) (now : ℕ) (p : Path) (k : Kind) (slot : Slot) (ls : List (Path × Log)) → paths_of ls ≡ paths_of (recorded plan now p k slot ls)
+pub paths_recorded : (plan : Plan) (now : ℕ) (p : Path) (k : Kind) (slot : Slot) (ls : List (Path × Log)) → paths_of ls ≡ paths_of (recorded plan now p k slot ls)
 paths_recorded plan now p k slot [] = refl
 paths_recorded plan now p k slot (l ∷ ls) = ap (λ (ps : List Path). l.0 ∷ ps) (paths_recorded plan now p k slot ls)
 
+-- a write to a contract is in the library, and no other write changes it
+pub made_written : (p : Path) (slot : Slot) (s : State) → IsMade s
+    → let root : Object = with_slot p slot s.tree in cond (is_in_contract p root) (with_added standard (site_contracts root)) s.library ≡ with_added standard (site_contracts root)
+made_written p slot s e = go (is_in_contract p root) refl
+  where
+    root : Object
+    root = with_slot p slot s.tree
+
+    go : (b : Bool) → is_in_contract p root ≡ b → cond b (with_added standard (site_contracts root)) s.library ≡ with_added standard (site_contracts root)
+    go true is = refl
+    go false is = e ∙ ap (with_added standard) (sym (contracts_stay p slot s.tree is))
+
+-- a write of a value that is given
 write_follows : (plan : Plan) (now : ℕ) (p : Path) (k : Kind) (slot : Slot) (s : State) → (slot ≡ Absent → ⊥) → Follows s (write plan now p k slot s)
 write_follows plan now p k slot s some = record {
   given = given_slotted p slot (row s.tree) some;
   slots = differ_slotted p slot (row s.tree);
   histories = paths_recorded plan now p k slot s.logs;
-  made = λ e. library (is_in_contract p root) refl e;
+  made = made_written p slot s;
 }
-  where
-    root : Object
-    root = with_slot p slot s.tree
-
-    library : (b : Bool) → is_in_contract p root ≡ b → IsMade s → cond b (with_added standard (site_contracts root)) s.library ≡ with_added standard (site_contracts root)
-    library true is e = refl
-    library false is e = e ∙ ap (with_added standard) (sym (contracts_stay p slot s.tree is))
 
 written_follows : (plan : Plan) (now : ℕ) (p : Path) (o : Object) (slot : Slot) (s : State) → (slot ≡ Absent → ⊥) → Follows s (written plan now p o slot s)
 written_follows plan now p o slot s some = go (same_slot slot o.head.slot)

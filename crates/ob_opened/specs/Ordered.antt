@@ -47,6 +47,7 @@ OpensOrdered = (root : Object) (boot : ℕ) (st : SiteState) → opening root bo
 abbrev pub whole_log : Part → Log
 whole_log q = record { capacity = capacity_of q; gone = 0; kept = records_of q }
 
+-- the log of each history with all the records that its file gives, none rolled off
 abbrev pub whole_logs : List Part → List (Path × Log)
 whole_logs ps = map (λ q. (path_of q, whole_log q)) (histories_in ps)
 

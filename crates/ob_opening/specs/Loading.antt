@@ -43,6 +43,7 @@ pub data LoadFault : Type 0 where
   BadRule : (part : ℕ) → LoadFault
   Size : LoadFault
 
+-- one more contract is added, unless one before it wasn't taken
 abbrev pub and_add : Result Contracts LibFault → Text → Object → Result Contracts LibFault
 and_add (Err fault) uri contract = Err fault
 and_add (Ok lib) uri contract = added lib uri contract
@@ -83,6 +84,7 @@ derived_paths r (Some p) =
     ++ (cond r.history (below p (codes "query") ∷ below p (codes "feed") ∷ []) []
     ++ cond r.subject (below p (codes "query") ∷ below p (codes "feed") ∷ []) [])
 
+-- a path, if there is one, as a list
 abbrev pub listed_path : Option Path → List Path
 listed_path None = []
 listed_path (Some p) = p ∷ []
@@ -116,10 +118,12 @@ abbrev pub items_of : Text → Part → List (ℕ × Object)
 items_of name p =
     flat_map (λ c. cond (is_part name kind.List c.1.head) (numbered (c.0 + 1) (children c.1)) []) (numbered (p.number + 1) (children p.own))
 
+-- the time of a slot that is an abstime
 abbrev pub time_of : Slot → Option Instant
 time_of (Is (value.Abstime t)) = Some t
 time_of _ = None
 
+-- an object, if it is of a kind
 abbrev pub of_kind : Kind → Object → Option Object
 of_kind k o = cond (same_kind o.head.kind k) (Some o) None
 
@@ -127,9 +131,11 @@ of_kind k o = cond (same_kind o.head.kind k) (Some o) None
 abbrev pub child_of : Text → Kind → Object → Option Object
 child_of n k o = option_and_then (of_kind k) (child n o)
 
+-- the child `value` of a record, if its kind has values
 abbrev pub value_of_record : Object → Option Object
 value_of_record o = option_and_then (λ v. cond (is_value_kind v.head.kind) (Some v) None) (child (codes "value") o)
 
+-- the record of a time and a value, if both are there; a value that is left out is its kind's default
 abbrev pub record_from : Option Instant → Option Object → Option Record
 record_from None v = None
 record_from (Some t) None = None
@@ -141,9 +147,11 @@ record_in o =
     cond (same_kind o.head.kind kind.Obj)
     (record_from (option_and_then (λ t. time_of t.head.slot) (child_of (codes "timestamp") kind.Abstime o)) (value_of_record o)) None
 
+-- the last moment that a site may begin at: the end of the year 9999, in milliseconds
 abbrev pub last_moment : ℕ
 last_moment = 253_402_300_799_999
 
+-- whether a time is before another
 abbrev pub is_earlier : Instant → Instant → Bool
 is_earlier a b = int_lt (instant a) (instant b)
 
@@ -152,10 +160,12 @@ abbrev pub is_late : Option Instant → Record → Bool
 is_late None r = is_earlier (moment_instant last_moment) r.time
 is_late (Some before) r = is_earlier r.time before || is_earlier (moment_instant last_moment) r.time
 
+-- the time that the next record mustn't be before
 abbrev pub after_item : Option Instant → Option Record → Option Instant
 after_item before None = before
 after_item before (Some r) = Some r.time
 
+-- whether an item is no record, or out of order
 abbrev pub is_bad_item : Option Instant → Option Record → Bool
 is_bad_item before None = true
 is_bad_item before (Some r) = is_late before r
@@ -166,9 +176,11 @@ bad_records before [] = []
 bad_records before (i ∷ items) =
     cond (is_bad_item before (record_in i.1)) (i.0 ∷ []) [] ++ bad_records (after_item before (record_in i.1)) items
 
+-- the records that a history's `data` gives
 abbrev pub records_of : Part → List Record
 records_of p = filter_map (λ i. record_in i.1) (items_of (codes "data") p)
 
+-- the capacity that an int says: 1 to 1,000,000
 abbrev pub capacity_by : Kind → Slot → Option ℕ
 capacity_by kind.Int (Is (value.Int (pos n))) = cond (nat_le 1 n && nat_le n 1_000_000) (Some n) None
 capacity_by _ _ = None
@@ -192,6 +204,7 @@ overfull sum (p ∷ ps) =
 abbrev pub node_there : (Kind → Bool) → List Part → Path → Option Object
 node_there fits ps p = option_map (λ q. q.own) (find (λ q. not q.inside && (fits q.own.head.kind && is_path p (node_path q.own.head))) ps)
 
+-- the own child `source`, if it is a ref
 abbrev pub source_ref : Object → Option Object
 source_ref o = child_of (codes "source") kind.Ref o
 
@@ -200,26 +213,32 @@ abbrev pub has_bad_source : List Part → Part → Bool
 has_bad_source ps p =
     unwrap_or (option_map (λ r. is_none (option_and_then (node_there is_value_kind ps) r.head.href)) (source_ref p.own)) false
 
+-- what is wrong with a part that is a history: with itself, and with the items of its `data`
 abbrev pub bad_history : List Part → Part → List ℕ
 bad_history ps p =
     cond p.roles.history
     (cond (has_bad_source ps p || has_bad_capacity p) (p.number ∷ []) [] ++ bad_records None (items_of (codes "data") p)) []
 
+-- the number of the child of a name, if it is of this kind
 abbrev pub own_number : Text → Kind → Object → Option Num
 own_number n k o = option_and_then (λ c. number_in c.head.slot) (child_of n k o)
 
+-- the truth of a slot that is a bool
 abbrev pub truth_in : Slot → Option Bool
 truth_in (Is (value.Bool b)) = Some b
 truth_in _ = None
 
+-- whether a kind is int or real
 abbrev pub is_number_kind : Kind → Bool
 is_number_kind k = same_kind k kind.Int || same_kind k kind.Real
 
+-- the rule of a source with limits, if all are there and the high one isn't below the low one
 abbrev pub rule_from : Option Path → Option Num → Option Num → Option Bool → Option PointRule
 rule_from (Some p) (Some low) (Some high) (Some needs) =
     cond (is_below high low) None (Some (record { source = p; low = low; high = high; needs_ack = needs }))
 rule_from _ _ _ _ = None
 
+-- the rule that an item is on its source, if the source is there
 abbrev pub rule_on : Option Path → Option Object → Object → Option PointRule
 rule_on p None o = None
 rule_on p (Some source) o =
@@ -232,10 +251,12 @@ rule_in ps o =
     let p : Option Path = option_and_then (λ r. r.head.href) (source_ref o) in
     cond (same_kind o.head.kind kind.Obj) (rule_on p (option_and_then (node_there is_number_kind ps) p) o) None
 
+-- whether an item is no rule, or has the source of an earlier one
 abbrev pub is_bad_rule : List Path → Option PointRule → Bool
 is_bad_rule seen None = true
 is_bad_rule seen (Some r) = is_among r.source seen
 
+-- the sources that the next rule mustn't have
 abbrev pub after_rule : List Path → Option PointRule → List Path
 after_rule seen None = seen
 after_rule seen (Some r) = r.source ∷ seen
@@ -246,9 +267,11 @@ bad_rules ps seen [] = []
 bad_rules ps seen (i ∷ items) =
     cond (is_bad_rule seen (rule_in ps i.1)) (i.0 ∷ []) [] ++ bad_rules ps (after_rule seen (rule_in ps i.1)) items
 
+-- the parts that are alarm subjects
 abbrev pub subjects : List Part → List Part
 subjects ps = filter (λ p. p.roles.subject) ps
 
+-- what is wrong with the rules of the first alarm subject, and each further one
 abbrev pub bad_subjects : List Part → List Part → List ℕ
 bad_subjects ps [] = []
 bad_subjects ps (p ∷ others) = bad_rules ps [] (items_of (codes "rules") p) ++ map (λ q. q.number) others
@@ -258,9 +281,11 @@ abbrev pub least : List ℕ → Option ℕ
 least [] = None
 least (n ∷ ns) = Some (unwrap_or (option_map (λ k. cond (nat_lt k n) k n) (least ns)) n)
 
+-- the path of a part; one with a role has one
 abbrev pub path_of : Part → Path
 path_of p = unwrap_or (node_path p.own.head) []
 
+-- the parts that are histories
 abbrev pub histories_in : List Part → List Part
 histories_in ps = filter (λ p. p.roles.history) ps
 
@@ -276,15 +301,18 @@ ms_up t = in_ms t.seconds t.nanos
     in_ms (pos s) nanos = s * 1000 + (nanos + 999_999) / 1_000_000
     in_ms _ nanos = 0
 
+-- the greatest of these numbers and one more
 abbrev pub greatest : ℕ → List ℕ → ℕ
 greatest n [] = n
 greatest n (k ∷ ks) = greatest (max n k) ks
 
+-- the text of a slot that is a str or a uri
 abbrev pub text_in : Slot → Option Text
 text_in (Is (value.Str t)) = Some t
 text_in (Is (value.Uri t)) = Some t
 text_in _ = None
 
+-- the kind of a text of About
 abbrev pub about_kind : Text → Kind
 about_kind n = cond (is_among n (codes "vendorUrl" ∷ codes "productUrl" ∷ [])) kind.Uri kind.Str
 
@@ -295,6 +323,7 @@ about_texts root =
     (λ o. option_and_then (λ n. option_map (λ t. (n, t)) (cond (same_kind o.head.kind (about_kind n)) (text_in o.head.slot) None)) o.head.name)
     (unwrap_or (option_map children (child_of (codes "about") kind.Obj root)) [])
 
+-- whether the root, which is the first part, is a lobby
 abbrev pub root_lobby : List Part → Bool
 root_lobby [] = false
 root_lobby (p ∷ ps) = p.roles.lobby
@@ -327,6 +356,7 @@ opened base r boot lib root tree ps = record {
   };
 }
 
+-- an object as a row of one
 abbrev pub row_of : Object → Objects
 row_of o = node o.head o.inner none
 
@@ -334,14 +364,17 @@ row_of o = node o.head o.inner none
 abbrev pub kept_root : List Roles → Object → Object
 kept_root rs root = record { head = root.head; inner = kept_row rs 1 (role_at rs 0) root.inner }
 
+-- the refusal for a path that stands twice, before the next one
 abbrev pub or_twice : Option Path → Result SiteState LoadFault → Result SiteState LoadFault
 or_twice None next = next
 or_twice (Some p) next = Err (PathTwice p)
 
+-- the refusal for a part, before the next one
 abbrev pub or_bad : (ℕ → LoadFault) → Option ℕ → Result SiteState LoadFault → Result SiteState LoadFault
 or_bad fault None next = next
 or_bad fault (Some n) next = Err (fault n)
 
+-- the refusal of a site that shows more than 200,000 parts
 abbrev pub within_size : SiteState → Result SiteState LoadFault
 within_size st = cond (nat_lt 200_000 (parts (shown_root st.plan st.world.site))) (Err Size) (Ok st)
 
@@ -353,6 +386,7 @@ opened_with base r boot lib words root =
     or_twice (taken_twice r [] (paths_in rs 0 no_roles (row_of root)))
     (or_bad BadRule (bad_part ps) (within_size (opened base r boot lib root (kept_root rs root) ps)))
 
+-- what is opened where the contracts were taken, or else their refusal
 abbrev pub opened_by : Parts → Path → ℕ → Result Contracts LibFault → Contracts → Object → Result SiteState LoadFault
 opened_by base r boot (Err fault) words root = Err (Contract fault)
 opened_by base r boot (Ok lib) words root = opened_with base r boot lib (worded_contracts words (site_contracts root)) root
@@ -371,6 +405,7 @@ module _ (root_url : Text → Option Parts) (resolve : Parts → Text → Option
   abbrev pub made_root : Parts → Object → Object
   made_root u o = made_object (resolve u) (Some u.path) o
 
+  -- what is opened under the URL of a root, if it has one
   abbrev pub opening_at : Object → ℕ → Option Parts → Result SiteState LoadFault
   opening_at o boot None = Err RootHref
   opening_at o boot (Some u) =

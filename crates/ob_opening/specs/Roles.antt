@@ -30,6 +30,7 @@ worded_row lib implied above (node h below rest) =
     (in_row (listed (worded_row lib (implied_by (inherited_head h from)) from below) ++ missing (listed below) from))
     (worded_row lib implied above rest)
 
+-- a contract with its words at every depth
 abbrev pub worded : Contracts → Object → Object
 worded lib o = first_or o (listed (worded_row lib None [] (node o.head o.inner none)))
   where
@@ -42,6 +43,7 @@ abbrev pub worded_contracts : Contracts → List (Text × Object) → Contracts
 worded_contracts lib [] = lib
 worded_contracts lib (c ∷ cs) = worded_contracts (lib ++ (c.0, worded lib c.1) ∷ []) cs
 
+-- no role
 abbrev pub no_roles : Roles
 no_roles = record { root = false; lobby = false; point = false; history = false; subject = false }
 
@@ -63,9 +65,11 @@ derived_names r =
     ++ (cond r.history (codes "count" ∷ codes "start" ∷ codes "end" ∷ codes "query" ∷ codes "feed" ∷ []) []
     ++ cond r.subject (codes "count" ∷ codes "query" ∷ codes "feed" ∷ []) []))
 
+-- whether a head has this name and this kind
 abbrev pub is_part : Text → Kind → Head → Bool
 is_part n k h = has_name n h.name && same_kind h.kind k
 
+-- whether a name, if there is one, is one of these
 abbrev pub name_among : List Text → Option Text → Bool
 name_among ns None = false
 name_among ns (Some n) = is_among n ns
@@ -82,6 +86,7 @@ is_dropped r h =
 abbrev pub holds_contracts : Bool → Head → Bool
 holds_contracts root h = root && has_name (codes "contracts") h.name
 
+-- the roles of an object, which inside the contracts of the site has none
 abbrev pub roles_there : Contracts → Bool → Bool → Head → Option Words → Roles
 roles_there lib root inside h ws = cond inside no_roles (roles_of lib root h ws)
 

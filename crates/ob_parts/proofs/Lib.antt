@@ -1,3 +1,4 @@
 pub mod Earliest
 pub mod Walk
 pub mod Needed
+pub mod Above

@@ -1,18 +1,17 @@
 -- The child of a name that is needed.
-use Rattle.std.proofs.Common.{◌≡◌, ℕ, Bool, true, false, List, [], ◌∷◌, ◌++◌, Option, Some, None, refl, ap, sym, ◌∙◌, find}
+use Rattle.std.proofs.Common.{◌≡◌, ℕ, Bool, true, false, List, [], ◌∷◌, Option, Some, None, refl, ap, ◌∙◌, find}
 use Rattle.std.specs.Prelude.{option_map, unwrap_or, option_and_then}
 use Rattle.ob_object.specs.Object.{Object, children, parts}
 use Rattle.ob_object.specs.WellFormed.{has_name, named}
 use Rattle.ob_parts.specs.Numbered.{Part, plus, numbered_from, inside, child, inside_child}
 use Rattle.ob_parts.specs.Offences.{unless, judged, needs, said}
-use Rattle.ob_parts.specs.Least.{least}
 use Rattle.ob_parts.proofs.Walk.{named_part}
 
-abbrev object_of : Part → Object
+abbrev pub object_of : Part → Object
 object_of p = p.object
 
 -- the first object of a name is that of the first part of it
-named_of : (name : List ℕ) (n : ℕ) (os : List Object) → named name os ≡ option_map object_of (find (named_part name) (numbered_from n os))
+pub named_of : (name : List ℕ) (n : ℕ) (os : List Object) → named name os ≡ option_map object_of (find (named_part name) (numbered_from n os))
 named_of name n [] = refl
 named_of name n (o ∷ os) = go (has_name name o.head.name) refl (named_of name (plus n (parts o)) os)
   where
@@ -20,6 +19,10 @@ named_of name n (o ∷ os) = go (has_name name o.head.name) refl (named_of name 
         → named name (o ∷ os) ≡ option_map object_of (find (named_part name) (numbered_from n (o ∷ os)))
     go true e rest = rw e refl
     go false e rest = rw e rest
+
+-- the child of a name, by its part
+pub named_some : (name : List ℕ) (p c : Part) → child name p ≡ Some c → named name (children p.object) ≡ Some c.object
+named_some name p c e = named_of name (plus p.number 1) (children p.object) ∙ ap (option_map object_of) e
 
 pub needs_none : (name : List ℕ) (test : Object → Bool) (p : Part) → child name p ≡ None → needs name test p ≡ p.number ∷ []
 needs_none name test p e = ap (judged test p) e
@@ -34,10 +37,22 @@ pub inside_some : (name : List ℕ) (p c : Part) → child name p ≡ Some c →
 inside_some name p c e = ap (λ c. unwrap_or (option_map inside c) []) e
 
 pub said_some : {A : Type 0} (name : List ℕ) (read : Object → Option A) (p c : Part) → child name p ≡ Some c → said name read p.object ≡ read c.object
-said_some name read p c e = ap (option_and_then read) (named_of name (plus p.number 1) (children p.object) ∙ ap (option_map object_of) e)
+said_some name read p c e = ap (option_and_then read) (named_some name p c e)
+
+pub said_none : {A : Type 0} (name : List ℕ) (read : Object → Option A) (p : Part) → child name p ≡ None → said name read p.object ≡ None
+said_none name read p e = ap (option_and_then read) (named_of name (plus p.number 1) (children p.object) ∙ ap (option_map object_of) e)
 
 pub unless_right : (b : Bool) (p : Part) → b ≡ true → unless b p ≡ []
 unless_right b p e = ap (λ c. unless c p) e
 
 pub unless_wrong : (b : Bool) (p : Part) → b ≡ false → unless b p ≡ p.number ∷ []
 unless_wrong b p e = ap (λ c. unless c p) e
+
+-- what doesn't offend is as it should be
+pub unless_nil : (b : Bool) (p : Part) → unless b p ≡ [] → b ≡ true
+unless_nil true p e = refl
+unless_nil false p e = absurd (let f : p.number ∷ [] ≡ [] = e in cc)
+
+pub judged_nil : (test : Object → Bool) (p : Part) (c : Option Part) → judged test p c ≡ [] → (d : Part) × (c ≡ Some d) × (test d.object ≡ true)
+judged_nil test p None e = absurd (let f : p.number ∷ [] ≡ [] = e in cc)
+judged_nil test p (Some d) e = (d, refl, unless_nil (test d.object) d e)

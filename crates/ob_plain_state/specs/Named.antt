@@ -4,6 +4,7 @@ use Rattle.ob_site_rules.specs.Places.{Place as SitePlace}
 use Rattle.ob_plain_state.specs.declared.place.Place.{Place}
 use Rattle.ob_plain_state.specs.declared.place.Place.TheVariants.{About, Batch, Service, Make, AlarmAt, AckOf, WritePointOf, QueryOf, FeedOf, AlarmQuery, AlarmFeed, Node}
 
+-- what a path names, as the definitions have it
 abbrev pub place : Place → SitePlace
 place About = places.About
 place Batch = places.Batch

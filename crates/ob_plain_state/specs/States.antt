@@ -18,6 +18,7 @@ use Rattle.ob_site_rules.specs.Writes.{events_ever, site_contracts}
 use Rattle.ob_plain_state.specs.declared.log.Log.{Log}
 use Rattle.ob_plain_state.specs.declared.state.State.{State}
 
+-- a log as the definitions have it
 abbrev pub log_of : Log → SiteLog
 log_of l = record { capacity = l.capacity; gone = l.gone; kept = l.kept.items }
 
@@ -25,6 +26,7 @@ log_of l = record { capacity = l.capacity; gone = l.gone; kept = l.kept.items }
 abbrev pub entry_of : Path × Log → Path × SiteLog
 entry_of e = (e.0, log_of e.1)
 
+-- a state as the definitions have it
 abbrev pub state_of : State → SiteState
 state_of s = record {
   library = s.library;
@@ -54,10 +56,12 @@ abbrev pub rule_in : Plan → Option ℕ → Option Rule
 rule_in plan None = None
 rule_in plan (Some place) = slice_get (numbered_from 0 plan.rules) place
 
+-- the rule whose source has this path, if there are both
 abbrev pub rule_at : Plan → Option Path → Option Rule
 rule_at plan None = None
 rule_at plan (Some p) = rule_in plan (rule_of plan p)
 
+-- whether a number is that of an int
 abbrev pub is_int : Num → Bool
 is_int (num.Int i) = true
 is_int (num.Real r) = false
@@ -74,6 +78,7 @@ abbrev pub IsOfKindAt : (Path → Kind) → Option Path → Kind → Type 0
 IsOfKindAt kind_at None k = Unit {0}
 IsOfKindAt kind_at (Some p) k = k ≡ kind_at p
 
+-- each node of a row is of the kind that its path tells
 abbrev pub NodesAre : (Path → Kind) → Objects → Type 0
 NodesAre kind_at none = Unit {0}
 NodesAre kind_at (node h inner rest) =

@@ -107,5 +107,27 @@ given_enough n p time object xs times objects i g full =
       objects = g.objects ∙ ap (map object) (sym e);
     }
 
+-- none of the first ones passes
+pub given_none : {A : Type 0} (n : ℕ) (p : A → Bool) (time : A → Instant) (object : A → Object) (xs : List A) (i : ℕ) → filter p (take i xs) ≡ [] → IsGiven n p time object (take i xs) [] []
+given_none n p time object xs i none = record {
+  times = sym (ap (λ ys. map time (take n ys)) none ∙ ap (map time) (nothing n));
+  objects = sym (ap (λ ys. map object (take n ys)) none ∙ ap (map object) (nothing n));
+}
+  where
+    nothing : {A : Type 0} (n : ℕ) → take n [] ≡ (let none : List A = [] in none)
+    nothing zero = refl
+    nothing (suc n) = refl
+
+-- none of the others passes
+pub given_rest : {A : Type 0} (n : ℕ) (p : A → Bool) (time : A → Instant) (object : A → Object) (xs : List A) (times : List Instant) (objects : List Object) (k : ℕ) → IsGiven n p time object (take k xs) times objects → filter p (drop k xs) ≡ [] → IsGiven n p time object xs times objects
+given_rest n p time object xs times objects k g none =
+    let e : firsts n p xs ≡ firsts n p (take k xs) =
+    ap (firsts n p) (sym (take-append-drop k xs))
+    ∙ ap (take n) (filter-append p (take k xs) (drop k xs) ∙ ap (λ ys. filter p (take k xs) ++ ys) none ∙ append-nil (filter p (take k xs))) in
+    record {
+      times = g.times ∙ ap (map time) (sym e);
+      objects = g.objects ∙ ap (map object) (sym e);
+    }
+
 pub same_answer : (is of : Text) (ts us : List Instant) (os ps : List Object) → ts ≡ us → os ≡ ps → query_out is of ts os ≡ query_out is of us ps
 same_answer is of ts us os ps e h = ap (λ (t : List Instant). query_out is of t os) e ∙ ap (λ (o : List Object). query_out is of us o) h

@@ -1,16 +1,21 @@
 -- Alarms by their numbers, gone through one by one.
-use Rattle.std.proofs.Common.{◌≡◌, ℕ, ◌+◌, ◌-◌, ◌<◌, ◌≤◌, zero, suc, inl, inr, Bool, true, false, not, cond, ◌&&◌, nat_lt, List, [], ◌∷◌, ◌++◌, length, take, get_or, refl, sym, ap, ◌∙◌, subst, arith}
-use Rattle.std.specs.Prelude.{codes, is_none, Option, Some, None, option_map, slice_get}
-use Rattle.std.specs.List.{list_all}
+use Rattle.std.proofs.Common.{◌≡◌, ℕ, ◌+◌, ◌-◌, ◌<◌, ◌≤◌, zero, suc, inl, inr, Bool, true, false, not, cond, ◌&&◌, nat_lt, List, [], ◌∷◌, ◌++◌, length, take, drop, get_or, refl, sym, ap, ◌∙◌, subst, arith}
+use Rattle.std.specs.Prelude.{codes, is_none, filter, Option, Some, None, option_map, slice_get}
+use Rattle.std.specs.List.{list_all, AllWithin}
 use Rattle.std.proofs.lemmas.Bool.{ltb-false}
 use Rattle.std.proofs.lemmas.Bool.Decides.{eqb_tells}
 use Rattle.ob_times.specs.Times.{Instant}
 use Rattle.ob_object.specs.Object.{Object}
+use Rattle.ob_object.specs.declared.kind.Kind.TheVariants as kind
+use Rattle.ob_object.specs.declared.head.Slot.TheVariants.{Null}
+use Rattle.ob_history.specs.declared.records.Record.{Record}
 use Rattle.ob_history.specs.declared.records.Filter.{Filter}
+use Rattle.ob_history.specs.Records.{is_before, is_after}
 use Rattle.ob_alarms.specs.declared.alarm.Alarm.{Alarm}
 use Rattle.ob_alarms.specs.Changes.{State as Board, alarm_of}
+use Rattle.ob_alarms.specs.Within.{HasAllWithin, is_before as raised_before, is_after as raised_after}
 use Rattle.ob_site_rules.specs.Entries.{alarm_object, alarms_out, numbered, query_out, raised_at, is_within}
-use Rattle.ob_replies.proofs.Asked.{IsGiven, given_more, given_same, given_as, given_all, given_enough, firsts, same_answer}
+use Rattle.ob_replies.proofs.Asked.{IsGiven, given_more, given_same, given_as, given_none, given_rest, given_enough, firsts, same_answer}
 use Rattle.ob_replies.proofs.Nameless.{alarms_nameless}
 
 -- the alarms that a filter gives among those that were gone through
@@ -86,11 +91,63 @@ alarms_plain f b es ts os g =
     ap (λ (ps : List Object). list_all (λ o. is_none o.head.name) ps) g.objects
     ∙ alarms_nameless b (firsts f.limit (λ e. is_within f (raised_at e.1)) es)
 
--- all alarms were gone through
-pub alarms_gone : (f : Filter) (b : Board) (ts : List Instant) (os : List Object) (k : ℕ) → IsGivenOf f b (take k (numbered 1 b.alarms)) ts os → length b.alarms ≤ k → IsGivenOf f b (numbered 1 b.alarms) ts os
-alarms_gone f b ts os k g le =
-    let many = length-numbered 1 b.alarms in
-    given_all f.limit (λ e. is_within f (raised_at e.1)) (λ e. raised_at e.1) (λ e. alarm_object b e.0) (numbered 1 b.alarms) ts os k g (omega arith)
+-- a record of the moment of an alarm
+abbrev stamp : Alarm → Record
+stamp a = record { time = raised_at a; kind = kind.Abstime; slot = Null }
+
+before_same : (o : Option Instant) (a : Alarm) → is_before o (stamp a) ≡ raised_before o a
+before_same None a = refl
+before_same (Some start) a = refl
+
+after_same : (o : Option Instant) (a : Alarm) → is_after o (stamp a) ≡ raised_after o a
+after_same None a = refl
+after_same (Some end) a = refl
+
+-- an alarm that was raised before the start or after the end doesn't pass
+pub early_out : (f : Filter) (a : Alarm) → raised_before f.start a ≡ true → is_within f (raised_at a) ≡ false
+early_out f a h = ap (λ b. not b && not (is_after f.end (stamp a))) (before_same f.start a ∙ h)
+
+pub late_out : (f : Filter) (a : Alarm) → raised_after f.end a ≡ true → is_within f (raised_at a) ≡ false
+late_out f a h = second (not (is_before f.start (stamp a))) _ (after_same f.end a ∙ h)
+  where
+    second : (b c : Bool) → c ≡ true → (b && not c) ≡ false
+    second true c h = ap not h
+    second false c h = refl
+
+abbrev passing : Filter → List (ℕ × Alarm) → List (ℕ × Alarm)
+passing f es = filter (λ e. is_within f (raised_at e.1)) es
+
+left_out : (f : Filter) (n : ℕ) (a : Alarm) (es : List (ℕ × Alarm)) → is_within f (raised_at a) ≡ false → passing f ((n, a) ∷ es) ≡ passing f es
+left_out f n a es out = ap (λ b. cond b ((n, a) ∷ passing f es) (passing f es)) out
+
+none_in_front : (f : Filter) (n : ℕ) (alarms : List Alarm) (from : ℕ) → AllWithin (λ (a : Alarm). raised_before f.start a ≡ true) alarms 0 from → passing f (take from (numbered n alarms)) ≡ []
+none_in_front f n alarms zero h = refl
+none_in_front f n [] (suc from) h = refl
+none_in_front f n (a ∷ alarms) (suc from) h =
+    left_out f n a (take from (numbered (n + 1) alarms)) (early_out f a (h 0 a (omega arith) (omega arith)))
+    ∙ none_in_front f (n + 1) alarms from (λ k d low high. h (suc k) d (omega arith) (omega arith))
+
+none_at_all : (f : Filter) (n : ℕ) (alarms : List Alarm) → AllWithin (λ (a : Alarm). raised_after f.end a ≡ true) alarms 0 (length alarms) → passing f (numbered n alarms) ≡ []
+none_at_all f n [] h = refl
+none_at_all f n (a ∷ alarms) h =
+    left_out f n a (numbered (n + 1) alarms) (late_out f a (h 0 a (omega arith) (omega arith)))
+    ∙ none_at_all f (n + 1) alarms (λ k d low high. h (suc k) d (omega arith) (omega arith))
+
+none_behind : (f : Filter) (n : ℕ) (alarms : List Alarm) (to : ℕ) → AllWithin (λ (a : Alarm). raised_after f.end a ≡ true) alarms to (length alarms) → passing f (drop to (numbered n alarms)) ≡ []
+none_behind f n alarms zero h = none_at_all f n alarms h
+none_behind f n [] (suc to) h = refl
+none_behind f n (a ∷ alarms) (suc to) h = none_behind f (n + 1) alarms to (λ k d low high. h (suc k) d (omega arith) (omega arith))
+
+-- those in front of a part that has all within the bounds don't pass
+pub alarms_begun : (f : Filter) (b : Board) (from to : ℕ) → HasAllWithin f.start f.end b.alarms from to → IsGivenOf f b (take from (numbered 1 b.alarms)) [] []
+alarms_begun f b from to has =
+    given_none f.limit (λ e. is_within f (raised_at e.1)) (λ e. raised_at e.1) (λ e. alarm_object b e.0) (numbered 1 b.alarms) from (none_in_front f 1 b.alarms from has.before)
+
+-- and those behind it don't either
+pub alarms_gone : (f : Filter) (b : Board) (ts : List Instant) (os : List Object) (from to k : ℕ) → HasAllWithin f.start f.end b.alarms from to → IsGivenOf f b (take k (numbered 1 b.alarms)) ts os → to ≤ k → IsGivenOf f b (numbered 1 b.alarms) ts os
+alarms_gone f b ts os from to k has g le =
+    given_rest f.limit (λ e. is_within f (raised_at e.1)) (λ e. raised_at e.1) (λ e. alarm_object b e.0) (numbered 1 b.alarms) ts os k g
+    (none_behind f 1 b.alarms k (λ place d low high. has.after place d (omega arith) high))
 
 not_is : (b : Bool) → not b ≡ true → b ≡ false
 not_is true h = sym h

@@ -48,8 +48,8 @@ pub fn event_objects(alloc: Global, alarms: &Alarms) -> Result<Vec<Obj>, AllocEr
     Ok(objects)
 }
 
-/// AlarmQueryOut: the first alarms that the filter passes by their timestamps, as many as it asks for. The
-/// alarms behind the last of these aren't looked at.
+/// AlarmQueryOut: the first alarms that the filter passes by their timestamps, as many as it asks for. Only
+/// alarms that were raised within its bounds are looked at, and none behind the last of those that are given.
 ///
 /// Source: oBIX 1.1, chapter 15 (AlarmQueryOut).
 pub fn alarms_out(alloc: Global, filter: &Filter, alarms: &Alarms) -> Result<Obj, AllocError>
@@ -57,7 +57,8 @@ pub fn alarms_out(alloc: Global, filter: &Filter, alarms: &Alarms) -> Result<Obj
 {
     let mut times = Vec::new(alloc);
     let mut objects = Vec::new(alloc);
-    for place in 0..alarms.len() {
+    let (from, to) = alarms.raised_within(&filter.start, &filter.end);
+    for place in from..to {
         if has_all(filter, &objects) {
             break;
         }

@@ -1,6 +1,6 @@
 -- What holds of the parts of a document of the form.
-use Rattle.std.proofs.Common.{◌≡◌, ℕ, zero, suc, ◌+◌, ◌<◌, ◌≤◌, ◌/◌, ◌%◌, Bool, true, false, ◌&&◌, nat_lt, nat_le, List, [], ◌∷◌, ◌++◌, map, length, Option, Some, None, cond, find, refl, ap, sym, subst, ◌∙◌, arith, pos, ℤ, codes}
-use Rattle.std.specs.Prelude.{option_map, option_and_then, unwrap_or, unsigned_abs, int_le, is_some, not, ◌==◌}
+use Rattle.std.proofs.Common.{◌≡◌, ℕ, zero, suc, ◌+◌, ◌<◌, ◌≤◌, ◌/◌, ◌%◌, Bool, true, false, ◌&&◌, nat_lt, nat_le, List, [], ◌∷◌, ◌++◌, map, length, Option, Some, None, refl, ap, sym, subst, ◌∙◌, arith, pos, ℤ, codes}
+use Rattle.std.specs.Prelude.{option_map, unwrap_or, unsigned_abs, int_le, is_some, not, ◌==◌}
 use Rattle.std.specs.List.{All, list_any}
 use Rattle.std.proofs.lemmas.Bool.{leb-true, ltb-true}
 use Rattle.std.proofs.lemmas.Int.{ints}
@@ -9,30 +9,21 @@ use Rattle.ob_object.specs.Object.{Object, children, parts}
 use Rattle.ob_object.specs.Kinds.{same_kind}
 use Rattle.ob_object.specs.declared.kind.Kind.{Kind}
 use Rattle.ob_object.specs.declared.kind.Kind.TheVariants as kind
-use Rattle.ob_object.specs.WellFormed.{named}
 use Rattle.ob_weekly.specs.Schedules.{IsEntry, IsWeekly}
 use Rattle.ob_weekly.specs.declared.schedule.Schedule.{Schedule}
 use Rattle.ob_schedule.specs.Forms.{holds, zone_text, day_value, time_value, is_zone, is_day, is_time, is_list, is_point, is_value, is_same_time, week_time, entry_offences, schedule_offences, offences, point_of}
 use Rattle.ob_parts.specs.Numbered.{Part, plus, numbered_from, inside, child, inside_child, root}
-use Rattle.ob_parts.specs.Offences.{unless, judged, needs, said, each}
-use Rattle.ob_parts.proofs.Needed.{said_some}
+use Rattle.ob_parts.specs.Offences.{unless, needs, said, each}
+use Rattle.ob_parts.proofs.Needed.{said_some, judged_nil}
 use Rattle.ob_schedule.specs.PointRules.{PointRules, Text}
 use Rattle.ob_schedule.specs.Right.{IsRightEntry, IsRightSchedule, IsRightFile}
 use Rattle.ob_schedule.specs.Weeks.{week, week_of, entry_of, listed_in}
 
-unless_nil : (b : Bool) (p : Part) → unless b p ≡ [] → b ≡ true
-unless_nil true p e = refl
-unless_nil false p e = absurd (let f : p.number ∷ [] ≡ [] = e in cc)
-
-judged_nil : (test : Object → Bool) (p : Part) (c : Option Part) → judged test p c ≡ [] → (d : Part) × (c ≡ Some d) × (test d.object ≡ true)
-judged_nil test p None e = absurd (let f : p.number ∷ [] ≡ [] = e in cc)
-judged_nil test p (Some d) e = (d, refl, unless_nil (test d.object) d e)
-
-append_nil : (xs ys : List ℕ) → xs ++ ys ≡ [] → (xs ≡ []) × (ys ≡ [])
+pub append_nil : (xs ys : List ℕ) → xs ++ ys ≡ [] → (xs ≡ []) × (ys ≡ [])
 append_nil [] ys e = (refl, e)
 append_nil (x ∷ xs) ys e = absurd (let f : x ∷ (xs ++ ys) ≡ [] = e in cc)
 
-both_true : (a b : Bool) → (a && b) ≡ true → (a ≡ true) × (b ≡ true)
+pub both_true : (a b : Bool) → (a && b) ≡ true → (a ≡ true) × (b ≡ true)
 both_true true b e = (refl, e)
 both_true false b e = absurd (let f : false ≡ true = e in cc)
 
@@ -62,7 +53,7 @@ each_nil judge P right b n (o ∷ os) e =
     let two = append_nil (judge b p) (each judge (b ++ o ∷ []) (numbered_from (plus n (parts o)) os)) e in
     all_cons P o os (right b p two.0) (each_nil judge P right (b ++ o ∷ []) (plus n (parts o)) os two.1)
 
-listed_is : (name : List ℕ) (p d : Part) → child name p ≡ Some d → listed_in name p.object ≡ children d.object
+pub listed_is : (name : List ℕ) (p d : Part) → child name p ≡ Some d → listed_in name p.object ≡ children d.object
 listed_is name p d e = ap (λ r. unwrap_or r []) (said_some name (λ c. Some (children c)) p d e)
 
 all_listed : (judge : List Object → Part → List ℕ) (P : Object → Type 0) → ((b : List Object) (p : Part) → judge b p ≡ [] → P p.object)

@@ -1,5 +1,5 @@
 //! The first part of a document that offends against the form of a file of schedules.
-ghost use Rattle.std.specs.Prelude.{◌≡◌, [], codes, not, IfOk, IfErr, OnOk, option_map};
+ghost use Rattle.std.specs.Prelude.{◌≡◌, ◌++◌, [], codes, not, IfOk, IfErr, OnOk, option_map};
 ghost use Rattle.ob_object.specs.Kinds.{same_kind};
 ghost use Rattle.ob_object.specs.declared.kind.Kind.TheVariants as kind;
 ghost use Rattle.std.specs.List.{list_any};
@@ -42,26 +42,21 @@ fn zone_offence(doc: Part<'_>) -> Option<u64>
     }
 }
 
-/// The list of a name, unless it has so many objects.
-fn list_offence(part: Part<'_>, name: &str, least: usize, most: usize) -> Option<u64>
-    ensures { result ≡ order.least (form.needs name.now (form.is_list least most) (part_of part.entry)) }
-{
-    match part.child(name) {
-        Some(list) => list.unless(is_list(list.object, least, most)),
-        None => Some(part.number),
-    }
-}
-
-/// The point of a schedule, unless it is one.
-fn point_offence<P: Points>(points: &P, before: &[Obj], schedule: Part<'_>) -> Option<u64>
-    ensures { result ≡ order.least (form.needs (codes "point") (form.is_point (P.rules points.now) before.now) (part_of schedule.entry)) }
+/// The point of a schedule, where it is one, and otherwise the part that offends.
+fn judge_point<'a, P: Points>(
+    points: &P,
+    before: &[Obj],
+    schedule: Part<'a>,
+) -> (Option<Point<'a>>, Option<u64>)
+    ensures point { option_map point_of result.0 ≡ form.point_of (P.rules points.now) before.now schedule.entry.object.now }
+    ensures offence { result.1 ≡ order.least (form.needs (codes "point") (form.is_point (P.rules points.now) before.now) (part_of schedule.entry)) }
 {
     match schedule.child("point") {
         Some(point) => {
-            let is_right = right_point(points, before, point.object).is_some();
-            point.unless(is_right)
+            let right = right_point(points, before, point.object);
+            (right, point.unless(right.is_some()))
         }
-        None => Some(schedule.number),
+        None => (None, Some(schedule.number)),
     }
 }
 
@@ -139,17 +134,19 @@ fn entries_offence<P: Points>(
     Ok(first)
 }
 
-/// The first part of the entries of a schedule that offends.
+/// The first part of a schedule's list of entries that offends, itself or in it. Where it offends itself, nothing in it is looked
+/// at: its own number is the least.
 fn listed_entries<P: Points>(
     points: &P,
     point: Option<Point<'_>>,
     schedule: Part<'_>,
 ) -> Result<Option<u64>, AllocError>
-    ensures { IfOk result (λ first. first ≡ order.least (form.each (form.entry_offences (P.rules points.now) (option_map point_of point.entry)) [] (inside_child (codes "entries") (part_of schedule.entry)))) }
+    ensures { IfOk result (λ first. first ≡ order.least (form.needs (codes "entries") (form.is_list 1 100) (part_of schedule.entry) ++ form.each (form.entry_offences (P.rules points.now) (option_map point_of point.entry)) [] (inside_child (codes "entries") (part_of schedule.entry)))) }
 {
     match schedule.child("entries") {
-        Some(entries) => entries_offence(points, point, entries),
-        None => Ok(None),
+        Some(list) if is_list(list.object, 1, 100) => entries_offence(points, point, list),
+        Some(list) => Ok(Some(list.number)),
+        None => Ok(Some(schedule.number)),
     }
 }
 
@@ -162,21 +159,9 @@ fn schedule_offence<P: Points>(
     ensures { IfOk result (λ first. first ≡ order.least (form.schedule_offences (P.rules points.now) before.now (part_of schedule.entry))) }
 {
     let kind = kind_offence(schedule);
-    let point = point_offence(points, before, schedule);
-    let list = list_offence(schedule, "entries", 1, 100);
-    let right = point_of(points, before, schedule.object);
+    let (right, point) = judge_point(points, before, schedule);
     let entries = listed_entries(points, right, schedule)?;
-    Ok(earlier(kind, earlier(point, earlier(list, entries))))
-}
-
-/// The point of a schedule, where it is right.
-fn point_of<'a, P: Points>(points: &P, before: &[Obj], schedule: &'a Obj) -> Option<Point<'a>>
-    ensures { option_map point_of result ≡ form.point_of (P.rules points.now) before.now schedule.now }
-{
-    match schedule.child("point") {
-        Some(point) => right_point(points, before, point),
-        None => None,
-    }
+    Ok(earlier(kind, earlier(point, entries)))
 }
 
 /// The first part of schedules that offends.
@@ -195,13 +180,15 @@ fn schedules_offence<P: Points>(points: &P, list: Part<'_>) -> Result<Option<u64
     Ok(first)
 }
 
-/// The first part of the schedules of a document that offends.
+/// The first part of a document's list of schedules that offends, itself or in it. Where it offends itself, nothing in it is
+/// looked at: its own number is the least.
 fn listed_schedules<P: Points>(points: &P, doc: Part<'_>) -> Result<Option<u64>, AllocError>
-    ensures { IfOk result (λ first. first ≡ order.least (form.each (form.schedule_offences (P.rules points.now)) [] (inside_child (codes "schedules") (part_of doc.entry)))) }
+    ensures { IfOk result (λ first. first ≡ order.least (form.needs (codes "schedules") (form.is_list 0 1_000) (part_of doc.entry) ++ form.each (form.schedule_offences (P.rules points.now)) [] (inside_child (codes "schedules") (part_of doc.entry)))) }
 {
     match doc.child("schedules") {
-        Some(schedules) => schedules_offence(points, schedules),
-        None => Ok(None),
+        Some(list) if is_list(list.object, 0, 1_000) => schedules_offence(points, list),
+        Some(list) => Ok(Some(list.number)),
+        None => Ok(Some(doc.number)),
     }
 }
 
@@ -212,9 +199,8 @@ fn first_offence<P: Points>(points: &P, doc: &Obj) -> Result<Option<u64>, AllocE
     let doc = Part::root(doc);
     let kind = kind_offence(doc);
     let zone = zone_offence(doc);
-    let list = list_offence(doc, "schedules", 0, 1_000);
     let schedules = listed_schedules(points, doc)?;
-    Ok(earlier(kind, earlier(zone, earlier(list, schedules))))
+    Ok(earlier(kind, earlier(zone, schedules)))
 }
 
 /// Whether a document is a file of schedules for these points.

@@ -1,12 +1,10 @@
 -- What a step leaves of a state: the same own objects, of which nodes may have other slots, and the same histories.
-use Rattle.std.proofs.Common.{◌≡◌, ℕ, Bool, true, false, cond, List, [], ◌∷◌, Option, Some, None, refl, sym, ap, ◌∙◌}
+use Rattle.std.proofs.Common.{◌≡◌, ℕ, Bool, true, false, cond, List, [], ◌∷◌, Option, Some, None, refl, ◌∙◌}
 use Rattle.ob_values.specs.declared.verb.Verb.{Verb}
 use Rattle.ob_values.specs.declared.verb.Verb.TheVariants.{Get, Put, Post}
-use Rattle.ob_contracts.specs.Standard.{standard, with_added}
 use Rattle.ob_object.specs.declared.kind.Kind.{Kind}
 use Rattle.ob_object.specs.declared.head.Slot.{Slot}
-use Rattle.ob_object.specs.declared.head.Head.{Head}
-use Rattle.ob_object.specs.Object.{Objects, none, node, Object, children}
+use Rattle.ob_object.specs.Object.{Object, children}
 use Rattle.ob_alarms.specs.Changes.{State as Board}
 use Rattle.ob_site_rules.specs.Computed.{ack_out}
 use Rattle.ob_site_rules.specs.Entries.{alarm_object}
@@ -14,19 +12,19 @@ use Rattle.ob_site_rules.specs.declared.request.Request.{Request}
 use Rattle.ob_site_rules.specs.Build.{Path}
 use Rattle.ob_site_rules.specs.Faults.{Fault, NotInBatch, err}
 use Rattle.ob_site_rules.specs.Locating.{locate}
-use Rattle.ob_site_rules.specs.State.{Plan, Log, State, board, with_board}
+use Rattle.ob_site_rules.specs.State.{Plan, State, board, with_board}
 use Rattle.ob_site_rules.specs.Sameness.{same_slot}
-use Rattle.ob_site_rules.specs.Shown.{node_path}
 use Rattle.ob_site_rules.specs.Sites.{SiteState}
 use Rattle.ob_site_rules.specs.Places.{Place, About, Batch, Service, Make, AlarmAt, AckOf, WritePointOf, QueryOf, FeedOf, AlarmQuery, AlarmFeed, Node, place_at}
-use Rattle.ob_site_rules.specs.Writes.{with_slot, site_contracts, is_in_contract, recorded, write, written, unless, write_by}
+use Rattle.ob_site_rules.specs.Writes.{write, written, unless, write_by}
 use Rattle.ob_site_rules.specs.Posts.{or_nil, user_in, acked, ack_fault, call, write_point}
 use Rattle.ob_site_rules.specs.Actions.{is_post, put_at, act_at, is_left_out, item_at, item_on, item_request, act_item, act_all, batch_or, batch, act_on, act_located}
 use Rattle.ob_site_rules.specs.Watched.{SiteTarget}
 use Rattle.ob_shown_laws.specs.Alike.{row, DifferInSlots, paths_of}
 use Rattle.ob_shown_laws.proofs.Owning.{steps_alike}
 use Rattle.ob_given_laws.specs.Given.{IsMade}
-use Rattle.ob_given_laws.proofs.Slotted.{differ_slotted, contracts_stay}
+use Rattle.ob_given_laws.proofs.Slotted.{differ_slotted}
+use Rattle.ob_given_laws.proofs.Steps.{slots_then, paths_recorded, made_written}
 use Rattle.ob_site_laws.specs.SiteLaws.{of_plan, acts}
 use Rattle.ob_watching.specs.Asked.{Itself, Nowhere, NewWatch, OneWatch, Told, Refused}
 use Rattle.ob_watching.specs.Sites.{Site}
@@ -41,38 +39,11 @@ pub record Follows (s u : State) : Type 0 where
 itself : (plan : Plan) (s : State) → Follows s s
 itself plan s = record { slots = ((steps_alike plan).nothing s).tree; histories = refl; made = λ e. e }
 
-slots_then : (os qs rs : Objects) → DifferInSlots os qs → DifferInSlots qs rs → DifferInSlots os rs
-slots_then none none rs d f = f
-slots_then none (node k inner more) rs d f = absurd d
-slots_then (node h below rest) none rs d f = absurd d
-slots_then (node h below rest) (node k inner more) none d f = absurd f
-slots_then (node h below rest) (node k inner more) (node j deep last) d f = (
-  d.0 ∙ f.0,
-  λ e. d.1 e ∙ f.1 (sym (ap (λ (u : Head). node_path u) d.0) ∙ e),
-  slots_then below inner deep d.2 f.2,
-  slots_then rest more last d.3 f.3,
-)
-
 pub on : (s u v : State) → Follows s u → Follows u v → Follows s v
 on s u v a b = record { slots = slots_then (row s.tree) (row u.tree) (row v.tree) a.slots b.slots; histories = a.histories ∙ b.histories; made = λ e. b.made (a.made e) }
 
-paths_recorded : (plan : Plan) (now : ℕ) (p : Path) (k : Kind) (slot : Slot) (ls : List (Path × Log)) → paths_of ls ≡ paths_of (recorded plan now p k slot ls)
-paths_recorded plan now p k slot [] = refl
-paths_recorded plan now p k slot (l ∷ ls) = ap (λ (ps : List Path). l.0 ∷ ps) (paths_recorded plan now p k slot ls)
-
 write_follows : (plan : Plan) (now : ℕ) (p : Path) (k : Kind) (slot : Slot) (s : State) → Follows s (write plan now p k slot s)
-write_follows plan now p k slot s = record {
-  slots = differ_slotted p slot (row s.tree);
-  histories = paths_recorded plan now p k slot s.logs;
-  made = λ e. library (is_in_contract p root) refl e;
-}
-  where
-    root : Object
-    root = with_slot p slot s.tree
-
-    library : (b : Bool) → is_in_contract p root ≡ b → IsMade s → cond b (with_added standard (site_contracts root)) s.library ≡ with_added standard (site_contracts root)
-    library true is e = refl
-    library false is e = e ∙ ap (with_added standard) (sym (contracts_stay p slot s.tree is))
+write_follows plan now p k slot s = record { slots = differ_slotted p slot (row s.tree); histories = paths_recorded plan now p k slot s.logs; made = made_written p slot s }
 
 written_follows : (plan : Plan) (now : ℕ) (p : Path) (o : Object) (slot : Slot) (s : State) → Follows s (written plan now p o slot s)
 written_follows plan now p o slot s = go (same_slot slot o.head.slot)

@@ -9,33 +9,15 @@ use Rattle.ob_object.specs.declared.head.Slot.TheVariants.{Null}
 use Rattle.ob_object.specs.Kinds.{same_kind}
 use Rattle.ob_object.specs.Object.{Object, children, parts}
 use Rattle.ob_parts.specs.Numbered.{Part, plus, numbered_from, inside, child, inside_child, root}
-use Rattle.ob_parts.specs.Offences.{unless, judged, needs, each}
-use Rattle.ob_parts.proofs.Needed.{said_some}
+use Rattle.ob_parts.specs.Offences.{unless, needs, each}
+use Rattle.ob_parts.proofs.Needed.{said_some, judged_nil}
 use Rattle.ob_weekly.specs.declared.schedule.Entry.{Entry}
 use Rattle.ob_weekly.specs.declared.schedule.Schedule.{Schedule}
 use Rattle.ob_schedule.specs.Forms.{point_text, point_said, is_text, right_point, is_point, is_written, slot_given, is_value, is_day, is_time, is_zone, is_list, is_same_time, week_time, entry_offences, point_of, schedule_offences, offences}
+use Rattle.ob_schedule.proofs.Right.{append_nil, both_true, listed_is}
 use Rattle.ob_schedule.specs.PointRules.{PointRules, Text}
 use Rattle.ob_schedule.specs.Weeks.{Week, week, week_of, entry_of, listed_in, said_or, slot_in, kind_in, kind_of}
 use Rattle.ob_site_laws.proofs.Same.{tells_text, tells_kind}
-
-unless_nil : (b : Bool) (p : Part) → unless b p ≡ [] → b ≡ true
-unless_nil true p e = refl
-unless_nil false p e = absurd cc
-
-judged_nil : (test : Object → Bool) (p : Part) (c : Option Part) → judged test p c ≡ [] → (d : Part) × (c ≡ Some d) × (test d.object ≡ true)
-judged_nil test p None e = absurd cc
-judged_nil test p (Some d) e = (d, refl, unless_nil (test d.object) d e)
-
-append_nil : (xs ys : List ℕ) → xs ++ ys ≡ [] → (xs ≡ []) × (ys ≡ [])
-append_nil [] ys e = (refl, e)
-append_nil (x ∷ xs) ys e = absurd cc
-
-both_true : (a b : Bool) → (a && b) ≡ true → (a ≡ true) × (b ≡ true)
-both_true true b e = (refl, e)
-both_true false b e = absurd cc
-
-listed_is : (name : List ℕ) (p d : Part) → child name p ≡ Some d → listed_in name p.object ≡ children d.object
-listed_is name p d e = ap (λ r. unwrap_or r []) (said_some name (λ c. Some (children c)) p d e)
 
 -- ---- an entry
 

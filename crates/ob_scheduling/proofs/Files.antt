@@ -1,6 +1,6 @@
 -- The schedules of a file that has the form have slots that fit.
-use Rattle.std.proofs.Common.{◌≡◌, ℕ, zero, suc, Bool, true, false, ◌&&◌, List, [], ◌∷◌, ◌++◌, map, Option, Some, None, cond, find, refl, ap, sym, subst, ◌∙◌, arith, codes}
-use Rattle.std.specs.Prelude.{IsTrue, option_map, option_and_then, unwrap_or, is_some, not}
+use Rattle.std.proofs.Common.{◌≡◌, ℕ, zero, suc, Bool, true, false, List, [], ◌∷◌, ◌++◌, map, Option, Some, None, cond, refl, ap, sym, subst, ◌∙◌, arith, codes}
+use Rattle.std.specs.Prelude.{IsTrue, option_map, unwrap_or, is_some, not}
 use Rattle.std.specs.List.{All, AllByRecursion, list_any}
 use Rattle.ob_contracts.proofs.Fitting.{one_kind}
 use Rattle.ob_object.specs.declared.head.Slot.{Slot}
@@ -14,8 +14,9 @@ use Rattle.ob_object.specs.Object.{Objects, none, node, Object, listed, children
 use Rattle.ob_object.specs.WellFormed.{IsWellFormed, RowIsWellFormed, has_name, named}
 use Rattle.ob_schedule.specs.Forms.{slot_given, is_zone, is_day, is_time, is_list, is_point, is_value, is_written, right_point, is_same_time, week_time, entry_offences, schedule_offences, point_of, IsFile}
 use Rattle.ob_parts.specs.Numbered.{Part, plus, numbered_from, inside, child, inside_child, root}
-use Rattle.ob_parts.specs.Offences.{unless, judged, needs, said, each}
-use Rattle.ob_parts.proofs.Walk.{named_part}
+use Rattle.ob_parts.specs.Offences.{unless, needs, each}
+use Rattle.ob_parts.proofs.Needed.{named_some, said_some, judged_nil}
+use Rattle.ob_schedule.proofs.Right.{append_nil, both_true}
 use Rattle.ob_schedule.specs.PointRules.{PointRules, Text}
 use Rattle.ob_schedule.specs.Weeks.{Says, week, week_of, entry_of, kind_of, kind_in, slot_in, listed_in, said_or}
 use Rattle.ob_weekly.specs.declared.schedule.Entry.{Entry}
@@ -24,38 +25,6 @@ use Rattle.ob_weekly.specs.declared.schedule.Schedules.{Schedules}
 use Rattle.ob_scheduling.specs.Fitting.{IsFitting, AreFitting}
 
 -- ---- parts and offences
-
-pick : (b : Bool) (p : Part) (r : Option Part) (o : Object) (s : Option Object) → p.object ≡ o → option_map (λ (c : Part). c.object) r ≡ s
-    → option_map (λ (c : Part). c.object) (cond b (Some p) r) ≡ cond b (Some o) s
-pick true p r o s e f = ap Some e
-pick false p r o s e f = f
-
-named_in : (name : List ℕ) (n : ℕ) (os : List Object) → option_map (λ (c : Part). c.object) (find (named_part name) (numbered_from n os)) ≡ named name os
-named_in name n [] = refl
-named_in name n (o ∷ os) = pick (has_name name o.head.name) (record { number = n; object = o }) (find (named_part name) (numbered_from (plus n (parts o)) os)) o (named name os) refl (named_in name (plus n (parts o)) os)
-
--- the child of a name, by its part
-named_is : (name : List ℕ) (p d : Part) → child name p ≡ Some d → named name (children p.object) ≡ Some d.object
-named_is name p d e = sym (named_in name (plus p.number 1) (children p.object)) ∙ ap (option_map (λ (c : Part). c.object)) e
-
-said_is : {A : Type 0} (name : List ℕ) (read : Object → Option A) (p d : Part) → child name p ≡ Some d → said name read p.object ≡ read d.object
-said_is name read p d e = ap (option_and_then read) (named_is name p d e)
-
-unless_nil : (b : Bool) (p : Part) → unless b p ≡ [] → b ≡ true
-unless_nil true p e = refl
-unless_nil false p e = absurd (let f : p.number ∷ [] ≡ [] = e in cc)
-
-judged_nil : (test : Object → Bool) (p : Part) (c : Option Part) → judged test p c ≡ [] → (d : Part) × (c ≡ Some d) × (test d.object ≡ true)
-judged_nil test p None e = absurd (let f : p.number ∷ [] ≡ [] = e in cc)
-judged_nil test p (Some d) e = (d, refl, unless_nil (test d.object) d e)
-
-append_nil : (xs ys : List ℕ) → xs ++ ys ≡ [] → (xs ≡ []) × (ys ≡ [])
-append_nil [] ys e = (refl, e)
-append_nil (x ∷ xs) ys e = absurd (let f : x ∷ (xs ++ ys) ≡ [] = e in cc)
-
-both_true : (a b : Bool) → (a && b) ≡ true → (a ≡ true) × (b ≡ true)
-both_true true b e = (refl, e)
-both_true false b e = absurd (let f : false ≡ true = e in cc)
 
 some_there : {A : Type 0} (o : Option A) → is_some o ≡ true → (a : A) × (o ≡ Some a)
 some_there None e = absurd (let f : false ≡ true = e in cc)
@@ -119,10 +88,10 @@ entry_in site p before part good e =
     let d = judged_nil (is_value site (Some p)) part (child (codes "value") part) (append_nil (needs (codes "value") (is_value site (Some p)) part) last time.1).0 in
     let o = d.0.object in
     let kinds : o.head.kind ≡ p.1 = one_kind o.head.kind p.1 (both_true (same_kind o.head.kind p.1) (is_written site p.0 (slot_given o.head.kind o.head.slot)) d.2).0 in
-    let found = good_named (codes "value") part.object.inner o good (named_is (codes "value") part d.0 d.1) in
-    let slot_is : (entry_of part.object).slot ≡ slot_given o.head.kind o.head.slot = ap (λ (s : Option Slot). unwrap_or s Null) (said_is (codes "value") slot_in part d.0 d.1) in
+    let found = good_named (codes "value") part.object.inner o good (named_some (codes "value") part d.0 d.1) in
+    let slot_is : (entry_of part.object).slot ≡ slot_given o.head.kind o.head.slot = ap (λ (s : Option Slot). unwrap_or s Null) (said_some (codes "value") slot_in part d.0 d.1) in
     record {
-      kind_is = ap (λ (k : Option Kind). unwrap_or k kind.Obj) (said_is (codes "value") kind_in part d.0 d.1) ∙ kinds;
+      kind_is = ap (λ (k : Option Kind). unwrap_or k kind.Obj) (said_some (codes "value") kind_in part d.0 d.1) ∙ kinds;
       fits = subst (λ (k : Kind). IsTrue (fits_slot k (entry_of part.object).slot)) kinds
           (subst (λ (s : Slot). IsTrue (fits_slot o.head.kind s)) (sym slot_is) (given_fits o.head.kind o.head.slot (slot_fits o found.0)));
     }
@@ -141,8 +110,8 @@ each_row judge P right b n (node h below rest) good e =
 listed_all : (judge : List Object → Part → List ℕ) (P : Object → Type 0) → ((b : List Object) (p : Part) → RowIsWellFormed p.object.inner → judge b p ≡ [] → P p.object)
     → (name : List ℕ) (p d : Part) → RowIsWellFormed p.object.inner → child name p ≡ Some d → each judge [] (inside_child name p) ≡ [] → AllByRecursion P (listed_in name p.object)
 listed_all judge P right name p d good e off =
-    let found = good_named name p.object.inner d.object good (named_is name p d e) in
-    let same : listed_in name p.object ≡ children d.object = ap (λ r. unwrap_or r []) (said_is name (λ c. Some (children c)) p d e) in
+    let found = good_named name p.object.inner d.object good (named_some name p d e) in
+    let same : listed_in name p.object ≡ children d.object = ap (λ r. unwrap_or r []) (said_some name (λ c. Some (children c)) p d e) in
     subst (AllByRecursion P) (sym same)
     (each_row judge P right [] (plus d.number 1) d.object.inner found.1 (sym (ap (λ c. each judge [] (unwrap_or (option_map inside c) [])) e) ∙ off))
 
@@ -162,7 +131,7 @@ schedule_in site before p good e =
     let at = judged_nil (is_point site before) p (child (codes "point") p) point.0 in
     let d = judged_nil (is_list 1 100) p (child (codes "entries") p) list.0 in
     let own = some_there (right_point site before at.0.object) at.2 in
-    let own_is : point_of site before p.object ≡ Some own.0 = said_is (codes "point") (right_point site before) p at.0 at.1 ∙ own.1 in
+    let own_is : point_of site before p.object ≡ Some own.0 = said_some (codes "point") (right_point site before) p at.0 at.1 ∙ own.1 in
     record {
       its = own.0.1;
       entries = listed_all (entry_offences site (Some own.0)) (FitsIn own.0.1) (entry_in site own.0) (codes "entries") p d.0 good d.1

@@ -55,6 +55,7 @@ differs plan s t p = not (same_standing (standing_at plan s p) (standing_at plan
 abbrev pub start_slot : Log → Slot
 start_slot l = time_slot (option_map (λ r. r.time) (first_record l.kept))
 
+-- the time of a log's last record, as the child `end` shows it
 abbrev pub end_slot : Log → Slot
 end_slot l = time_slot (option_map (λ r. r.time) (last_item l.kept))
 

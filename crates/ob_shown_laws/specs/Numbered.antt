@@ -59,5 +59,6 @@ pub record SiteIsNumbered (plan : Plan) (s : State) : Type 0 where
   pub root : (p : Path) → standing_at plan s p ≡ standing_in p (root_row s.library) (row (dressed plan s))
   pub numbers : NumbersTell (root_row s.library) (row (dressed plan s))
 
+-- law: of every state
 abbrev pub SitesAreNumbered : Type 0
 SitesAreNumbered = (plan : Plan) (s : State) → SiteIsNumbered plan s

@@ -38,5 +38,6 @@ pub record StepsDifferInValues (plan : Plan) : Type 0 where
   pub rolls : (s : State) → DifferInValues s (roll s)
   pub paths : (s t : State) → DifferInValues s t → PathsDiffer (row (dressed plan s)) → PathsDiffer (row (dressed plan t))
 
+-- law: of every plan
 abbrev pub StepsLeaveAlike : Type 0
 StepsLeaveAlike = (plan : Plan) → StepsDifferInValues plan

@@ -47,6 +47,7 @@ pub record OwnTells (plan : Plan) (s : State) : Type 0 where
   pub own : (p : Path) → PathsDiffer (row (dressed plan s)) → is_in p (row s.tree) ≡ true → IsNotDerived plan s p (row s.tree)
   pub differ : PathsDiffer (row (dressed plan s)) → PathsDiffer (row s.tree)
 
+-- law: of every state
 abbrev pub OwnIsEnough : Type 0
 OwnIsEnough = (plan : Plan) (s : State) → OwnTells plan s
 
@@ -62,5 +63,6 @@ pub record OwnTellsChanges (plan : Plan) (s t : State) : Type 0 where
       (same_values (head_in x.context (with_status plan s x.object.head)) (head_in x.context (with_status plan t y.object.head))
       && same_derived plan s t p)
 
+-- law: of every two states that differ in values alone
 abbrev pub OwnTellsDifferences : Type 0
 OwnTellsDifferences = (plan : Plan) (s t : State) → DifferInValues s t → OwnTellsChanges plan s t

@@ -27,5 +27,6 @@ pub record StepsLeave (plan : Plan) : Type 0 where
       → IsLeft plan s (with_board s (on_ack (board plan s) number user now).0) q
   pub rolls : (s : State) (q : Path) → ((l : Log) → at q s.logs ≡ Some l → rolled l ≡ l) → IsLeft plan s (roll s) q
 
+-- law: of every plan
 abbrev pub StepsLeaveRest : Type 0
 StepsLeaveRest = (plan : Plan) → StepsLeave plan

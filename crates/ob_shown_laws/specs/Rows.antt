@@ -101,17 +101,22 @@ pub record AlarmRaised (base : Parts) : Type 0 where
   pub node : differs (plan base) (site (number_slot 11) [] []) (site (number_slot 11) [] (raised ∷ [])) point ≡ true
   pub watched_round : is_same base (site (number_slot 11) [] []) (site (number_slot 11) [] (raised ∷ [])) root ≡ false
 
+-- from every base
 abbrev pub DefaultIsNoChange : Type 0
 DefaultIsNoChange = (base : Parts) → DefaultWritten base
 
+-- from every base
 abbrev pub ValueIsChange : Type 0
 ValueIsChange = (base : Parts) → ValueWritten base
 
+-- from every base
 abbrev pub RecordIsChange : Type 0
 RecordIsChange = (base : Parts) → RecordAdded base
 
+-- from every base
 abbrev pub RollingIsChange : Type 0
 RollingIsChange = (base : Parts) → RecordRolled base
 
+-- from every base
 abbrev pub AlarmIsChange : Type 0
 AlarmIsChange = (base : Parts) → AlarmRaised base

@@ -31,6 +31,7 @@ pub record MarkedItemOf (Text Path Filter : Type 0) : Type 0 where
   pub path : Path
   pub marked : MarkedOf Filter
 
+-- a watch whose items have marks: its lease, when it was asked last, and its items
 pub record MarkedWatchOf (Text Path Filter : Type 0) : Type 0 where
   pub lease : ℕ
   pub touched : ℕ
@@ -54,12 +55,15 @@ module _ (m : Site) where
   abbrev pub Clock : Type 0
   Clock = ClockOf m.Path
 
+  -- what is kept of an item of this site, by a mark
   abbrev pub Marked : Type 0
   Marked = MarkedOf m.Filter
 
+  -- an item of this site, by a mark
   abbrev pub MarkedItem : Type 0
   MarkedItem = MarkedItemOf m.Text m.Path m.Filter
 
+  -- a watch of this site, by marks
   abbrev pub MarkedWatch : Type 0
   MarkedWatch = MarkedWatchOf m.Text m.Path m.Filter
 
@@ -72,12 +76,15 @@ module _ (m : Site) where
   tracked c path (ObjectSince mark) = Object (nat_lt mark (c.stamp path))
   tracked c path (FeedSince bounds given) = Feed bounds given
 
+  -- an item as its mark says by the clock
   abbrev pub item : Clock → MarkedItem → ItemOf m.Text m.Path m.Filter
   item c x = record { text = x.text; path = x.path; tracked = tracked c x.path x.marked }
 
+  -- a watch as the marks of its items say by the clock
   abbrev pub watch : Clock → MarkedWatch → WatchOf m.Text m.Path m.Filter
   watch c v = record { lease = v.lease; touched = v.touched; items = map (item c) v.items }
 
+  -- all watches so
   abbrev pub watches : Clock → List (ℕ × MarkedWatch) → List (ℕ × WatchOf m.Text m.Path m.Filter)
   watches c vs = map_values (watch c) vs
 
@@ -86,6 +93,7 @@ module _ (m : Site) where
   report_marked c s path (ObjectSince mark) = ObjectSince c.steps
   report_marked c s path (FeedSince bounds given) = FeedSince bounds (count m s path)
 
+  -- an item, all of which has been reported
   abbrev pub reported_item : Clock → m.State → MarkedItem → MarkedItem
   reported_item c s x = record { text = x.text; path = x.path; marked = report_marked c s x.path x.marked }
 
@@ -94,9 +102,11 @@ module _ (m : Site) where
   mark_anew c path (ObjectSince mark) = ObjectSince (cond (nat_lt mark (c.stamp path)) 0 1)
   mark_anew c path (FeedSince bounds given) = FeedSince bounds given
 
+  -- an item whose mark says the same by the clock that begins anew
   abbrev pub item_anew : Clock → MarkedItem → MarkedItem
   item_anew c x = record { text = x.text; path = x.path; marked = mark_anew c x.path x.marked }
 
+  -- the clock that begins anew: one step was taken, and each stamp is 1
   abbrev pub clock_anew : Clock
   clock_anew = record { steps = 1; stamp = λ path. 1 }
 

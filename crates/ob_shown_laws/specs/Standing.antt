@@ -24,6 +24,7 @@ inside x k = record { context = under (handed_down x.context x.object.head) k.he
 abbrev pub step_down : Standing → ℕ → Option Standing
 step_down x place = option_map (inside x) (slice_get (children x.object) place)
 
+-- down from where an object stands, by the places of children
 abbrev pub walk : Standing → List ℕ → Option Standing
 walk x [] = Some x
 walk x (place ∷ places) = option_and_then (λ y. walk y places) (step_down x place)
@@ -55,5 +56,6 @@ pub record IsShownThere (plan : Plan) (s : State) (p : Path) : Type 0 where
   pub shows : shown plan s p ≡ option_map effective (standing_at plan s p)
   pub walked : (x : Standing) → standing_at plan s p ≡ Some x → (places : List ℕ) × (walk (root_standing plan s) places ≡ Some x)
 
+-- law: of every state and path
 abbrev pub ShownWhereItStands : Type 0
 ShownWhereItStands = (plan : Plan) (s : State) (p : Path) → IsShownThere plan s p

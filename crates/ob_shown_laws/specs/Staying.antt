@@ -37,5 +37,6 @@ pub record HeadsStay (plan : Plan) (s t : State) : Type 0 where
   pub same : (o : Object) → AreAlike (row o) (row (dressed plan t))
       → ((n : ℕ) → head_no n (row o) ≡ head_no n (row (dressed plan t))) → o ≡ dressed plan t
 
+-- law: of every two states that differ in values alone
 abbrev pub DressedStays : Type 0
 DressedStays = (plan : Plan) (s t : State) → DifferInValues s t → HeadsStay plan s t

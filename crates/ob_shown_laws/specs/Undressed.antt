@@ -29,10 +29,12 @@ abbrev pub kept_status : Option (Option Status) → Option Status
 kept_status None = None
 kept_status (Some o) = o
 
+-- the status that was there before that of a rule took its place
 abbrev pub own_status : List (Option Status) → Option ℕ → Option Status → Option Status
 own_status statuses None shown = shown
 own_status statuses (Some rule) shown = kept_status (slice_get statuses rule)
 
+-- a head with its own status again
 abbrev pub own_head : Plan → List (Option Status) → Head → Head
 own_head plan statuses h =
     record h { facets = record h.facets { status = own_status statuses (rule_at plan (node_path h)) h.facets.status } }
@@ -41,6 +43,7 @@ own_head plan statuses h =
 abbrev pub all_but : ℕ → Objects → Objects
 all_but n r = in_row (take (length (listed r) - n) (listed r))
 
+-- a row with its own statuses again, and without the children that roles derive
 abbrev pub own_row : Plan → List Path → List (Option Status) → Objects → Objects
 own_row plan histories statuses none = none
 own_row plan histories statuses (node h inner rest) =
@@ -49,6 +52,7 @@ own_row plan histories statuses (node h inner rest) =
     (all_but (derived_count plan histories (node_path h)) (own_row plan histories statuses inner))
     (own_row plan histories statuses rest)
 
+-- an object with its own status again, and without the children that roles derive
 abbrev pub own_object : Plan → List Path → List (Option Status) → Object → Object
 own_object plan histories statuses o = record {
   head = own_head plan statuses o.head;
@@ -70,5 +74,6 @@ pub record IsHadBack (plan : Plan) (s : State) : Type 0 where
   pub slot : (p : Path) (slot : Slot) → PathsDiffer (row (dressed plan s)) → is_in p (row s.tree) ≡ true
       → with_slot p slot (dressed plan s) ≡ dressed plan (record s { tree = with_slot p slot s.tree })
 
+-- law: of every state
 abbrev pub OwnIsHadBack : Type 0
 OwnIsHadBack = (plan : Plan) (s : State) → IsHadBack plan s

@@ -25,6 +25,7 @@ acts = step locate
 abbrev pub of_plan : Plan → Site
 of_plan plan = site locate plan
 
+-- a request of this site and its answer, as it stands in a history
 abbrev pub Call : Type 0
 Call = Entry Request Object
 
@@ -71,6 +72,7 @@ abbrev pub KeepsAll : State → Option Place → Type 0
 KeepsAll s (Some (FeedOf h)) = capacity_in (at h s.logs) ≡ None
 KeepsAll s place = Unit {0}
 
+-- of a feed the site keeps all events
 abbrev pub KeepsAllOf : (plan : Plan) → State → Path → Tracked (of_plan plan) → Type 0
 KeepsAllOf plan s path (ObjectItem changed) = Unit {0}
 KeepsAllOf plan s path (FeedItem bounds given) = KeepsAll s (at path (event_places plan))

@@ -22,6 +22,7 @@ use Rattle.ob_site_rules.specs.Places.{Place, Batch, Make, Node, place_at, objec
 use Rattle.ob_site_rules.specs.Writes.{put}
 use Rattle.ob_site_rules.specs.Posts.{call}
 
+-- whether a verb is Invoke, which is a POST
 abbrev pub is_post : Verb → Bool
 is_post Post = true
 is_post _ = false
@@ -46,6 +47,7 @@ abbrev pub first_verb : List Text → Option Verb
 first_verb [] = None
 first_verb (w ∷ ws) = cond (is_some (verb_of w)) (verb_of w) (first_verb ws)
 
+-- the text of a slot that is a uri
 abbrev pub uri_in : Slot → Option Text
 uri_in (Is (value.Uri t)) = Some t
 uri_in _ = None
@@ -60,9 +62,11 @@ request_from None text body = None
 request_from (Some verb) None body = None
 request_from (Some verb) (Some text) body = Some (record { verb = verb; target = text; body = body })
 
+-- an item of a batch is a request where its `is` names a verb and it is a uri with a value; its child `in` is the body
 abbrev pub item_request : Object → Option Request
 item_request o = request_from (first_verb (words_in o.head.is)) (uri_of o) (option_map nameless (child (codes "in") o))
 
+-- whether a number, if there is one, is among these
 abbrev pub is_number_in : List ℕ → Option ℕ → Bool
 is_number_in ns None = false
 is_number_in ns (Some n) = list_any (λ k. k == n) ns
@@ -82,12 +86,14 @@ abbrev pub item_at : Plan → State → List ℕ → ℕ → Request → Path �
 item_at plan s numbers now r p None = (s, err (cond (is_of_watch plan numbers p) NotInBatch NoSuchObject))
 item_at plan s numbers now r p (Some place) = cond (is_left_out place) (s, err NotInBatch) (act_at plan s now p r.verb place r.body)
 
+-- an item of a batch at the path that its text leads to, if it leads to one
 abbrev pub item_on : Plan → State → List ℕ → ℕ → Request → Option Path → State × Object
 item_on plan s numbers now r None = (s, err NoSuchObject)
 item_on plan s numbers now r (Some p) = item_at plan s numbers now r p (place_at plan s p)
 
 -- `locate` is the path that a text leads to from the root's URL, if it leads to one
 module _ (locate : Parts → Text → Option Path) where
+  -- an item of a batch that is a request is done, and another is refused for its shape
   abbrev pub act_item : Plan → State → List ℕ → ℕ → Option Request → State × Object
   act_item plan s numbers now None = (s, err OtherShape)
   act_item plan s numbers now (Some r) = item_on plan s numbers now r (locate plan.base r.target)
@@ -100,18 +106,21 @@ module _ (locate : Parts → Text → Option Path) where
       let rest : State × List Object = act_all plan one.0 numbers now os in
       (rest.0, one.1 ∷ rest.1)
 
+  -- what is wrong with the body of a batch, in order: it is no list, or has more than 1,000 items
   abbrev pub batch_rows : Object → List (Bool × Fault)
   batch_rows body =
       (not (same_kind body.head.kind kind.List), OtherShape)
       ∷ (nat_lt 1000 (length (children body)), TooManyBatchItems)
       ∷ []
 
+  -- a batch that is refused does nothing, and another is done item by item
   abbrev pub batch_or : Option Fault → Plan → State → List ℕ → ℕ → Object → State × Object
   batch_or (Some fault) plan s numbers now body = (s, err fault)
   batch_or None plan s numbers now body =
       let all : State × List Object = act_all plan s numbers now (children body) in
       (all.0, batch_out all.1)
 
+  -- Invoke of the op `batch` with a body, if there is one
   abbrev pub batch : Plan → State → List ℕ → ℕ → Option Object → State × Object
   batch plan s numbers now None = (s, err OtherShape)
   batch plan s numbers now (Some body) = batch_or (first_fault (batch_rows body)) plan s numbers now body
@@ -128,5 +137,6 @@ module _ (locate : Parts → Text → Option Path) where
   act_located plan s numbers now r None = (s, err NoSuchObject)
   act_located plan s numbers now r (Some p) = act_on plan s numbers now r p (place_at plan s p)
 
+  -- what a request to the site leaves, and its reply, by the path that the request's text leads to
   abbrev pub act_itself : Plan → State → List ℕ → Request → ℕ → State × Object
   act_itself plan s numbers r now = act_located plan s numbers now r (locate plan.base r.target)

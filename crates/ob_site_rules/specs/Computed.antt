@@ -20,9 +20,11 @@ nil_object = leaf (record (empty_head kind.Obj) { is = word (codes "obix:Nil"); 
 abbrev pub about_text : Plan → Text → Text → Text
 about_text plan name default = unwrap_or (at name plan.about) default
 
+-- a str of About, the site's own or else this one
 abbrev pub about_str : Plan → Text → Text → Object
 about_str plan name default = valued kind.Str name (text_slot (about_text plan name default))
 
+-- a uri of About, the site's own or else this one
 abbrev pub about_uri : Plan → Text → Text → Object
 about_uri plan name default = valued kind.Uri name (Is (value.Uri (about_text plan name default)))
 
@@ -42,9 +44,11 @@ about_object plan now =
     ∷ about_str plan (codes "tz") (codes "UTC")
     ∷ [])
 
+-- the op `batch` of a lobby
 abbrev pub batch_op : Plan → Object
 batch_op plan = op_at (codes "batch") (batch_path plan) (codes "obix:BatchIn") (codes "obix:BatchOut")
 
+-- the op `make` of the watch service
 abbrev pub make_op : Plan → Object
 make_op plan = op_at (codes "make") (make_path plan) (codes "obix:Nil") (codes "obix:Watch")
 
@@ -69,6 +73,7 @@ lease_child plan n lease =
       facets = record no_facets { min = span (pos 1_000_000_000); max = span (pos 86_400_000_000_000); writable = Some true };
     })
 
+-- an op of a watch, whose path is the watch's with its name behind it
 abbrev pub watch_op : Plan → ℕ → Text → Text → Text → Object
 watch_op plan n name takes gives = op_at name (watch_path plan n ++ name) takes gives
 

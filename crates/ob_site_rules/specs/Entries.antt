@@ -37,6 +37,7 @@ abbrev pub first_events : Board → ℕ → List Object
 first_events b zero = []
 first_events b (suc n) = first_events b n ++ event_object b n ∷ []
 
+-- all alarm events, the oldest first
 abbrev pub event_objects : Board → List Object
 event_objects b = first_events b (length b.events)
 
@@ -59,6 +60,7 @@ abbrev pub records_out : Filter → List Record → Object
 records_out f rs =
     query_out (codes "obix:HistoryQueryOut") (codes "obix:HistoryRecord") (map (λ r. r.time) (asked f rs)) (map record_object (asked f rs))
 
+-- the timestamp of an alarm: when it was raised
 abbrev pub raised_at : Alarm → Instant
 raised_at a = moment_instant a.raised.at
 

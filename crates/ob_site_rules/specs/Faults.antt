@@ -6,6 +6,7 @@ use Rattle.ob_object.specs.Facets.{no_facets}
 use Rattle.ob_object.specs.Object.{Object, empty_head}
 use Rattle.ob_site_rules.specs.Build.{Text, word, leaf}
 
+-- why a request is refused
 pub data Fault : Type 0 where
   NoSuchObject : Fault
   NotSupported : Fault

@@ -6,6 +6,7 @@ use Rattle.ob_href.specs.Href.{located_path, resolved_path, as_base}
 use Rattle.ob_href.specs.declared.fault.HrefFault.{HrefFault}
 use Rattle.ob_site_rules.specs.Build.{Text, Path}
 
+-- what a reading of an href gives, if it gives something
 abbrev pub if_given : {A : Type 0} → Result A HrefFault → Option A
 if_given (Ok a) = Some a
 if_given (Err e) = None

@@ -5,6 +5,7 @@ use Rattle.ob_alarms.specs.AlarmObjects.{alarm_path}
 use Rattle.ob_site_rules.specs.Build.{Text, Path}
 use Rattle.ob_site_rules.specs.State.{Plan, at}
 
+-- whether a path ends with a slash
 abbrev pub ends_with_slash : Path → Bool
 ends_with_slash [] = false
 ends_with_slash (c ∷ []) = c == 47
@@ -14,21 +15,27 @@ ends_with_slash (c ∷ d ∷ cs) = ends_with_slash (d ∷ cs)
 abbrev pub below : Path → Text → Path
 below p name = cond (ends_with_slash p) p (p ++ 47 ∷ []) ++ name
 
+-- the path of About
 abbrev pub about_path : Plan → Path
 about_path plan = plan.root ++ codes "about"
 
+-- the path of the op `batch`
 abbrev pub batch_path : Plan → Path
 batch_path plan = plan.root ++ codes "batch"
 
+-- the path of the watch service
 abbrev pub service_path : Plan → Path
 service_path plan = plan.root ++ codes "watchService"
 
+-- the path of the op `make`
 abbrev pub make_path : Plan → Path
 make_path plan = plan.root ++ codes "watchService/make"
 
+-- the path of the watch of a number
 abbrev pub watch_path : Plan → ℕ → Path
 watch_path plan n = plan.root ++ codes "watch/" ++ decimal n ++ 47 ∷ []
 
+-- the path of the op `ack` of the alarm of a number
 abbrev pub ack_path : Plan → ℕ → Path
 ack_path plan n = alarm_path plan.root n ++ codes "ack"
 
@@ -66,6 +73,7 @@ abbrev pub before_slash : Text → Text
 before_slash [] = []
 before_slash (c ∷ cs) = cond (c == 47) [] (c ∷ before_slash cs)
 
+-- what is behind a text's first slash, if it has one
 abbrev pub behind_slash : Text → Option Text
 behind_slash [] = None
 behind_slash (c ∷ cs) = cond (c == 47) (Some cs) (behind_slash cs)
@@ -79,6 +87,7 @@ digits_number (c ∷ cs) = (c - 48) * 10 ^ length cs + digits_number cs
 abbrev pub number_spelled : Text → Option ℕ
 number_spelled t = cond (bytes_eq (decimal (digits_number t)) t && nat_le 1 (digits_number t)) (Some (digits_number t)) None
 
+-- two things together, if both are there
 abbrev pub both : {A B : Type 0} → Option A → Option B → Option (A × B)
 both None b = None
 both (Some a) None = None

@@ -30,15 +30,19 @@ pub data Place : Type 0 where
   AlarmFeed : Place
   Node : (object : Object) → Place
 
+-- the places that every site has: About, batch, the watch service, make
 abbrev pub fixed_places : Plan → List (Path × Place)
 fixed_places plan = (about_path plan, About) ∷ (batch_path plan, Batch) ∷ (service_path plan, Service) ∷ (make_path plan, Make) ∷ []
 
+-- the op `writePoint` of each writable point
 abbrev pub point_places : Plan → List (Path × Place)
 point_places plan = flat_map (λ p. (below p (codes "writePoint"), WritePointOf p) ∷ []) plan.points
 
+-- the op `query` and the feed `feed` of each history
 abbrev pub history_places : Plan → List (Path × Place)
 history_places plan = flat_map (λ h. (below h.0 (codes "query"), QueryOf h.0) ∷ (below h.0 (codes "feed"), FeedOf h.0) ∷ []) plan.histories
 
+-- the op `query` and the feed `feed` of the alarm subject, if there is one
 abbrev pub subject_places : Option Path → List (Path × Place)
 subject_places None = []
 subject_places (Some p) = (below p (codes "query"), AlarmQuery) ∷ (below p (codes "feed"), AlarmFeed) ∷ []
@@ -60,6 +64,7 @@ abbrev pub computed_places : Plan → State → List (Path × Place)
 computed_places plan s =
     fixed_places plan ++ (point_places plan ++ (event_places plan ++ alarm_places plan (board plan s).rules 1 s.alarms))
 
+-- what is at a path: what is computed there, or else the node that is shown there
 abbrev pub place_at : Plan → State → Path → Option Place
 place_at plan s p = or_else (at p (computed_places plan s)) (option_map Node (shown plan s p))
 

@@ -26,6 +26,7 @@ use Rattle.ob_site_rules.specs.Writes.{is_over, write_by, unless}
 abbrev pub or_nil : Option Object → Object
 or_nil input = unwrap_or input nil_object
 
+-- whether an object is an obj
 abbrev pub is_obj : Object → Bool
 is_obj o = same_kind o.head.kind kind.Obj
 
@@ -42,6 +43,7 @@ write_point plan s now p (Some new) = write_by plan s now p (unwrap_or (shown pl
 abbrev pub query : (Filter → Object) → Option Object → Object
 query out input = unwrap_or (option_map out (filter_of input)) (err OtherShape)
 
+-- the records that a log, if there is one, keeps
 abbrev pub kept_in : Option Log → List Record
 kept_in None = []
 kept_in (Some l) = l.kept
@@ -50,6 +52,7 @@ kept_in (Some l) = l.kept
 abbrev pub records_of : State → Path → List Record
 records_of s h = kept_in (at h s.logs)
 
+-- the text of a slot that is a str
 abbrev pub text_of : Slot → Option Text
 text_of (Is (value.Str t)) = Some t
 text_of _ = None
@@ -58,10 +61,12 @@ text_of _ = None
 abbrev pub user_in : Object → Option Text
 user_in input = option_and_then (λ o. text_of o.head.slot) (child (codes "ackUser") input)
 
+-- whether a text, if there is one, has more than 4,096 bytes
 abbrev pub is_long_text : Option Text → Bool
 is_long_text None = false
 is_long_text (Some t) = nat_lt 4_096 (length t)
 
+-- whether an object, if there is one, is of a kind
 abbrev pub is_of_kind : Kind → Option Object → Bool
 is_of_kind k None = true
 is_of_kind k (Some o) = same_kind o.head.kind k
@@ -70,6 +75,7 @@ is_of_kind k (Some o) = same_kind o.head.kind k
 abbrev pub acked : Board → ℕ → Option Text → ℕ → Board
 acked b number user now = (on_ack b number user now).0
 
+-- whether there is an alarm that nobody has acknowledged
 abbrev pub is_unacked : Option Alarm → Bool
 is_unacked None = false
 is_unacked (Some a) = is_none a.ack

@@ -11,9 +11,11 @@ use Rattle.ob_site_rules.specs.State.{Plan}
 use Rattle.ob_site_rules.specs.Paths.{WatchPart}
 use Rattle.ob_site_rules.specs.Computed.{nil_object, watch_part_object, watch_out}
 
+-- what a reading of this site tells: an object, the events of a feed, or an err
 abbrev pub Content : Type 0
 Content = ContentOf Object Object Object
 
+-- a reading of this site: the asked text and what is told of it
 abbrev pub Reading : Type 0
 Reading = ReadingOf Text Object Object Object
 

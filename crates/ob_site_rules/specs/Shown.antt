@@ -18,6 +18,7 @@ use Rattle.ob_site_rules.specs.Build.{Path, leaf, valued, word, ref_to, op_at, f
 use Rattle.ob_site_rules.specs.State.{Plan, Log, State, at, is_among, is_path, board}
 use Rattle.ob_site_rules.specs.Paths.{below, about_path, batch_path, service_path}
 
+-- whether a kind is err
 abbrev pub is_err : Kind → Bool
 is_err kind.Err = true
 is_err _ = false
@@ -42,6 +43,7 @@ write_point_op p = op_at (codes "writePoint") (below p (codes "writePoint")) (co
 abbrev pub count_child : ℕ → Object
 count_child n = leaf (record (empty_head kind.Int) { name = Some (codes "count"); slot = number_slot n; facets = record no_facets { min = Some (value.Int (pos 0)) } })
 
+-- the oldest of some records, if there is one
 abbrev pub first_record : List Record → Option Record
 first_record records = slice_get records 0
 
@@ -63,6 +65,7 @@ subject_children p alarms =
     ∷ feed_at (codes "feed") (below p (codes "feed")) (codes "obix:Alarm") (codes "obix:AlarmFilter")
     ∷ []
 
+-- what a node has that is a history, told by its log
 abbrev pub history_part : Path → Option Log → List Object
 history_part p None = []
 history_part p (Some log) = history_children p log.kept
@@ -75,6 +78,7 @@ derived_at plan s p =
     ++ (history_part p (at p s.logs)
     ++ cond (is_path p plan.subject) (subject_children p (length s.alarms)) []))
 
+-- the children that roles derive, of a node that has a path
 abbrev pub derived : Plan → State → Option Path → List Object
 derived plan s None = []
 derived plan s (Some p) = derived_at plan s p
@@ -89,10 +93,12 @@ with_status_by plan s h None = h
 with_status_by plan s h (Some rule) =
     record h { facets = record h.facets { status = Some (status_of (board plan s).rules s.alarms rule) } }
 
+-- a head with the status of the rule whose source this path is, if there are both
 abbrev pub with_status_at : Plan → State → Head → Option Path → Head
 with_status_at plan s h None = h
 with_status_at plan s h (Some p) = with_status_by plan s h (rule_of plan p)
 
+-- a head with the status of the rule whose source its node is, if it is one
 abbrev pub with_status : Plan → State → Head → Head
 with_status plan s h = with_status_at plan s h (node_path h)
 
@@ -102,6 +108,7 @@ with_roles plan s none = none
 with_roles plan s (node h inner rest) =
     node (with_status plan s h) (in_row (listed (with_roles plan s inner) ++ derived plan s (node_path h))) (with_roles plan s rest)
 
+-- the root with the status of each source and the children that roles derive
 abbrev pub dressed : Plan → State → Object
 dressed plan s = record {
   head = with_status plan s s.tree.head;
@@ -119,6 +126,7 @@ node_in p none = None
 node_in p (node h inner rest) =
     or_else (only_if (is_path p (node_path h)) (Some (record { head = h; inner = inner }))) (or_else (node_in p inner) (node_in p rest))
 
+-- the node at a path in an object, itself counted
 abbrev pub node_of : Path → Object → Option Object
 node_of p o = node_in p (node o.head o.inner none)
 

@@ -21,6 +21,7 @@ use Rattle.ob_site_rules.specs.Watched.{SiteFound, target_at, found_located, lea
 use Rattle.ob_site_rules.specs.Replies.{sent, is_plain}
 use Rattle.ob_site_rules.specs.Sameness.{same_object}
 
+-- an object that is read as itself, or else the empty one
 abbrev pub plain_or_empty : Object → Object
 plain_or_empty o = cond (is_plain o) o empty_object
 

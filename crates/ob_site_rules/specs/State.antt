@@ -55,9 +55,11 @@ pub record State : Type 0 where
 abbrev pub at : {A : Type 0} → Path → List (Path × A) → Option A
 at path es = option_map (λ e. e.1) (find (λ e. bytes_eq e.0 path) es)
 
+-- whether a path is one of these
 abbrev pub is_among : Path → List Path → Bool
 is_among path ps = list_any (λ p. bytes_eq p path) ps
 
+-- whether a path is this one, if there is one
 abbrev pub is_path : Path → Option Path → Bool
 is_path path None = false
 is_path path (Some p) = bytes_eq p path
@@ -76,6 +78,7 @@ numbered_from n (r ∷ rs) =
 abbrev pub board : Plan → State → Board
 board plan s = record { root = plan.root; rules = numbered_from 0 plan.rules; alarms = s.alarms; events = s.events; spare = 0 }
 
+-- a state with the alarms and alarm events of these
 abbrev pub with_board : State → Board → State
 with_board s b = record s { alarms = b.alarms; events = b.events }
 
@@ -89,8 +92,10 @@ rolled l =
     let h : History = settled_history l.capacity (history_of l) in
     record { capacity = l.capacity; gone = h.gone; kept = h.kept }
 
+-- each log as it is behind the end of a step
 abbrev pub rolled_logs : List (Path × Log) → List (Path × Log)
 rolled_logs ls = map (λ l. (l.0, rolled l.1)) ls
 
+-- what the end of each step does to the site: histories drop what is more than their capacity
 abbrev pub roll : State → State
 roll s = record s { logs = rolled_logs s.logs }

@@ -26,12 +26,15 @@ use Rattle.ob_site_rules.specs.Writes.{given_by}
 use Rattle.ob_site_rules.specs.Posts.{is_obj, records_of}
 use Rattle.ob_site_rules.specs.Actions.{is_post, uri_of, is_of_watch}
 
+-- what is asked of a watch of this site
 abbrev pub WatchOperation : Type 0
 WatchOperation = Operation Text (Option Object) WatchPart Fault
 
+-- whom a request of this site is for
 abbrev pub SiteTarget : Type 0
 SiteTarget = Target Text (Option Object) WatchPart Fault
 
+-- what an asked text of this site names
 abbrev pub SiteFound : Type 0
 SiteFound = Found Path Filter Fault
 
@@ -44,10 +47,12 @@ abbrev pub asked_items : List Object → Option (List Asked)
 asked_items [] = Some []
 asked_items (o ∷ os) = option_and_then (λ text. option_map (λ rest. (text, child (codes "in") o) ∷ rest) (asked_items os)) (uri_of o)
 
+-- what a list of hrefs asks for, if all of it can be read; without a list nothing
 abbrev pub asked_in : Option Object → Option (List Asked)
 asked_in None = Some []
 asked_in (Some hrefs) = cond (same_kind hrefs.head.kind kind.List) (asked_items (children hrefs)) None
 
+-- whether a slot is null
 abbrev pub is_null : Slot → Bool
 is_null Null = true
 is_null _ = false
@@ -76,11 +81,13 @@ abbrev pub put_to_watch : WatchPart → Option Object → WatchOperation
 put_to_watch Lease body = Renew body
 put_to_watch _ body = Refuse NotSupported
 
+-- what a verb at a part of a watch asks for
 abbrev pub operation : Verb → WatchPart → Option Object → WatchOperation
 operation Get part body = Look part
 operation Put part body = put_to_watch part body
 operation Post part body = call_of_watch part body
 
+-- a request to a watch, or else to the site itself
 abbrev pub target_part : Request → Option (ℕ × WatchPart) → SiteTarget
 target_part r None = Itself
 target_part r (Some w) = OneWatch w.0 (operation r.verb w.1 r.body)
@@ -95,6 +102,7 @@ abbrev pub lease_within : ℤ → ℤ → Result ℕ Fault
 lease_within months (pos n) = cond (int_eq months (pos 0) && (nat_le 1_000_000_000 n && nat_le n 86_400_000_000_000)) (Ok n) (Err LeaseOutOfRange)
 lease_within months _ = Err LeaseOutOfRange
 
+-- the lease that a slot gives, if it is one
 abbrev pub lease_of : Slot → Result ℕ Fault
 lease_of (Is (value.Reltime r)) = lease_within r.months r.nanos
 lease_of _ = Err LeaseOutOfRange
@@ -104,6 +112,7 @@ abbrev pub lease_asked : State → Option Object → Result ℕ Fault
 lease_asked s None = Err OtherShape
 lease_asked s (Some o) = cond (same_kind o.head.kind kind.Reltime) (lease_of (given_by s o).slot) (Err OtherKind)
 
+-- whether an object, if there is one, has a value
 abbrev pub has_value : Option Object → Bool
 has_value None = false
 has_value (Some o) = is_given o.head.slot
@@ -117,6 +126,7 @@ abbrev pub sets_limit : Option Object → Bool
 sets_limit None = false
 sets_limit (Some o) = not (is_null o.head.slot) && has_value (child (codes "limit") o)
 
+-- a feed through a filter, unless a limit is set or the input is no filter
 abbrev pub feed_if : Bool → Path → Option Filter → SiteFound
 feed_if true p f = NotFound OtherShape
 feed_if false p None = NotFound OtherShape
@@ -126,6 +136,7 @@ feed_if false p (Some f) = FeedAt p f
 abbrev pub feed_with : Path → Option Object → SiteFound
 feed_with p input = feed_if (sets_limit input) p (filter_of input)
 
+-- whether a kind is op or feed
 abbrev pub is_call_kind : Kind → Bool
 is_call_kind k = same_kind k kind.Op || same_kind k kind.Feed
 
@@ -141,6 +152,7 @@ abbrev pub found_at : Plan → List ℕ → Path → Option Object → Option Pl
 found_at plan numbers p input (Some place) = found_place p input place
 found_at plan numbers p input None = NotFound (cond (is_of_watch plan numbers p) NotWatchable NoSuchObject)
 
+-- what stands at the path that an asked text leads to, if it leads to one
 abbrev pub found_located : Plan → State → List ℕ → Option Object → Option Path → SiteFound
 found_located plan s numbers input None = NotFound NoSuchObject
 found_located plan s numbers input (Some p) = found_at plan numbers p input (place_at plan s p)
@@ -151,6 +163,7 @@ events_at plan s (Some (FeedOf h)) = map record_object (records_of s h)
 events_at plan s (Some AlarmFeed) = event_objects (board plan s)
 events_at plan s _ = []
 
+-- how many records rolled off a log, if there is one
 abbrev pub gone_in : Option Log → ℕ
 gone_in None = 0
 gone_in (Some l) = l.gone
@@ -160,6 +173,7 @@ abbrev pub gone_at : State → Option Place → ℕ
 gone_at s (Some (FeedOf h)) = gone_in (at h s.logs)
 gone_at s _ = 0
 
+-- the time of a slot that is an abstime
 abbrev pub time_in : Slot → Option Instant
 time_in (Is (value.Abstime t)) = Some t
 time_in _ = None
@@ -172,8 +186,10 @@ passes f event = unwrap_or (option_map (is_within f) (option_and_then (λ o. tim
 abbrev pub feed_of : Text → Object
 feed_of contract = leaf (record (empty_head kind.Feed) { of = word contract })
 
+-- whether a path is that of the feed of alarms
 abbrev pub is_alarm_feed : Plan → Path → Bool
 is_alarm_feed plan p = is_path p (option_map (λ s. below s (codes "feed")) plan.subject)
 
+-- the feed at a path, as a reply begins with it: of alarms, or of a history's records
 abbrev pub feed_there : Plan → Path → Object
 feed_there plan p = feed_of (cond (is_alarm_feed plan p) (codes "obix:Alarm") (codes "obix:HistoryRecord"))

@@ -36,6 +36,7 @@ with_slot_in p slot none = none
 with_slot_in p slot (node h inner rest) =
     node (cond (is_path p (node_path h)) (record h { slot = slot }) h) (with_slot_in p slot inner) (with_slot_in p slot rest)
 
+-- an object with another slot at the node of this path
 abbrev pub with_slot : Path → Slot → Object → Object
 with_slot p slot o = record {
   head = cond (is_path p (node_path o.head)) (record o.head { slot = slot }) o.head;
@@ -79,6 +80,7 @@ abbrev pub board_by : Option ℕ → Board → Slot → ℕ → Board
 board_by None b slot now = b
 board_by (Some rule) b slot now = (on_value b rule (number_in slot) now).0
 
+-- the alarms after a value of the node at a path, whose rule acts if it has one
 abbrev pub board_after : Plan → State → ℕ → Path → Slot → Board
 board_after plan s now p slot = board_by (rule_of plan p) (board plan s) slot now
 
@@ -97,6 +99,7 @@ abbrev pub stored_in : Option ℕ → ℕ → ℕ
 stored_in None records = records
 stored_in (Some capacity) records = capacity
 
+-- how much of what is stored all logs count for
 abbrev pub stored_logs : List (Path × Log) → ℕ
 stored_logs [] = 0
 stored_logs (l ∷ ls) = stored_in l.1.capacity (length l.1.kept) + stored_logs ls
@@ -122,6 +125,7 @@ overfills plan s now p h slot =
 abbrev pub ranged : Plan → State → Text → Option Object
 ranged plan s r = or_else (contract_of s.library r) (cond (is_some (node_of r s.tree)) (shown plan s r) None)
 
+-- whether an object has a child of a name; where no object is known, each name is taken for there
 abbrev pub has_child : Text → Option Object → Bool
 has_child n None = true
 has_child n (Some o) = is_some (child n o)
@@ -131,6 +135,7 @@ abbrev pub is_listed : Plan → State → Head → Value → Bool
 is_listed plan s h (value.Enum t) = has_child t (option_and_then (ranged plan s) h.facets.range)
 is_listed plan s h _ = true
 
+-- the refusal for what a value breaks
 abbrev pub fault_of : WriteFault → Fault
 fault_of WrongKind = OtherKind
 fault_of Long = TextTooLong
@@ -138,6 +143,7 @@ fault_of Below = BelowMin
 fault_of Above = AboveMax
 fault_of NotInRange = faults.NotInRange
 
+-- the refusal of a verdict, if it is one
 abbrev pub verdict_fault : Result (Unit {0}) WriteFault → Option Fault
 verdict_fault (Ok _) = None
 verdict_fault (Err f) = Some (fault_of f)
@@ -154,6 +160,7 @@ value_fault plan s now p h new =
     option_or (first_fault ((not (same_kind new.kind h.kind), OtherKind) ∷ []))
     (option_or (slot_fault plan s h new.slot) (first_fault ((overfills plan s now p h new.slot, TooManyEntries) ∷ [])))
 
+-- the facet `writable`, which is false where it is left out
 abbrev pub is_writable : Option Bool → Bool
 is_writable None = false
 is_writable (Some b) = b
@@ -170,6 +177,7 @@ given_by s body = (effective_of s.library body None None).head
 abbrev pub showing : Plan → Path → Object → State → State × Object
 showing plan p default s = (s, reply_at plan s p default)
 
+-- a refusal changes nothing and answers its err; without one it is done
 abbrev pub unless : Option Fault → State → State × Object → State × Object
 unless None s done = done
 unless (Some fault) s done = (s, err fault)

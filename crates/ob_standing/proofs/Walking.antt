@@ -6,7 +6,9 @@ use Rattle.ob_object.specs.declared.head.Head.{Head}
 use Rattle.ob_object.specs.Kinds.{has_of, is_ref}
 use Rattle.ob_object.specs.Object.{Object, children}
 use Rattle.ob_object.specs.WellFormed.{named}
-use Rattle.ob_contracts.specs.Inherit.{Contracts, Words, contract_of, words_in, or_else, only_if, present, sources, overridden, implied_by, inherited_head, result_of}
+use Rattle.ob_contracts.specs.Inherit.{Contracts, Words, contract_of, words_in, or_else, only_if, present, sources, overridden, implied_by, inherited_head, result_of, effective_of, with_defaults}
+use Rattle.ob_contracts.specs.Telling.{StandFor}
+use Rattle.ob_contracts.proofs.Dropped.{same_sources, tell_the_same}
 use Rattle.ob_standing.specs.Contexts.{Context, sources_in, comes_to}
 
 pub copied : (o : Option (Bor Object)) → is_some (option_copied o) ≡ is_some o
@@ -62,3 +64,11 @@ not_in_words lib h implied over n ws child last e words is none there =
 pub gives_words : (c : Context) (o : Object) (ws : Option Words) → ws ≡ (comes_to c o).head.of → has_of o.head.kind ≡ true → ws ≡ implied_by (inherited_head o.head (sources_in c o.head))
 unfolding result_of
 gives_words c o ws is has = is ∙ sym (ap (λ b. only_if b (inherited_head o.head (sources_in c o.head)).of) has)
+
+-- by words that stand for those of the list an object comes to the same
+pub told_the_same : (c : Context) (o : Object) (told : Option Words) → StandFor c.library (words_in told) (words_in c.implied) → effective_of c.library o told c.over ≡ comes_to c o
+told_the_same c o told e = ap with_defaults (tell_the_same c.library told c.implied e o c.over)
+
+-- and its children override the same
+pub over_the_same : (c : Context) (h : Head) (told : Option Words) (name : Option (List ℕ)) → StandFor c.library (words_in told) (words_in c.implied) → overridden name (sources c.library h told c.over) ≡ overridden name (sources_in c h)
+over_the_same c h told name e = (same_sources c.library told c.implied e h c.over).over name

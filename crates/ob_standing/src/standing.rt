@@ -1,4 +1,7 @@
 //! Where an object stands.
+ghost use Rattle.std.specs.Option.{option_copied};
+ghost use Rattle.ob_contracts.specs.Telling.{StandIn};
+
 use crate::sources::overridden;
 use ob_contracts::{Library, View, effective, view};
 use ob_object::{Obj, Words};
@@ -8,20 +11,23 @@ use std::alloc::{AllocError, Global};
 use std::sync::ledger::Ledger;
 
 /// Where an object stands: the library, the words that its list or feed gives to it, and the child that it
-/// overrides.
+/// overrides. Where words are told that stand for those of the list, they are looked up in their place.
 #[derive(Clone, Copy)]
 pub struct Standing<'a> {
     pub library: &'a Library,
     pub implied: Option<&'a Words>,
+    told: Option<&'a Words>,
     pub over: Option<&'a Obj>,
+    ghost stand: { StandIn library.now (option_copied told) (option_copied implied) },
 }
 
 impl<'a> Standing<'a> {
     ghost use Rattle.std.specs.Prelude.{◌≡◌, ◌+◌, ◌-◌, ◌^◌, min, IfOk, OnErr};
     ghost use Rattle.std.specs.Option.{option_copied};
     ghost use Rattle.ob_object.specs.Object.{parts};
-    ghost use Rattle.ob_contracts.specs.Inherit.{implied_by, inherited_head};
+    ghost use Rattle.ob_contracts.specs.Inherit.{words_in, implied_by, inherited_head, overridden};
     ghost use Rattle.ob_contracts.specs.Shown.{shown};
+    ghost use Rattle.ob_contracts.specs.Telling.{StandFor, StandIn};
     ghost use Rattle.ob_standing.specs.Contexts.{at_root, sources_in, handed_down, under, comes_to};
     ghost use Rattle.ob_standing.specs.Standings.{context};
 
@@ -32,7 +38,18 @@ impl<'a> Standing<'a> {
         Standing {
             library,
             implied: None,
+            told: None,
             over: None,
+        }
+    }
+
+    /// The words that are looked up for those of its list or feed.
+    fn words(&self) -> Option<&'a Words>
+        ensures { StandFor self.now.library.now (words_in (option_copied result)) (words_in (option_copied self.now.implied)) }
+    {
+        match self.told {
+            Some(told) => Some(told),
+            None => self.implied,
         }
     }
 
@@ -47,18 +64,38 @@ impl<'a> Standing<'a> {
         }
     }
 
+    /// The child that an own child of a name overrides, of an object that stands there, told by its own attributes.
+    fn overridden(&self, own: &'a Obj, name: Option<&Text>) -> Option<&'a Obj>
+        ensures { option_copied result ≡ overridden (option_copied name.entry) (sources_in (context self.now) own.now.head) }
+    {
+        match name {
+            Some(name) => overridden(self.library, own, self.words(), self.over, name.as_str()),
+            None => None,
+        }
+    }
+
     /// Where an own child of a name stands, of an object that stands there, told by its own attributes.
     pub fn inside(&self, own: &'a Obj, name: Option<&Text>) -> Standing<'a>
         ensures { context result ≡ under (handed_down (context self.now) own.now.head) (option_copied name.entry) }
     {
-        let over = match name {
-            Some(name) => overridden(self.library, own, self.implied, self.over, name.as_str()),
-            None => None,
-        };
+        self.inside_told(own, name, None)
+    }
+
+    /// The same, where words may be told that stand for those that the object gives to its children.
+    pub fn inside_told(
+        &self,
+        own: &'a Obj,
+        name: Option<&Text>,
+        told: Option<&'a Words>,
+    ) -> Standing<'a>
+        requires { StandIn self.now.library.now (option_copied told) (handed_down (context self.now) own.now.head).implied }
+        ensures { context result ≡ under (handed_down (context self.now) own.now.head) (option_copied name.entry) }
+    {
         Standing {
             library: self.library,
             implied: self.implied_by(own),
-            over,
+            told,
+            over: self.overridden(own, name),
         }
     }
 
@@ -66,7 +103,7 @@ impl<'a> Standing<'a> {
     pub fn view(&self, object: &'a Obj) -> View<'a>
         ensures { shown result ≡ comes_to (context self.now) object.now }
     {
-        view(self.library, object, self.implied, self.over)
+        view(self.library, object, self.words(), self.over)
     }
 
     /// What an object that stands there comes to. An error only for want of memory.
@@ -75,21 +112,23 @@ impl<'a> Standing<'a> {
     pub fn whole(&self, alloc: Global, object: &Obj) -> Result<Obj, AllocError>
         ensures { IfOk result (λ made. made ≡ comes_to (context self.now) object.now) }
     {
-        effective(alloc, self.library, object, self.implied, self.over)
+        effective(alloc, self.library, object, self.words(), self.over)
     }
 
-    /// The same as `inside`, counted as one step: the view of the own object that it may take.
+    /// The same as `inside_told`, counted as one step: the view of the own object that it may take.
     pub fn inside_counted<L: Ledger>(
         &self,
         own: &'a Obj,
         name: Option<&Text>,
+        told: Option<&'a Words>,
         steps: &mut Steps<L>,
     ) -> Standing<'a>
+        requires { StandIn self.now.library.now (option_copied told) (handed_down (context self.now) own.now.head).implied }
         ensures inside { context result ≡ under (handed_down (context self.now) own.now.head) (option_copied name.entry) }
         ensures steps { steps.new ≡ steps.old + 1 }
     {
         steps.add(1);
-        self.inside(own, name)
+        self.inside_told(own, name, told)
     }
 
     /// The same as `view`, counted as one step.

@@ -15,3 +15,4 @@ pub mod Within
 pub mod Lasting
 pub mod Collecting
 pub mod Deep
+pub mod Giving

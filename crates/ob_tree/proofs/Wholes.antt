@@ -10,7 +10,7 @@ use Rattle.ob_tree.specs.Laid.{object_of, said}
 use Rattle.ob_tree.specs.Shown.{part_at, handed_at, effective_in, shown_at, standing_at}
 use Rattle.ob_tree.proofs.Growing.{grows_for}
 
-one_standing : (r s : Context) → Some r ≡ Some s → r ≡ s
+pub one_standing : (r s : Context) → Some r ≡ Some s → r ≡ s
 one_standing r s e = cc
 
 pub whole_shown : (lib : Contracts) (o t : Object) (n : ℕ) (p made : Object) (c : Context) → o ≡ t → n < parts o → Some p ≡ part_at n o → Some c ≡ standing_at lib n o → made ≡ comes_to c p → Some made ≡ shown_at lib n t

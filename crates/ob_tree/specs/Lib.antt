@@ -7,3 +7,4 @@ pub mod Depths
 pub mod Trees
 pub mod LastTouch
 pub mod Differing
+pub mod Told

@@ -1,19 +1,29 @@
 //! What a tree shows at an object: all that it inherits where it stands.
 ghost use Rattle.std.specs.Prelude.{◌≡◌, ◌<◌, ◌+◌, length, slice_get, Some, IfOk, OnOk, false};
+ghost use Rattle.std.specs.Option.{option_copied};
 ghost use Rattle.ob_object.specs.Object.{children};
 ghost use Rattle.ob_object.specs.WellFormed.{is_taken, with_child};
 ghost use Rattle.ob_standing.specs.Standings.{context};
 ghost use Rattle.ob_tree.specs.Laid.{object_of, said};
 ghost use Rattle.ob_tree.specs.Depths.{depth_at};
 ghost use Rattle.ob_tree.specs.Shown.{part_at, standing_at, AreLaid};
+ghost use Rattle.ob_tree.specs.Told.{words_for, AreToldBy};
 
 use crate::spot::Spot;
 use ob_contracts::Library;
-use ob_object::{Head, Obj};
+use ob_object::{Head, Obj, Words};
 use ob_standing::Standing;
 use ob_steps::Steps;
 use std::alloc::{AllocError, Global};
+use std::collections::BTreeMap;
 use std::sync::ledger::{Blank, Ledger};
+
+/// A library, and the words that are looked up in it for those which lists and feeds give, by the numbers of these.
+#[derive(Clone, Copy)]
+pub(crate) struct Lore<'a> {
+    pub(crate) library: &'a Library,
+    pub(crate) told: Option<&'a BTreeMap<u64, Words>>,
+}
 
 /// The object of a number, without its children.
 pub(crate) fn leaf_in(leaves: &[Obj], place: usize) -> &Obj
@@ -39,9 +49,19 @@ pub(crate) fn spot_in(spots: &[Spot], place: usize) -> Spot
     spots[place]
 }
 
+/// The words of a number.
+fn words_for<'a>(told: Option<&'a BTreeMap<u64, Words>>, place: usize) -> Option<&'a Words>
+    ensures { option_copied result ≡ words_for told.entry place }
+{
+    match told {
+        Some(told) => told.get(&(place as u64)),
+        None => None,
+    }
+}
+
 /// Where the object of a number stands among those round it, counted as one step for each of those.
 pub(crate) fn standing_of<'a, L: Ledger>(
-    library: &'a Library,
+    lore: Lore<'a>,
     leaves: &'a [Obj],
     spots: &[Spot],
     at: usize,
@@ -49,24 +69,26 @@ pub(crate) fn standing_of<'a, L: Ledger>(
 ) -> Standing<'a>
     requires laid { AreLaid (said leaves.now) spots.now }
     requires within { at < length leaves.now }
-    ensures stands { Some (context result) ≡ standing_at library.now at (object_of (said leaves.now) spots.now) }
+    requires told { AreToldBy lore.library.now (object_of (said leaves.now) spots.now) (words_for lore.told) }
+    ensures stands { Some (context result) ≡ standing_at lore.entry.library.now at (object_of (said leaves.now) spots.now) }
     ensures steps { steps.new ≡ steps.old + depth_at at (object_of (said leaves.now) spots.now) }
 {
     let spot = spot_in(spots, at);
     match spot.parent {
         Some(parent) => {
-            let round = standing_of(library, leaves, spots, parent, steps);
+            let round = standing_of(lore, leaves, spots, parent, steps);
             let own = leaf_in(leaves, parent);
             let child = leaf_in(leaves, at);
-            round.inside_counted(own, child.name(), steps)
+            let told = words_for(lore.told, parent);
+            round.inside_counted(own, child.name(), told, steps)
         }
-        None => Standing::at_root(library),
+        None => Standing::at_root(lore.library),
     }
 }
 
 /// The same, by a counter of its own.
 pub(crate) fn uncounted_standing<'a, L: Ledger>(
-    library: &'a Library,
+    lore: Lore<'a>,
     leaves: &'a [Obj],
     spots: &[Spot],
     at: usize,
@@ -74,13 +96,14 @@ pub(crate) fn uncounted_standing<'a, L: Ledger>(
 ) -> Standing<'a>
     requires laid { AreLaid (said leaves.now) spots.now }
     requires within { at < length leaves.now }
+    requires told { AreToldBy lore.library.now (object_of (said leaves.now) spots.now) (words_for lore.told) }
     requires name { blank.name ≡ L.name }
     requires parts { blank.parts ≡ L.parts }
     requires cut { 0 < blank.parts }
-    ensures { Some (context result) ≡ standing_at library.now at (object_of (said leaves.now) spots.now) }
+    ensures { Some (context result) ≡ standing_at lore.entry.library.now at (object_of (said leaves.now) spots.now) }
 {
     let mut steps = Steps::<L>::begin(blank);
-    standing_of(library, leaves, spots, at, &mut steps)
+    standing_of(lore, leaves, spots, at, &mut steps)
 }
 
 /// Puts a child last whose name no child has.

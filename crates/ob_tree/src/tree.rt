@@ -11,6 +11,7 @@ ghost use Rattle.ob_tree.specs.Children.{child_at, place_at};
 ghost use Rattle.ob_tree.specs.Depths.{depth_at};
 ghost use Rattle.ob_tree.specs.Shown.{part_at, shown_at, standing_at};
 ghost use Rattle.ob_standing.specs.Standings.{context};
+ghost use Rattle.ob_tree.specs.Told.{words_for, AreToldBy};
 ghost use Rattle.ob_tree.specs.Trees.{Stamped, IsUnbuilt};
 
 use crate::children::child_of;
@@ -18,11 +19,11 @@ use crate::fault::TreeFault;
 use crate::laying::{lay_leaves, lay_spots, places_of};
 use crate::node::NodeId;
 use crate::paths::node_path;
-use crate::shown::{grown, standing_of, uncounted_standing};
+use crate::shown::{Lore, grown, standing_of, uncounted_standing};
 use crate::spot::Spot;
 use crate::touching::{renumber, stamp_up};
 use ob_contracts::Library;
-use ob_object::{Obj, Slot, Status};
+use ob_object::{Obj, Slot, Status, Words};
 use ob_standing::Standing;
 use ob_steps::Steps;
 use ob_values::Text;
@@ -281,13 +282,27 @@ impl Tree {
         requires { id.number < parts self.now.root }
         ensures { Some (context result) ≡ standing_at library.now id.number self.now.root }
     {
+        self.standing_told(library, None, id)
+    }
+
+    /// The same, where words may be told that stand for those which lists and feeds give, by the numbers of these.
+    pub fn standing_told<'a>(
+        &'a self,
+        library: &'a Library,
+        told: Option<&'a BTreeMap<u64, Words>>,
+        id: NodeId,
+    ) -> Standing<'a>
+        requires within { id.number < parts self.now.root }
+        requires told { AreToldBy library.now self.now.root (words_for told) }
+        ensures { Some (context result) ≡ standing_at library.now id.number self.now.root }
+    {
         let leaves = self.leaves.as_slice();
         let spots = self.spots.as_slice();
         let at = id.number as usize;
-        uncounted_standing::<Brand>(library, leaves, spots, at, Blank::new(1))
+        uncounted_standing::<Brand>(Lore { library, told }, leaves, spots, at, Blank::new(1))
     }
 
-    /// The same, counted as one step for each object round it.
+    /// The same as `standing`, counted as one step for each object round it.
     pub fn standing_counted<'a, L: Ledger>(
         &'a self,
         library: &'a Library,
@@ -298,9 +313,26 @@ impl Tree {
         ensures stands { Some (context result) ≡ standing_at library.now id.number self.now.root }
         ensures steps { steps.new ≡ steps.old + depth_at id.number self.now.root }
     {
+        self.standing_told_counted(library, None, id, steps)
+    }
+
+    /// The same as `standing_told`, counted as one step for each object round it.
+    pub fn standing_told_counted<'a, L: Ledger>(
+        &'a self,
+        library: &'a Library,
+        told: Option<&'a BTreeMap<u64, Words>>,
+        id: NodeId,
+        steps: &mut Steps<L>,
+    ) -> Standing<'a>
+        requires within { id.number < parts self.now.root }
+        requires told { AreToldBy library.now self.now.root (words_for told) }
+        ensures stands { Some (context result) ≡ standing_at library.now id.number self.now.root }
+        ensures steps { steps.new ≡ steps.old + depth_at id.number self.now.root }
+    {
         let leaves = self.leaves.as_slice();
         let spots = self.spots.as_slice();
-        standing_of(library, leaves, spots, id.number as usize, steps)
+        let at = id.number as usize;
+        standing_of(Lore { library, told }, leaves, spots, at, steps)
     }
 
     /// A copy of an object with all that is in it, its own objects alone. An error only for want of memory.

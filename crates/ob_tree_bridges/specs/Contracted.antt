@@ -15,10 +15,12 @@ abbrev pub nodes_from : ℕ → Objects → List ℕ
 nodes_from at none = []
 nodes_from at (node h inner rest) = cond (is_some (node_path h)) (at ∷ []) [] ++ nodes_from (at + (count inner + 1)) rest
 
+-- the numbers of the nodes in an object of this number, if it is there
 abbrev pub nodes_in : ℕ → Option Object → List ℕ
 nodes_in k None = []
 nodes_in k (Some x) = nodes_from (k + 1) x.inner
 
+-- the numbers of the nodes in the object of a number, if there is one
 abbrev pub nodes_below : Object → Option ℕ → List ℕ
 nodes_below o None = []
 nodes_below o (Some k) = nodes_in k (part_at k o)
@@ -32,6 +34,7 @@ abbrev pub is_within : ℕ → ℕ → Option Object → Bool
 is_within n k None = false
 is_within n k (Some x) = nat_le k n && nat_lt n (k + parts x)
 
+-- whether an object's number is that of one inside another
 abbrev pub is_inside : ℕ → ℕ → Object → Bool
 is_inside n k o = is_within n k (part_at k o)
 

@@ -41,6 +41,7 @@ pub record OwnTreeTells (plan : Plan) (s : State) : Type 0 where
   pub own : (p : Path) (n : ℕ) → PathsDiffer (row (dressed plan s)) → place_of p (paths s.tree) ≡ Some n
       → IsNotDerived plan s p (row s.tree)
 
+-- law: of every state
 abbrev pub OwnTreesTell : Type 0
 OwnTreesTell = (plan : Plan) (s : State) → OwnTreeTells plan s
 
@@ -55,5 +56,6 @@ pub record OwnTreeTellsChanges (plan : Plan) (s t : State) : Type 0 where
       → differs plan s t p
       ≡ not (same_values (head_in c (with_status plan s h)) (head_in c (with_status plan t k)) && same_derived plan s t p)
 
+-- law: of every two states that differ in values alone
 abbrev pub OwnTreesTellChanges : Type 0
 OwnTreesTellChanges = (plan : Plan) (s t : State) → DifferInValues s t → OwnTreeTellsChanges plan s t

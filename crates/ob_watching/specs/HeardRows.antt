@@ -11,9 +11,11 @@ use Rattle.ob_watching.specs.Asked.{Operation, Add, Remove, PollChanges, PollRef
 use Rattle.ob_watching.specs.Replay.{replay_heard}
 use Rattle.ob_watching.specs.WatchOuts.{Text, Held, Heard, heard}
 
+-- an operation on a watch whose input, parts and faults are numbers: they don't matter here
 abbrev pub Asks : Type 0
 Asks = Operation Text ℕ ℕ ℕ
 
+-- what is read in a reply to an operation
 abbrev pub read_in : Asks → Object → Heard
 read_in op reply = heard op reply
 
@@ -21,12 +23,15 @@ read_in op reply = heard op reply
 abbrev pub held_after : Asks → Object → List Held → List Held
 held_after op reply held = replay_heard bytes_eq op (heard op reply) held
 
+-- a head with these objects in it
 abbrev pub whole : Head → List Object → Object
 whole h os = record { head = h; inner = in_row os }
 
+-- an object that is held under an href
 abbrev pub under : Text → Object → Held
 under text o = record { text = text; content = Shows o }
 
+-- the head of a kind under a name
 abbrev pub named_head : Kind → Text → Head
 named_head k name = record (empty_head k) { name = Some name }
 
@@ -38,24 +43,31 @@ out_of h k os = whole h (whole (named_head k (codes "values")) os ∷ [])
 abbrev pub out : List Object → Object
 out os = out_of (empty_head kind.Obj) kind.List os
 
+-- the head of an int with a value
 abbrev pub int_head : ℕ → Head
 int_head n = record (empty_head kind.Int) { slot = Is (value.Int (pos n)) }
 
+-- an entry of a WatchOut: an int of 7 under the href `p`
 abbrev pub point : Object
 point = record { head = record (int_head 7) { href = Some (codes "p") }; inner = none }
 
+-- what is held of it: without the href
 abbrev pub held_point : Object
 held_point = record { head = int_head 7; inner = none }
 
+-- an event without a name
 abbrev pub event : ℕ → Object
 event n = record { head = int_head n; inner = none }
 
+-- an event with a name
 abbrev pub named_event : Text → ℕ → Object
 named_event name n = record { head = record (int_head n) { name = Some name }; inner = none }
 
+-- an entry of a WatchOut: a feed under the href `f`, with these children
 abbrev pub feed : List Object → Object
 feed os = whole (record (empty_head kind.Feed) { href = Some (codes "f") }) os
 
+-- what is held of it: how many events were missed, and these
 abbrev pub lists : ℕ → List Object → Held
 lists missed events = record { text = codes "f"; content = Lists (whole (empty_head kind.Feed) []) missed events }
 
@@ -63,6 +75,7 @@ lists missed events = record { text = codes "f"; content = Lists (whole (empty_h
 abbrev pub error : Object
 error = whole (record (empty_head kind.Err) { href = Some (codes "e"); is = Some (codes "x:OtherErr" ∷ []) }) []
 
+-- what is held of it: without the href
 abbrev pub held_error : Held
 held_error = record { text = codes "e"; content = Refuses (whole (record (empty_head kind.Err) { is = Some (codes "x:OtherErr" ∷ []) }) []) }
 
@@ -74,6 +87,7 @@ ByItsShape = read_in PollRefresh (out (point ∷ [])) ≡ Values (under (codes "
 abbrev pub NotByItsContract : Type 0
 NotByItsContract = read_in PollRefresh (out_of (record (empty_head kind.Obj) { is = Some (codes "obix:WatchOut" ∷ []) }) kind.Obj (point ∷ [])) ≡ Other
 
+-- nor is a list a WatchOut, whatever it names
 abbrev pub NotAnotherKind : Type 0
 NotAnotherKind = read_in PollRefresh (out_of (record (empty_head kind.List) { is = Some (codes "obix:WatchOut" ∷ []) }) kind.List (point ∷ [])) ≡ Other
 
@@ -89,9 +103,11 @@ WithoutNames = read_in PollRefresh (out (feed (named_event (codes "e1") 1 ∷ ev
 abbrev pub DroppedInChanges : Type 0
 DroppedInChanges = read_in PollChanges (out (feed (named_event (codes "dropped") 3 ∷ event 4 ∷ []) ∷ [])) ≡ Values (lists 3 (event 4 ∷ []) ∷ [])
 
+-- in the reply to pollRefresh a child `dropped` is an event
 abbrev pub DroppedInRefresh : Type 0
 DroppedInRefresh = read_in PollRefresh (out (feed (named_event (codes "dropped") 3 ∷ event 4 ∷ []) ∷ [])) ≡ Values (lists 0 (event 3 ∷ event 4 ∷ []) ∷ [])
 
+-- and in the reply to add
 abbrev pub DroppedInAdd : Type 0
 DroppedInAdd = read_in (Add []) (out (feed (named_event (codes "dropped") 3 ∷ event 4 ∷ []) ∷ [])) ≡ Values (lists 0 (event 3 ∷ event 4 ∷ []) ∷ [])
 
@@ -103,9 +119,11 @@ GoesOn = held_after PollChanges (out (feed (named_event (codes "dropped") 3 ∷ 
 abbrev pub ErrHeld : Type 0
 ErrHeld = held_after PollRefresh (out (error ∷ point ∷ [])) [] ≡ held_error ∷ under (codes "p") held_point ∷ []
 
+-- in the reply to add an err entry is passed over
 abbrev pub ErrInAdd : Type 0
 ErrInAdd = held_after (Add []) (out (error ∷ point ∷ [])) [] ≡ under (codes "p") held_point ∷ []
 
+-- and in the reply to pollChanges
 abbrev pub ErrInChanges : Type 0
 ErrInChanges = held_after PollChanges (out (error ∷ point ∷ [])) [] ≡ under (codes "p") held_point ∷ []
 
@@ -113,5 +131,6 @@ ErrInChanges = held_after PollChanges (out (error ∷ point ∷ [])) [] ≡ unde
 abbrev pub RemovedByAny : Type 0
 RemovedByAny = held_after (Remove (codes "p" ∷ [])) (event 0) (held_error ∷ under (codes "p") held_point ∷ []) ≡ held_error ∷ []
 
+-- after an err nothing was removed
 abbrev pub NotRemoved : Type 0
 NotRemoved = held_after (Remove (codes "p" ∷ [])) error (under (codes "p") held_point ∷ []) ≡ under (codes "p") held_point ∷ []

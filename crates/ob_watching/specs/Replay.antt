@@ -53,6 +53,7 @@ replay_heard same op (Values rs) held = replay_out same op rs held
 replay_heard same op Nothing held = replay_nil same op held
 replay_heard same op Other held = held
 
+-- whether an entry gives an object or a feed, and not an err
 abbrev pub is_content : {Object Event Err : Type 0} → ContentOf Object Event Err → Bool
 is_content (Refuses err) = false
 is_content _ = true
@@ -67,6 +68,7 @@ gives_out same text (Add asked) rs = has_content same rs text
 gives_out same text PollRefresh rs = has_content same rs text
 gives_out same text _ rs = false
 
+-- whether the reply to an operation gives what an href names whole
 abbrev pub gives_whole : {Text Input Part Fault Object Event Err : Type 0} → (Text → Text → Bool) → Text → Operation Text Input Part Fault → HeardOf Text Object Event Err → Bool
 gives_whole same text op (Values rs) = gives_out same text op rs
 gives_whole same text op _ = false

@@ -22,18 +22,23 @@ abbrev pub asked : World small → List (Request × ℕ) → World small
 asked w [] = w
 asked w (r ∷ rs) = asked (act small w r.0 r.1).0 rs
 
+-- the reply to one more request at a moment, after some were asked
 abbrev pub reply_to_last : World small → List (Request × ℕ) → Request → ℕ → Reply small
 reply_to_last w rs r moment = (act small (asked w rs) r moment).1
 
+-- at a moment, a path is put to with a value
 abbrev pub put_at : ℕ → ℕ → ℕ → Request × ℕ
 put_at moment path value = (Do (Put path value), moment)
 
+-- an entry that shows values under a text
 abbrev pub shows : ℕ → List ℕ → Reading small
 shows text values = record { text = text; content = Shows values }
 
+-- an entry of the feed: how many events dropped out, and these
 abbrev pub lists : ℕ → List Event → Reading small
 lists dropped events = record { text = feed_path; content = Lists [] dropped events }
 
+-- an event: when, and the value
 abbrev pub event : ℕ → ℕ → Event
 event time value = record { time = time; value = value }
 
@@ -71,6 +76,7 @@ LastOfBatch = reply_to_last (opening 10) (watching (1 ∷ []) ++ (Batch (Put 1 8
 abbrev pub LastMoment : Type 0
 LastMoment = reply_to_last (opening 10) ((Make, 0) ∷ []) (Ask 1 (Look Whole)) 59_999 ≡ Told 1 first_lease Whole
 
+-- with the next millisecond the watch is gone
 abbrev pub LapsesThen : Type 0
 LapsesThen = reply_to_last (opening 10) ((Make, 0) ∷ []) (Ask 1 (Look Whole)) 60_000 ≡ Refused NoSuch
 
@@ -78,6 +84,7 @@ LapsesThen = reply_to_last (opening 10) ((Make, 0) ∷ []) (Ask 1 (Look Whole)) 
 abbrev pub RenewedByOwn : Type 0
 RenewedByOwn = reply_to_last (opening 10) ((Make, 0) ∷ (Make, 0) ∷ (Ask 2 (Renew 5), 59_999) ∷ (Do (Get 1), 59_999) ∷ (Ask 3 PollChanges, 59_999) ∷ []) (Ask 2 PollChanges) 60_000 ≡ Out []
 
+-- and isn't renewed by requests on another watch, or on the site
 abbrev pub NotByOthers : Type 0
 NotByOthers = reply_to_last (opening 10) ((Make, 0) ∷ (Make, 0) ∷ (Ask 2 (Renew 5), 59_999) ∷ (Do (Get 1), 59_999) ∷ (Ask 2 PollChanges, 60_000) ∷ []) (Ask 1 PollChanges) 60_000 ≡ Refused NoSuch
 
@@ -97,6 +104,7 @@ TouchedAtLatest = reply_to_last (opening 10) ((Make, 0) ∷ (Do (Get 1), 50_000)
 abbrev pub NextNumber : Type 0
 NextNumber = reply_to_last (opening 10) ((Make, 0) ∷ (Ask 1 Delete, 1) ∷ []) Make 2 ≡ Told 2 first_lease Whole
 
+-- the number of a deleted watch names nothing, also where another was made since
 abbrev pub DeletedIsGone : Type 0
 DeletedIsGone = reply_to_last (opening 10) ((Make, 0) ∷ (Ask 1 Delete, 1) ∷ (Make, 2) ∷ []) (Ask 1 PollRefresh) 3 ≡ Refused NoSuch
 
@@ -109,6 +117,7 @@ EventOnce = reply_to_last (opening 10) (watching (feed_path ∷ []) ++ put_at 1 
 abbrev pub AddedAnew : Type 0
 AddedAnew = reply_to_last (opening 10) (watching (feed_path ∷ []) ++ put_at 1 1 8 ∷ []) (Ask 1 (Add ((feed_path, 0) ∷ []))) 2 ≡ Out (lists 0 (event 1 8 ∷ []) ∷ [])
 
+-- and of what it was given a poll behind it gives nothing
 abbrev pub ThenNothing : Type 0
 ThenNothing = reply_to_last (opening 10) (watching (feed_path ∷ []) ++ put_at 1 1 8 ∷ (Ask 1 (Add ((feed_path, 0) ∷ [])), 2) ∷ []) (Ask 1 PollChanges) 3 ≡ Out []
 
@@ -128,6 +137,7 @@ NotInABatch = reply_to_last (opening 10) ((Make, 0) ∷ []) (Batch (AskWatch 1 �
 abbrev pub rolling : List (Request × ℕ)
 rolling = put_at 1 1 22 ∷ put_at 2 1 23 ∷ (Make, 3) ∷ (Ask 1 (Add ((feed_path, 0) ∷ [])), 3) ∷ (Ask 1 PollRefresh, 3) ∷ put_at 4 1 21 ∷ put_at 5 1 24 ∷ put_at 6 1 25 ∷ []
 
+-- a poll tells how many events dropped out unreported, before those that are kept
 abbrev pub DroppedIsTold : Type 0
 DroppedIsTold = reply_to_last (opening 2) rolling (Ask 1 PollChanges) 7 ≡ Out (lists 1 (event 5 24 ∷ event 6 25 ∷ []) ∷ [])
 
@@ -157,9 +167,11 @@ AfterNoMemory = (act small (after small (asked (opening 10) (watching (1 ∷ fee
 abbrev pub numbered : ℕ → World small
 numbered next = record { time = 0; next = next; watches = []; site = (opening 10).site }
 
+-- the last number that there is is given
 abbrev pub LastNumber : Type 0
 LastNumber = reply_to_last (numbered (2 ^ 63 - 1)) [] Make 0 ≡ Told (2 ^ 63 - 1) first_lease Whole
 
+-- behind it a make is refused
 abbrev pub NoNumber : Type 0
 NoNumber = reply_to_last (numbered (2 ^ 63 - 1)) ((Make, 0) ∷ []) Make 0 ≡ Refused TooManyWatches
 
@@ -168,6 +180,7 @@ abbrev pub many : ℕ → List (ℕ × Watch small)
 many zero = []
 many (suc k) = many k ++ (suc k, record { lease = first_lease; touched = 0; items = [] }) ∷ []
 
+-- a thousand watches stand
 abbrev pub thousand : World small
 thousand = record { time = 0; next = 1001; watches = many 1000; site = (opening 10).site }
 
@@ -175,6 +188,7 @@ thousand = record { time = 0; next = 1001; watches = many 1000; site = (opening 
 abbrev pub NotOneMore : Type 0
 NotOneMore = reply_to_last thousand [] Make 59_999 ≡ Refused TooManyWatches
 
+-- one millisecond later they have lapsed, and the same make is answered
 abbrev pub OnceTheyLapsed : Type 0
 OnceTheyLapsed = reply_to_last thousand [] Make 60_000 ≡ Told 1001 first_lease Whole
 
@@ -183,6 +197,7 @@ abbrev pub items : ℕ → List (Item small)
 items zero = []
 items (suc k) = record { text = 100 + k; path = 1; tracked = Object false } ∷ items k
 
+-- a watch with the most items stands
 abbrev pub crowded : World small
 crowded = record { time = 0; next = 2; watches = (1, record { lease = first_lease; touched = 0; items = items 2048 }) ∷ []; site = (opening 10).site }
 
@@ -190,6 +205,7 @@ crowded = record { time = 0; next = 2; watches = (1, record { lease = first_leas
 abbrev pub NotOneItemMore : Type 0
 NotOneItemMore = reply_to_last crowded [] (Ask 1 (Add ((1, 0) ∷ (2, 0) ∷ []))) 1 ≡ Out (record { text = 1; content = Refuses TooManyItems } ∷ record { text = 2; content = Refuses TooManyItems } ∷ [])
 
+-- the history alone: how many rolled off, and the kept ones
 abbrev pub with_history : ℕ → List Event → Nodes
 with_history gone kept = record { nodes = []; kept = kept; gone = gone; capacity = 1 }
 

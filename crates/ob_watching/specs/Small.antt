@@ -18,6 +18,7 @@ pub record Nodes : Type 0 where
   pub gone : ℕ
   pub capacity : ℕ
 
+-- why something is refused
 pub data Fault : Type 0 where
   NoSuch : Fault
   NotWatchable : Fault
@@ -31,14 +32,17 @@ pub data Part : Type 0 where
   Whole : Part
   Lease : Part
 
+-- what an action shows, or why it failed
 pub data Outcome : Type 0 where
   Shown : (values : List ℕ) → Outcome
   Failed : (fault : Fault) → Outcome
 
+-- what the site itself replies: to one action, or to each of a batch
 pub data Own : Type 0 where
   One : (outcome : Outcome) → Own
   Each : (outcomes : List Outcome) → Own
 
+-- a node is read or put to; or a watch is asked inside a batch, which isn't done
 pub data Action : Type 0 where
   Get : (path : ℕ) → Action
   Put : (path : ℕ) → (value : ℕ) → Action
@@ -52,6 +56,7 @@ pub data Request : Type 0 where
   Ask : (number : ℕ) → (operation : Operation ℕ ℕ Part Fault) → Request
   AskNothing : Request
 
+-- whom a request is for
 abbrev pub target : Request → Target ℕ ℕ Part Fault
 target (Do action) = Itself
 target (Batch actions) = Itself
@@ -63,28 +68,36 @@ target AskNothing = Nowhere
 abbrev pub root : ℕ
 root = 0
 
+-- the node whose values are recorded
 abbrev pub source : ℕ
 source = 1
 
+-- the history's feed
 abbrev pub feed_path : ℕ
 feed_path = 9
 
+-- a value as it is shown, if there is one
 abbrev pub value_in : Option ℕ → List ℕ
 value_in None = []
 value_in (Some value) = value ∷ []
 
+-- the values that are shown at a path
 abbrev pub shown : Nodes → ℕ → List ℕ
 shown s path = cond (path == root) (map (λ n. n.1) s.nodes) (value_in (lookup path s.nodes))
 
+-- whether a path is the root or a node
 abbrev pub has_node : Nodes → ℕ → Bool
 has_node s path = cond (path == root) true (is_some (lookup path s.nodes))
 
+-- the events of the feed at a path, and none elsewhere
 abbrev pub events : Nodes → ℕ → List Event
 events s path = cond (path == feed_path) s.kept []
 
+-- how many of its events rolled off
 abbrev pub gone : Nodes → ℕ → ℕ
 gone s path = cond (path == feed_path) s.gone 0
 
+-- what an asked path names, beside it the time from which on events are wanted
 abbrev pub find : Nodes → List ℕ → ℕ → ℕ → Found ℕ ℕ Fault
 find s numbers path from = cond (path == feed_path) (FeedAt path from) (cond (has_node s path) (ObjectAt path) (NotFound NoSuch))
 
@@ -102,6 +115,7 @@ abbrev pub put_value : Nodes → ℕ → ℕ → ℕ → Option ℕ → Nodes ×
 put_value s path value now None = (s, Failed NoSuch)
 put_value s path value now (Some old) = cond (old == value) (s, Shown (value ∷ [])) (written s path value now, Shown (value ∷ []))
 
+-- one action: what it leaves, and its outcome
 abbrev pub do_one : Nodes → List ℕ → Action → ℕ → Nodes × Outcome
 do_one s numbers (Get path) now = (s, cond (has_node s path) (Shown (shown s path)) (Failed NoSuch))
 do_one s numbers (Put path value) now = put_value s path value now (lookup path s.nodes)
@@ -115,6 +129,7 @@ do_all s numbers (action ∷ actions) now =
     let rest = do_all one.0 numbers actions now in
     (rest.0, one.1 ∷ rest.1)
 
+-- what a request to the site leaves, and what it replies
 abbrev pub act_itself : Nodes → List ℕ → Request → ℕ → Nodes × Own
 act_itself s numbers (Do action) now = (let one = do_one s numbers action now in (one.0, One one.1))
 act_itself s numbers (Batch actions) now = (let all = do_all s numbers actions now in (all.0, Each all.1))
@@ -129,9 +144,11 @@ roll s = record {
   capacity = s.capacity;
 }
 
+-- a lease of a second or more, in nanoseconds
 abbrev pub lease_asked : Nodes → ℕ → Result ℕ Fault
 lease_asked s lease = cond (nat_le 1_000_000_000 lease) (Ok lease) (Err LeaseOutOfRange)
 
+-- the same values in the same order
 abbrev pub same_values : List ℕ → List ℕ → Bool
 same_values [] [] = true
 same_values [] (y ∷ ys) = false
@@ -142,11 +159,13 @@ same_values (x ∷ xs) (y ∷ ys) = (x == y) && same_values xs ys
 abbrev pub Sent : Type 0
 Sent = ReplyOf Own Part ℕ (List ℕ) Event Fault Fault
 
+-- what a client reads in a reply
 abbrev pub heard : Operation ℕ ℕ Part Fault → Sent → HeardOf ℕ (List ℕ) Event Fault
 heard op (Out readings) = Values readings
 heard op Nil = Nothing
 heard op _ = Other
 
+-- the site of these parts
 abbrev pub small : Site
 small = record {
   State = Nodes;

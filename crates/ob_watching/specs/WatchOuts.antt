@@ -12,6 +12,7 @@ use Rattle.ob_object.specs.Object.{Object, none, children}
 use Rattle.ob_object.specs.WellFormed.{has_name, named}
 use Rattle.ob_watching.specs.Asked.{Operation, Add, Remove, PollChanges, PollRefresh, ContentOf, Shows, Lists, Refuses, ReadingOf, HeardOf, Values, Nothing, Other}
 
+-- the bytes of a text
 abbrev pub Text : Type 0
 Text = List ℕ
 
@@ -20,21 +21,27 @@ Text = List ℕ
 abbrev pub Held : Type 0
 Held = ReadingOf Text Object Object Object
 
+-- what is read in a reply
 abbrev pub Heard : Type 0
 Heard = HeardOf Text Object Object Object
 
+-- whether an object is of a kind
 abbrev pub is_of_kind : Kind → Object → Bool
 is_of_kind k o = same_kind o.head.kind k
 
+-- an object without its name
 abbrev pub without_name : Object → Object
 without_name o = record { head = record o.head { name = None }; inner = o.inner }
 
+-- an object without its href
 abbrev pub without_href : Object → Object
 without_href o = record { head = record o.head { href = None }; inner = o.inner }
 
+-- whether a child is the one named `dropped`
 abbrev pub is_dropped : Object → Bool
 is_dropped o = has_name (codes "dropped") o.head.name
 
+-- the number of an int from 0 on, or else 0
 abbrev pub number_in : Slot → ℕ
 number_in (Is (value.Int (pos n))) = n
 number_in _ = 0
@@ -49,10 +56,12 @@ abbrev pub feed_read : Bool → Object → List Object → ContentOf Object Obje
 feed_read true feed os = Lists feed (dropped_in os) (map without_name (filter (λ o. not (is_dropped o)) os))
 feed_read false feed os = Lists feed 0 (map without_name os)
 
+-- what an entry tells: of a feed its events, an err as it is, any other object as it is
 abbrev pub content_if : Bool → Bool → Bool → Object → ContentOf Object Object Object
 content_if changes feed error o =
     cond feed (feed_read changes (record { head = o.head; inner = none }) (children o)) (cond error (Refuses o) (Shows o))
 
+-- the same, by the kind of the entry
 abbrev pub content_read : Bool → Object → ContentOf Object Object Object
 content_read changes o = content_if changes (is_of_kind kind.Feed o) (is_of_kind kind.Err o) o
 
@@ -68,6 +77,7 @@ items_of o = cond (is_of_kind kind.List o) (cond (list_all (λ item. is_some ite
 abbrev pub entries_of : Object → Option (List Object)
 entries_of reply = cond (is_of_kind kind.Obj reply) (option_and_then items_of (named (codes "values") (children reply))) None
 
+-- what is read where the reply has entries, if it has
 abbrev pub heard_entries : Bool → Option (List Object) → Heard
 heard_entries changes None = Other
 heard_entries changes (Some os) = Values (map (entry_read changes) os)

@@ -9,9 +9,11 @@ use Rattle.ob_watching.specs.Tables.{put, is_among, lookup, map_values, replace,
 abbrev pub max_watches : ℕ
 max_watches = 1000
 
+-- items of a watch
 abbrev pub max_items : ℕ
 max_items = 2048
 
+-- the last number that a watch is given
 abbrev pub last_number : ℕ
 last_number = 2 ^ 63 - 1
 
@@ -47,27 +49,35 @@ pub record WorldOf (State Text Path Filter : Type 0) : Type 0 where
   pub next : ℕ
 
 module _ (m : Site) where
+  -- what is kept of an item of this site
   abbrev pub Tracked : Type 0
   Tracked = TrackedOf m.Filter
 
+  -- an item of a watch of this site
   abbrev pub Item : Type 0
   Item = ItemOf m.Text m.Path m.Filter
 
+  -- a watch of this site
   abbrev pub Watch : Type 0
   Watch = WatchOf m.Text m.Path m.Filter
 
+  -- the state of this site and its watches
   abbrev pub World : Type 0
   World = WorldOf m.State m.Text m.Path m.Filter
 
+  -- what an entry tells of this site
   abbrev pub Content : Type 0
   Content = ContentOf m.Object m.Event m.Err
 
+  -- an entry: the asked text and what it tells
   abbrev pub Reading : Type 0
   Reading = ReadingOf m.Text m.Object m.Event m.Err
 
+  -- a reply of this site, before it is sent
   abbrev pub Reply : Type 0
   Reply = ReplyOf m.Reply m.Part m.Text m.Object m.Event m.Err m.Fault
 
+  -- what is asked of a watch of this site
   abbrev pub Asks : Type 0
   Asks = Operation m.Text m.Input m.Part m.Fault
 
@@ -84,6 +94,7 @@ module _ (m : Site) where
   content_now s path (Object changed) = Shows (m.shown s path)
   content_now s path (Feed bounds given) = Lists (m.feed path) 0 (filter (m.passes bounds) (m.events s path))
 
+  -- an item as pollRefresh gives it
   abbrev pub reading : m.State → Item → Reading
   reading s item = record { text = item.text; content = content_now s item.path item.tracked }
 
@@ -92,6 +103,7 @@ module _ (m : Site) where
   reported_now s path (Object changed) = Object false
   reported_now s path (Feed bounds given) = Feed bounds (count s path)
 
+  -- an item, all of which has been reported
   abbrev pub reported : m.State → Item → Item
   reported s item = record { text = item.text; path = item.path; tracked = reported_now s item.path item.tracked }
 
@@ -106,10 +118,12 @@ module _ (m : Site) where
   changes_of s text path (Object true) = record { text = text; content = Shows (m.shown s path) } ∷ []
   changes_of s text path (Feed bounds given) = lists_some text path (m.gone s path - given) (filter (m.passes bounds) (since s path given))
 
+  -- what pollChanges gives of all items, in their order
   abbrev pub changes : m.State → List Item → List Reading
   changes s [] = []
   changes s (item ∷ items) = changes_of s item.text item.path item.tracked ++ changes s items
 
+  -- whether an item has this text
   abbrev pub has_text : List Item → m.Text → Bool
   has_text items text = list_any (λ item. m.same_text item.text text) items
 
@@ -124,6 +138,7 @@ module _ (m : Site) where
       (items, record { text = item.text; content = Refuses (m.err m.too_many_items) })
       (put_item item items, reading s item)
 
+  -- Watch.add of one href, by what it names
   abbrev pub add_found : m.State → List Item → m.Text → Found m.Path m.Filter m.Fault → List Item × Reading
   add_found s items text (NotFound fault) = (items, record { text = text; content = Refuses (m.err fault) })
   add_found s items text (ObjectAt path) = added s items (record { text = text; path = path; tracked = Object false })
@@ -134,11 +149,13 @@ module _ (m : Site) where
   items_added s ns items [] = items
   items_added s ns items (a ∷ asked) = items_added s ns (add_found s items a.0 (m.find s ns a.0 a.1)).0 asked
 
+  -- the entries of WatchOut that an add gives
   abbrev pub readings_added : m.State → List ℕ → List Item → List (m.Text × m.Input) → List Reading
   readings_added s ns items [] = []
   readings_added s ns items (a ∷ asked) =
       (add_found s items a.0 (m.find s ns a.0 a.1)).1 ∷ readings_added s ns (add_found s items a.0 (m.find s ns a.0 a.1)).0 asked
 
+  -- whether a text is one of these
   abbrev pub among : List m.Text → m.Text → Bool
   among texts text = is_among m.same_text texts text
 
@@ -147,6 +164,7 @@ module _ (m : Site) where
   firsts seen [] = []
   firsts seen (a ∷ asked) = cond (among seen a.0) (firsts seen asked) (a ∷ firsts (a.0 ∷ seen) asked)
 
+  -- a watch with other items
   abbrev pub with_items : Watch → List Item → Watch
   with_items v items = record { lease = v.lease; touched = v.touched; items = items }
 
@@ -155,6 +173,7 @@ module _ (m : Site) where
   with_lease v (Ok lease) = record { lease = lease; touched = v.touched; items = v.items }
   with_lease v (Err fault) = v
 
+  -- the reply where a lease is asked for: the lease as it then is, or the refusal
   abbrev pub told_lease : ℕ → Result ℕ m.Fault → Reply
   told_lease n (Ok lease) = Told n lease m.lease
   told_lease n (Err fault) = Refused fault
@@ -211,6 +230,7 @@ module _ (m : Site) where
   abbrev pub is_full : World → Bool
   is_full w = nat_le max_watches (length w.watches) || nat_lt last_number w.next
 
+  -- a request to the watch of a number, if it stands
   abbrev pub on_watch : World → ℕ → Asks → Option Watch → World × Reply
   on_watch w n op None = (w, Refused m.not_found)
   on_watch w n op (Some v) = (
@@ -218,6 +238,7 @@ module _ (m : Site) where
     reply_to w.site (numbers_of w.watches) n (touched w.time v) op,
   )
 
+  -- the state with another site
   abbrev pub with_site : World → m.State → World
   with_site w s = record { time = w.time; site = s; next = w.next; watches = w.watches }
 
@@ -233,6 +254,7 @@ module _ (m : Site) where
   settled_at same (Object changed) = Object (changed || not same)
   settled_at same (Feed bounds given) = Feed bounds given
 
+  -- an item as the end of a step leaves it
   abbrev pub settled : m.State → m.State → Item → Item
   settled before after item = record { text = item.text; path = item.path; tracked = settled_at (m.same (m.shown before item.path) (m.shown after item.path)) item.tracked }
 

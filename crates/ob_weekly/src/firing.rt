@@ -139,7 +139,7 @@ impl Schedules {
     {
         let low = window_start(from, to);
         let to = to.ms() as i64;
-        if to < low {
+        if to <= low {
             return Ok(Vec::new(alloc));
         }
         let dues = all_due(alloc, &self.zone, &self.list, low, to)?;

@@ -3,7 +3,6 @@ use Rattle.std.proofs.Math.Seq.{take-suc}
 use Rattle.std.proofs.lemmas.List.{take_all}
 use Rattle.ob_contracts.specs.Inherit.{Words}
 use Rattle.ob_contracts.specs.Telling.{IsTelling, StandFor}
-use Rattle.ob_contracts.proofs.Dropped.{tell_the_same}
 use Rattle.ob_contracts.proofs.Heads.{telling_none}
 use Rattle.ob_contracts.proofs.fewer.telling_words.Goals as goal
 
@@ -19,5 +18,4 @@ loop-word-preserved c =
 
 pub returns : goal.returns
 returns c =
-    tell_the_same c.args.library.now c.loop-word.telling c.args.words.now
-    (subst (λ (ws : Words). StandFor c.args.library.now c.loop-word.telling ws) (take_all c.loop-word.word-index c.as_slice-word-items.result.now c.loop-word-test.false ∙ c.as_slice-word-items.ensures.value) c.loop-word.invariant.stand)
+    subst (λ (ws : Words). StandFor c.args.library.now c.loop-word.telling ws) (take_all c.loop-word.word-index c.as_slice-word-items.result.now c.loop-word-test.false ∙ c.as_slice-word-items.ensures.value) c.loop-word.invariant.stand

@@ -1,7 +1,10 @@
 use Rattle.std.proofs.Common.{◌≡◌, ◌<◌, ◌∙◌, ℕ, Some, None, List, length, sym, ap, subst, arith}
 use Rattle.std.specs.Prelude.{slice_get}
+use Rattle.std.specs.Option.{option_copied}
 use Rattle.ob_object.specs.declared.head.Head.{Head}
 use Rattle.ob_object.specs.Object.{parts}
+use Rattle.ob_contracts.specs.Inherit.{Contracts}
+use Rattle.ob_contracts.specs.Telling.{StandIn}
 use Rattle.ob_standing.specs.Contexts.{handed_down, under}
 use Rattle.ob_standing.specs.Standings.{context}
 use Rattle.ob_tree.specs.Laid.{object_of, said, head_at}
@@ -11,6 +14,7 @@ use Rattle.ob_tree.proofs.Leaves.{count_leaves, said_read}
 use Rattle.ob_tree.proofs.Contexts.{context_below, context_top, parent_before, parent_read, stands_below, stands_on_top}
 use Rattle.ob_tree.proofs.Deep.{depth_below, depth_top}
 use Rattle.ob_tree.proofs.Growing.{grows}
+use Rattle.ob_tree.proofs.Giving.{stand_in, stands_by}
 use Rattle.ob_tree.proofs.shown.+standing_of.Goals as goal
 
 pub spot_in-spot-requires : goal.spot_in-spot-requires
@@ -23,20 +27,32 @@ standing_of-round-requires g t c =
     let o = object_of (said c.args.leaves.now) c.args.spots.now in
     let n : length c.args.leaves.now ≡ parts o = count_leaves o c.args.leaves.now c.requires.laid.heads_are in
     let up = parent_read c.args.spots.now c.args.at c.spot_in-spot.result (Some c.in-Some.parent) c.spot_in-spot.ensures c.in-Some.is in
-    let less : c.in-Some.parent < c.args.at = parent_before c.args.library.now o c.args.spots.now c.args.at c.in-Some.parent c.requires.laid.spots_are (omega (arith, c.requires.within, n)) up in
-    λ κs lives. (subst (λ (k : ℕ). c.in-Some.parent < k) c.decreases less, (lives, (c.requires.laid, omega (arith, less, c.requires.within))))
+    let less : c.in-Some.parent < c.args.at = parent_before c.args.lore.library.now o c.args.spots.now c.args.at c.in-Some.parent c.requires.laid.spots_are (omega (arith, c.requires.within, n)) up in
+    λ κs lives. (subst (λ (k : ℕ). c.in-Some.parent < k) c.decreases less, (lives, (c.requires.laid, (omega (arith, less, c.requires.within), c.requires.told))))
 
 pub leaf_in-own-requires : goal.leaf_in-own-requires
 leaf_in-own-requires g t c =
     let o = object_of (said c.args.leaves.now) c.args.spots.now in
     let n : length c.args.leaves.now ≡ parts o = count_leaves o c.args.leaves.now c.requires.laid.heads_are in
     let up = parent_read c.args.spots.now c.args.at c.spot_in-spot.result (Some c.in-Some.parent) c.spot_in-spot.ensures c.in-Some.is in
-    let less : c.in-Some.parent < c.args.at = parent_before c.args.library.now o c.args.spots.now c.args.at c.in-Some.parent c.requires.laid.spots_are (omega (arith, c.requires.within, n)) up in
+    let less : c.in-Some.parent < c.args.at = parent_before c.args.lore.library.now o c.args.spots.now c.args.at c.in-Some.parent c.requires.laid.spots_are (omega (arith, c.requires.within, n)) up in
     omega (arith, less, c.requires.within)
+
+pub inside_counted-requires : goal.inside_counted-requires
+inside_counted-requires g t c =
+    let lib = c.args.lore.library.now in
+    let os = c.args.leaves.now in
+    let o = object_of (said os) c.args.spots.now in
+    let p = c.in-Some.parent in
+    let h = c.leaf_in-own.result.now.head in
+    let r = context c.standing_of-round.result in
+    let there : head_at p o ≡ Some h = ap (λ (l : List Head). slice_get l p) (sym c.requires.laid.heads_are) ∙ said_read os p c.leaf_in-own.result.now c.leaf_in-own.ensures in
+    subst (λ (l : Contracts). StandIn l (option_copied c.words_for-told.result) (handed_down r h).implied) (sym (stands_by lib o r p h c.standing_of-round.ensures.stands there))
+    (stand_in lib r h (option_copied c.words_for-told.result) (λ ws is. c.requires.told p ws h (sym c.words_for-told.ensures ∙ is) there))
 
 pub returns-in-Some : goal.returns-in-Some
 returns-in-Some g t c =
-    let lib = c.args.library.now in
+    let lib = c.args.lore.library.now in
     let os = c.args.leaves.now in
     let o = object_of (said os) c.args.spots.now in
     let at = c.args.at in
@@ -56,7 +72,7 @@ returns-in-Some g t c =
 
 pub returns-in-None : goal.returns-in-None
 returns-in-None g t c =
-    let lib = c.args.library.now in
+    let lib = c.args.lore.library.now in
     let os = c.args.leaves.now in
     let o = object_of (said os) c.args.spots.now in
     let n : length os ≡ parts o = count_leaves o os c.requires.laid.heads_are in

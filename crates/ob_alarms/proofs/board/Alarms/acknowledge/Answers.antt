@@ -8,6 +8,7 @@ use Rattle.ob_alarms.specs.Soundness.{At, AreTold}
 use Rattle.ob_alarms.specs.declared.alarm.Alarm.{Alarm}
 use Rattle.ob_alarms.proofs.Numbers.{known}
 use Rattle.ob_alarms.proofs.Told.{told_within, told_raised, told_ended, told_acked, newest_first, found, no_place}
+use Rattle.ob_alarms.proofs.Ordered.{changed_in_order}
 use Rattle.ob_alarms.proofs.board.Alarms.acknowledge.Goals as goal
 
 pub overflow_sub-number : goal.overflow_sub-number
@@ -29,4 +30,5 @@ invariant_of-self c =
       each_rule = c.self.invariant.each_rule;
       told = rw (newest_first c.self.inside.events.items) (told_acked _ _ _ (c.args.number - 1) at.0 c.args.user c.args.now _ c.args.number k.0 refl event c.self.invariant.told c.acknowledge.ensures.one at.1 at.2);
       room = c.self.invariant.room;
+      order = λ known. changed_in_order _ _ _ (λ a. refl) (c.self.invariant.order known);
     })

@@ -1,5 +1,5 @@
-use Rattle.std.proofs.Common.{◌≡◌, ◌+◌, ◌-◌, ◌<◌, ◌≤◌, ◌∷◌, None, not, length, reverse, sym, subst, refl, ap, ◌∙◌, arith, rules}
-use Rattle.std.specs.Prelude.{slice_get}
+use Rattle.std.proofs.Common.{◌≡◌, ◌+◌, ◌-◌, ◌<◌, ◌≤◌, ◌∷◌, None, not, length, List, reverse, sym, subst, refl, ap, ◌∙◌, true≢false, arith, rules}
+use Rattle.std.specs.Prelude.{slice_get, slice_index_or, IsTrue}
 use Rattle.std.specs.Vec.{vec_capacity}
 use Rattle.std.proofs.lemmas.List.{length-reverse}
 use Rattle.ob_alarms.specs.States.{is_in_alarm, is_acked}
@@ -8,7 +8,9 @@ use Rattle.ob_alarms.specs.Soundness.{At, AreTold, Tracking}
 use Rattle.ob_alarms.specs.declared.alarm.Alarm.{Alarm}
 use Rattle.ob_alarms.proofs.Numbers.{known}
 use Rattle.ob_alarms.proofs.Told.{told_within, told_raised, told_ended, told_acked, newest_first, found, no_place, length_more}
+use Rattle.ob_alarms.proofs.Ordered.{more_in_order}
 use Rattle.ob_alarms.proofs.board.Alarms.raise.Goals as goal
+use Rattle.ob_alarms.proofs.board.Alarms.raise.Goals.{then-self, else-self}
 
 pub push_reserved-requires-clause-room : goal.push_reserved-requires-clause-room
 push_reserved-requires-clause-room c =
@@ -34,4 +36,10 @@ invariant_of-self c =
       each_rule = c.self.invariant.each_rule;
       told = rw (newest_first c.self.inside.events.items) (told_raised _ _ c.self.inside.list.alarms c.args.rule c.args.value c.args.now c.len.result c.len-number.result (omega arith) (omega arith) event c.self.invariant.told c.push_reserved.ensures.one);
       room = c.self.invariant.room;
+      order = λ known. elim c.if-self.branch [
+        | then-self w ↦
+            let last = w.has_none_after-self-inside.ensures (subst IsTrue w.self-is known) in
+            more_in_order _ _ (c.self.invariant.order w.if-self.true) (subst (λ (l : List Alarm). (d : Alarm) → 0 < length l → (slice_index_or l (length l - 1) d).raised.at ≤ c.args.now) w.all.ensures last)
+        | else-self w ↦ absurd (true≢false (sym known ∙ w.self-is ∙ w.if-self.false))
+      ];
     })

@@ -1,0 +1,146 @@
+//! The library and the tree of a site.
+ghost use Rattle.std.specs.Prelude.{◌≡◌, ◌<◌, ◌+◌, ◌-◌, ◌^◌, replicate, Some, IsTrue, IfOk, option_map};
+ghost use Rattle.ob_object.specs.declared.head.Head.{Head};
+ghost use Rattle.ob_object.specs.Fits.{fits_slot};
+ghost use Rattle.ob_object.specs.Object.{parts};
+ghost use Rattle.ob_tree.specs.Depths.{depth_at};
+ghost use Rattle.ob_tree.specs.Laid.{head_at, changed};
+ghost use Rattle.ob_tree.specs.Shown.{standing_at};
+ghost use Rattle.ob_tree.specs.Stamps.{touched};
+ghost use Rattle.ob_standing.specs.Standings.{context};
+ghost use Rattle.ob_ground.specs.Grounds.{AreTold};
+
+use crate::told::Told;
+use ob_contracts::Library;
+use ob_object::Slot;
+use ob_standing::Standing;
+use ob_steps::Steps;
+use ob_tree::{NodeId, Tree};
+use std::alloc::{AllocError, Global};
+use std::marker::Model;
+use std::sync::ledger::Ledger;
+
+/// The library and the tree of a site.
+pub struct Ground {
+    told: Told,
+    tree: Tree,
+}
+
+impl Drop for Ground {
+    // By one call for each part, so that to drop it is one call to whoever may have to.
+    fn drop(self) {
+        let Ground { told, tree } = self;
+        drop(told);
+        drop(tree);
+    }
+}
+
+impl Model for Ground {
+    ghost use Rattle.ob_contracts.specs.contracts.library.Library.{the_row as library_row};
+    ghost use Rattle.ob_tree.specs.contracts.tree.Tree.{the_row as tree_row};
+    ghost use Rattle.ob_ground.specs.Grounds.{Grounded, grounded_code, AreTold};
+
+    ghost Value = { Grounded };
+
+    ghost coded = { grounded_code library_row.coded tree_row.coded };
+
+    ghost view = { λ a. record { library = a.told.library; tree = a.tree } };
+
+    ghost invariant = { λ a. AreTold a.tree.root a.told };
+}
+
+impl Ground {
+    /// A library and a tree, with the words that the library tells the lists of the tree. An error only for want of memory.
+    pub fn new(alloc: Global, library: Library, tree: Tree) -> Result<Ground, AllocError>
+        ensures { IfOk result (λ ground. ground ≡ record { library = library; tree = tree }) }
+    {
+        let told = Told::of(alloc, library, &tree)?;
+        Ok(Ground { told, tree })
+    }
+
+    /// The library.
+    pub fn library(&self) -> &Library
+        ensures { result.now ≡ self.now.library }
+    {
+        self.told.library()
+    }
+
+    /// The tree.
+    pub fn tree(&self) -> &Tree
+        ensures { result.now ≡ self.now.tree }
+    {
+        &self.tree
+    }
+
+    /// A library, with the words that it tells the lists of this tree. An error only for want of memory.
+    pub fn told_by(&self, alloc: Global, library: Library) -> Result<Told, AllocError>
+        ensures library { IfOk result (λ told. told.library ≡ library) }
+        ensures told { IfOk result (AreTold self.now.tree.root) }
+    {
+        Told::of(alloc, library, &self.tree)
+    }
+
+    /// Takes another library, and gives the old one. It takes no memory.
+    pub fn replace(&mut self, told: Told) -> Told
+        requires { AreTold self.old.tree.root told }
+        ensures new { self.new ≡ record self.old { library = told.library } }
+        ensures old { result.library ≡ self.old.library }
+        ensures told { AreTold self.old.tree.root result }
+    {
+        std::mem::replace(&mut self.told, told)
+    }
+
+    /// Sets the slot of an object, whose value is of the kind, and gives the old one.
+    pub fn set(&mut self, id: NodeId, slot: Slot) -> Slot
+        requires within { id.number < parts self.old.tree.root }
+        requires fits { (h : Head) → head_at id.number self.old.tree.root ≡ Some h → IsTrue (fits_slot h.kind slot) }
+        ensures old { Some result ≡ option_map (λ h. h.slot) (head_at id.number self.old.tree.root) }
+        ensures new { self.new ≡ record self.old { tree = record self.old.tree { root = changed (λ h. record h { slot = slot }) id.number self.old.tree.root } } }
+        ensures len { parts self.new.tree.root ≡ parts self.old.tree.root }
+    {
+        self.tree.set(id, slot)
+    }
+
+    /// Begins a step of the tree.
+    pub fn begin(&mut self)
+        requires { self.old.tree.steps < 2 ^ 64 - 1 }
+        ensures { self.new ≡ record self.old { tree = record self.old.tree { steps = self.old.tree.steps + 1 } } }
+    {
+        self.tree.begin();
+    }
+
+    /// Stamps an object and all round it with the number of steps.
+    pub fn touch(&mut self, id: NodeId)
+        requires { id.number < parts self.old.tree.root }
+        ensures { self.new ≡ record self.old { tree = record self.old.tree { stamps = touched id.number self.old.tree.steps self.old.tree.root self.old.tree.stamps } } }
+    {
+        self.tree.touch(id);
+    }
+
+    /// Sets all stamps and the number of steps to 1.
+    pub fn renumber(&mut self)
+        ensures { self.new ≡ record self.old { tree = record self.old.tree { stamps = replicate (parts self.old.tree.root) 1; steps = 1 } } }
+    {
+        self.tree.renumber();
+    }
+
+    /// Where an object stands.
+    pub fn standing(&self, id: NodeId) -> Standing<'_>
+        requires { id.number < parts self.now.tree.root }
+        ensures { Some (context result) ≡ standing_at self.now.library id.number self.now.tree.root }
+    {
+        let words = Some(self.told.words());
+        self.tree.standing_told(self.told.library(), words, id)
+    }
+
+    /// The same, counted as one step for each object round it.
+    pub fn standing_counted<L: Ledger>(&self, id: NodeId, steps: &mut Steps<L>) -> Standing<'_>
+        requires { id.number < parts self.now.tree.root }
+        ensures stands { Some (context result) ≡ standing_at self.now.library id.number self.now.tree.root }
+        ensures steps { steps.new ≡ steps.old + depth_at id.number self.now.tree.root }
+    {
+        let words = Some(self.told.words());
+        self.tree
+            .standing_told_counted(self.told.library(), words, id, steps)
+    }
+}

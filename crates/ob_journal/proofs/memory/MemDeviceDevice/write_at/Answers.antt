@@ -1,0 +1,12 @@
+use Rattle.ob_journal.proofs.Kept.{elapses_to}
+use Rattle.ob_journal.proofs.memory.MemDeviceDevice.write_at.Goals as goal
+
+pub returns-then-self-count-clause-time : goal.returns-then-self-count-clause-time
+returns-then-self-count-clause-time c told =
+    let past = c.in_ok-replace.ensures.past in
+    elapses_to c.args.self.now.past.items c.replace.new.past.items past.0 c.args.self.now.bytes.items c.replace.new.bytes.items past.1 past.2
+
+pub returns-clause-time : goal.returns-clause-time
+returns-clause-time c told =
+    let past = c.in_ok-replace-2.ensures.past in
+    elapses_to c.args.self.now.past.items c.replace-2.new.past.items past.0 c.args.self.now.bytes.items c.replace-2.new.bytes.items past.1 past.2

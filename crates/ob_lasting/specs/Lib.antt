@@ -1,0 +1,5 @@
+pub mod Lasting
+pub mod Records
+pub mod Runs
+pub mod LastingLaws
+pub mod LastingRows

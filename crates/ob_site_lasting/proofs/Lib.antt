@@ -1,0 +1,4 @@
+pub mod Apart
+pub mod SiteRecords
+pub mod SiteRuns
+mod Rows

@@ -1,0 +1,2 @@
+pub mod SiteLasting
+pub mod RestartRows
