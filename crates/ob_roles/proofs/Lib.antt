@@ -9,5 +9,8 @@ pub mod Taken
 pub mod Walks
 pub mod Handed
 pub mod Named
+pub mod Fewer
+pub mod Brief
+pub mod BriefRoles
 pub mod WordRows
 pub mod Tabled

@@ -12,6 +12,7 @@ use Rattle.ob_contracts.specs.Inherit.{Contracts, contract_of}
 use Rattle.ob_opening.specs.Roles.{worded, worded_contracts}
 use Rattle.ob_site_rules.specs.Build.{Path}
 use Rattle.ob_site_rules.specs.Shown.{node_path}
+use Rattle.ob_roles.specs.Few.{brief_contracts}
 use Rattle.ob_roles.specs.Sums.{nodes_of}
 use Rattle.ob_roles.specs.Tables.{Holds}
 use Rattle.ob_roles.proofs.Sums.{nodes_past, nodes_here, rest_more, rest_end}
@@ -85,10 +86,10 @@ pub worded_behind : (lib cs : Contracts) (c : List ℕ × Object) → worded_con
 worded_behind lib [] c = refl
 worded_behind lib (d ∷ cs) c = worded_behind (lib ++ (d.0, worded lib d.1) ∷ []) cs c
 
-pub holds_taken : (table new : Table) (cs : Contracts) (i : ℕ) (c : List ℕ × Object) → i < length cs → c ≡ get_or cs i c
-    → Holds new (worded_contracts [] (take i cs) ++ (c.0, worded (worded_contracts [] (take i cs)) c.1) ∷ []) → Holds new (worded_contracts [] (take (i + 1) cs))
-holds_taken table new cs i c h is holds =
-    subst (Holds new) (sym (ap (worded_contracts []) (take_more cs i c h ∙ ap (λ y. take i cs ++ y ∷ []) (sym is)) ∙ worded_behind [] (take i cs) c)) holds
+pub holds_taken : (whole : Contracts) (new : Table) (cs : Contracts) (i : ℕ) (c : List ℕ × Object) → i < length cs → c ≡ get_or cs i c
+    → Holds new (brief_contracts whole (worded_contracts [] (take i cs) ++ (c.0, worded (worded_contracts [] (take i cs)) c.1) ∷ [])) → Holds new (brief_contracts whole (worded_contracts [] (take (i + 1) cs)))
+holds_taken whole new cs i c h is holds =
+    subst (λ (l : Contracts). Holds new (brief_contracts whole l)) (sym (ap (worded_contracts []) (take_more cs i c h ∙ ap (λ y. take i cs ++ y ∷ []) (sym is)) ∙ worded_behind [] (take i cs) c)) holds
 
 -- the nodes among objects, from a place on
 pub nodes_left : (all : List Object) (i : ℕ) (x : Object) (p : Path) (lib : Contracts) → i < length all → x ≡ get_or all i x → node_path x.head ≡ Some p

@@ -1,4 +1,5 @@
 pub mod Kinds
+pub mod Few
 pub mod Given
 pub mod Sums
 pub mod Told

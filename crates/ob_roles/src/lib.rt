@@ -3,6 +3,7 @@
 #![tactic(auto)]
 
 mod ancestors;
+mod few;
 mod given;
 mod kept;
 mod kinds;

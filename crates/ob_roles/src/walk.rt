@@ -5,7 +5,7 @@ ghost use Rattle.ob_object.specs.Object.{Object, in_row};
 ghost use Rattle.ob_contracts.specs.Inherit.{Contracts};
 ghost use Rattle.ob_opening.specs.Roles.{row_roles, all_roles};
 ghost use Rattle.ob_roles.specs.Kinds.{Tells};
-ghost use Rattle.ob_roles.specs.Tables.{Holds};
+ghost use Rattle.ob_roles.specs.Tables.{Holds, HoldsBrief};
 ghost use Rattle.ob_roles.specs.Given.{IsGiven, IsAbove};
 
 use crate::given::{Above, Given, above_of, base_of, given_by, gives_of, nothing, over_names};
@@ -57,14 +57,14 @@ fn put_row<'a>(
 }
 
 /// The roles of a root and of what is in it, in the order of the document, by the contracts of a library with the words
-/// of their parts, and by what the words are. An error only for want of memory.
+/// of their parts, few for each part, and by what the words are. An error only for want of memory.
 pub fn all_roles(
     alloc: Global,
     table: &Table,
     known: &Known,
     root: &Obj,
 ) -> Result<Vec<Roles>, AllocError>
-    ensures { IfOk result (λ rs. (lib : Contracts) → Holds table.now lib → Tells known.now lib → rs.items ≡ all_roles lib root.now) }
+    ensures { IfOk result (λ rs. (lib : Contracts) → HoldsBrief table.now lib → Tells known.now lib → rs.items ≡ all_roles lib root.now) }
 {
     let mut all = Vec::new(alloc);
     let names = BTreeMap::new(alloc);

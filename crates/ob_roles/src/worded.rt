@@ -1,9 +1,9 @@
 //! Contracts with the words of their parts, so that the words of a child that another one overrides are known.
-ghost use Rattle.std.specs.Prelude.{◌≡◌, ◌++◌, ◌∷◌, [], None, cond, filter, true, IfOk, IfSome, IsTrue};
+ghost use Rattle.std.specs.Prelude.{◌≡◌, ◌++◌, ◌∷◌, [], Option, None, cond, filter, option_map, true, IfOk, IfSome, IsTrue};
 ghost use Rattle.std.specs.List.{list_all};
 ghost use Rattle.std.specs.Option.{option_copied};
 ghost use Rattle.ob_object.specs.Fits.{fits_head};
-ghost use Rattle.ob_object.specs.Object.{children};
+ghost use Rattle.ob_object.specs.Object.{Object, children};
 ghost use Rattle.ob_object.specs.WellFormed.{is_taken, with_child};
 ghost use Rattle.ob_object.specs.Kinds.{has_of};
 ghost use Rattle.ob_object.specs.Words.{is_word};
@@ -12,32 +12,21 @@ ghost use Rattle.ob_opening.specs.Roles.{thin, worded, worded_contracts};
 ghost use Rattle.ob_opening.specs.Opening.{standard_words};
 ghost use Rattle.ob_site_rules.specs.Writes.{site_contracts};
 ghost use Rattle.ob_roles.specs.Sums.{nodes_of};
-ghost use Rattle.ob_roles.specs.Tables.{Holds};
+ghost use Rattle.ob_roles.specs.Few.{brief, briefly, brief_contracts};
+ghost use Rattle.ob_roles.specs.Kinds.{Tells};
+ghost use Rattle.ob_roles.specs.Tables.{Holds, HoldsBrief};
 ghost use Rattle.ob_roles.specs.Worded.{with_more, worded_at};
 
+use crate::few::{copied, few_if, few_own};
+use crate::kinds::Known;
 use crate::library::node_path;
 use crate::naming::{find_over, names_in};
-use crate::taking::{Table, implied_by, own_words, sources};
+use crate::taking::{Table, implied_by, sources};
 use ob_contracts::Library;
 use ob_object::{Facets, Head, Obj, PushFault, Slot, Words, copy_text};
 use ob_values::Text;
 use std::alloc::{AllocError, Global};
 use std::collections::BTreeMap;
-
-// A copy of words, if there are any.
-fn copied(words: Option<&Words>) -> Result<Option<Words>, AllocError>
-    ensures same { IfOk result (λ copy. copy ≡ option_copied words.entry) }
-    ensures words { IfOk result (λ copy. IfSome copy (λ ws. IsTrue (list_all is_word ws))) }
-{
-    match words {
-        Some(words) => {
-            let copy = words.copy()?;
-            let _words = copy.as_slice();
-            Ok(Some(copy))
-        }
-        None => Ok(None),
-    }
-}
 
 // A copy of the words that a list or a feed gives, and none for another kind.
 fn copied_if(has: bool, words: Option<&Words>) -> Result<Option<Words>, AllocError>
@@ -93,26 +82,32 @@ fn put_missing(object: &mut Obj, source: &Obj) -> Result<(), AllocError>
     Ok(())
 }
 
-/// The result of an object, each part with its words as `is`, where a list or a feed round it gives words, and where it
-/// overrides a child of a source.
+/// The result of an object with these words as `is`, each part with few, where a list or a feed round it gives words, and
+/// where it overrides a child of a source.
 fn worded<'a>(
     alloc: Global,
+    known: &Known,
     table: &'a Table,
     object: &'a Obj,
+    words: Option<&Words>,
     implied: Option<&'a Words>,
     over: Option<&'a Obj>,
 ) -> Result<Obj, AllocError>
-    ensures { IfOk result (λ made. (lib : Contracts) → Holds table.now lib → made ≡ worded_at lib (option_copied implied.entry) (option_copied over.entry) object.now) }
+    ensures { IfOk result (λ made. (whole lib : Contracts) (o : Option Object) → Tells known.now whole → Holds table.now (brief_contracts whole lib) → option_copied over.entry ≡ option_map (brief whole) o
+        → made ≡ briefly whole (option_copied words.entry) (worded_at lib (option_copied implied.entry) o object.now)) }
 {
     let head = object.head();
     let from = sources(alloc, table, head, implied, over)?;
     let gives = implied_by(head, from.as_slice());
-    let words = own_words(head, implied, over);
+    let few = few_if(alloc, known, gives)?;
+    let given = few.as_ref();
     let names = names_in(alloc, from.as_slice())?;
     let mut made = Obj::from_head(alloc, thin_head(object, words, gives)?);
     for child in object.children() {
-        let below = find_over(&names, child.head());
-        let inner = worded(alloc, table, child, gives, below)?;
+        let part = child.head();
+        let below = find_over(&names, part);
+        let own = few_own(alloc, known, part, given, below)?;
+        let inner = worded(alloc, known, table, child, own.as_ref(), gives, below)?;
         put_if_new(&mut made, inner)?;
     }
     for source in &from {
@@ -132,52 +127,58 @@ fn put_first(table: &mut Table, word: &Text, made: Obj) -> Result<(), AllocError
     Ok(())
 }
 
-// Puts a contract under its word, with the words of its parts.
+// Puts a contract under its word, with few words at each part.
 fn put_contract(
     alloc: Global,
+    known: &Known,
     table: &mut Table,
     word: &Text,
     object: &Obj,
 ) -> Result<(), AllocError>
-    ensures { IfOk result (λ _. (lib : Contracts) → Holds table.old lib → Holds table.new (lib ++ (word.now, worded lib object.now) ∷ [])) }
+    ensures { IfOk result (λ _. (whole lib : Contracts) → Tells known.now whole → Holds table.old (brief_contracts whole lib) → Holds table.new (brief_contracts whole (lib ++ (word.now, worded lib object.now) ∷ []))) }
 {
-    let made = worded(alloc, table, object, None, None)?;
+    let made = worded(alloc, known, table, object, object.is(), None, None)?;
     put_first(table, word, made)?;
     Ok(())
 }
 
-// The contracts of the standard library, with the words of their parts.
-fn standard_table(alloc: Global) -> Result<Table, AllocError>
-    ensures { IfOk result (λ table. Holds table standard_words) }
+// The contracts of the standard library, with few words at each part.
+fn standard_table(alloc: Global, known: &Known) -> Result<Table, AllocError>
+    ensures { IfOk result (λ table. (whole : Contracts) → Tells known.now whole → Holds table (brief_contracts whole standard_words)) }
 {
     let mut table = BTreeMap::new(alloc);
     let library = Library::standard(alloc)?;
     for contract in library.contracts() {
-        put_contract(alloc, &mut table, &contract.0, &contract.1)?;
+        put_contract(alloc, known, &mut table, &contract.0, &contract.1)?;
     }
     Ok(table)
 }
 
-// Puts the contracts that are nodes among objects, with the words of their parts.
-fn put_nodes(alloc: Global, table: &mut Table, objects: &[Obj]) -> Result<(), AllocError>
-    ensures { IfOk result (λ _. (lib : Contracts) → Holds table.old lib → Holds table.new (worded_contracts lib (nodes_of objects.now))) }
+// Puts the contracts that are nodes among objects, with few words at each part.
+fn put_nodes(
+    alloc: Global,
+    known: &Known,
+    table: &mut Table,
+    objects: &[Obj],
+) -> Result<(), AllocError>
+    ensures { IfOk result (λ _. (whole lib : Contracts) → Tells known.now whole → Holds table.old (brief_contracts whole lib) → Holds table.new (brief_contracts whole (worded_contracts lib (nodes_of objects.now)))) }
 {
     for object in objects {
         if let Some(path) = node_path(object.head()) {
-            put_contract(alloc, table, path, object)?;
+            put_contract(alloc, known, table, path, object)?;
         }
     }
     Ok(())
 }
 
-/// The contracts of a site behind those of the standard library, each with the words of its parts. An error only for
-/// want of memory.
-pub fn table_of(alloc: Global, root: &Obj) -> Result<Table, AllocError>
-    ensures { IfOk result (λ table. Holds table (worded_contracts standard_words (site_contracts root.now))) }
+/// The contracts of a site behind those of the standard library, each part with few of its words, which tell the same of
+/// what roles ask for, as it is known of these contracts. An error only for want of memory.
+pub fn table_of(alloc: Global, known: &Known, root: &Obj) -> Result<Table, AllocError>
+    ensures { IfOk result (λ table. Tells known.now (worded_contracts standard_words (site_contracts root.now)) → HoldsBrief table (worded_contracts standard_words (site_contracts root.now))) }
 {
-    let mut table = standard_table(alloc)?;
+    let mut table = standard_table(alloc, known)?;
     if let Some(contracts) = root.child("contracts") {
-        put_nodes(alloc, &mut table, contracts.children())?;
+        put_nodes(alloc, known, &mut table, contracts.children())?;
     }
     Ok(table)
 }

@@ -34,7 +34,7 @@ fn roles_in(alloc: Global, library: &Library, root: &Obj) -> Result<Vec<Roles>, 
     ensures { IfOk result (λ rs. library.now ≡ with_added standard (site_contracts root.now) → rs.items ≡ site_roles root.now) }
 {
     let known = kinds_of(alloc, library.contracts())?;
-    let table = table_of(alloc, root)?;
+    let table = table_of(alloc, &known, root)?;
     let roles = all_roles(alloc, &table, &known, root)?;
     Ok(roles)
 }

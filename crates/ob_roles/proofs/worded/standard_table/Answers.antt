@@ -4,8 +4,8 @@ use Rattle.ob_roles.proofs.Tabled.{holds_taken}
 use Rattle.ob_roles.proofs.worded.standard_table.Goals as goal
 
 pub loop-contract-preserved : goal.loop-contract-preserved
-loop-contract-preserved c =
+loop-contract-preserved c = λ whole tells.
     let cs = c.contracts-contract-items.result.now in
     let i = c.loop-contract.contract-index in
-    holds_taken c.loop-contract.table c.put_contract.new.table cs i c.contract-item.result c.loop-contract-test.true c.contract-item.is
-    (c.in_ok-put_contract.ensures (worded_contracts [] (take i cs)) c.loop-contract.invariant)
+    holds_taken whole c.put_contract.new.table cs i c.contract-item.result c.loop-contract-test.true c.contract-item.is
+    (c.in_ok-put_contract.ensures whole (worded_contracts [] (take i cs)) tells (c.loop-contract.invariant whole tells))

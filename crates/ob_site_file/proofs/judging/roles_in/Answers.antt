@@ -11,4 +11,6 @@ pub returns : goal.returns
 returns c = λ is.
     let cs = site_contracts c.args.root.now in
     let tells : Tells c.in_ok-known.known (with_added standard cs) = subst (Tells c.in_ok-known.known) (c.contracts.ensures.value ∙ is) c.in_ok-known.ensures in
-    c.in_ok-roles.ensures (worded_contracts standard_words cs) c.in_ok-table.ensures (tells_alike c.in_ok-known.known (with_added standard cs) (worded_contracts standard_words cs) (site_alike cs) tells)
+    let all = worded_contracts standard_words cs in
+    let told : Tells c.in_ok-known.known all = tells_alike c.in_ok-known.known (with_added standard cs) all (site_alike cs) tells in
+    c.in_ok-roles.ensures all (c.in_ok-table.ensures told) told
