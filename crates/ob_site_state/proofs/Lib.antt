@@ -13,3 +13,4 @@ pub mod Storing
 pub mod Recording
 pub mod Aligned
 pub mod Stepping
+pub mod Again

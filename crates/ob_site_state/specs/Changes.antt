@@ -61,6 +61,13 @@ undone (change.Records place len) s = record s { logs = with_log (cut len) place
 undone (change.Event rule status) s = without_event s
 undone (change.Contracts library) s = record s { library = library }
 
+-- a change that notes a library
+abbrev pub is_library : Change → Bool
+is_library (change.Slot node slot) = false
+is_library (change.Records place len) = false
+is_library (change.Event rule status) = false
+is_library (change.Contracts library) = true
+
 -- changes taken back, the last one first
 abbrev pub rewound : List Change → State → State
 rewound [] s = s

@@ -20,7 +20,8 @@ ghost use Rattle.ob_site_rules.specs.Shown.{rule_of};
 ghost use Rattle.ob_plain_state.specs.Fitting.{TakesIfRule};
 ghost use Rattle.ob_site_roles.specs.Roles.{recorders_of, AreRoles};
 ghost use Rattle.ob_site_state.specs.Recorded.{TakesRecord};
-ghost use Rattle.ob_site_state.specs.Changes.{with_log, rewound, CanRewind, AreTold, IsNode, HasEvents};
+ghost use Rattle.std.specs.List.{list_any};
+ghost use Rattle.ob_site_state.specs.Changes.{with_log, is_library, rewound, CanRewind, AreTold, IsNode, HasEvents};
 ghost use Rattle.ob_site_state.specs.Stamping.{stamped_by};
 ghost use Rattle.ob_site_state.specs.Kept.{keys, log_of, LogsAreBy, IsSoundFor};
 ghost use Rattle.ob_site_state.specs.Contents.{state_in};
@@ -89,6 +90,25 @@ impl Model for State {
     ghost view = { kept };
 
     ghost invariant = { IsState };
+}
+
+/// Whether a library is noted.
+fn has_library(changes: &[Change]) -> bool
+    ensures { result ≡ list_any is_library changes.now }
+{
+    changes.iter().any(|change| is_library(change))
+}
+
+/// Whether a change notes a library.
+fn is_library(change: &Change) -> bool
+    ensures { result ≡ is_library change.now }
+{
+    match change {
+        Change::Contracts { library: _ } => true,
+        Change::Slot { node: _, slot: _ }
+        | Change::Records { place: _, len: _ }
+        | Change::Event { rule: _, status: _ } => false,
+    }
 }
 
 /// The later of two moments.
@@ -253,11 +273,16 @@ impl State {
         Ok(())
     }
 
-    /// Takes another library. Want of memory leaves all as it was.
+    /// Takes another library. Want of memory leaves all as it was. A step notes the library before it alone, and lets go
+    /// of those that it takes between.
     pub fn set_library(&mut self, library: Library) -> Result<(), AllocError>
         ensures ok { OnOk result (self.new ≡ record self.old { now = record self.old.now { library = library } }) }
         ensures err { OnErr result (self.new ≡ self.old) }
     {
+        if has_library(&self.found) {
+            self.contents.library = library;
+            return Ok(());
+        }
         self.found.reserve(1)?;
         let library = std::mem::replace(&mut self.contents.library, library);
         self.found.push_reserved(Change::Contracts { library });
