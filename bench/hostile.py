@@ -1,5 +1,5 @@
-"""The forms of bench/hostile.sh: documents for `check`, site files that `stdio` opens, and streams of requests to a site, each by how
-many times something stands in it."""
+"""The forms of bench/hostile.sh: documents for `check`, site files that `stdio` opens, streams of requests to a site, and files of
+`schedule`, each by how many times something stands in it."""
 import math
 import os
 import resource
@@ -11,6 +11,7 @@ MOST = 2.2
 # no form may take more, so that one that grows is told and doesn't take the machine with it
 MEMORY, SECONDS = 4_000_000_000, 30
 BASE = "http://h/obix/"
+AT = ["--at", "1767600000000", "--tick", "1"]
 
 DOCUMENTS = {
     "spaces": (8_000_000, lambda n: b" " * n),
@@ -90,6 +91,9 @@ SITES = {
     "n parts of 500 shown": (100_000, lambda n: site(contract("c", 500), '<obj is="c"/>' * n), 2),
     "words of an is, of 500 parts": (4_000, lambda n: site(contract("c", 500), f'<obj is="{words("c", n)}"/>'), 0),
     "objects over a child": (32_000, lambda n: site(contract("c", 100), '<obj is="c"><int name="c99" val="1"/></obj>' * (n // 40)), 0),
+    "n objects over a child of 4n words": (8_000, lambda n: site(f'<obj href="c"><obj name="v" is="{words("a", 4 * n)}"/></obj>', '<obj is="c"><obj name="v"/></obj>' * n), 0),
+    "n items over it": (16_000, lambda n: site(f'<obj href="c"><obj name="v" is="{words("a", 4 * n)}"/></obj>', '<list of="c">' + '<obj><obj name="v"/></obj>' * n + "</list>"), 0),
+    "n contracts over it": (4_000, lambda n: site(f'<obj href="c"><obj name="v" is="{words("a", 4 * n)}"/></obj>' + each(n, lambda k: f'<obj href="d{k}" is="c"><obj name="v"/></obj>')), 0),
     "objects that nest": (3_000, lambda n: site("", ("<obj>" * 30 + "</obj>" * 30) * n), 0),
     "hrefs with dots": (30_000, lambda n: site("", each(n, lambda k: f'<int href="a/../b/./../p{k}"/>')), 0),
     "an href of n segments": (1_000_000, lambda n: site("", f'<int href="{"a/" * n}{"../" * n}p"/>'), 0),
@@ -166,9 +170,36 @@ STREAMS = {
     "acknowledgements": (10_000, lambda n: behind(logged(n), batches(n // 2, lambda k: item("Invoke", f"/obix/alarm/{k + 1}/ack")))),
     "queries of logs that pass nothing": (20_000, lambda n: behind(logged(n), batches(100, lambda k: item("Invoke", ("/obix/h/query", "/obix/r/query", "/obix/a/query")[k % 3], LATE)))),
     "n turns, n/10 queries of no alarm": (40_000, lambda n: behind(logged(n), batches(n // 10, lambda k: item("Invoke", "/obix/a/query", NONE)))),
+    "n turns, n/10 queries out of time": (40_000, lambda n: behind(logged(n), batches(n // 10, lambda k: item("Invoke", "/obix/a/query", LATE)))),
     "queries of all records": (20_000, lambda n: behind(logged(n), request("POST", "/obix/h/query", f'<obj><int name="limit" val="{n}"/></obj>') + request("POST", "/obix/a/query", f'<obj><int name="limit" val="{n}"/></obj>'))),
     "feeds that pass nothing": (10_000, lambda n: behind(logged(n), MAKE + asking("add", [f"//h{k}/obix/{'a' if k % 2 else 'h'}/feed" for k in range(50)], LATE) + REFRESH)),
+    "n turns, n/10 feeds out of time": (10_000, lambda n: behind(logged(n), MAKE + asking("add", [f"//h{k}/obix/{'a' if k % 2 else 'h'}/feed" for k in range(n // 10)], LATE) + REFRESH)),
     "events of feeds": (5_000, lambda n: (logged(n)[0], MAKE + asking("add", ["/obix/a/feed", "/obix/h/feed", "/obix/r/feed"]) + logged(n)[1] + CHANGES + REFRESH)),
+}
+
+
+def week(path, entries, more=""):
+    """A schedule of a point, with these entries, behind these other children."""
+    return f'<obj>{more}<uri name="point" val="{path}"/><list name="entries">{entries}</list></obj>'
+
+
+def filed(weeks):
+    """A file with these schedules."""
+    return f'<obj><str name="zone" val="UTC0"/><list name="schedules">{weeks}</list></obj>'.encode()
+
+
+def entry(place, value):
+    """An entry at a time of its own."""
+    return f'<obj><int name="day" val="{place % 7 + 1}"/><time name="at" val="{place // 7:02}:00:00"/>{value}</obj>'
+
+
+VALUE = '<int name="value" val="2"/>'
+
+# the files of `schedule`, each with the site that it is for, and the status
+SCHEDULES = {
+    "too many schedules": (20_000, lambda n: (points(1), filed(each(n, lambda k: week(f"/obix/p{k}", "")))), 2),
+    "too many entries": (20_000, lambda n: (points(1), filed(week("/obix/p0", each(n, lambda k: entry(k % 168, VALUE))))), 2),
+    "100 schedules behind n children": (20_000, lambda n: (points(100), filed(each(100, lambda k: week(f"/obix/p{k}", entry(0, VALUE), "" if k else "<int/>" * n)))), 0),
 }
 
 
@@ -206,8 +237,10 @@ def tried(folder, name, made, counts, words):
     for _ in range(3):
         for place in (0, 1):
             opened = point if made(1)[0] is None else f"{folder}/site{place}"
-            said = [*words, opened, "--at", "1767600000000", "--tick", "1"] if words == ["stdio"] else [*words, f"{folder}/in{place}"]
-            results[place] += [spent(said, f"{folder}/in{place}", f"{folder}/used") for _ in range(runs)]
+            asked = f"{folder}/in{place}"
+            said = {"check": [asked], "stdio": [opened, *AT], "schedule": [opened, asked, *AT]}[words[0]]
+            given = os.devnull if words == ["schedule"] else asked
+            results[place] += [spent([*words, *said], given, f"{folder}/used") for _ in range(runs)]
         least = [(min(it[0] for it in own), min(it[1] for it in own), {it[2] for it in own}) for own in results]
         grows = ratio(least[0][0], least[1][0], 0.05), ratio(least[0][1], least[1][1], 16)
         if not any(it > MOST for it in grows) or any(len(own[2]) > 1 for own in least):
@@ -223,6 +256,8 @@ def forms():
         yield name, count, lambda n, made=made: (made(n), b""), ["stdio"], {status}
     for name, (count, made) in STREAMS.items():
         yield name, count, made, ["stdio"], {0, 5, 6}
+    for name, (count, made, status) in SCHEDULES.items():
+        yield name, count, made, ["schedule"], {status}
 
 
 def main():
