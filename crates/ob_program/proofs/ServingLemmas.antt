@@ -1,5 +1,5 @@
 -- The service of a port's doors, and what is printed of it.
-use Rattle.std.proofs.Common.{◌≡◌, ◌≢◌, ℕ, ◌≤◌, Bool, true, false, ◌⊎◌, inl, inr, refl, sym, ap, subst, ◌∙◌, arith, List, [], ◌∷◌, ◌++◌, append_assoc, append-nil, Option, Some, None, Result, Ok, Err}
+use Rattle.std.proofs.Common.{◌≡◌, ◌≢◌, ℕ, ◌≤◌, Bool, true, false, true≢false, ◌⊎◌, inl, inr, refl, sym, ap, subst, ◌∙◌, arith, List, [], ◌∷◌, ◌++◌, append_assoc, append-nil, Option, Some, None, Result, Ok, Err}
 use Rattle.std.specs.Prelude.{IfOk, IfSome, MatchResult, OnErr, is_err}
 use Rattle.ob_io.specs.Faults.{Rose}
 use Rattle.ob_io.specs.Told.{Gains, Gains-none, Gains-then, IsFront}
@@ -120,20 +120,22 @@ module _ {D C : Type 0} (faults handed returned : D → ℕ) (visits : D → Opt
     links = None;
     served = inl (record { port_is = refl; clock_is = refl; none = refl; undone = λ is. cc is });
     prints = prints_none held _ _ (λ is. cc is);
+    unheard = λ _. (refl, refl);
     unrefused = λ fault is. cc is;
     rose = rose;
     writes_later = omega arith;
   }
 
   -- that it listens couldn't be printed
-  pub unannounced : (held held' : Option (List ℕ)) (writes writes' : ℕ) (p p' : PortTold) (t : ClockTold) (end : ServeEnd) → Listened host place p p'
+  pub unannounced : (held held' : Option (List ℕ)) (writes writes' : ℕ) (p p' : PortTold) (t : ClockTold) (end : ServeEnd) → (listened : Listened host place p p') → listened.failed ≡ false
       → Prints held held' (listening_text host place) (Some end ≡ None) → PrintRose end writes writes' → writes ≤ writes' → At_ held held' writes writes' p p' t t end
-  unannounced held held' writes writes' p p' t end listened prints rose later = record {
+  unannounced held held' writes writes' p p' t end listened heard prints rose later = record {
     listening = p';
     listened = listened;
     links = None;
     served = inl (record { port_is = refl; clock_is = refl; none = refl; undone = undone });
     prints = record { text = prints.text; printed = prints.printed; front = front_longer prints.text (listening_text host place) [] prints.front; all = λ is. absurd (undone is) };
+    unheard = λ is. absurd (true≢false (sym is ∙ heard));
     unrefused = λ fault. print_unrefused end writes writes' fault rose;
     rose = print_rose end writes writes' p p' t t rose;
     writes_later = later;
@@ -144,13 +146,13 @@ module _ {D C : Type 0} (faults handed returned : D → ℕ) (visits : D → Opt
 
   -- it listened, that was printed, and then its doors were served
   pub served_there : (held held' held'' : Option (List ℕ)) (writes writes' writes'' : ℕ) (p q r : PortTold) (t v : ClockTold) (announced reported : Option ServeEnd) (links : Option ℕ) (ends : WorkerEnd) (end : ServeEnd) (left : SiteState)
-      → IsSoundSite opening → Listened host place p q
+      → IsSoundSite opening → (listened : Listened host place p q) → listened.failed ≡ false
       → announced ≡ None → Prints held held' (listening_text host place) (announced ≡ None) → writes ≤ writes'
       → ((history : List Call) × ServesDoors faults handed returned visits given pace misses acts closed ns opening wanted quota history q r t v links ends × (left ≡ after acts opening history))
       → HasPortCause ends q.faults r.faults t.faults v.faults
       → Prints held' held'' (served_text links) (reported ≡ None) → IfSome reported (λ f. PrintRose f writes' writes'') → writes' ≤ writes'' → end ≡ end_with ends reported
       → At_ held held'' writes writes'' p r t v end
-  served_there held held' held'' writes writes' writes'' p q r t v announced reported links ends end left sound listened none announces writes_later (history, doors, left_is) cause prints rose writes_last is =
+  served_there held held' held'' writes writes' writes'' p q r t v announced reported links ends end left sound listened heard none announces writes_later (history, doors, left_is) cause prints rose writes_last is =
       let all : announces.text ≡ listening_text host place = announces.all none in
       let reports : IfSome reported (λ f. PrintRose f writes writes'') = rose_since reported rose in
       let well = λ (e : end ≡ Done). well_reported ends reported writes writes'' reports (sym is ∙ e) in
@@ -171,6 +173,7 @@ module _ {D C : Type 0} (faults handed returned : D → ℕ) (visits : D → Opt
           front = subst (λ (x : List ℕ). IsFront (x ++ prints.text) (listening_text host place ++ served_text links)) (sym all) (front_then (listening_text host place) prints.text (served_text links) prints.front);
           all = λ e. ap (λ (x : List ℕ). x ++ prints.text) all ∙ ap (λ (x : List ℕ). listening_text host place ++ x) (prints.all ((well e).0));
         };
+        unheard = λ is. absurd (true≢false (sym is ∙ heard));
         unrefused = λ fault refused. end_unrefused ends reported writes writes'' fault reports (sym is ∙ refused);
         rose = subst (λ (e : ServeEnd). ServeRose e 0 0 writes writes'' p r t v) (sym is) (end_rose ends reported writes writes'' p q r t v listened.later cause.rose reports);
         writes_later = omega (arith, writes_later, writes_last);

@@ -1,5 +1,5 @@
 -- What the service of a file's site at a port comes to.
-use Rattle.std.specs.Prelude.{◌≡◌, ◌≢◌, ◌⊎◌, ⊤, ℕ, ◌≤◌, Bool, false, List, [], ◌∷◌, ◌++◌, codes, decimal, Option, Some, None, IfSome}
+use Rattle.std.specs.Prelude.{◌≡◌, ◌≢◌, ◌⊎◌, ⊤, ℕ, ◌≤◌, Bool, false, true, List, [], ◌∷◌, ◌++◌, codes, decimal, Option, Some, None, IfSome}
 use Rattle.ob_io.specs.Faults.{Rose}
 use Rattle.ob_io.specs.Told.{Gains, IsFront}
 use Rattle.ob_io.specs.Ticks.{Pace}
@@ -140,6 +140,8 @@ module _ {D C : Type 0} (faults handed returned : D → ℕ) (visits : D → Opt
     pub links : Option ℕ
     pub served : ServesNone listening p' t t' links end ⊎ ServesSite opening ns wanted quota listening p' t t' links end
     pub prints : Prints held held' (listening_text host place ++ served_text links) (end ≡ Done)
+    -- a port that couldn't listen ends it, with nothing printed
+    pub unheard : listened.failed ≡ true → (end ≡ PortFault) × (held' ≡ held)
     pub unrefused : (fault : LoadFault) → end ≢ Refused fault
     pub rose : ServeRose end 0 0 writes writes' p p' t t'
     pub writes_later : writes ≤ writes'

@@ -20,7 +20,7 @@ returns-in-Some g c =
     let l = c.listen.ensures in
     unannounced g.P.D.Door.faults g.P.D.Door.handed g.P.D.Door.returned g.P.D.Door.visits g.P.D.Door.is_closed g.C.Clock.given g.C.Clock.pace g.C.Clock.faults
     c.args.site (option_copied c.args.ns) c.args.service.host.now c.args.service.port c.args.service.workers c.args.service.quota
-    _ _ _ _ _ _ _ c.in-Some.end (record { failed = _; listens = l.listens; apart = l.apart; later = l.cause.later })
+    _ _ _ _ _ _ _ c.in-Some.end (record { failed = _; listens = l.listens; apart = l.apart; later = l.cause.later }) (sym c.is_err.ensures.value ∙ c.if-is_err.false)
     c.in-Some.ensures.prints c.in-Some.ensures.rose c.announce.ensures.later
 
 pub returns : goal.returns
@@ -32,5 +32,5 @@ returns g c =
     served_there g.P.D.Door.faults g.P.D.Door.handed g.P.D.Door.returned g.P.D.Door.visits g.P.D.Door.is_closed g.C.Clock.given g.C.Clock.pace g.C.Clock.faults
     c.args.site (option_copied c.args.ns) c.args.service.host.now c.args.service.port c.args.service.workers c.args.service.quota
     _ _ _ _ _ _ _ _ _ _ _ c.announce.result c.report.result _ _ _ _
-    c.requires (record { failed = _; listens = l.listens; apart = l.apart; later = l.cause.later })
+    c.requires (record { failed = _; listens = l.listens; apart = l.apart; later = l.cause.later }) (sym c.is_err.ensures.value ∙ c.if-is_err.false)
     c.in_default.is a.prints a.later s.serves s.cause r.prints r.rose r.later c.end_with.ensures
