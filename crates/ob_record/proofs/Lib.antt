@@ -6,3 +6,4 @@ pub mod RunLaws
 pub mod Reading
 pub mod AuditLaws
 pub mod InPlace
+pub mod BlockLaws

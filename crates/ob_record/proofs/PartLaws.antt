@@ -10,8 +10,8 @@ use Rattle.ob_spelling.specs.Numeral.{AreDigits}
 use Rattle.ob_spelling.proofs.NumeralLemmas.{decimal_numerals}
 use Rattle.ob_values.specs.declared.verb.Verb.{Verb}
 use Rattle.ob_values.specs.declared.verb.Verb.TheVariants.{Get, Put, Post}
-use Rattle.ob_record.specs.Parts.{Parts, verb_word, number_word, size_word, parts_text, AreSmall}
-use Rattle.ob_record.specs.Reading.{◌>>=◌, after, number_at, or_else, with_rest, verb_at, size_at, bytes_at, reply_at, behind_line, parts_at}
+use Rattle.ob_record.specs.Parts.{Parts, verb_word, number_word, size_word, parts_text, open_text, AreSmall}
+use Rattle.ob_record.specs.Reading.{◌>>=◌, after, number_at, or_else, with_rest, verb_at, size_at, bytes_at, reply_at, behind_line, open_at, parts_at}
 use Rattle.ob_record.proofs.Words.{bind_some, skipped, after_found, number_found, number_again}
 
 -- ---- verbs
@@ -117,6 +117,18 @@ regroup : (a b c d e f g h z rest : List ℕ) → (a ++ (b ++ (c ++ (d ++ (e ++ 
     ≡ a ++ (b ++ (c ++ (d ++ (e ++ (f ++ (g ++ (h ++ (z ++ rest))))))))
 regroup a b c d e f g h z rest = simp append_assoc refl
 
+-- eight
+regroup_open : (a b c d e f g h rest : List ℕ) → (a ++ (b ++ (c ++ (d ++ (e ++ (f ++ (g ++ h))))))) ++ rest ≡ a ++ (b ++ (c ++ (d ++ (e ++ (f ++ (g ++ (h ++ rest)))))))
+regroup_open a b c d e f g h rest = simp append_assoc refl
+
+-- the text of an entry is the one without the last line feed, and that line feed
+pub parts_closed : (p : Parts) (rest : List ℕ) → parts_text p ++ rest ≡ open_text p ++ (10 ∷ rest)
+parts_closed p rest =
+    regroup (number_word p.moment 32) (verb_word p.verb) (number_word (length p.target) 32) (number_word (length p.body) 32)
+    (size_word (option_map length p.reply)) p.target p.body (unwrap_or p.reply []) (10 ∷ []) rest
+    ∙ sym (regroup_open (number_word p.moment 32) (verb_word p.verb) (number_word (length p.target) 32) (number_word (length p.body) 32)
+    (size_word (option_map length p.reply)) p.target p.body (unwrap_or p.reply []) (10 ∷ rest))
+
 small_sizes : (reply : Option (List ℕ)) → IfSome reply (λ r. length r < 2 ^ 63) → IsSmallSize (option_map length reply)
 small_sizes None small = tt
 small_sizes (Some r) small = small
@@ -125,19 +137,18 @@ small_reply : (reply : Option (List ℕ)) (size : Option ℕ) → option_map len
 small_reply None size is small = tt
 small_reply (Some r) size is small = subst IsSmallSize (sym is) small
 
-pub parts_again : (p : Parts) (rest : List ℕ) → AreSmall p → parts_at (parts_text p ++ rest) ≡ Some (p, rest)
-unfolding parts_at
-parts_again p rest small =
-    let tail = 10 ∷ rest in
-    let reply = unwrap_or p.reply [] ++ tail in
+pub open_again : (p : Parts) (rest : List ℕ) → AreSmall p → open_at (open_text p ++ rest) ≡ Some (p, rest)
+unfolding open_at
+open_again p rest small =
+    let reply = unwrap_or p.reply [] ++ rest in
     let body = p.body ++ reply in
     let target = p.target ++ body in
     let size = size_word (option_map length p.reply) ++ target in
     let body_len = number_word (length p.body) 32 ++ size in
     let target_len = number_word (length p.target) 32 ++ body_len in
     let verb = verb_word p.verb ++ target_len in
-    ap parts_at (regroup (number_word p.moment 32) (verb_word p.verb) (number_word (length p.target) 32) (number_word (length p.body) 32)
-    (size_word (option_map length p.reply)) p.target p.body (unwrap_or p.reply []) (10 ∷ []) rest)
+    ap open_at (regroup_open (number_word p.moment 32) (verb_word p.verb) (number_word (length p.target) 32) (number_word (length p.body) 32)
+    (size_word (option_map length p.reply)) p.target p.body (unwrap_or p.reply []) rest)
     ∙ rw (
       number_again 32 p.moment verb refl small.moment,
       verb_again p.verb target_len,
@@ -146,8 +157,12 @@ parts_again p rest small =
       size_again (option_map length p.reply) target (small_sizes p.reply small.reply),
       bytes_again p.target body,
       bytes_again p.body reply,
-      reply_again p.reply tail,
+      reply_again p.reply rest,
     ) refl
+
+pub parts_again : (p : Parts) (rest : List ℕ) → AreSmall p → parts_at (parts_text p ++ rest) ≡ Some (p, rest)
+unfolding parts_at
+parts_again p rest small = ap parts_at (parts_closed p rest) ∙ rw (open_again p (10 ∷ rest) small) refl
 
 -- what stands behind the line is found
 pub record FindsBehind (moment : ℕ) (verb : Verb) (target_len body_len : ℕ) (size : Option ℕ) (bytes : List ℕ) (p : Parts) (rest : List ℕ) : Type 0 where
@@ -156,23 +171,21 @@ pub record FindsBehind (moment : ℕ) (verb : Verb) (target_len body_len : ℕ) 
   pub target : length p.target ≡ target_len
   pub body : length p.body ≡ body_len
   pub reply : option_map length p.reply ≡ size
-  pub text : bytes ≡ p.target ++ (p.body ++ (unwrap_or p.reply [] ++ (10 ∷ rest)))
+  pub text : bytes ≡ p.target ++ (p.body ++ (unwrap_or p.reply [] ++ rest))
 
 behind_line_found : (moment : ℕ) (verb : Verb) (target_len body_len : ℕ) (size : Option ℕ) (bytes : List ℕ) (p : Parts) (rest : List ℕ)
     → behind_line moment verb target_len body_len size bytes ≡ Some (p, rest) → FindsBehind moment verb target_len body_len size bytes p rest
 behind_line_found moment verb target_len body_len size bytes p rest e =
     let made : List ℕ → List ℕ → Option (List ℕ) → Parts = λ t b r. record { moment = moment; verb = verb; target = t; body = b; reply = r } in
     let t = bind_some (bytes_at target_len bytes) (λ (target : List ℕ × List ℕ). bytes_at body_len target.1 >>= λ (body : List ℕ × List ℕ). reply_at size body.1
-    >>= λ (reply : Option (List ℕ) × List ℕ). after (10 ∷ []) reply.1 >>= λ (r : List ℕ). Some (made target.0 body.0 reply.0, r)) (p, rest) e in
+    >>= λ (reply : Option (List ℕ) × List ℕ). Some (made target.0 body.0 reply.0, reply.1)) (p, rest) e in
     let b = bind_some (bytes_at body_len t.0.1) (λ (body : List ℕ × List ℕ). reply_at size body.1
-    >>= λ (reply : Option (List ℕ) × List ℕ). after (10 ∷ []) reply.1 >>= λ (r : List ℕ). Some (made t.0.0 body.0 reply.0, r)) (p, rest) t.2 in
-    let r = bind_some (reply_at size b.0.1) (λ (reply : Option (List ℕ) × List ℕ). after (10 ∷ []) reply.1 >>= λ (r : List ℕ). Some (made t.0.0 b.0.0 reply.0, r)) (p, rest) b.2 in
-    let l = bind_some (after (10 ∷ []) r.0.1) (λ (rest : List ℕ). Some (made t.0.0 b.0.0 r.0.0, rest)) (p, rest) r.2 in
-    let parts = some_pair_parts (made t.0.0 b.0.0 r.0.0) p l.0 rest l.2 in
+    >>= λ (reply : Option (List ℕ) × List ℕ). Some (made t.0.0 body.0 reply.0, reply.1)) (p, rest) t.2 in
+    let r = bind_some (reply_at size b.0.1) (λ (reply : Option (List ℕ) × List ℕ). Some (made t.0.0 b.0.0 reply.0, reply.1)) (p, rest) b.2 in
+    let parts = some_pair_parts (made t.0.0 b.0.0 r.0.0) p r.0.1 rest r.2 in
     let target = bytes_found target_len bytes t.0.0 t.0.1 t.1 in
     let body = bytes_found body_len t.0.1 b.0.0 b.0.1 b.1 in
     let reply = reply_found size b.0.1 r.0.0 r.0.1 r.1 in
-    let last = after_found (10 ∷ []) r.0.1 l.0 l.1 in
     subst (λ (q : Parts). FindsBehind moment verb target_len body_len size bytes q rest) parts.0 (record {
       moment_is = refl;
       verb_is = refl;
@@ -180,7 +193,7 @@ behind_line_found moment verb target_len body_len size bytes p rest e =
       body = body.0;
       reply = reply.0;
       text = target.1 ∙ ap (λ (x : List ℕ). t.0.0 ++ x) (body.1 ∙ ap (λ (x : List ℕ). b.0.0 ++ x) (reply.1
-          ∙ ap (λ (x : List ℕ). unwrap_or r.0.0 [] ++ x) (last ∙ ap (λ (x : List ℕ). 10 ∷ x) parts.1)));
+          ∙ ap (λ (x : List ℕ). unwrap_or r.0.0 [] ++ x) parts.1));
     })
 
 -- a line of these sizes, and what follows
@@ -189,7 +202,7 @@ with_line moment verb target body size tail =
     number_word moment 32 ++ (verb_word verb ++ (number_word target 32 ++ (number_word body 32 ++ (size_word size ++ tail))))
 
 abbrev pub behind_text : Parts → List ℕ → List ℕ
-behind_text p rest = p.target ++ (p.body ++ (unwrap_or p.reply [] ++ (10 ∷ rest)))
+behind_text p rest = p.target ++ (p.body ++ (unwrap_or p.reply [] ++ rest))
 
 lined : (bytes : List ℕ) (moment : ℕ) (b1 : List ℕ) (verb : Verb) (b2 : List ℕ) (target : ℕ) (b3 : List ℕ) (body : ℕ) (b4 : List ℕ) (size : Option ℕ) (b5 tail : List ℕ)
     → bytes ≡ number_word moment 32 ++ b1 → b1 ≡ verb_word verb ++ b2 → b2 ≡ number_word target 32 ++ b3 → b3 ≡ number_word body 32 ++ b4 → b4 ≡ size_word size ++ b5 → b5 ≡ tail
@@ -204,9 +217,9 @@ sizes_are : (p : Parts) (moment : ℕ) (verb : Verb) (target body : ℕ) (size :
 sizes_are p moment verb target body size tail e1 e2 e3 e4 e5 =
     λ i. with_line (sym e1 i) (sym e2 i) (sym e3 i) (sym e4 i) (sym e5 i) tail
 
-pub parts_found : (bytes : List ℕ) (p : Parts) (rest : List ℕ) → parts_at bytes ≡ Some (p, rest) → AreSmall p × (bytes ≡ parts_text p ++ rest)
-unfolding parts_at
-parts_found bytes p rest e =
+pub open_found : (bytes : List ℕ) (p : Parts) (rest : List ℕ) → open_at bytes ≡ Some (p, rest) → AreSmall p × (bytes ≡ open_text p ++ rest)
+unfolding open_at
+open_found bytes p rest e =
     let m = bind_some (number_at 32 bytes) (λ (moment : ℕ × List ℕ). verb_at moment.1 >>= λ (verb : Verb × List ℕ). number_at 32 verb.1
     >>= λ (target : ℕ × List ℕ). number_at 32 target.1 >>= λ (body : ℕ × List ℕ). size_at body.1
     >>= λ (size : Option ℕ × List ℕ). behind_line moment.0 verb.0 target.0 body.0 size.0 size.1) (p, rest) e in
@@ -232,6 +245,16 @@ parts_found bytes p rest e =
       },
       lined bytes m.0.0 m.0.1 v.0.0 v.0.1 t.0.0 t.0.1 b.0.0 b.0.1 s.0.0 s.0.1 (behind_text p rest) moment.1 verb target.1 body.1 size.1 last.text
           ∙ sizes_are p m.0.0 v.0.0 t.0.0 b.0.0 s.0.0 (behind_text p rest) last.moment_is last.verb_is last.target last.body last.reply
-          ∙ sym (regroup (number_word p.moment 32) (verb_word p.verb) (number_word (length p.target) 32) (number_word (length p.body) 32)
-          (size_word (option_map length p.reply)) p.target p.body (unwrap_or p.reply []) (10 ∷ []) rest),
+          ∙ sym (regroup_open (number_word p.moment 32) (verb_word p.verb) (number_word (length p.target) 32) (number_word (length p.body) 32)
+          (size_word (option_map length p.reply)) p.target p.body (unwrap_or p.reply []) rest),
     )
+
+pub parts_found : (bytes : List ℕ) (p : Parts) (rest : List ℕ) → parts_at bytes ≡ Some (p, rest) → AreSmall p × (bytes ≡ parts_text p ++ rest)
+unfolding parts_at
+parts_found bytes p rest e =
+    let o = bind_some (open_at bytes) (λ (entry : Parts × List ℕ). after (10 ∷ []) entry.1 >>= λ (r : List ℕ). Some (entry.0, r)) (p, rest) e in
+    let l = bind_some (after (10 ∷ []) o.0.1) (λ (r : List ℕ). Some (o.0.0, r)) (p, rest) o.2 in
+    let parts = some_pair_parts o.0.0 p l.0 rest l.2 in
+    let found = open_found bytes o.0.0 o.0.1 o.1 in
+    let last = after_found (10 ∷ []) o.0.1 l.0 l.1 ∙ ap (λ (x : List ℕ). 10 ∷ x) parts.1 in
+    subst (λ (q : Parts). AreSmall q × (bytes ≡ parts_text q ++ rest)) parts.0 (found.0, found.1 ∙ ap (λ (x : List ℕ). open_text o.0.0 ++ x) last ∙ sym (parts_closed o.0.0 rest))

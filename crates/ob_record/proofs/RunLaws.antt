@@ -12,7 +12,7 @@ use Rattle.ob_record.specs.declared.run.Entry.{Entry}
 use Rattle.ob_record.specs.declared.run.Told.{Told}
 use Rattle.ob_record.specs.declared.run.Told.TheVariants.{Reply, NoMemory}
 use Rattle.ob_record.specs.Parts.{Parts, number_word, AreSmall}
-use Rattle.ob_record.specs.Reading.{◌>>=◌, after, number_at, parts_at}
+use Rattle.ob_record.specs.Reading.{◌>>=◌, after, number_at, open_at, parts_at}
 use Rattle.ob_record.specs.Runs.{Recorded, body_text, reply_bytes, parts_of, entry_text, IsBody, IsEntry, IsRun, BeginsNone, first_line, boot_line, head_text, run_text}
 use Rattle.ob_record.specs.Broken.{in_first_line, in_second_line, in_entry, OneRun, OneFault, SpelledIsUnbroken}
 use Rattle.ob_record.proofs.Words.{number_again}
@@ -41,7 +41,7 @@ small_parts e h = record {
 
 -- no entry is read where there is nothing
 nothing_read : parts_at [] ≡ None
-unfolding parts_at number_at digits_front after_digits
+unfolding parts_at open_at number_at digits_front after_digits
 nothing_read = refl
 
 pub nothing_begins : BeginsNone []

@@ -1,5 +1,6 @@
 pub mod Parts
 pub mod Runs
+pub mod Blocks
 pub mod Broken
 pub mod Legal
 pub mod Rows

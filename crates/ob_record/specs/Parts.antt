@@ -43,6 +43,13 @@ parts_text p =
     ++ (size_word (option_map length p.reply)
     ++ (p.target ++ (p.body ++ (unwrap_or p.reply [] ++ 10 ∷ [])))))))
 
+-- the same without the last line feed
+abbrev pub open_text : Parts → List ℕ
+open_text p =
+    number_word p.moment 32 ++ (verb_word p.verb ++ (number_word (length p.target) 32 ++ (number_word (length p.body) 32
+    ++ (size_word (option_map length p.reply)
+    ++ (p.target ++ (p.body ++ unwrap_or p.reply []))))))
+
 -- numbers of a record are below 2^63
 pub record AreSmall (p : Parts) : Type 0 where
   pub moment : p.moment < 2 ^ 63

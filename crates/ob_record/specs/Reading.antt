@@ -66,14 +66,28 @@ behind_line moment verb target_len body_len size bytes = do
   target ← bytes_at target_len bytes
   body ← bytes_at body_len target.1
   reply ← reply_at size body.1
-  rest ← after (10 ∷ []) reply.1
-  Some (record { moment = moment; verb = verb; target = target.0; body = body.0; reply = reply.0 }, rest)
+  Some (record { moment = moment; verb = verb; target = target.0; body = body.0; reply = reply.0 }, reply.1)
 
-unfoldable pub parts_at : List ℕ → Option (Parts × List ℕ)
-parts_at bytes = do
+-- the parts of an entry, whose last line feed isn't read
+unfoldable pub open_at : List ℕ → Option (Parts × List ℕ)
+open_at bytes = do
   moment ← number_at 32 bytes
   verb ← verb_at moment.1
   target ← number_at 32 verb.1
   body ← number_at 32 target.1
   size ← size_at body.1
   behind_line moment.0 verb.0 target.0 body.0 size.0 size.1
+
+unfoldable pub parts_at : List ℕ → Option (Parts × List ℕ)
+parts_at bytes = do
+  entry ← open_at bytes
+  rest ← after (10 ∷ []) entry.1
+  Some (entry.0, rest)
+
+-- a block, where the line that stands first was read, if it is that of an opening
+abbrev pub behind_boot : List ℕ → Option (ℕ × List ℕ) → Option ((Option ℕ × Parts) × List ℕ)
+behind_boot bytes None = open_at bytes >>= λ entry. Some ((None, entry.0), entry.1)
+behind_boot bytes (Some boot) = open_at boot.1 >>= λ entry. Some ((Some boot.0, entry.0), entry.1)
+
+unfoldable pub block_at : List ℕ → Option ((Option ℕ × Parts) × List ℕ)
+block_at bytes = behind_boot bytes (boot_at bytes)

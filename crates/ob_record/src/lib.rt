@@ -5,6 +5,7 @@
 #![tactic(auto)]
 
 mod auditing;
+mod block;
 mod decode;
 mod fault;
 mod laws;
@@ -14,6 +15,7 @@ mod run;
 mod write;
 
 pub use auditing::{Verdict, audit};
+pub use block::block_len;
 pub use fault::RecordFault;
 pub use laws::{one_fault, one_run, spelled_is_unbroken, worked_rows};
 pub use read::read_record;

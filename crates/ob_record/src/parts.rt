@@ -113,10 +113,10 @@ fn take_reply(bytes: &[u8], size: Option<u64>) -> Option<(Option<&[u8]>, &[u8])>
     Some((Some(reply), rest))
 }
 
-/// The parts of the entry that stands first, and what follows.
-#[tactic(auto, unfolding(crate::specs::Reading::parts_at))]
-pub(crate) fn take_parts(bytes: &[u8]) -> Option<(Slices<'_>, &[u8])>
-    ensures { option_map (λ x. (parts_of_slices x.0, x.1.now)) result ≡ reading.parts_at bytes.now }
+/// The parts of the entry that stands first, and what follows them, from its last line feed on.
+#[tactic(auto, unfolding(crate::specs::Reading::open_at))]
+pub(crate) fn take_open_parts(bytes: &[u8]) -> Option<(Slices<'_>, &[u8])>
+    ensures { option_map (λ x. (parts_of_slices x.0, x.1.now)) result ≡ reading.open_at bytes.now }
 {
     let (moment, rest) = take_number(bytes, b' ')?;
     let (verb, rest) = take_verb(rest)?;
@@ -126,7 +126,6 @@ pub(crate) fn take_parts(bytes: &[u8]) -> Option<(Slices<'_>, &[u8])>
     let (target, rest) = take_bytes(rest, target)?;
     let (body, rest) = take_bytes(rest, body)?;
     let (reply, rest) = take_reply(rest, reply)?;
-    let rest = after(rest, b"\n")?;
     let parts = Slices {
         moment,
         verb,
@@ -134,5 +133,15 @@ pub(crate) fn take_parts(bytes: &[u8]) -> Option<(Slices<'_>, &[u8])>
         body,
         reply,
     };
+    Some((parts, rest))
+}
+
+/// The parts of the entry that stands first, and what follows.
+#[tactic(auto, unfolding(crate::specs::Reading::parts_at))]
+pub(crate) fn take_parts(bytes: &[u8]) -> Option<(Slices<'_>, &[u8])>
+    ensures { option_map (λ x. (parts_of_slices x.0, x.1.now)) result ≡ reading.parts_at bytes.now }
+{
+    let (parts, rest) = take_open_parts(bytes)?;
+    let rest = after(rest, b"\n")?;
     Some((parts, rest))
 }

@@ -17,7 +17,7 @@ const FIRST_LINE: &[u8] = b"obix-record 1\n";
 
 /// The number of the second line, and what follows; None where it has another form.
 #[tactic(auto, unfolding(crate::specs::Reading::boot_at))]
-fn take_boot(bytes: &[u8]) -> Option<(u64, &[u8])>
+pub(crate) fn take_boot(bytes: &[u8]) -> Option<(u64, &[u8])>
     ensures { option_map (λ x. (x.0, x.1.now)) result ≡ boot_at bytes.now }
 {
     let rest = after(bytes, b"boot ")?;

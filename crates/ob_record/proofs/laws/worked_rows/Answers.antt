@@ -2,7 +2,7 @@ use Rattle.std.proofs.Common.{◌≡◌, ℕ, List, [], ◌∷◌, ◌++◌, len
 use Rattle.std.proofs.lemmas.Fmt.{decimal_digit, decimal_step}
 use Rattle.ob_spelling.specs.DigitRun.{digits_front, after_digits}
 use Rattle.ob_record.specs.Broken.{in_entry}
-use Rattle.ob_record.specs.Reading.{boot_at, number_at, parts_at, verb_at}
+use Rattle.ob_record.specs.Reading.{boot_at, number_at, open_at, parts_at, verb_at}
 use Rattle.ob_record.specs.Rows.{run_of}
 use Rattle.ob_record.specs.Runs.{run_text}
 use Rattle.ob_record.proofs.Reading.{none_parted, no_first_line, no_second_line}
@@ -36,7 +36,7 @@ opened : run_text (run_of 0 []) ≡ codes "obix-record 1\nboot 0\n"
 opened = rw zero_is refl
 
 cut_unread : parts_at (codes "0 GET") ≡ None
-unfolding parts_at number_at verb_at digits_front after_digits
+unfolding parts_at open_at number_at verb_at digits_front after_digits
 cut_unread = refl
 
 two_zeros : boot_at (codes "boot 00\n") ≡ None
