@@ -173,7 +173,7 @@ STREAMS = {
     "n turns, n/10 queries out of time": (40_000, lambda n: behind(logged(n), batches(n // 10, lambda k: item("Invoke", "/obix/a/query", LATE)))),
     "queries of all records": (20_000, lambda n: behind(logged(n), request("POST", "/obix/h/query", f'<obj><int name="limit" val="{n}"/></obj>') + request("POST", "/obix/a/query", f'<obj><int name="limit" val="{n}"/></obj>'))),
     "feeds that pass nothing": (10_000, lambda n: behind(logged(n), MAKE + asking("add", [f"//h{k}/obix/{'a' if k % 2 else 'h'}/feed" for k in range(50)], LATE) + REFRESH)),
-    "n turns, n/10 feeds out of time": (10_000, lambda n: behind(logged(n), MAKE + asking("add", [f"//h{k}/obix/{'a' if k % 2 else 'h'}/feed" for k in range(n // 10)], LATE) + REFRESH)),
+    "n turns, n/20 feeds out of time": (20_000, lambda n: behind(logged(n), MAKE + asking("add", [f"//h{k}/obix/{'a' if k % 2 else 'h'}/feed" for k in range(n // 20)], LATE) + REFRESH * 4)),
     "events of feeds": (5_000, lambda n: (logged(n)[0], MAKE + asking("add", ["/obix/a/feed", "/obix/h/feed", "/obix/r/feed"]) + logged(n)[1] + CHANGES + REFRESH)),
 }
 
