@@ -1,8 +1,8 @@
 //! Few words in place of many, which tell the same of what roles ask for.
-ghost use Rattle.std.specs.Prelude.{◌≡◌, ◌++◌, ◌∷◌, [], Option, Some, None, cond, option_map, IfOk, IfSome, IsTrue, OnOk};
+ghost use Rattle.std.specs.Prelude.{◌≡◌, ℕ, ◌++◌, ◌∷◌, [], Option, Some, None, cond, option_map, slice_get, IfOk, IfSome, IsTrue, OnOk};
 ghost use Rattle.std.specs.List.{list_all};
 ghost use Rattle.std.specs.Option.{option_copied};
-ghost use Rattle.ob_object.specs.Object.{Object};
+ghost use Rattle.ob_object.specs.Object.{Object, children};
 ghost use Rattle.ob_object.specs.Words.{is_word};
 ghost use Rattle.ob_contracts.specs.Ancestry.{own_words};
 ghost use Rattle.ob_contracts.specs.Inherit.{Contracts, Words, or_else, present};
@@ -120,6 +120,23 @@ pub(crate) fn few_if(
         }
         None => Ok(None),
     }
+}
+
+/// Few of the words that an object gives to its children. Where it has no child none are looked up.
+pub(crate) fn few_given(
+    alloc: Global,
+    known: &Known,
+    object: &Obj,
+    gives: Option<&Words>,
+) -> Result<Option<Words>, AllocError>
+    ensures { IfOk result (λ few. (lib : Contracts) (place : ℕ) (child : Object) → Some child ≡ slice_get (children object.now) place → Tells known.now lib
+        → few ≡ option_map (few_words lib) (option_copied gives.entry)) }
+{
+    if object.children().is_empty() {
+        return Ok(None);
+    }
+    let few = few_if(alloc, known, gives)?;
+    Ok(few)
 }
 
 /// Few of an object's own words, or else the few that its list or feed gives, or else the few of the child that it

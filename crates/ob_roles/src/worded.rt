@@ -17,7 +17,7 @@ ghost use Rattle.ob_roles.specs.Kinds.{Tells};
 ghost use Rattle.ob_roles.specs.Tables.{Holds, HoldsBrief};
 ghost use Rattle.ob_roles.specs.Worded.{with_more, worded_at};
 
-use crate::few::{copied, few_if, few_own};
+use crate::few::{copied, few_given, few_own};
 use crate::kinds::Known;
 use crate::library::node_path;
 use crate::naming::{find_over, names_in};
@@ -99,7 +99,7 @@ fn worded<'a>(
     let head = object.head();
     let from = sources(alloc, table, head, implied, over)?;
     let gives = implied_by(head, from.as_slice());
-    let few = few_if(alloc, known, gives)?;
+    let few = few_given(alloc, known, object, gives)?;
     let given = few.as_ref();
     let names = names_in(alloc, from.as_slice())?;
     let mut made = Obj::from_head(alloc, thin_head(object, words, gives)?);

@@ -56,7 +56,8 @@ loop-child-preserved t c = λ whole lib o tells holds is.
     let over = overridden x.head.name from in
     let below : option_copied c.find_over-below.result ≡ option_map (brief whole) over =
     c.find_over-below.ensures fs named ∙ ap (λ (k : Head). overridden k.name fs) c.head-part.ensures.value ∙ over_like whole x.head.name fs from like in
-    let few : option_copied c.as_ref-given.result ≡ option_map (few_words whole) g = c.as_ref-given.ensures.value ∙ c.in_ok-few.ensures whole tells ∙ ap (option_map (few_words whole)) which in
+    let here : Some x ≡ slice_get (children y) i = child_here y x _ _ c.children-child-items.ensures.value c.loop-child-test.true c.child-item.is in
+    let few : option_copied c.as_ref-given.result ≡ option_map (few_words whole) g = c.as_ref-given.ensures.value ∙ c.in_ok-few.ensures whole i x here tells ∙ ap (option_map (few_words whole)) which in
     let own : option_copied c.as_ref.result ≡ option_map (few_words whole) (own_words x.head g over) =
     c.as_ref.ensures.value ∙ c.in_ok-own.ensures whole g over tells few below ∙ ap (λ (k : Head). option_map (few_words whole) (own_words k g over)) c.head-part.ensures.value in
     let made : c.in_ok-inner.inner ≡ brief whole (worded_at lib g over x) =
