@@ -88,6 +88,7 @@ SITES = {
     "contracts of 500 parts": (150, lambda n: site(contract("c", 500) + each(n, lambda k: f'<obj href="d{k}" is="c"/>')), 0),
     "a contract of n parts of 500": (100_000, lambda n: site(contract("c", 500) + f'<obj href="d">{"""<obj is="c"/>""" * n}</obj>'), 2),
     "a contract: n words, n items": (12_000, lambda n: site(each(n, lambda k: f'<obj href="c{k}"><int name="n{k}"/></obj>') + f'<obj href="d"><list of="{" ".join(f"c{k}" for k in range(n))}">' + "<obj/>" * n + "</list></obj>"), 2),
+    "contracts: n/32 words, n items": (16_000, lambda n: site(f'<list href="c" of="{words("a", n // 32)}"/>' + each(n // 500, lambda k: f'<list href="d{k}" is="c">{"<obj/>" * 500}</list>')), 0),
     "n parts of 500 shown": (100_000, lambda n: site(contract("c", 500), '<obj is="c"/>' * n), 2),
     "words of an is, of 500 parts": (4_000, lambda n: site(contract("c", 500), f'<obj is="{words("c", n)}"/>'), 0),
     "objects over a child": (32_000, lambda n: site(contract("c", 100), '<obj is="c"><int name="c99" val="1"/></obj>' * (n // 40)), 0),
@@ -128,6 +129,8 @@ MAKE = request("POST", "/obix/watchService/make")
 REFRESH = request("POST", "/obix/watch/1/pollRefresh")
 CHANGES = request("POST", "/obix/watch/1/pollChanges")
 LATE = '<obj name="in"><abstime name="start" val="2999-01-01T00:00:00Z"/></obj>'
+# the alarms that the first two requests of a run raise
+FIRST = '<obj name="in"><abstime name="start" val="2026-01-05T08:00:00Z"/><abstime name="end" val="2026-01-05T08:00:00.001Z"/></obj>'
 NONE = '<obj name="in"><int name="limit" val="0"/></obj>'
 HEAD = b"GET /obix/n HTTP/1.1\r\n"
 
@@ -135,6 +138,11 @@ HEAD = b"GET /obix/n HTTP/1.1\r\n"
 def body(count):
     """An int with a list of so many words and items in it."""
     return f'<int val="8"><list of="{words("a", count)}">' + "<obj/>" * count + "</list></int>"
+
+
+def parted(kind, given, count, more=""):
+    """A site with a node `b` of this kind that has so many children."""
+    return site("", f'<{kind} href="b" {given}>{each(count, lambda k: f"""<obj name="c{k}"/>""")}</{kind}>{more}')
 
 
 def behind(logs, more):
@@ -163,8 +171,13 @@ STREAMS = {
     "hrefs of one node, added": (4_000, lambda n: (points(100), MAKE + asking("add", [f"//h{k}/obix/p0" for k in range(n)]))),
     "100 calls of a root of n points": (2_000, lambda n: (points(n), batches(100, lambda k: item("Invoke", "/obix/")))),
     "100 writes to a root of n points": (2_000, lambda n: (points(n), batches(100, lambda k: item("Write", "/obix/", '<int name="in" val="1"/>')))),
+    "writes above the max, n children": (4_000, lambda n: (parted("int", 'val="1" max="9" writable="true"', n), batches(100, lambda k: item("Write", "/obix/b", '<int name="in" val="10"/>')))),
+    "writePoints above it, n children": (4_000, lambda n: (parted("int", 'val="1" max="9" is="obix:WritablePoint" writable="true"', n), batches(100, lambda k: item("Invoke", "/obix/b/writePoint", '<obj name="in"><int name="value" val="10"/></obj>')))),
+    "writes to an enum, a range of n": (4_000, lambda n: (parted("list", 'is="obix:Range"', n, '<enum href="e" val="c0" range="b" writable="true"/>'), batches(100, lambda k: item("Write", "/obix/e", f'<enum name="in" val="{"x" if k % 2 else "c0"}"/>')))),
+    "hrefs without room, of 100 children": (4_200, lambda n: (parted("obj", "", 100), MAKE + asking("add", [f"//h{k}/obix/b" for k in range(n)]))),
     "100 writes to a default, n contracts": (500, lambda n: (site('<obj href="d"><int name="v" href="d/v" val="0" writable="true"/></obj>' + each(n, lambda k: contract(f"c{k}", 1))), batches(100, lambda k: item("Write", "/obix/d/v", f'<int name="in" val="{k + 1}"/>')))),
     "100 reads in a list of n words": (2_000, lambda n: (site("", f'<list of="{words("a", n)}"><int href="i" val="1"/></list>'), batches(100, lambda k: item("Read", "/obix/i")))),
+    "reads of n items, an inherited of": (8_000, lambda n: (site(f'<list href="c" of="{words("a", n)}"/>', '<list is="c">' + each(n, lambda k: f'<int href="i{k}" val="1"/>') + "</list>"), batches(n, lambda k: item("Read", f"/obix/i{k}")))),
     "dots in an item's href": (100_000, lambda n: (None, batches(1, lambda k: item("Read", "a/" * n + "../" * n + "n")))),
     "writes to logs": (50_000, lambda n: logged(n)),
     "acknowledgements": (10_000, lambda n: behind(logged(n), batches(n // 2, lambda k: item("Invoke", f"/obix/alarm/{k + 1}/ack")))),
@@ -174,6 +187,7 @@ STREAMS = {
     "queries of all records": (20_000, lambda n: behind(logged(n), request("POST", "/obix/h/query", f'<obj><int name="limit" val="{n}"/></obj>') + request("POST", "/obix/a/query", f'<obj><int name="limit" val="{n}"/></obj>'))),
     "feeds that pass nothing": (10_000, lambda n: behind(logged(n), MAKE + asking("add", [f"//h{k}/obix/{'a' if k % 2 else 'h'}/feed" for k in range(50)], LATE) + REFRESH)),
     "n turns, n/20 feeds out of time": (20_000, lambda n: behind(logged(n), MAKE + asking("add", [f"//h{k}/obix/{'a' if k % 2 else 'h'}/feed" for k in range(n // 20)], LATE) + REFRESH * 4)),
+    "n turns, 1,000 feeds of the first": (20_000, lambda n: (logged(n)[0], request("PUT", "/obix/p", '<int val="20"/>') + request("PUT", "/obix/p", '<int val="5"/>') + logged(n)[1] + MAKE + asking("add", [f"//h{k}/obix/a/feed" for k in range(1_000)], FIRST) + REFRESH * 4)),
     "events of feeds": (5_000, lambda n: (logged(n)[0], MAKE + asking("add", ["/obix/a/feed", "/obix/h/feed", "/obix/r/feed"]) + logged(n)[1] + CHANGES + REFRESH)),
 }
 
@@ -197,6 +211,7 @@ VALUE = '<int name="value" val="2"/>'
 
 # the files of `schedule`, each with the site that it is for, and the status
 SCHEDULES = {
+    "60 entries, a point of n children": (8_000, lambda n: (parted("int", 'val="1" max="9" is="obix:WritablePoint" writable="true"', n), filed(week("/obix/b", each(60, lambda k: entry(k, VALUE))))), 0),
     "too many schedules": (20_000, lambda n: (points(1), filed(each(n, lambda k: week(f"/obix/p{k}", "")))), 2),
     "too many entries": (20_000, lambda n: (points(1), filed(week("/obix/p0", each(n, lambda k: entry(k % 168, VALUE))))), 2),
     "100 schedules behind n children": (20_000, lambda n: (points(100), filed(each(100, lambda k: week(f"/obix/p{k}", entry(0, VALUE), "" if k else "<int/>" * n)))), 0),

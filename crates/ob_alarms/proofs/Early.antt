@@ -117,12 +117,12 @@ raised_by rules (e ∷ es) alarms h p a at = by_case e.what (slice_get alarms n)
     by_case what.Acked (Some x) is shows of old = changed (λ (a : Alarm). record a { ack = None }) (λ a. refl) old
     by_case what.Normal (Some x) is shows of old = changed (λ (a : Alarm). record a { normal = None }) (λ a. refl) old
 
-get_left : {A : Type 0} (xs ys : List A) (n : ℕ) → n < length xs → slice_get (xs ++ ys) n ≡ slice_get xs n
+pub get_left : {A : Type 0} (xs ys : List A) (n : ℕ) → n < length xs → slice_get (xs ++ ys) n ≡ slice_get xs n
 get_left [] ys n lt = absurd (omega arith)
 get_left (x ∷ xs) ys zero lt = refl
 get_left (x ∷ xs) ys (suc n) lt = get_left xs ys n (omega arith)
 
-get_last : {A : Type 0} (xs : List A) (y : A) → slice_get (xs ++ y ∷ []) (length xs) ≡ Some y
+pub get_last : {A : Type 0} (xs : List A) (y : A) → slice_get (xs ++ y ∷ []) (length xs) ≡ Some y
 get_last [] y = refl
 get_last (x ∷ xs) y = get_last xs y
 

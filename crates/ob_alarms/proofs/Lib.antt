@@ -8,3 +8,4 @@ pub mod Paths
 pub mod Rewound
 pub mod Ordered
 pub mod Early
+pub mod EventsShown

@@ -33,7 +33,7 @@ later_before n (Some t) h = omega arith
 wider : (n : ℕ) (a : Alarm) → IsBefore n a → IsBefore (suc n) a
 wider n a h = (later_before n a.normal h.0, later_before n (ack_time a.ack) h.1)
 
-some_inj : {A : Type 0} (a b : A) → Some a ≡ Some b → a ≡ b
+pub some_inj : {A : Type 0} (a b : A) → Some a ≡ Some b → a ≡ b
 some_inj a b e = cc
 
 turn_before : (o : Option Ack) (turn : Turn) (n : ℕ) → turn.event < n → option_map (λ k. k.turn) o ≡ Some turn → Before n (ack_time o)
@@ -74,7 +74,7 @@ step w turn n alarms k lt shows old p a at = by_case w (slice_get alarms n) refl
           | inr f ↦ wider k a (old p a (get-changed_other n p g alarms f.1 ∙ at))
         ]
 
-nothing : (p : ℕ) (a : Alarm) (l : List Alarm) → l ≡ [] → slice_get l p ≡ Some a → ⊥
+pub nothing : (p : ℕ) (a : Alarm) (l : List Alarm) → l ≡ [] → slice_get l p ≡ Some a → ⊥
 nothing p a [] e at = cc
 nothing p a (x ∷ l) e at = cc
 
@@ -126,7 +126,7 @@ ack_later k (Some a) turn lt h =
     let e = beyond a.turn.event k (subst (λ (t : Turn). k < t.event) (sym same) lt) in
     rw e refl
 
-get_take : {A : Type 0} (xs : List A) (m n : ℕ) → n < m → slice_get (take m xs) n ≡ slice_get xs n
+pub get_take : {A : Type 0} (xs : List A) (m n : ℕ) → n < m → slice_get (take m xs) n ≡ slice_get xs n
 get_take [] zero n lt = refl
 get_take [] (suc m) n lt = refl
 get_take (x ∷ xs) zero n lt = absurd (omega arith)

@@ -6,3 +6,4 @@ pub mod Within
 pub mod AlarmObjects
 pub mod Soundness
 pub mod AsOf
+pub mod Shown

@@ -1,5 +1,7 @@
 //! The alarms that rules raise.
 ghost use Rattle.std.specs.Prelude.{ℕ, ◌≡◌, ◌↔◌, ◌+◌, ◌≤◌, ◌<◌, ◌^◌, length, Option, Some, None, slice_get, drop, option_map, option_copied, not, is_some, IsTrue, IfOk, OnOk, OnErr, All, []};
+ghost use Rattle.std.specs.List.{Contains};
+ghost use Rattle.std.specs.List.Sorted.{IsStrictlyIncreasing};
 ghost use Rattle.ob_alarms.specs.AlarmObjects.{alarm_obj, event_obj};
 ghost use Rattle.ob_alarms.specs.AsOf.{told_event};
 ghost use Rattle.ob_alarms.specs.Limits.{IsRule, Takes};
@@ -8,12 +10,14 @@ ghost use Rattle.ob_alarms.specs.Changes.{alarm_of, current, before_what, outsid
 ghost use Rattle.ob_alarms.specs.States.{status_of, is_in_alarm, is_acked};
 ghost use Rattle.ob_alarms.specs.Soundness.{At, AtMostOne, CanGoBack, SourcesDiffer, AreFound, rule_of};
 ghost use Rattle.ob_alarms.specs.Within.{HasAllWithin, is_before};
+ghost use Rattle.ob_alarms.specs.Shown.{IsOfPart};
 ghost use Rattle.ob_alarms.specs.declared.alarm.Event.{Event as Told};
 
 use crate::alarm::{Ack, Alarm, Event, Turn, What};
 use crate::copying::{copy_events, copy_rules};
 use crate::objects::{ack_up_to, alarm_object, up_to};
 use crate::rule::{Num, Rule};
+use crate::shown::numbers_shown;
 use crate::tracking::Tracking;
 use crate::within::{has_none_after, part_within};
 use ob_object::{Obj, Status};
@@ -231,6 +235,20 @@ impl Alarms {
             Some(alarm) => alarm.raised.event,
             None => self.events.len() as u64,
         }
+    }
+
+    /// The numbers of the events of a part of the alarms, from a place up to another, rising. The first alarm
+    /// has the place 0, and the first event ever is 0.
+    ///
+    /// It costs a sort of these numbers, whatever other events there are.
+    pub fn events_of(&self, from: u64, to: u64) -> Result<Vec<u64>, AllocError>
+        ensures rising { IfOk result (λ numbers. IsStrictlyIncreasing numbers.items) }
+        ensures exactly { IfOk result (λ numbers. (event : ℕ) → Contains numbers.items event ↔ IsOfPart self.now.events from to event) }
+    {
+        let alarms = self.list.all();
+        let to = (to as usize).min(alarms.len());
+        let from = (from as usize).min(to);
+        numbers_shown(self.alloc, &alarms[from..to])
     }
 
     /// Whether there is a rule at that place, and a value, if one is given, is of the kind of its limits,

@@ -11,6 +11,7 @@ mod board;
 mod copying;
 mod objects;
 mod rule;
+mod shown;
 mod tracking;
 mod within;
 

@@ -24,6 +24,7 @@ mod standard;
 pub use adding::LibFault;
 pub use build::{effective, view};
 pub use fewer::{telling, told_by};
+pub use inherited::source_children;
 pub use library::Library;
 pub use reading::View;
 

@@ -1,95 +1,108 @@
--- Words that are told stay so where an object says something else of itself but gives the same words.
+-- Words that are told stay so where an object is given another slot.
 use Rattle.std.proofs.Common.{◌≡◌, ℕ, zero, suc, ◌-◌, Bool, true, false, cond, List, [], ◌∷◌, ◌++◌, map, Option, Some, None, refl, sym, ap, ◌∙◌, subst}
 use Rattle.std.specs.Prelude.{nat_lt, slice_get, option_map}
-use Rattle.std.proofs.lemmas.Bool.{eqb-true}
-use Rattle.std.specs.Cmp.{unsigned_ties}
 use Rattle.std.proofs.lemmas.List.{map-append}
 use Rattle.std.proofs.lemmas.Option.{slice_get-map}
 use Rattle.std.specs.Ordering.{nat_cmp}
-use Rattle.std.specs.BTreeMap.{BTreeMap, is_at, get}
+use Rattle.std.specs.BTreeMap.{BTreeMap, is_at}
 use Rattle.std.specs.Map.{lookup}
 use denote.Ref.{Bor}
 use Rattle.ob_object.specs.declared.head.Head.{Head}
 use Rattle.ob_object.specs.declared.head.Slot.{Slot}
+use Rattle.ob_object.specs.declared.head.Slot.TheVariants.{Absent}
 use Rattle.ob_object.specs.Object.{Objects, none, node, Object, count}
-use Rattle.ob_contracts.specs.Inherit.{Contracts, Words, implied_by}
-use Rattle.ob_tree.specs.Laid.{leaf, heads, heads_of, head_at, changed_in, changed}
-use Rattle.ob_tree.specs.Told.{GivesAs, AreToldBy, words_for}
+use Rattle.ob_contracts.specs.Inherit.{Contracts, Words}
+use Rattle.ob_contracts.specs.Telling.{StandIn}
+use Rattle.ob_standing.specs.Contexts.{Context, HandedDown, handed_down, under}
+use Rattle.ob_tree.specs.Laid.{heads, heads_of, head_at, changed_in, changed}
+use Rattle.ob_tree.specs.Shown.{at_top, handed, handed_in, handed_at, standing_at, row}
+use Rattle.ob_tree.specs.Told.{IsToldAt, AreToldBy, words_for}
+use Rattle.ob_tree.proofs.Changing.{count-changed_in}
 use Rattle.ob_ground.specs.Grounds.{Taught, AreTold}
 
--- what objects give by their own attributes
-abbrev given : List Head → List (Option Words)
-given hs = map implied_by hs
+-- what an object says of itself but for its slot: all that it hands down is told by that
+abbrev rest_of : Head → Head
+rest_of h = record h { slot = Absent }
 
-module _ (f : Head → Head) (same : (h : Head) → implied_by (f h) ≡ implied_by h) where
-  given_by : (h : Head) (inner rest left right : Objects) (b : Bool) → given (heads left) ≡ given (heads inner) → given (heads right) ≡ given (heads rest)
-      → given (heads (cond b (node h left rest) (node h inner right))) ≡ given (h ∷ (heads inner ++ heads rest))
-  given_by h inner rest left right true l r =
-      ap (λ x. implied_by h ∷ x) (map-append implied_by (heads left) (heads rest) ∙ ap (λ x. x ++ given (heads rest)) l ∙ sym (map-append implied_by (heads inner) (heads rest)))
-  given_by h inner rest left right false l r =
-      ap (λ x. implied_by h ∷ x) (map-append implied_by (heads inner) (heads right) ∙ ap (λ x. given (heads inner) ++ x) r ∙ sym (map-append implied_by (heads inner) (heads rest)))
+abbrev rests : List Head → List Head
+rests hs = map rest_of hs
 
-  given_in : (r : Objects) (n : ℕ) → given (heads (changed_in f n r)) ≡ given (heads r)
-  given_in none n = refl
-  given_in (node h inner rest) zero = ap (λ x. x ∷ given (heads inner ++ heads rest)) (same h)
-  given_in (node h inner rest) (suc n) =
-      given_by h inner rest (changed_in f n inner) (changed_in f (n - count inner) rest) (nat_lt n (count inner)) (given_in inner n) (given_in rest (n - count inner))
+module _ (slot : Slot) where
+  abbrev with_slot : Head → Head
+  with_slot h = record h { slot = slot }
 
-  given_of : (n : ℕ) (o : Object) → given (heads_of (changed f n o)) ≡ given (heads_of o)
-  given_of zero o = ap (λ x. x ∷ given (heads o.inner)) (same o.head)
-  given_of (suc n) o = ap (λ x. implied_by o.head ∷ x) (given_in o.inner n)
+  rest_by : (h : Head) (inner rest left right : Objects) (b : Bool) → rests (heads left) ≡ rests (heads inner) → rests (heads right) ≡ rests (heads rest)
+      → rests (heads (cond b (node h left rest) (node h inner right))) ≡ rests (h ∷ (heads inner ++ heads rest))
+  rest_by h inner rest left right true l r =
+      ap (λ x. rest_of h ∷ x) (map-append rest_of (heads left) (heads rest) ∙ ap (λ x. x ++ rests (heads rest)) l ∙ sym (map-append rest_of (heads inner) (heads rest)))
+  rest_by h inner rest left right false l r =
+      ap (λ x. rest_of h ∷ x) (map-append rest_of (heads inner) (heads right) ∙ ap (λ x. rests (heads inner) ++ x) r ∙ sym (map-append rest_of (heads inner) (heads rest)))
 
-  gives_at : (n m : ℕ) (o : Object) → option_map implied_by (head_at m (changed f n o)) ≡ option_map implied_by (head_at m o)
-  gives_at n m o = sym (slice_get-map implied_by (heads_of (changed f n o)) m) ∙ ap (λ l. slice_get l m) (given_of n o) ∙ slice_get-map implied_by (heads_of o) m
+  rest_in : (r : Objects) (n : ℕ) → rests (heads (changed_in with_slot n r)) ≡ rests (heads r)
+  rest_in none n = refl
+  rest_in (node h inner rest) zero = refl
+  rest_in (node h inner rest) (suc n) =
+      rest_by h inner rest (changed_in with_slot n inner) (changed_in with_slot (n - count inner) rest) (nat_lt n (count inner)) (rest_in inner n) (rest_in rest (n - count inner))
 
-  kept_at : (lib : Contracts) (h : Head) (ws : Words) (at : Option Head) → Some (implied_by h) ≡ option_map implied_by at → ((g : Head) → at ≡ Some g → GivesAs lib g ws) → GivesAs lib h ws
-  kept_at lib h ws None e gives = absurd cc
-  kept_at lib h ws (Some g) e gives =
-      let there = gives g refl in
-      let is : implied_by h ≡ implied_by g = cc in
-      record { own = there.own; gives = is ∙ there.gives; stand = there.stand }
+  rest_whole : (n : ℕ) (o : Object) → rests (heads_of (changed with_slot n o)) ≡ rests (heads_of o)
+  rest_whole zero o = refl
+  rest_whole (suc n) o = ap (λ x. rest_of o.head ∷ x) (rest_in o.inner n)
 
-  pub kept_by : (lib : Contracts) (told : ℕ → Option Words) (n : ℕ) (o : Object) → AreToldBy lib o told → AreToldBy lib (changed f n o) told
-  kept_by lib told n o t = λ m ws h is there.
-      kept_at lib h ws (head_at m o) (sym (ap (option_map implied_by) there) ∙ gives_at n m o) (λ g at. t m ws g is at)
+  rest_at : (n m : ℕ) (o : Object) → option_map rest_of (head_at m (changed with_slot n o)) ≡ option_map rest_of (head_at m o)
+  rest_at n m o = sym (slice_get-map rest_of (heads_of (changed with_slot n o)) m) ∙ ap (λ l. slice_get l m) (rest_whole n o) ∙ slice_get-map rest_of (heads_of o) m
 
-  pub told_kept : (n : ℕ) (o : Object) (t : Taught) → AreTold o t → AreTold (changed f n o) t
-  told_kept n o t told = kept_by t.library (λ m. lookup (is_at (nat_cmp m)) t.words) n o told
+  -- what an object takes stays
+  takes_by : (h : Head) (inner rest left right : Objects) (c : HandedDown) (m : ℕ) (b : Bool) → count left ≡ count inner
+      → ((c : HandedDown) (m : ℕ) → handed_in c m left ≡ handed_in c m inner) → ((c : HandedDown) (m : ℕ) → handed_in c m right ≡ handed_in c m rest)
+      → handed_in c (suc m) (cond b (node h left rest) (node h inner right)) ≡ handed_in c (suc m) (node h inner rest)
+  takes_by h inner rest left right c m true n l r =
+      ap (λ (k : ℕ). cond (nat_lt m k) (handed_in (handed c h) m left) (handed_in c (m - k) rest)) n
+      ∙ ap (λ (d : HandedDown). cond (nat_lt m (count inner)) d (handed_in c (m - count inner) rest)) (l (handed c h) m)
+  takes_by h inner rest left right c m false n l r =
+      ap (λ (d : HandedDown). cond (nat_lt m (count inner)) (handed_in (handed c h) m inner) d) (r c (m - count inner))
+
+  takes_first : (h : Head) (inner rest left right : Objects) (c : HandedDown) (b : Bool) → handed_in c zero (cond b (node h left rest) (node h inner right)) ≡ c
+  takes_first h inner rest left right c true = refl
+  takes_first h inner rest left right c false = refl
+
+  takes_in : (r : Objects) (c : HandedDown) (n m : ℕ) → handed_in c m (changed_in with_slot n r) ≡ handed_in c m r
+  takes_in none c n m = refl
+  takes_in (node h inner rest) c zero zero = refl
+  takes_in (node h inner rest) c zero (suc m) = refl
+  takes_in (node h inner rest) c (suc n) zero = takes_first h inner rest (changed_in with_slot n inner) (changed_in with_slot (n - count inner) rest) c (nat_lt n (count inner))
+  takes_in (node h inner rest) c (suc n) (suc m) =
+      takes_by h inner rest (changed_in with_slot n inner) (changed_in with_slot (n - count inner) rest) c m (nat_lt n (count inner)) (count-changed_in with_slot inner n)
+      (λ d k. takes_in inner d n k) (λ d k. takes_in rest d (n - count inner) k)
+
+  takes_at : (lib : Contracts) (n m : ℕ) (o : Object) → handed_at lib m (changed with_slot n o) ≡ handed_at lib m o
+  takes_at lib zero zero o = refl
+  takes_at lib zero (suc m) o = refl
+  takes_at lib (suc n) zero o = refl
+  takes_at lib (suc n) (suc m) o =
+      takes_by o.head o.inner none (changed_in with_slot n o.inner) none (at_top lib) m true (count-changed_in with_slot o.inner n) (λ d k. takes_in o.inner d n k) (λ d k. refl)
+
+  kept_at : (lib : Contracts) (n m : ℕ) (o : Object) (told : Option Words) (c : Context) (h : Head) (at : Option Head) → head_at m o ≡ at → Some (rest_of h) ≡ option_map rest_of at
+      → Some c ≡ Some (under (handed_at lib m o) h.name) → IsToldAt lib o m told → StandIn lib told (handed_down c h).implied
+  kept_at lib n m o told c h None there e stands t = absurd cc
+  kept_at lib n m o told c h (Some g) there e stands t =
+      let same : rest_of h ≡ rest_of g = cc in
+      let here : Some c ≡ standing_at lib m o =
+      stands ∙ ap (λ (x : Head). Some (under (handed_at lib m o) x.name)) same ∙ sym (ap (option_map (λ (x : Head). under (handed_at lib m o) x.name)) there) in
+      subst (λ (x : Head). StandIn lib told (handed_down c x).implied) (sym same) (t c g here there)
+
+  pub kept_by : (lib : Contracts) (told : ℕ → Option Words) (n : ℕ) (o : Object) → AreToldBy lib o told → AreToldBy lib (changed with_slot n o) told
+  kept_by lib told n o t = λ m c h stands there.
+      kept_at lib n m o (told m) c h (head_at m o) refl (sym (ap (option_map rest_of) there) ∙ rest_at n m o)
+      (stands ∙ ap (option_map (λ (x : Head). under (handed_at lib m (changed with_slot n o)) x.name)) there ∙ ap (λ (d : HandedDown). Some (under d h.name)) (takes_at lib n m o)) (t m)
 
 -- a slot tells nothing
 pub told_set : (slot : Slot) (n : ℕ) (o : Object) (t : Taught) → AreTold o t → AreTold (changed (λ h. record h { slot = slot }) n o) t
-told_set slot n o t told = told_kept (λ h. record h { slot = slot }) (λ h. refl) n o t told
-
--- words that are told for one object more
-pub told_more : (lib : Contracts) (o : Object) (old new : BTreeMap ℕ Words) (n : ℕ) (ws : Words) (h : Head)
-    → ((m : ℕ) → get nat_cmp new m ≡ cond (is_at (nat_cmp n) m) (Some ws) (get nat_cmp old m))
-    → head_at n o ≡ Some h → GivesAs lib h ws → AreToldBy lib o (get nat_cmp old) → AreToldBy lib o (get nat_cmp new)
-told_more lib o old new n ws h up there gives told = λ m vs g is at. go m vs g at (is_at (nat_cmp n) m) refl (sym (up m) ∙ is)
-  where
-    one : (g : Head) → Some h ≡ Some g → h ≡ g
-    one g e = cc
-
-    go : (m : ℕ) (vs : Words) (g : Head) → head_at m o ≡ Some g → (b : Bool) → is_at (nat_cmp n) m ≡ b → cond b (Some ws) (get nat_cmp old m) ≡ Some vs → GivesAs lib g vs
-    go m vs g at false off is = told m vs g is at
-    go m vs g at true on is =
-        let words : ws ≡ vs = cc in
-        let head : h ≡ g = one g (sym there ∙ ap (λ (k : ℕ). head_at k o) (eqb-true n m (unsigned_ties n m ∙ on)) ∙ at) in
-        subst (λ (x : Head). GivesAs lib x vs) head (subst (λ (x : Words). GivesAs lib h x) words gives)
-
--- before the first
-pub told_none : (lib : Contracts) (o : Object) (words : BTreeMap ℕ Words) → words.entries ≡ [] → AreToldBy lib o (get nat_cmp words)
-told_none lib o words e = λ n ws h is there. absurd (go n ws (sym (ap (lookup (is_at (nat_cmp n))) e) ∙ is))
-  where
-    go : (n : ℕ) (ws : Words) → ◌≡◌ {A = Option Words} None (Some ws) → ⊥
-    go n ws x = cc
-
--- the object of a number, without its children, is what it says of itself
-pub said_by : (x : Object) (at : Option Head) → Some x ≡ option_map leaf at → at ≡ Some x.head
-said_by x None e = cc
-said_by x (Some h) e = let same : x ≡ leaf h = cc in ap (λ (y : Object). Some y.head) (sym same)
+unfolding AreTold
+told_set slot n o t told = kept_by slot t.library (λ m. lookup (is_at (nat_cmp m)) t.words) n o told
 
 -- words of a map that is lent
 pub told_lent : (lib : Contracts) (o : Object) (t : Taught) (words : Bor (BTreeMap ℕ Words)) → words.now.entries ≡ t.words → t.library ≡ lib → AreTold o t → AreToldBy lib o (words_for (Some words))
+unfolding AreTold
 told_lent lib o t words e l told =
     subst (λ (x : Contracts). AreToldBy x o (words_for (Some words))) l
     (subst (λ (x : List (ℕ × Words)). AreToldBy t.library o (λ n. lookup (is_at (nat_cmp n)) x)) (sym e) told)

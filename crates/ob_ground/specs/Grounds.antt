@@ -23,8 +23,8 @@ pub record Taught : Type 0 where
 abbrev pub words_at : Taught → ℕ → Option Words
 words_at t n = lookup (is_at (nat_cmp n)) t.words
 
--- all of them stand for those that the objects of a root give by their own attributes
-abbrev pub AreTold : Object → Taught → Type 0
+-- all of them stand for those that the objects of a root give to their children where they stand
+unfoldable pub AreTold : Object → Taught → Type 0
 AreTold root t = AreToldBy t.library root (words_at t)
 
 abbrev pub grounded_code : Coded Contracts → Coded Stamped → Coded Grounded

@@ -1,3 +1,4 @@
+pub mod Moments
 pub mod Records
 pub mod Roles
 pub mod Sources

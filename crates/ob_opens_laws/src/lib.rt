@@ -1,8 +1,10 @@
-//! What the roles of a site that a document opens hold and name: records, sources that have values, and own nodes.
+//! What the roles of a site that a document opens hold and name: records, sources that have values, and own nodes; and that
+//! it opens at every moment.
 //!
 //! Each function states a law by its contract and does nothing.
 #![tactic(auto)]
 
+ghost use Rattle.ob_opens_laws.specs.Moments.{OpensAtEach, RefusedAtEach};
 ghost use Rattle.ob_opens_laws.specs.Records.{OpensRecords};
 ghost use Rattle.ob_opens_laws.specs.Roles.{OpensRoles};
 ghost use Rattle.ob_opens_laws.specs.Sources.{OpensSources};
@@ -21,4 +23,14 @@ pub fn opens_sources()
 /// In the state that a document opens, the path of each rule's source and that of the alarm subject are paths of own nodes.
 pub fn opens_roles()
     ensures { OpensRoles }
+{}
+
+/// A document that opens a state at one moment opens it at every other one, but for the moment of the boot and the time.
+pub fn opens_at_each()
+    ensures { OpensAtEach }
+{}
+
+/// A document that is refused at one moment is refused so at every other one.
+pub fn refused_at_each()
+    ensures { RefusedAtEach }
 {}

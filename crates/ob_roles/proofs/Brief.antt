@@ -36,7 +36,7 @@ module _ (whole : Contracts) where
   Likes (s ∷ ss) [] = ⊥
   Likes (s ∷ ss) (t ∷ ts) = (s.head.of ≡ t.head.of) × ((s.inner ≡ brief_row whole t.inner) × Likes ss ts)
 
-  of_like : (ss ts : List Object) → Likes ss ts → first_given (λ s. s.head.of) ss ≡ first_given (λ s. s.head.of) ts
+  pub of_like : (ss ts : List Object) → Likes ss ts → first_given (λ s. s.head.of) ss ≡ first_given (λ s. s.head.of) ts
   of_like [] [] k = refl
   of_like [] (t ∷ ts) k = absurd k
   of_like (s ∷ ss) [] k = absurd k

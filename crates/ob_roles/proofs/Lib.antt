@@ -12,5 +12,6 @@ pub mod Named
 pub mod Fewer
 pub mod Brief
 pub mod BriefRoles
+pub mod InPlace
 pub mod WordRows
 pub mod Tabled

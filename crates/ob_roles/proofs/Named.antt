@@ -61,12 +61,12 @@ or_if true b c h = refl
 or_if false b c h = h refl
 
 -- those that are new behind the one list take the names that all take behind the other
-same_more : (there made cs : List Object) → Same there made → Same (there ++ cs) (made ++ filter (is_new made) cs)
+pub same_more : (there made cs : List Object) → Same there made → Same (there ++ cs) (made ++ filter (is_new made) cs)
 same_more there made cs s = λ n.
     taken-append n there cs ∙ ap (λ b. b || is_taken (Some n) cs) (s n)
     ∙ sym (taken-append n made (filter (is_new made) cs) ∙ or_if (is_taken (Some n) made) (is_taken (Some n) (filter (is_new made) cs)) (is_taken (Some n) cs) (taken_new made cs n))
 
-same_new : (there made cs : List Object) → Same there made → filter (is_new there) cs ≡ filter (is_new made) cs
+pub same_new : (there made cs : List Object) → Same there made → filter (is_new there) cs ≡ filter (is_new made) cs
 same_new there made [] s = refl
 same_new there made (o ∷ cs) s =
     ap₂ (λ b l. cond b (o ∷ l) l) (ap (λ b. is_some o.head.name && not b) (same_taken o.head.name there made s)) (same_new there made cs s)
@@ -200,6 +200,22 @@ more_nameless o cur x cs i h is nameless p =
     ∙ append-nil (filter (is_new (children o)) (take i cs))
     )
     )
+
+-- one that was put, if its name was new
+pub more_one : (o cur new x : Object) (cs : List Object) (i : ℕ) → NamesDiffer cs → i < length cs → x ≡ get_or cs i x → new ≡ cond (is_new (children cur) x) (with_child cur x) cur
+    → cur ≡ with_more o (filter (is_new (children o)) (take i cs)) → new ≡ with_more o (filter (is_new (children o)) (take (i + 1) cs))
+more_one o cur new x cs i d h is put p = go (is_some x.head.name) refl
+  where
+    taken : Bool
+    taken = is_taken x.head.name (children cur)
+
+    turned : (t : Bool) → cond (not t) (with_child cur x) cur ≡ cond t cur (with_child cur x)
+    turned true = refl
+    turned false = refl
+
+    go : (b : Bool) → is_some x.head.name ≡ b → new ≡ with_more o (filter (is_new (children o)) (take (i + 1) cs))
+    go true e = more_named o cur new x x cs i d h is e refl (put ∙ ap (λ b. cond (b && not taken) (with_child cur x) cur) e ∙ turned taken) p
+    go false e = put ∙ ap (λ b. cond (b && not taken) (with_child cur x) cur) e ∙ more_nameless o cur x cs i h is e p
 
 pub more_all : (o cur : Object) (cs ds : List Object) (i : ℕ) → length cs ≤ i → cs ≡ ds → cur ≡ with_more o (filter (is_new (children o)) (take i cs)) → cur ≡ with_more o (filter (is_new (children o)) ds)
 more_all o cur cs ds i h e p = p ∙ ap (λ l. with_more o (filter (is_new (children o)) l)) (take_all i cs h ∙ e)

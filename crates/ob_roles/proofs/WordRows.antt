@@ -1,5 +1,5 @@
 -- Objects with their words, one after the other.
-use Rattle.std.proofs.Common.{◌≡◌, ℕ, zero, suc, ◌+◌, ◌<◌, ◌≤◌, Bool, true, false, cond, ◌||◌, List, [], ◌∷◌, ◌++◌, map, length, take, drop, get_or, Option, Some, None, option_map, refl, sym, ap, ap₂, ◌∙◌, subst, append_assoc, arith}
+use Rattle.std.proofs.Common.{◌≡◌, ℕ, zero, suc, ◌+◌, ◌<◌, ◌≤◌, Bool, true, false, cond, ◌||◌, List, [], ◌∷◌, ◌++◌, map, length, drop, get_or, Option, Some, None, refl, sym, ap, ◌∙◌, subst, append_assoc, arith}
 use Rattle.std.specs.Prelude.{is_some, slice_get}
 use Rattle.std.proofs.lemmas.List.{append-nil, map-append}
 use Rattle.std.proofs.Math.Seq.{take-append_seam}
@@ -11,11 +11,12 @@ use Rattle.ob_object.specs.WellFormed.{NamesDiffer, is_taken, has_name, named, w
 use Rattle.ob_contracts.specs.Inherit.{Contracts, Words, sources, overridden, inherited_head, implied_by, missing, only_if, or_else}
 use Rattle.ob_contracts.proofs.Distinct.{free_at, differ_map}
 use Rattle.ob_opening.specs.Roles.{thin, worded_row, worded}
-use Rattle.ob_roles.specs.Few.{briefly, brief, brief_contracts}
+use Rattle.ob_roles.specs.Few.{briefly, brief}
 use Rattle.ob_roles.specs.Worded.{with_more, worded_at}
-use Rattle.ob_roles.proofs.Brief.{Likes, gives_like, sources_like, missing_like, row_brief, same_brief}
+use Rattle.ob_roles.proofs.Brief.{row_brief, same_brief}
 use Rattle.ob_roles.proofs.PartRows.{row_more, row_past}
 use Rattle.ob_roles.proofs.Named.{taken_first, Same}
+use Rattle.ob_roles.proofs.InPlace.{TellFew, gives_few}
 
 if_of : (k : Kind) (o : Option Words) → only_if (has_of k) (only_if (has_of k) o) ≡ only_if (has_of k) o
 if_of k o = go (has_of k)
@@ -32,16 +33,10 @@ gives_once h ss gives e = ap (only_if (has_of h.kind)) e ∙ if_of h.kind (inher
 abbrev pub gives_of : Contracts → Head → Option Words → Option Object → Option Words
 gives_of lib h implied over = implied_by (inherited_head h (sources lib h implied over))
 
--- what an object takes from, by contracts with few words at each part
-pub from_like : (whole lib : Contracts) (x : Object) (h : Head) (implied : Option Words) (p o : Option Object) (fs : List Object) → h ≡ x.head → fs ≡ sources (brief_contracts whole lib) h implied p → p ≡ option_map (brief whole) o
-    → Likes whole fs (sources lib x.head implied o)
-from_like whole lib x h implied p o fs same f e =
-    subst (λ l. Likes whole l (sources lib x.head implied o)) (sym (f ∙ ap₂ (λ k q. sources (brief_contracts whole lib) k implied q) same e)) (sources_like whole lib x.head implied o)
-
-pub gives_are : (whole lib : Contracts) (x : Object) (h : Head) (implied gives : Option Words) (o : Option Object) (fs : List Object) → h ≡ x.head → gives ≡ implied_by (inherited_head h fs) → Likes whole fs (sources lib x.head implied o)
+pub gives_are : (whole lib : Contracts) (x : Object) (h : Head) (implied gives : Option Words) (o : Option Object) (fs : List Object) → h ≡ x.head → gives ≡ implied_by (inherited_head h fs) → TellFew whole fs (sources lib x.head implied o)
     → gives ≡ gives_of lib x.head implied o
 gives_are whole lib x h implied gives o fs same e like =
-    e ∙ ap (λ k. implied_by (inherited_head k fs)) same ∙ gives_like whole x.head fs (sources lib x.head implied o) like
+    e ∙ ap (λ k. implied_by (inherited_head k fs)) same ∙ gives_few whole x.head fs (sources lib x.head implied o) like
 
 -- its head, with nothing but words
 pub head_is : (lib : Contracts) (x : Object) (made : Head) (implied ws gives : Option Words) (o : Option Object) → gives ≡ gives_of lib x.head implied o → made ≡ thin x.head ws (only_if (has_of x.head.kind) gives)
@@ -119,14 +114,14 @@ module _ (whole lib : Contracts) (implied : Option Words) (above : List Object) 
   rows_all all made i h p = sym (append-nil made) ∙ ap (λ r. made ++ few_row r) (sym (row_past all i h)) ∙ p
 
 -- what is made of an object's own children and of what is missing is the object with few words at each part
-pub whole_is : (whole lib : Contracts) (x made : Object) (ws implied : Option Words) (o : Option Object) (fs : List Object) → Likes whole fs (sources lib x.head implied o) → made.head ≡ thin x.head ws (gives_of lib x.head implied o)
+pub whole_is : (whole lib : Contracts) (x made : Object) (ws implied : Option Words) (o : Option Object) (fs : List Object) → TellFew whole fs (sources lib x.head implied o) → made.head ≡ thin x.head ws (gives_of lib x.head implied o)
     → children made ≡ few_row whole lib (gives_of lib x.head implied o) (sources lib x.head implied o) x.inner ++ missing (children x) fs → made ≡ briefly whole ws (worded_at lib implied o x)
 whole_is whole lib x made ws implied o fs like e f =
     let from = sources lib x.head implied o in
     let g = gives_of lib x.head implied o in
     let own = listed (worded_row lib g from x.inner) in
     let all : few_row whole lib g from x.inner ++ missing (children x) fs ≡ map (brief whole) (own ++ missing (children x) from) =
-    ap (λ l. few_row whole lib g from x.inner ++ l) (missing_like whole (children x) (children x) fs from (λ n. refl) like) ∙ sym (map-append (brief whole) own (missing (children x) from)) in
+    ap (λ l. few_row whole lib g from x.inner ++ l) (like.lacks (children x)) ∙ sym (map-append (brief whole) own (missing (children x) from)) in
     object_is made (thin x.head ws g) (map (brief whole) (own ++ missing (children x) from)) e (f ∙ all)
     ∙ ap (λ (r : Objects). let y : Object = record { head = thin x.head ws g; inner = r } in y) (sym (row_brief whole (own ++ missing (children x) from)))
 

@@ -1,6 +1,7 @@
 pub mod Kinds
 pub mod Few
 pub mod Given
+pub mod Summed
 pub mod Sums
 pub mod Told
 pub mod Tables

@@ -1,5 +1,5 @@
 //! The children of sources, found by name.
-ghost use Rattle.std.specs.Prelude.{◌≡◌, List, ℕ, Some, IfOk, OnOk};
+ghost use Rattle.std.specs.Prelude.{◌≡◌, ◌∷◌, [], List, ℕ, Some, IfOk, OnOk};
 ghost use Rattle.std.specs.Option.{option_copied};
 ghost use Rattle.ob_object.specs.Object.{Object};
 ghost use Rattle.ob_object.specs.WellFormed.{named};
@@ -14,8 +14,8 @@ use std::collections::BTreeMap;
 /// The first object of each name.
 pub type Names<'a> = BTreeMap<&'a str, &'a Obj>;
 
-// Puts each object whose name isn't there yet.
-fn put_first<'a>(names: &mut Names<'a>, objects: &'a [Obj]) -> Result<(), AllocError>
+/// Puts each object whose name isn't there yet.
+pub(crate) fn put_first<'a>(names: &mut Names<'a>, objects: &'a [Obj]) -> Result<(), AllocError>
     ensures { OnOk result ((n : List ℕ) → found names.new n ≡ or_else (found names.old n) (named n objects.now)) }
 {
     for object in objects {
@@ -37,6 +37,15 @@ pub fn names_in<'a>(alloc: Global, from: &[&'a Obj]) -> Result<Names<'a>, AllocE
     for source in from {
         put_first(&mut names, source.children())?;
     }
+    Ok(names)
+}
+
+/// The children of an object by their names.
+pub(crate) fn names_of<'a>(alloc: Global, object: &'a Obj) -> Result<Names<'a>, AllocError>
+    ensures { IfOk result (λ names. (n : List ℕ) → found names n ≡ overridden (Some n) (object.now ∷ [])) }
+{
+    let own = [object];
+    let names = names_in(alloc, &own)?;
     Ok(names)
 }
 

@@ -1,11 +1,10 @@
 //! What an object takes from, in contracts whose parts have their words as `is`.
-ghost use Rattle.std.specs.Prelude.{◌≡◌, ◌++◌, ◌∷◌, [], List, ℕ, Some, map, IfOk, OnOk};
+ghost use Rattle.std.specs.Prelude.{◌≡◌, ◌++◌, ◌∷◌, [], map, IfOk};
 ghost use Rattle.std.specs.Option.{option_copied};
-ghost use Rattle.ob_object.specs.Object.{Object};
-ghost use Rattle.ob_object.specs.WellFormed.{named};
 ghost use Rattle.ob_contracts.specs.Ancestry.{own_words};
-ghost use Rattle.ob_contracts.specs.Found.{found, lent};
-ghost use Rattle.ob_contracts.specs.Inherit.{Contracts, words_in, or_else, present, contract_of, sources, overridden, implied_by, inherited_head, first_given};
+ghost use Rattle.ob_contracts.specs.Found.{lent};
+ghost use Rattle.ob_contracts.specs.Inherit.{Contracts, present, contract_of, implied_by, inherited_head, first_given};
+ghost use Rattle.ob_roles.specs.Summed.{given_from, taken_from};
 ghost use Rattle.ob_roles.specs.Tables.{Holds};
 
 use ob_object::{Head, Obj, Words};
@@ -36,19 +35,6 @@ pub fn own_words<'a>(
                 Some(over) => over.is(),
                 None => None,
             },
-        },
-    }
-}
-
-// The words that name the contracts of an object.
-fn words_of<'a>(head: &'a Head, implied: Option<&'a Words>) -> &'a [Text]
-    ensures { result.now ≡ words_in (or_else head.now.is (option_copied implied.entry)) }
-{
-    match &head.is {
-        Some(words) => words.as_slice(),
-        None => match implied {
-            Some(words) => words.as_slice(),
-            None => &[],
         },
     }
 }
@@ -94,20 +80,40 @@ pub(crate) fn contracts_of<'a>(
     Ok(from)
 }
 
-/// What an object takes from: what its words stand for, and the child that it overrides.
-pub fn sources<'a>(
+// What an object takes from where it overrides no child: the contracts of its own words, or else what its list or feed
+// gives it.
+fn given_from<'a>(
     alloc: Global,
     table: &'a Table,
-    head: &'a Head,
-    implied: Option<&'a Words>,
+    head: &Head,
+    list: Option<&'a Obj>,
+) -> Result<Vec<&'a Obj>, AllocError>
+    ensures { IfOk result (λ from. (lib : Contracts) → Holds table.now lib → lent from.items ≡ given_from lib head.now.is (option_copied list.entry)) }
+{
+    if let Some(words) = &head.is {
+        let from = contracts_of(alloc, table, words.as_slice())?;
+        return Ok(from);
+    }
+    let mut from = Vec::new(alloc);
+    put_over(&mut from, list)?;
+    Ok(from)
+}
+
+/// What an object takes from: what its own words stand for, or else the object that its list or feed gives it in place of
+/// the contracts of many words, and the child that it overrides.
+pub(crate) fn sources<'a>(
+    alloc: Global,
+    table: &'a Table,
+    head: &Head,
+    list: Option<&'a Obj>,
     over: Option<&'a Obj>,
 ) -> Result<Vec<&'a Obj>, AllocError>
-    ensures { IfOk result (λ from. (lib : Contracts) → Holds table.now lib → lent from.items ≡ sources lib head.now (option_copied implied.entry) (option_copied over.entry)) }
+    ensures { IfOk result (λ from. (lib : Contracts) → Holds table.now lib → lent from.items ≡ taken_from lib head.now (option_copied list.entry) (option_copied over.entry)) }
 {
     if head.kind.is_ref() {
         return Ok(Vec::new(alloc));
     }
-    let mut from = contracts_of(alloc, table, words_of(head, implied))?;
+    let mut from = given_from(alloc, table, head, list)?;
     put_over(&mut from, over)?;
     Ok(from)
 }

@@ -1,29 +1,30 @@
 //! Contracts with the words of their parts, so that the words of a child that another one overrides are known.
-ghost use Rattle.std.specs.Prelude.{◌≡◌, ◌++◌, ◌∷◌, [], Option, None, cond, filter, option_map, true, IfOk, IfSome, IsTrue};
+ghost use Rattle.std.specs.Prelude.{◌≡◌, ◌++◌, ◌∷◌, [], Option, None, option_map, true, IfOk, IfSome, IsTrue};
 ghost use Rattle.std.specs.List.{list_all};
 ghost use Rattle.std.specs.Option.{option_copied};
 ghost use Rattle.ob_object.specs.Fits.{fits_head};
-ghost use Rattle.ob_object.specs.Object.{Object, children};
-ghost use Rattle.ob_object.specs.WellFormed.{is_taken, with_child};
+ghost use Rattle.ob_object.specs.Object.{Object};
 ghost use Rattle.ob_object.specs.Kinds.{has_of};
 ghost use Rattle.ob_object.specs.Words.{is_word};
-ghost use Rattle.ob_contracts.specs.Inherit.{Contracts, only_if, is_new};
+ghost use Rattle.ob_contracts.specs.Inherit.{Contracts, Words, only_if};
 ghost use Rattle.ob_opening.specs.Roles.{thin, worded, worded_contracts};
 ghost use Rattle.ob_opening.specs.Opening.{standard_words};
 ghost use Rattle.ob_site_rules.specs.Writes.{site_contracts};
 ghost use Rattle.ob_roles.specs.Sums.{nodes_of};
 ghost use Rattle.ob_roles.specs.Few.{brief, briefly, brief_contracts};
 ghost use Rattle.ob_roles.specs.Kinds.{Tells};
+ghost use Rattle.ob_roles.specs.Summed.{IsGivenBy};
 ghost use Rattle.ob_roles.specs.Tables.{Holds, HoldsBrief};
-ghost use Rattle.ob_roles.specs.Worded.{with_more, worded_at};
+ghost use Rattle.ob_roles.specs.Worded.{worded_at};
 
 use crate::few::{copied, few_given, few_own};
 use crate::kinds::Known;
 use crate::library::node_path;
-use crate::naming::{find_over, names_in};
+use crate::naming::{find_over, names_in, names_of};
+use crate::summed::{put_if_new, put_missing, sum_given};
 use crate::taking::{Table, implied_by, sources};
 use ob_contracts::Library;
-use ob_object::{Facets, Head, Obj, PushFault, Slot, Words, copy_text};
+use ob_object::{Facets, Head, Obj, Slot, Words, copy_text};
 use ob_values::Text;
 use std::alloc::{AllocError, Global};
 use std::collections::BTreeMap;
@@ -59,46 +60,26 @@ fn thin_head(object: &Obj, words: Option<&Words>, gives: Option<&Words>) -> Resu
     })
 }
 
-// Puts a child last, unless its name is there.
-fn put_if_new(object: &mut Obj, child: Obj) -> Result<(), AllocError>
-    ensures { IfOk result (λ _. object.new ≡ cond (is_taken child.head.name (children object.old)) object.old (with_child object.old child)) }
-{
-    match object.push(child) {
-        Ok(()) | Err(PushFault::SameName { child: _ }) => Ok(()),
-        Err(PushFault::Memory { child: _ }) => Err(AllocError),
-    }
-}
-
-// Puts last the named children of a source whose names aren't there.
-fn put_missing(object: &mut Obj, source: &Obj) -> Result<(), AllocError>
-    ensures { IfOk result (λ _. object.new ≡ with_more object.old (filter (is_new (children object.old)) (children source.now))) }
-{
-    for child in source.children() {
-        if child.name().is_some() {
-            let copy = child.copy()?;
-            put_if_new(object, copy)?;
-        }
-    }
-    Ok(())
-}
-
-/// The result of an object with these words as `is`, each part with few, where a list or a feed round it gives words, and
-/// where it overrides a child of a source.
+/// The result of an object with these words as `is`, each part with few, where a list or a feed round it gives it this object
+/// in place of the contracts of its words, and where it overrides a child of a source.
 fn worded<'a>(
     alloc: Global,
     known: &Known,
     table: &'a Table,
     object: &'a Obj,
     words: Option<&Words>,
-    implied: Option<&'a Words>,
+    list: Option<&'a Obj>,
     over: Option<&'a Obj>,
 ) -> Result<Obj, AllocError>
-    ensures { IfOk result (λ made. (whole lib : Contracts) (o : Option Object) → Tells known.now whole → Holds table.now (brief_contracts whole lib) → option_copied over.entry ≡ option_map (brief whole) o
-        → made ≡ briefly whole (option_copied words.entry) (worded_at lib (option_copied implied.entry) o object.now)) }
+    ensures { IfOk result (λ made. (whole lib : Contracts) (implied : Option Words) (o : Option Object) → Tells known.now whole → Holds table.now (brief_contracts whole lib)
+        → IsGivenBy (option_copied list.entry) (brief_contracts whole lib) object.now.head implied → option_copied over.entry ≡ option_map (brief whole) o
+        → made ≡ briefly whole (option_copied words.entry) (worded_at lib implied o object.now)) }
 {
     let head = object.head();
-    let from = sources(alloc, table, head, implied, over)?;
+    let from = sources(alloc, table, head, list, over)?;
     let gives = implied_by(head, from.as_slice());
+    let sum = sum_given(alloc, table, object, gives)?;
+    let items = sum.as_ref();
     let few = few_given(alloc, known, object, gives)?;
     let given = few.as_ref();
     let names = names_in(alloc, from.as_slice())?;
@@ -107,11 +88,12 @@ fn worded<'a>(
         let part = child.head();
         let below = find_over(&names, part);
         let own = few_own(alloc, known, part, given, below)?;
-        let inner = worded(alloc, known, table, child, own.as_ref(), gives, below)?;
+        let inner = worded(alloc, known, table, child, own.as_ref(), items, below)?;
         put_if_new(&mut made, inner)?;
     }
+    let mut there = names_of(alloc, object)?;
     for source in &from {
-        put_missing(&mut made, source)?;
+        put_missing(&mut made, &mut there, source)?;
     }
     Ok(made)
 }

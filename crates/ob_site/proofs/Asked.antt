@@ -74,13 +74,13 @@ Answers plan now s tree t u n op o =
     (world_of plan now s tree (lapsed_at now u) ≡ (on_watch (of_plan plan) (world_of plan now s tree (lapsed_at now t)) n op (lookup n (flags_of tree (live now t.watches)))).0)
     × (o ≡ sent plan (on_watch (of_plan plan) (world_of plan now s tree (lapsed_at now t)) n op (lookup n (flags_of tree (live now t.watches)))).1)
 
-pub tree_is : (k : Kept) (c : Contents) → state_in c ≡ k.now → c.tree.stamps ≡ k.stamps → c.tree.steps ≡ k.steps → c.tree ≡ tree_of k
+pub tree_is : (k : Kept) (c : Contents) → state_in c ≡ k.now → c.ground.tree.stamps ≡ k.stamps → c.ground.tree.steps ≡ k.steps → c.ground.tree ≡ tree_of k
 tree_is k c a b d = λ i. record { root = (a i).tree; stamps = b i; steps = d i }
 
 pub asked_so : (k : Kept) (plan : Plan) (now : ℕ) (c : Contents) (t u : Table) (n : ℕ) (op : WatchOperation) (o : Object)
-    → plan ≡ k.plan → now ≡ k.time → state_in c ≡ k.now → c.tree ≡ tree_of k → IsDone plan c now t u n op o → (r : Request) → IsQuiet k t u r (OneWatch n op) o
+    → plan ≡ k.plan → now ≡ k.time → state_in c ≡ k.now → c.ground.tree ≡ tree_of k → IsDone plan c now t u n op o → (r : Request) → IsQuiet k t u r (OneWatch n op) o
 asked_so k plan now c t u n op o a b d e is r =
-    let first : Answers plan now (state_in c) c.tree t u n op o = (is.watches, is.reply) in
+    let first : Answers plan now (state_in c) c.ground.tree t u n op o = (is.watches, is.reply) in
     let all : Answers k.plan k.time k.now (tree_of k) t u n op o =
     subst (λ (p : Plan). Answers p k.time k.now (tree_of k) t u n op o) a
     (subst (λ (m : ℕ). Answers plan m k.now (tree_of k) t u n op o) b

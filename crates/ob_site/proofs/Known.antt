@@ -32,47 +32,47 @@ kept_as plan s u xs ys m n t a b c kept =
     subst (λ (x : State). AreKept plan x ys n t) a (subst (λ (x : List ℕ). AreKept plan s x n t) b (subst (λ (x : ℕ). AreKept plan s xs x t) c kept))
 
 module _ (plan : Plan) (c : Contents) where
-  pub known_of : (t : Table) → AreKept plan (state_in c) c.tree.stamps c.tree.steps t → AllKnown plan c t
+  pub known_of : (t : Table) → AreKept plan (state_in c) c.ground.tree.stamps c.ground.tree.steps t → AllKnown plan c t
   known_of t kept =
-      all_weaker (λ i. IsOwn c.tree.root i × (IsMarkPast c.tree.steps i × IsCounted plan (state_in c) i)) (IsKnown plan c)
-      (λ i is. record { placed = own_placed c.tree.root i.path i.tracked is.0; counted = is.1.1; past = is.1.0 }) t.watches
-      (all_both (IsOwn c.tree.root) (λ i. IsMarkPast c.tree.steps i × IsCounted plan (state_in c) i) t.watches kept.own
-      (all_both (IsMarkPast c.tree.steps) (IsCounted plan (state_in c)) t.watches kept.marks kept.counted))
+      all_weaker (λ i. IsOwn c.ground.tree.root i × (IsMarkPast c.ground.tree.steps i × IsCounted plan (state_in c) i)) (IsKnown plan c)
+      (λ i is. record { placed = own_placed c.ground.tree.root i.path i.tracked is.0; counted = is.1.1; past = is.1.0 }) t.watches
+      (all_both (IsOwn c.ground.tree.root) (λ i. IsMarkPast c.ground.tree.steps i × IsCounted plan (state_in c) i) t.watches kept.own
+      (all_both (IsMarkPast c.ground.tree.steps) (IsCounted plan (state_in c)) t.watches kept.marks kept.counted))
 
   -- other watches of which the same is known
-  pub kept_of : (t u : Table) → AreKept plan (state_in c) c.tree.stamps c.tree.steps t → AllKnown plan c u → AreKept plan (state_in c) c.tree.stamps c.tree.steps u
+  pub kept_of : (t u : Table) → AreKept plan (state_in c) c.ground.tree.stamps c.ground.tree.steps t → AllKnown plan c u → AreKept plan (state_in c) c.ground.tree.stamps c.ground.tree.steps u
   kept_of t u kept known = record {
     made = kept.made;
     points = kept.points;
     shallow = kept.shallow;
     long = kept.long;
     past = kept.past;
-    own = all_weaker (IsKnown plan c) (IsOwn c.tree.root) (λ i k. placed_own c.tree.root i.path i.tracked k.placed) u.watches known;
-    marks = all_weaker (IsKnown plan c) (IsMarkPast c.tree.steps) (λ i k. k.past) u.watches known;
+    own = all_weaker (IsKnown plan c) (IsOwn c.ground.tree.root) (λ i k. placed_own c.ground.tree.root i.path i.tracked k.placed) u.watches known;
+    marks = all_weaker (IsKnown plan c) (IsMarkPast c.ground.tree.steps) (λ i k. k.past) u.watches known;
     counted = all_weaker (IsKnown plan c) (IsCounted plan (state_in c)) (λ i k. k.counted) u.watches known;
   }
 
-  pub past_of : (t : Table) → AreKept plan (state_in c) c.tree.stamps c.tree.steps t → AreStampsPast c.tree
+  pub past_of : (t : Table) → AreKept plan (state_in c) c.ground.tree.stamps c.ground.tree.steps t → AreStampsPast c.ground.tree
   past_of t kept = kept.past
 
 -- the state of these contents
 module _ (k : Kept) (plan : Plan) (c : Contents) where
   -- what is kept of watches beside the state is kept beside its contents
-  there : (t : Table) → plan ≡ k.plan → state_in c ≡ k.now → c.tree.stamps ≡ k.stamps → c.tree.steps ≡ k.steps → AreKept k.plan k.now k.stamps k.steps t → AreKept plan (state_in c) c.tree.stamps c.tree.steps t
-  there t p a b d kept = subst (λ (x : Plan). AreKept x (state_in c) c.tree.stamps c.tree.steps t) (sym p) (kept_as k.plan k.now (state_in c) k.stamps c.tree.stamps k.steps c.tree.steps t (sym a) (sym b) (sym d) kept)
+  there : (t : Table) → plan ≡ k.plan → state_in c ≡ k.now → c.ground.tree.stamps ≡ k.stamps → c.ground.tree.steps ≡ k.steps → AreKept k.plan k.now k.stamps k.steps t → AreKept plan (state_in c) c.ground.tree.stamps c.ground.tree.steps t
+  there t p a b d kept = subst (λ (x : Plan). AreKept x (state_in c) c.ground.tree.stamps c.ground.tree.steps t) (sym p) (kept_as k.plan k.now (state_in c) k.stamps c.ground.tree.stamps k.steps c.ground.tree.steps t (sym a) (sym b) (sym d) kept)
 
-  back : (t : Table) → plan ≡ k.plan → state_in c ≡ k.now → c.tree.stamps ≡ k.stamps → c.tree.steps ≡ k.steps → AreKept plan (state_in c) c.tree.stamps c.tree.steps t → AreKept k.plan k.now k.stamps k.steps t
-  back t p a b d kept = subst (λ (x : Plan). AreKept x k.now k.stamps k.steps t) p (kept_as plan (state_in c) k.now c.tree.stamps k.stamps c.tree.steps k.steps t a b d kept)
+  back : (t : Table) → plan ≡ k.plan → state_in c ≡ k.now → c.ground.tree.stamps ≡ k.stamps → c.ground.tree.steps ≡ k.steps → AreKept plan (state_in c) c.ground.tree.stamps c.ground.tree.steps t → AreKept k.plan k.now k.stamps k.steps t
+  back t p a b d kept = subst (λ (x : Plan). AreKept x k.now k.stamps k.steps t) p (kept_as plan (state_in c) k.now c.ground.tree.stamps k.stamps c.ground.tree.steps k.steps t a b d kept)
 
-  pub known_in : (t : Table) → plan ≡ k.plan → state_in c ≡ k.now → c.tree.stamps ≡ k.stamps → c.tree.steps ≡ k.steps → AreKept k.plan k.now k.stamps k.steps t → AllKnown plan c t
+  pub known_in : (t : Table) → plan ≡ k.plan → state_in c ≡ k.now → c.ground.tree.stamps ≡ k.stamps → c.ground.tree.steps ≡ k.steps → AreKept k.plan k.now k.stamps k.steps t → AllKnown plan c t
   known_in t p a b d kept = known_of plan c t (there t p a b d kept)
 
   -- other watches of which as much is known
-  pub kept_through : (t u : Table) → plan ≡ k.plan → state_in c ≡ k.now → c.tree.stamps ≡ k.stamps → c.tree.steps ≡ k.steps → AreKept k.plan k.now k.stamps k.steps t
+  pub kept_through : (t u : Table) → plan ≡ k.plan → state_in c ≡ k.now → c.ground.tree.stamps ≡ k.stamps → c.ground.tree.steps ≡ k.steps → AreKept k.plan k.now k.stamps k.steps t
       → (AllKnown plan c t → AllKnown plan c u) → AreKept k.plan k.now k.stamps k.steps u
   kept_through t u p a b d kept known =
       let first = there t p a b d kept in
       back u p a b d (kept_of plan c t u first (known (known_of plan c t first)))
 
-pub past_in : (k : Kept) (c : Contents) (t : Table) → state_in c ≡ k.now → c.tree.stamps ≡ k.stamps → c.tree.steps ≡ k.steps → AreKept k.plan k.now k.stamps k.steps t → AreStampsPast c.tree
+pub past_in : (k : Kept) (c : Contents) (t : Table) → state_in c ≡ k.now → c.ground.tree.stamps ≡ k.stamps → c.ground.tree.steps ≡ k.steps → AreKept k.plan k.now k.stamps k.steps t → AreStampsPast c.ground.tree
 past_in k c t a b d kept = past_of k.plan c t (there k k.plan c t refl a b d kept)

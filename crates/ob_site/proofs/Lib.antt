@@ -10,5 +10,6 @@ pub mod Told
 pub mod Renumbered
 pub mod Sound
 pub mod Stepped
+pub mod Keeping
 pub mod Crossing
 mod OwnAt

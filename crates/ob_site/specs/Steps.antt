@@ -13,10 +13,22 @@ use Rattle.ob_watch.specs.AsRules.{world_of}
 use Rattle.ob_watch.specs.Counted.{of_plan}
 use Rattle.ob_watch.specs.Tables.{Table, lapsed_at}
 use Rattle.ob_site.specs.Between.{AreKept}
+use Rattle.ob_site.specs.Keeping.{Stepping}
 
 -- what a request does from a state at its time, before the step ends; the watches whose lease has run out are gone
 abbrev pub acting : (k : Kept) → Table → Request → SiteTarget → World (of_plan k.plan) × Reply (of_plan k.plan)
 acting k t r target = acted (of_plan k.plan) (world_of k.plan k.time k.now (tree_of k) (lapsed_at k.time t)) r target
+
+-- and the whole step: what it leaves once it has ended, and its reply
+abbrev pub step_of : (k : Kept) → Table → Request → SiteTarget → Stepping
+step_of k t r target = record {
+  request = r;
+  target = target;
+  site = k.now;
+  next = t.next;
+  left = ended (of_plan k.plan) k.now (acting k t r target).0;
+  reply = sent k.plan (acting k t r target).1;
+}
 
 -- The watches after a request to this target that leaves the state as it is, and the reply. Watches whose lease has run out count
 -- as gone, before and after.

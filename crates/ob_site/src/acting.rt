@@ -1,5 +1,5 @@
 //! Requests to the site itself.
-ghost use Rattle.std.specs.Prelude.{◌≡◌, IfOk, OnErr};
+ghost use Rattle.std.specs.Prelude.{◌≡◌, IfOk, OnOk, OnErr};
 ghost use Rattle.ob_watching.specs.Asked.{Itself};
 ghost use Rattle.ob_watching.specs.Tables.{numbers_of};
 ghost use Rattle.ob_site_rules.specs.Actions.{act_itself};
@@ -7,9 +7,11 @@ ghost use Rattle.ob_site_rules.specs.Locating.{locate};
 ghost use Rattle.ob_site_writes.specs.Stops.{IsDone};
 ghost use Rattle.ob_watch.specs.Tables.{lapsed_at};
 ghost use Rattle.ob_site.specs.Between.{IsBegun};
-ghost use Rattle.ob_site.specs.Steps.{IsAnswered, IsUnanswered};
+ghost use Rattle.ob_site.specs.Keeping.{Keeps, MayKeep};
+ghost use Rattle.ob_site.specs.Steps.{IsAnswered, IsUnanswered, step_of};
 
 use crate::ending::end_step;
+use crate::keeper::Keeper;
 use ob_given_laws::steps_take_none_away;
 use ob_object::Obj;
 use ob_replies::refusal;
@@ -34,21 +36,25 @@ fn act(state: &mut State, watches: &Watches, request: &Request) -> Result<Obj, A
 }
 
 /// What a request to the site itself leaves of the state and of the watches, and its reply. An error only for want of
-/// memory; it leaves all but the state now.
+/// memory, or from the keeper; it leaves all but the state now, and the keeper.
 ///
 /// Source: oBIX 1.1, chapters 5 (Batch) and 10 (Networking).
-pub(crate) fn on_itself(
+pub(crate) fn on_itself<K: Keeper>(
     state: &mut State,
     watches: &mut Watches,
+    keeper: &mut K,
     request: &Request,
 ) -> Result<Obj, AllocError>
-    requires { IsBegun state.old watches.old }
+    requires begun { IsBegun state.old watches.old }
+    requires ready { K.is_ready keeper.old }
     ensures done { IfOk result (IsAnswered state.old state.new watches.old watches.new request.now Itself) }
     ensures err { OnErr result (IsUnanswered state.old state.new watches.old watches.new) }
+    ensures keeps { OnOk result (Keeps K.below K.keeps keeper.old keeper.new (step_of state.old watches.old request.now Itself)) }
+    ensures may_keep { OnErr result (MayKeep K.below K.may_keep K.keeps keeper.old keeper.new (step_of state.old watches.old request.now Itself)) }
 {
     state.is_sound();
     steps_take_none_away();
     let reply = act(state, watches, request)?;
-    end_step(state, watches)?;
+    end_step(state, watches, keeper, request, &reply)?;
     Ok(reply)
 }

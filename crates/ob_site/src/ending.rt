@@ -1,16 +1,22 @@
 //! The end of a step that may have changed the state.
-ghost use Rattle.std.specs.Prelude.{◌≡◌, All, ◌<◌, ◌-◌, ◌^◌, map, OnOk, OnErr};
+ghost use Rattle.std.specs.Prelude.{◌≡◌, ◌≢◌, ◌⊎◌, All, ◌<◌, ◌-◌, ◌^◌, map, OnOk, OnErr, MatchBool};
+ghost use Rattle.ob_values.specs.declared.verb.Verb.TheVariants.{Get};
 ghost use Rattle.ob_object.specs.Object.{parts};
 ghost use Rattle.ob_given_laws.specs.Given.{TakesNoneAway};
 ghost use Rattle.ob_site_defaults.specs.Ended.{EndsAll};
 ghost use Rattle.ob_site_feeds.specs.News.{IsNews};
 ghost use Rattle.ob_site.specs.Between.{AreKept};
 ghost use Rattle.ob_site.specs.Ending.{IsEnded, NodesStay};
+ghost use Rattle.ob_site.specs.Keeping.{KeepsChange};
 
+use crate::keeper::Keeper;
+use ob_object::Obj;
 use ob_site_defaults::stamped_nodes;
 use ob_site_feeds::{News, feeds_are_told, news, tell};
+use ob_site_rules::Request;
 use ob_site_state::State;
 use ob_tree::NodeId;
+use ob_values::Verb;
 use ob_watch::Watches;
 use std::alloc::AllocError;
 
@@ -39,18 +45,57 @@ fn settle(state: &mut State, watches: &mut Watches, nodes: &[NodeId], news: &New
     state.commit();
 }
 
-/// Ends a step. An error only for want of memory, and it leaves all as it was.
-pub(crate) fn end_step(state: &mut State, watches: &mut Watches) -> Result<(), AllocError>
+/// Whether a request needs no keeping: it is a read, or the step has noted no change.
+fn is_left_out(state: &State, verb: Verb) -> bool
+    ensures { MatchBool result ((state.now.now ≡ state.now.before) ⊎ (verb ≡ Get)) (verb ≢ Get) }
+{
+    match verb {
+        Verb::Get => true,
+        Verb::Put | Verb::Post => state.changes().is_empty(),
+    }
+}
+
+/// Has a keeper keep a request that has changed the site, with the reply that it is about to have.
+fn keep_change<K: Keeper>(
+    state: &State,
+    watches: &Watches,
+    keeper: &mut K,
+    request: &Request,
+    reply: &Obj,
+) -> Result<(), AllocError>
+    requires ready { K.is_ready keeper.old }
+    ensures done { OnOk result (KeepsChange K.below K.keeps keeper.old keeper.new state.now.before state.now.now request.now state.now.time watches.now.next reply.now) }
+    ensures err { OnErr result ((request.now.verb ≢ Get) × K.may_keep keeper.old keeper.new request.now state.now.time watches.now.next reply.now) }
+{
+    if is_left_out(state, request.verb) {
+        return Ok(());
+    }
+    keeper.keep(request, state.time(), watches.next_number(), reply)
+}
+
+/// Ends the step of a request that is about to have this reply. An error only for want of memory, or from the keeper; it leaves
+/// all but the keeper as it was.
+pub(crate) fn end_step<K: Keeper>(
+    state: &mut State,
+    watches: &mut Watches,
+    keeper: &mut K,
+    request: &Request,
+    reply: &Obj,
+) -> Result<(), AllocError>
     requires kept { AreKept state.old.plan state.old.before state.old.stamps state.old.steps watches.old }
     requires room { state.old.steps < 2 ^ 64 - 1 }
     requires given { TakesNoneAway state.old.plan state.old.before state.old.now }
+    requires ready { K.is_ready keeper.old }
     ensures done { OnOk result (IsEnded state.old state.new watches.old watches.new) }
     ensures state { OnErr result (state.new ≡ state.old) }
     ensures watches { OnErr result (watches.new ≡ watches.old) }
+    ensures keeps { OnOk result (KeepsChange K.below K.keeps keeper.old keeper.new state.old.before state.old.now request.now state.old.time watches.old.next reply.now) }
+    ensures may_keep { OnErr result ((keeper.new ≡ keeper.old) ⊎ ((request.now.verb ≢ Get) × K.may_keep keeper.old keeper.new request.now state.old.time watches.old.next reply.now)) }
 {
     nodes_stay(state);
     let nodes = stamped_nodes(state)?;
     let news = news(state)?;
+    keep_change(state, watches, keeper, request, reply)?;
     settle(state, watches, &nodes, &news);
     Ok(())
 }

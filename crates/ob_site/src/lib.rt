@@ -6,6 +6,7 @@
 
 mod acting;
 mod ending;
+mod keeper;
 mod laws;
 mod points;
 mod quiet;
@@ -13,6 +14,7 @@ mod room;
 mod site;
 mod step;
 
+pub use keeper::Keeper;
 pub use laws::worked_polls;
 pub use ob_machine::Machine;
 pub use site::{Site, crosses_threads};

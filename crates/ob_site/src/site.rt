@@ -1,11 +1,13 @@
 //! A site.
-ghost use Rattle.std.specs.Prelude.{◌≡◌, ℕ, ◌+◌, ◌<◌, ◌≤◌, IfOk, OnErr, option_copied};
+ghost use Rattle.std.specs.Prelude.{◌≡◌, ℕ, ◌+◌, ◌<◌, ◌≤◌, IfOk, OnOk, OnErr, option_copied};
 ghost use Rattle.ob_watching.specs.Asked.{OneWatch, PollChanges};
 ghost use Rattle.ob_site_rules.specs.Locating.{locate};
 ghost use Rattle.ob_site_rules.specs.Sites.{site, step};
 ghost use Rattle.ob_site_watched.specs.Polls.{object_entries, steps_for};
+ghost use Rattle.ob_site.specs.Keeping.{Keeps, MayKeep, stepping};
 ghost use Rattle.ob_points.specs.Points.{point_at, passes};
 
+use crate::keeper::{Keeper, Nobody};
 use crate::points::point;
 use crate::step::step;
 use ob_machine::Machine;
@@ -73,6 +75,31 @@ impl Site {
         }
     }
 
+    /// The same as `step_counted` and as `step_kept`, with a keeper and a counter of steps.
+    fn step_with<L: Ledger, K: Keeper>(
+        &mut self,
+        keeper: &mut K,
+        request: &Request,
+        moment: Moment,
+        steps: &mut Steps<L>,
+    ) -> Result<Obj, AllocError>
+        requires ready { K.is_ready keeper.old }
+        ensures done { IfOk result (λ reply. step locate self.old request.now moment ≡ (self.new, reply)) }
+        ensures refused { OnErr result (self.new ≡ self.old) }
+        ensures keeps { OnOk result (Keeps K.below K.keeps keeper.old keeper.new (stepping self.old request.now moment)) }
+        ensures may_keep { OnErr result (MayKeep K.below K.may_keep K.keeps keeper.old keeper.new (stepping self.old request.now moment)) }
+        ensures steps { IfOk result (λ reply. steps.new ≤ steps.old + steps_for 32 (object_entries reply)) }
+    {
+        step(
+            &mut self.state,
+            &mut self.watches,
+            keeper,
+            request,
+            moment,
+            steps,
+        )
+    }
+
     /// Does one request at a moment, and gives the reply, as `Machine::step` does, with a counter of the steps that a
     /// poll takes. A step is a view taken of what an object inherits, or one object of an effective object that is built.
     ///
@@ -92,7 +119,30 @@ impl Site {
         ensures polls { IfOk result (λ reply. (number : ℕ) → (site locate self.old.plan).target request.now ≡ OneWatch number PollChanges
             → steps.new ≤ steps.old + steps_for 32 (object_entries reply)) }
     {
-        step(&mut self.state, &mut self.watches, request, moment, steps)
+        let mut nobody = Nobody;
+        self.step_with(&mut nobody, request, moment, steps)
+    }
+
+    /// Does one request at a moment, and gives the reply, as `Machine::step` does, once a keeper has kept of it what another life
+    /// of the site needs. An error for want of memory, or from the keeper, leaves the site as it was.
+    ///
+    /// The keeper is asked once at most, before anything of the step counts: to keep a request for the site itself that has
+    /// noted a change, but no read; or a make that can be done, whose number can't have been given by what is kept. What isn't
+    /// kept leaves the site as it was. After it was asked, nothing but a make can fail, for want of memory: then it was kept, and
+    /// no watch is made.
+    pub fn step_kept<K: Keeper>(
+        &mut self,
+        keeper: &mut K,
+        request: &Request,
+        moment: Moment,
+    ) -> Result<Obj, AllocError>
+        requires ready { K.is_ready keeper.old }
+        ensures done { IfOk result (λ reply. step locate self.old request.now moment ≡ (self.new, reply)) }
+        ensures refused { OnErr result (self.new ≡ self.old) }
+        ensures keeps { OnOk result (Keeps K.below K.keeps keeper.old keeper.new (stepping self.old request.now moment)) }
+        ensures may_keep { OnErr result (MayKeep K.below K.may_keep K.keeps keeper.old keeper.new (stepping self.old request.now moment)) }
+    {
+        step_by::<Brand, K>(self, keeper, request, moment, Blank::new(1))
     }
 
     /// The own object of the writable point at a path, without its children; None at every other path. It takes no memory.
@@ -126,9 +176,10 @@ impl Site {
     }
 }
 
-/// The same as `step_counted`, by a counter of its own.
-fn step_by<L: Ledger>(
+/// The same as `step_kept`, with a counter of steps of its own.
+fn step_by<L: Ledger, K: Keeper>(
     machine: &mut Site,
+    keeper: &mut K,
     request: &Request,
     moment: Moment,
     blank: Blank,
@@ -136,11 +187,14 @@ fn step_by<L: Ledger>(
     requires name { blank.name ≡ L.name }
     requires parts { blank.parts ≡ L.parts }
     requires cut { 0 < blank.parts }
+    requires ready { K.is_ready keeper.old }
     ensures done { IfOk result (λ reply. step locate machine.old request.now moment ≡ (machine.new, reply)) }
     ensures refused { OnErr result (machine.new ≡ machine.old) }
+    ensures keeps { OnOk result (Keeps K.below K.keeps keeper.old keeper.new (stepping machine.old request.now moment)) }
+    ensures may_keep { OnErr result (MayKeep K.below K.may_keep K.keeps keeper.old keeper.new (stepping machine.old request.now moment)) }
 {
     let mut steps = Steps::<L>::begin(blank);
-    machine.step_counted(request, moment, &mut steps)
+    machine.step_with(keeper, request, moment, &mut steps)
 }
 
 impl Machine for Site {
@@ -153,7 +207,8 @@ impl Machine for Site {
     /// Does one request at a moment, and gives the reply. Time never goes back: an earlier moment is that of
     /// the step before. Want of memory leaves the site as it was.
     fn step(&mut self, request: &Request, moment: Moment) -> Result<Obj, AllocError> {
-        step_by::<Brand>(self, request, moment, Blank::new(1))
+        let mut nobody = Nobody;
+        step_by::<Brand, Nobody>(self, &mut nobody, request, moment, Blank::new(1))
     }
 }
 

@@ -1,14 +1,16 @@
 //! One step of a site, over its state and its watches.
-ghost use Rattle.std.specs.Prelude.{◌≡◌, ◌+◌, ◌≤◌, IfOk, OnErr};
+ghost use Rattle.std.specs.Prelude.{◌≡◌, ◌+◌, ◌≤◌, IfOk, OnOk, OnErr};
 ghost use Rattle.ob_site_rules.specs.Locating.{locate};
 ghost use Rattle.ob_site_rules.specs.Sites.{site, step};
 ghost use Rattle.ob_requests.specs.Targets.{IsTarget};
 ghost use Rattle.ob_site_watched.specs.Polls.{object_entries, steps_for, steps_in};
 ghost use Rattle.ob_site.specs.Between.{IsBegun, IsSite};
-ghost use Rattle.ob_site.specs.Steps.{IsAnswered, IsUnanswered};
+ghost use Rattle.ob_site.specs.Keeping.{Keeps, MayKeep, stepping};
+ghost use Rattle.ob_site.specs.Steps.{IsAnswered, IsUnanswered, step_of};
 ghost use Rattle.ob_site.specs.Views.{site_of};
 
 use crate::acting::on_itself;
+use crate::keeper::Keeper;
 use crate::quiet::{to_no_watch, to_nobody, to_service, to_watch};
 use crate::room::make_room;
 use ob_object::Obj;
@@ -31,45 +33,54 @@ fn target(state: &State, request: &Request) -> Result<Target, AllocError>
     target_at(alloc, plan, request, &path)
 }
 
-/// What a request leaves of the state and of the watches, and its reply. An error only for want of memory; it leaves all
-/// but the state now.
-fn answer<L: Ledger>(
+/// What a request leaves of the state and of the watches, and its reply. An error only for want of memory, or from the keeper; it
+/// leaves all but the state now, and the keeper.
+fn answer<L: Ledger, K: Keeper>(
     state: &mut State,
     watches: &mut Watches,
+    keeper: &mut K,
     request: &Request,
     steps: &mut Steps<L>,
 ) -> Result<Obj, AllocError>
-    requires { IsBegun state.old watches.old }
+    requires begun { IsBegun state.old watches.old }
+    requires ready { K.is_ready keeper.old }
     ensures done { IfOk result (IsAnswered state.old state.new watches.old watches.new request.now ((site locate state.old.plan).target request.now)) }
     ensures err { OnErr result (IsUnanswered state.old state.new watches.old watches.new) }
+    ensures keeps { OnOk result (Keeps K.below K.keeps keeper.old keeper.new (step_of state.old watches.old request.now ((site locate state.old.plan).target request.now))) }
+    ensures may_keep { OnErr result (MayKeep K.below K.may_keep K.keeps keeper.old keeper.new (step_of state.old watches.old request.now ((site locate state.old.plan).target request.now))) }
     ensures steps { IfOk result (λ o. steps.new ≤ steps.old + steps_in state.old.now.tree (object_entries o)) }
 {
     match target(state, request)? {
-        Target::Itself => on_itself(state, watches, request),
+        Target::Itself => on_itself(state, watches, keeper, request),
         Target::Nowhere => to_nobody(state, watches),
         Target::Beyond => to_no_watch(state, watches),
-        Target::NewWatch => to_service(state, watches),
+        Target::NewWatch => to_service(state, watches, keeper, request),
         Target::OneWatch(number, asks) => to_watch(state, watches, number, asks, steps),
     }
 }
 
-/// Does one request at a moment, and gives the reply. Want of memory leaves the site as it was.
-pub(crate) fn step<L: Ledger>(
+/// Does one request at a moment, and gives the reply, once the keeper has kept what is to be kept of it. An error for want of
+/// memory, or from the keeper, leaves the site as it was.
+pub(crate) fn step<L: Ledger, K: Keeper>(
     state: &mut State,
     watches: &mut Watches,
+    keeper: &mut K,
     request: &Request,
     moment: Moment,
     steps: &mut Steps<L>,
 ) -> Result<Obj, AllocError>
-    requires { IsSite state.old watches.old }
+    requires site { IsSite state.old watches.old }
+    requires ready { K.is_ready keeper.old }
     ensures done { IfOk result (λ reply. (site_of state.new watches.new, reply) ≡ step locate (site_of state.old watches.old) request.now moment) }
     ensures refused { OnErr result (site_of state.new watches.new ≡ site_of state.old watches.old) }
     ensures kept { IsSite state.new watches.new }
+    ensures keeps { OnOk result (Keeps K.below K.keeps keeper.old keeper.new (stepping (site_of state.old watches.old) request.now moment)) }
+    ensures may_keep { OnErr result (MayKeep K.below K.may_keep K.keeps keeper.old keeper.new (stepping (site_of state.old watches.old) request.now moment)) }
     ensures steps { IfOk result (λ o. steps.new ≤ steps.old + steps_for 32 (object_entries o)) }
 {
     make_room(state, watches);
     state.begin(moment);
-    match answer(state, watches, request, steps) {
+    match answer(state, watches, keeper, request, steps) {
         Ok(reply) => Ok(reply),
         Err(error) => {
             state.undo();

@@ -3,7 +3,6 @@ use Rattle.std.proofs.Common.{◌≡◌, sym, ap, ◌∙◌}
 use Rattle.ob_site_rules.specs.State.{State}
 use Rattle.ob_requests.proofs.Requests.{item_out, item_done, item_nowhere, batch_done, act_done, act_nowhere}
 use Rattle.ob_site_state.specs.Kept.{Kept}
-use Rattle.ob_site_calls.proofs.ByKind.{item_refused, act_refused}
 
 abbrev pub with_now : Kept → State → Kept
 with_now k s = record k { now = s }
@@ -16,6 +15,6 @@ stays_on first k n s stays after =
     ∙ ap (λ (x : State). with_now first x) (sym (ap (λ (x : Kept). x.now) after))
 
 -- an item, and a request, by what its path names
-pub ruleset items = (item_refused, item_out, item_done, item_nowhere)
+pub ruleset items = (item_out, item_done, item_nowhere)
 
-pub ruleset requests = (act_refused, batch_done, act_done, act_nowhere)
+pub ruleset requests = (batch_done, act_done, act_nowhere)

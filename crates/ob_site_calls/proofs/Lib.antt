@@ -1,5 +1,5 @@
 pub mod Acked
 pub mod Batched
 pub mod Pointed
-pub mod ByKind
+pub mod ByHead
 pub mod Valued

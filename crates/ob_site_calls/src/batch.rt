@@ -13,7 +13,7 @@ ghost use Rattle.ob_requests.specs.BatchCalls.{is_batch_call};
 ghost use Rattle.ob_site_writes.specs.Stops.{IsDone, Stops};
 
 use crate::actions::act_at;
-use crate::refusing::is_refused;
+use crate::refusing::refused;
 use ob_object::{Kind, Obj};
 use ob_plain_state::Place;
 use ob_replies::build::put;
@@ -64,17 +64,19 @@ fn nowhere(state: &State, numbers: &[u64], path: &Text) -> Fault
     }
 }
 
-/// An item of a batch at its path.
+/// An item of a batch at its path, told by what the path names.
 #[tactic(auto, using(crate::proofs::Batched::items))]
-fn item_at(state: &mut State, numbers: &[u64], request: &Request, path: &Text) -> Result<Obj, Stop>
+fn item_there(
+    state: &mut State,
+    numbers: &[u64],
+    request: &Request,
+    path: &Text,
+) -> Result<Obj, Stop>
     ensures ok { IfOk result (IsDone state.old state.new
         (item_on state.old.plan state.old.now numbers.now state.old.time request.now (Some path.now))) }
     ensures stop { IfErr result (Stops state.old state.new
         (item_on state.old.plan state.old.now numbers.now state.old.time request.now (Some path.now))) }
 {
-    if is_refused(state, path, request.verb)? {
-        return Err(Stop::Refused(Fault::NotSupported));
-    }
     let Some(place) = named(state, path)? else {
         return Err(Stop::Refused(nowhere(state, numbers, path)));
     };
@@ -82,6 +84,20 @@ fn item_at(state: &mut State, numbers: &[u64], request: &Request, path: &Text) -
         return Err(Stop::Refused(Fault::NotInBatch));
     }
     act_at(state, path, request.verb, place, request.body.as_ref())
+}
+
+/// An item of a batch at its path.
+#[tactic(auto, using(crate::proofs::ByHead::item_refused))]
+fn item_at(state: &mut State, numbers: &[u64], request: &Request, path: &Text) -> Result<Obj, Stop>
+    ensures ok { IfOk result (IsDone state.old state.new
+        (item_on state.old.plan state.old.now numbers.now state.old.time request.now (Some path.now))) }
+    ensures stop { IfErr result (Stops state.old state.new
+        (item_on state.old.plan state.old.now numbers.now state.old.time request.now (Some path.now))) }
+{
+    if let Some(fault) = refused(state, path, request.verb, request.body.as_ref())? {
+        return Err(Stop::Refused(fault));
+    }
+    item_there(state, numbers, request, path)
 }
 
 /// An item of a batch that is a request.
@@ -203,17 +219,19 @@ fn is_batch_call(place: &Place, verb: Verb) -> bool
     }
 }
 
-/// A request at its path: a batch is done as a whole, and every other request is one action.
+/// A request at its path, told by what the path names: a batch is done as a whole, and every other request is one action.
 #[tactic(auto, using(crate::proofs::Batched::requests))]
-fn act_on(state: &mut State, numbers: &[u64], request: &Request, path: &Text) -> Result<Obj, Stop>
+fn act_there(
+    state: &mut State,
+    numbers: &[u64],
+    request: &Request,
+    path: &Text,
+) -> Result<Obj, Stop>
     ensures ok { IfOk result (IsDone state.old state.new
         (act_located locate state.old.plan state.old.now numbers.now state.old.time request.now (Some path.now))) }
     ensures stop { IfErr result (Stops state.old state.new
         (act_located locate state.old.plan state.old.now numbers.now state.old.time request.now (Some path.now))) }
 {
-    if is_refused(state, path, request.verb)? {
-        return Err(Stop::Refused(Fault::NotSupported));
-    }
     let Some(place) = named(state, path)? else {
         return Err(Stop::Refused(Fault::NoSuchObject));
     };
@@ -222,6 +240,20 @@ fn act_on(state: &mut State, numbers: &[u64], request: &Request, path: &Text) ->
         return batch(state, numbers, body);
     }
     act_at(state, path, request.verb, place, body)
+}
+
+/// A request at its path.
+#[tactic(auto, using(crate::proofs::ByHead::act_refused))]
+fn act_on(state: &mut State, numbers: &[u64], request: &Request, path: &Text) -> Result<Obj, Stop>
+    ensures ok { IfOk result (IsDone state.old state.new
+        (act_located locate state.old.plan state.old.now numbers.now state.old.time request.now (Some path.now))) }
+    ensures stop { IfErr result (Stops state.old state.new
+        (act_located locate state.old.plan state.old.now numbers.now state.old.time request.now (Some path.now))) }
+{
+    if let Some(fault) = refused(state, path, request.verb, request.body.as_ref())? {
+        return Err(Stop::Refused(fault));
+    }
+    act_there(state, numbers, request, path)
 }
 
 /// What a request to the site itself leaves of it, and the reply; `numbers` are those of the watches that stand.

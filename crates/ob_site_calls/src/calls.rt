@@ -14,7 +14,7 @@ use ob_plain_state::Place;
 use ob_replies::{Fault, nil};
 use ob_site_places::{query_alarms, query_records};
 use ob_site_state::State;
-use ob_site_writes::{Stop, shown, write_by};
+use ob_site_writes::{Stop, shown, write_by, write_fault};
 use ob_values::Text;
 use std::alloc::AllocError;
 
@@ -29,9 +29,26 @@ fn child_of_obj<'a>(object: &'a Obj, name: &str) -> Option<&'a Obj>
     }
 }
 
-/// WritePointIn: the child `value` is written to the point, whether or not the point is writable.
+/// Writes the value that a body gives to a point, which is shown.
+fn write_shown(state: &mut State, point: &Text, new: &Obj) -> Result<Obj, Stop>
+    requires { is_among point.now state.old.plan.points ≡ true }
+    ensures ok { IfOk result (IsDone state.old state.new
+        (write_point state.old.plan state.old.now state.old.time point.now (Some new.now))) }
+    ensures stop { IfErr result (Stops state.old state.new
+        (write_point state.old.plan state.old.now state.old.time point.now (Some new.now))) }
+{
+    state.is_sound();
+    match shown(state, point)? {
+        Some(target) => write_by(state, point, &target, new),
+        None => unreachable!(),
+    }
+}
+
+/// WritePointIn: the child `value` is written to the point, whether or not the point is writable. Where that is refused the
+/// point isn't shown for it.
 ///
 /// Source: oBIX 1.1, chapter 13 (WritablePoint).
+#[tactic(auto, using(crate::proofs::ByHead::point_refused))]
 fn write_point(state: &mut State, point: &Text, value: Option<&Obj>) -> Result<Obj, Stop>
     requires { is_among point.now state.old.plan.points ≡ true }
     ensures ok { IfOk result (IsDone state.old state.new
@@ -42,11 +59,10 @@ fn write_point(state: &mut State, point: &Text, value: Option<&Obj>) -> Result<O
     let Some(new) = value else {
         return Err(Stop::Refused(Fault::OtherShape));
     };
-    state.is_sound();
-    match shown(state, point)? {
-        Some(target) => write_by(state, point, &target, new),
-        None => unreachable!(),
+    if let Some(fault) = write_fault(state, point, new)? {
+        return Err(Stop::Refused(fault));
     }
+    write_shown(state, point, new)
 }
 
 /// The answer to a query of a history.

@@ -1,26 +1,22 @@
-//! Requests that a node refuses by its kind, whatever it shows.
+//! Requests that an own node refuses, told by its own head.
 ghost use Rattle.std.specs.Prelude.{◌≡◌, true, None, IfOk, IfSome};
+ghost use Rattle.std.specs.Option.{option_copied};
+ghost use Rattle.ob_replies.specs.Told as told;
+ghost use Rattle.ob_values.specs.declared.verb.Verb.TheVariants.{Post};
+ghost use Rattle.ob_site_rules.specs.Actions.{act_at};
 ghost use Rattle.ob_site_rules.specs.State.{at};
-ghost use Rattle.ob_site_rules.specs.Places.{computed_places};
-ghost use Rattle.ob_site_calls.specs.Refusing.{refuses, IsOwnKind, IsRefusedThere};
+ghost use Rattle.ob_site_rules.specs.Places.{Node, computed_places};
+ghost use Rattle.ob_site_writes.specs.Targets.{IsRefused};
+ghost use Rattle.ob_site_calls.specs.Refusing.{IsRefusedThere};
 
-use ob_object::Kind;
+use ob_object::Obj;
+use ob_replies::Fault;
 use ob_site_places::computed_place;
+use ob_site_shown::own_kind;
 use ob_site_state::State;
-use ob_site_writes::is_value_kind;
+use ob_site_writes::put_fault;
 use ob_values::{Text, Verb};
 use std::alloc::AllocError;
-
-/// Whether each node of a kind refuses what a verb asks.
-fn refuses(verb: Verb, kind: Kind) -> bool
-    ensures { result ≡ refuses verb kind }
-{
-    match verb {
-        Verb::Get => false,
-        Verb::Put => !is_value_kind(kind),
-        Verb::Post => true,
-    }
-}
 
 /// Whether no computed path is this one.
 fn is_free(state: &State, path: &Text) -> Result<bool, AllocError>
@@ -31,28 +27,48 @@ fn is_free(state: &State, path: &Text) -> Result<bool, AllocError>
     Ok(found.is_none())
 }
 
-/// The kind of the own node of a path.
-fn own_kind(state: &State, path: &Text) -> Option<Kind>
-    ensures { IfSome result (IsOwnKind state.now.now path.now) }
+/// Why the own node of a path refuses to be called: no node is an op that is called.
+fn post_fault(state: &State, path: &Text, body: Option<&Obj>) -> Option<Fault>
+    ensures { IfSome result (λ f. IsRefused state.now.plan state.now.now path.now (λ o. act_at state.now.plan state.now.now state.now.time path.now Post (Node o) (option_copied body.entry)) (told.fault f)) }
 {
-    let tree = state.tree();
-    match tree.get(path) {
-        Some(node) => Some(tree.own(node).kind()),
+    state.is_sound();
+    match own_kind(state.plan(), state.contents(), path) {
+        Some(_kind) => Some(Fault::NotSupported),
         None => None,
     }
 }
 
-/// Whether a path is that of an own node which refuses a verb by its kind. The node isn't shown for it, so that who asks
-/// for what is refused is answered at once, however much stands there.
-pub(crate) fn is_refused(state: &State, path: &Text, verb: Verb) -> Result<bool, AllocError>
-    ensures { IfOk result (λ refused. refused ≡ true → IsRefusedThere state.now.plan state.now.now path.now verb) }
+/// Why the own node of a path refuses what a verb asks of it with a body. All stays as it is.
+fn node_fault(
+    state: &mut State,
+    path: &Text,
+    verb: Verb,
+    body: Option<&Obj>,
+) -> Result<Option<Fault>, AllocError>
+    ensures same { state.new ≡ state.old }
+    ensures fault { IfOk result (λ fault. IfSome fault (λ f. IsRefused state.old.plan state.old.now path.now (λ o. act_at state.old.plan state.old.now state.old.time path.now verb (Node o) (option_copied body.entry)) (told.fault f))) }
 {
-    state.is_sound();
-    let Some(kind) = own_kind(state, path) else {
-        return Ok(false);
-    };
-    if !refuses(verb, kind) {
-        return Ok(false);
+    match verb {
+        Verb::Get => Ok(None),
+        Verb::Put => put_fault(state, path, body),
+        Verb::Post => Ok(post_fault(state, path, body)),
     }
-    is_free(state, path)
+}
+
+/// Why the own node that a path names refuses what a verb asks of it with a body, as far as its own head tells it; all stays as
+/// it is. The node isn't shown for it, so that who asks for what is refused is answered at once, however much stands there.
+pub(crate) fn refused(
+    state: &mut State,
+    path: &Text,
+    verb: Verb,
+    body: Option<&Obj>,
+) -> Result<Option<Fault>, AllocError>
+    ensures same { state.new ≡ state.old }
+    ensures fault { IfOk result (λ fault. IfSome fault (λ f. IsRefusedThere state.old.plan state.old.now state.old.time path.now verb (option_copied body.entry) (told.fault f))) }
+{
+    let fault = node_fault(state, path, verb, body)?;
+    if fault.is_none() || is_free(state, path)? {
+        return Ok(fault);
+    }
+    Ok(None)
 }

@@ -43,7 +43,7 @@ abbrev first_of : Object → Objects → Object
 first_of o none = o
 first_of o (node h inner rest) = record { head = h; inner = inner }
 
-dressed_library : (plan : Plan) (s : State) (lib : Contracts) (x : Object) → dressed_own plan (with_library lib s) x ≡ dressed_own plan s x
+pub dressed_library : (plan : Plan) (s : State) (lib : Contracts) (x : Object) → dressed_own plan (with_library lib s) x ≡ dressed_own plan s x
 dressed_library plan s lib x = ap (λ (r : Objects). first_of x r) (roles_library plan s lib (row x))
 
 pub root_library : (plan : Plan) (s : State) (lib : Contracts) → dressed plan (with_library lib s) ≡ dressed plan s
@@ -162,7 +162,7 @@ some_object : {a b : Object} → Some a ≡ Some b → a ≡ b
 some_object e = cc
 
 -- what is compared tells it
-record Compared (plan : Plan) (s : State) (old : Contracts) (n : ℕ) (same : Bool) : Type 0 where
+pub record Compared (plan : Plan) (s : State) (old : Contracts) (n : ℕ) (same : Bool) : Type 0 where
   pub told : same ≡ false → IsOtherwise plan (with_library old s) s.library n
   pub tells : IsOtherwise plan (with_library old s) s.library n → same ≡ false
 
@@ -201,21 +201,14 @@ some_context e = cc
 pub told_otherwise : (plan : Plan) (s : State) (old : Contracts) (n : ℕ) (d : Object) (c k : Context) (same : Bool) → PathsDiffer (row (dressed plan s)) → first_twice [] (paths s.tree) ≡ None
     → n < parts s.tree → can_be_watched (head_at n s.tree) ≡ true → Some d ≡ option_map (dressed_own plan s) (part_at n s.tree)
     → Some c ≡ standing_at old n s.tree → Some k ≡ standing_at s.library n s.tree
-    → (same ≡ true → comes_to c d ≡ comes_to k d) → (comes_to c d ≡ comes_to k d → same ≡ true)
-    → (not same ≡ true → IsOtherwise plan (with_library old s) s.library n) × (IsOtherwise plan (with_library old s) s.library n → not same ≡ true)
+    → (same ≡ true → comes_to c d ≡ comes_to k d) → (comes_to c d ≡ comes_to k d → same ≡ true) → Compared plan s old n same
 told_otherwise plan s old n d c k same differ once within watched made before after to from =
     let h : (h : Head) × (head_at n s.tree ≡ Some h) = head_there s.tree n within in
     let x : (x : Object) × (part_at n s.tree ≡ Some x) × (x.head ≡ h.0) = part_there n s.tree h.0 h.1 in
     let is : d ≡ dressed_own plan s x.0 = some_object (made ∙ ap (option_map (dressed_own plan s)) x.1) in
-    let all : Compared plan s old n same =
     compared plan s old n h.0 x.0 c k same differ once h.1 x.1 x.2 (sym (ap (λ (o : Option Head). can_be_watched o) h.1) ∙ watched) (sym before) (sym after)
     (λ e. subst (λ (o : Object). comes_to c o ≡ comes_to k o) is (to e))
-    (λ e. from (subst (λ (o : Object). comes_to c o ≡ comes_to k o) (sym is) e)) in
-    (λ e. all.told (turned same e), λ o. ap not (all.tells o))
-  where
-    turned : (b : Bool) → not b ≡ true → b ≡ false
-    turned true e = absurd cc
-    turned false e = refl
+    (λ e. from (subst (λ (o : Object). comes_to c o ≡ comes_to k o) (sym is) e))
 
 -- a node that is no feed can be watched
 pub watched_kind : (h : Head) (path : Option Path) (feed : Bool) → path ≡ node_path h → feed ≡ same_kind h.kind kind.Feed → (is_some path && not feed) ≡ can_be_watched (Some h)

@@ -1,6 +1,7 @@
 -- What is in a node that is shown as before is shown as before.
-use Rattle.std.proofs.Common.{ℕ, ◌≡◌, ◌+◌, ◌-◌, ◌<◌, Bool, true, false, ◌&&◌, cond, [], Option, Some, None, option_map, refl, sym, ap, ◌∙◌, true≢false}
-use Rattle.std.specs.Prelude.{IfSome, is_some, nat_le, nat_lt, option_and_then}
+use Rattle.std.proofs.Common.{ℕ, ◌≡◌, ◌+◌, ◌<◌, ◌≤◌, Bool, true, false, ◌&&◌, [], Option, Some, None, option_map, refl, sym, ap, ◌∙◌, true≢false, arith}
+use Rattle.std.specs.Prelude.{is_some, nat_le, nat_lt}
+use Rattle.std.proofs.lemmas.Bool.{le-leb, lt-ltb}
 use Rattle.ob_object.specs.declared.head.Head.{Head}
 use Rattle.ob_object.specs.Object.{Object, parts}
 use Rattle.ob_contracts.specs.Inherit.{Contracts}
@@ -11,18 +12,17 @@ use Rattle.ob_standing.specs.Contexts.{Context, under}
 use Rattle.ob_shown_laws.specs.Alike.{row}
 use Rattle.ob_shown_laws.specs.Changed.{is_watchable, PathsDiffer}
 use Rattle.ob_shown_laws.specs.Own.{dressed_own}
-use Rattle.ob_tree.specs.declared.node.NodeId.{NodeId}
-use Rattle.ob_tree.specs.Children.{place_at}
 use Rattle.ob_tree.specs.Laid.{head_at, paths}
 use Rattle.ob_tree.specs.Paths.{place_of, first_twice}
-use Rattle.ob_tree.specs.Shown.{part_at, handed_at, standing_at}
+use Rattle.ob_tree.specs.Shown.{row as row_of, part_at, handed_at, standing_at}
 use Rattle.ob_tree.proofs.Within.{place_within}
 use Rattle.ob_tree_bridges.proofs.Owned.{part_there, round}
 use Rattle.ob_site_state.proofs.Noting.{head_there}
 use Rattle.ob_default_laws.specs.Defaults.{with_library, is_same}
 use Rattle.ob_default_laws.proofs.Reached.{defaults_reach}
 use Rattle.ob_site_defaults.specs.Otherwise.{IsOtherwise}
-use Rattle.ob_site_defaults.specs.Watched.{can_be_watched, is_inside}
+use Rattle.ob_site_defaults.specs.Watched.{can_be_watched}
+use Rattle.ob_site_defaults.proofs.Numbered.{part_within}
 use Rattle.ob_site_defaults.proofs.Places.{placed_at}
 use Rattle.ob_site_defaults.proofs.Compared.{standing, own_there, kind_off}
 
@@ -49,23 +49,6 @@ reached plan s new differ p n x at_n here watchable q m at_m inside same =
     (kind_off plan s x.head (node_path x.head) ∙ watchable)
     (round plan s q m n x differ at_m here ∙ inside) same
 
--- a node that can be watched, and is shown as before
-abbrev pub IsSameNode : Plan → State → Contracts → ℕ → Type 0
-IsSameNode plan s new k = (k < parts s.tree) × ((can_be_watched (head_at k s.tree) ≡ true) × (IsOtherwise plan s new k → ⊥))
-
-placed_inside : (k n : ℕ) (o : Object) → is_some (place_at n k o) ≡ true → (x : Object) × (part_at k o ≡ Some x) × ((nat_le k n && nat_lt n (k + parts x)) ≡ true)
-placed_inside k n o e = go (part_at k o) refl e
-  where
-    within : (x : Object) (b : Bool) → (nat_le k n && nat_lt n (k + parts x)) ≡ b → is_some (cond b (cond (nat_lt (n - k) 4294967296) (Some (n - k)) None) None) ≡ true → b ≡ true
-    within x true f g = refl
-    within x false f g = absurd cc
-
-    go : (p : Option Object) → part_at k o ≡ p
-        → is_some (option_and_then (λ p. cond (nat_le k n && nat_lt n (k + parts p)) (cond (nat_lt (n - k) 4294967296) (Some (n - k)) None) None) p) ≡ true
-        → (x : Object) × (part_at k o ≡ Some x) × ((nat_le k n && nat_lt n (k + parts x)) ≡ true)
-    go None f g = absurd cc
-    go (Some x) f g = (x, f, within x (nat_le k n && nat_lt n (k + parts x)) refl g)
-
 some_path : (o : Option Path) → is_some o ≡ true → (p : Path) × (o ≡ Some p)
 some_path None e = absurd cc
 some_path (Some p) e = (p, refl)
@@ -78,22 +61,23 @@ and_second : (a b : Bool) → (a && b) ≡ true → b ≡ true
 and_second true b e = e
 and_second false b e = absurd cc
 
+both_true : (a b : Bool) → a ≡ true → b ≡ true → (a && b) ≡ true
+both_true true b e f = f
+both_true false b e f = absurd cc
+
 is_true : (b : Bool) → (b ≡ false → ⊥) → b ≡ true
 is_true true never = refl
 is_true false never = absurd (never refl)
 
 -- what is in it isn't shown otherwise
-pub inside_same : (plan : Plan) (s : State) (new : Contracts) (n : ℕ) (same : Option NodeId) → PathsDiffer (row (dressed plan s)) → first_twice [] (paths s.tree) ≡ None
-    → IfSome same (λ k. IsSameNode plan s new k.number) → is_inside n (option_map (λ k. k.number) same) s.tree ≡ true → IsOtherwise plan s new n → ⊥
-inside_same plan s new n None differ once is inside otherwise = absurd cc
-inside_same plan s new n (Some id) differ once is inside otherwise =
-    let k : ℕ = id.number in
-    let x : (x : Object) × (part_at k s.tree ≡ Some x) × ((nat_le k n && nat_lt n (k + parts x)) ≡ true) = placed_inside k n s.tree inside in
-    let head : head_at k s.tree ≡ Some x.0.head = head_part k s.tree x.0 is.0 x.1 in
-    let watched : (is_some (node_path x.0.head) && is_watchable x.0.head) ≡ true = sym (ap (λ (o : Option Head). can_be_watched o) head) ∙ is.1.0 in
-    let p : (p : Path) × (node_path x.0.head ≡ Some p) = some_path (node_path x.0.head) (and_first (is_some (node_path x.0.head)) (is_watchable x.0.head) watched) in
-    let at_k : place_of p.0 (paths s.tree) ≡ Some k = placed_at s.tree k x.0.head p.0 once head p.1 in
-    let same : is_same plan s (with_library new s) p.0 ≡ true = is_true (is_same plan s (with_library new s) p.0) (λ f. is.1.1 (p.0, at_k, f)) in
+pub nothing_inside : (plan : Plan) (s : State) (new : Contracts) (n : ℕ) (x : Object) → PathsDiffer (row (dressed plan s)) → first_twice [] (paths s.tree) ≡ None → part_at n s.tree ≡ Some x
+    → can_be_watched (Some x.head) ≡ true → (IsOtherwise plan s new n → ⊥) → (m : ℕ) → n ≤ m → m < n + parts x → IsOtherwise plan s new m → ⊥
+nothing_inside plan s new n x differ once here watched off m from to otherwise =
+    let head : head_at n s.tree ≡ Some x.head = head_part n s.tree x (omega (arith, part_within (row_of s.tree) n x here)) here in
+    let p : (p : Path) × (node_path x.head ≡ Some p) = some_path (node_path x.head) (and_first (is_some (node_path x.head)) (is_watchable x.head) watched) in
+    let at_n : place_of p.0 (paths s.tree) ≡ Some n = placed_at s.tree n x.head p.0 once head p.1 in
+    let same : is_same plan s (with_library new s) p.0 ≡ true = is_true (is_same plan s (with_library new s) p.0) (λ f. off (p.0, at_n, f)) in
+    let inside : (nat_le n m && nat_lt m (n + parts x)) ≡ true = both_true (nat_le n m) (nat_lt m (n + parts x)) (le-leb n m from) (lt-ltb m (n + parts x) to) in
     true≢false
-    (sym (reached plan s new differ p.0 k x.0 at_k x.1 (and_second (is_some (node_path x.0.head)) (is_watchable x.0.head) watched) otherwise.0 n otherwise.1 x.2 same)
+    (sym (reached plan s new differ p.0 n x at_n here (and_second (is_some (node_path x.head)) (is_watchable x.head) watched) otherwise.0 m otherwise.1 inside same)
     ∙ otherwise.2)

@@ -1,95 +1,99 @@
 //! The own nodes of which a watch shows something else with another library.
-ghost use Rattle.std.specs.Prelude.{◌≡◌, ◌↔◌, ◌<◌, ◌&&◌, All, [], None, true, not, map, option_map, IsTrue, IfOk, IfSome};
+ghost use Rattle.std.specs.Prelude.{◌≡◌, ◌<◌, ◌+◌, ◌^◌, All, [], ◌∷◌, map, Some, option_map, IfOk, OnOk};
 ghost use Rattle.ob_object.specs.Object.{parts};
+ghost use Rattle.ob_contracts.specs.Inherit.{Contracts};
+ghost use Rattle.ob_tree.specs.Laid.{paths};
+ghost use Rattle.ob_tree.specs.Paths.{first_twice};
+ghost use Rattle.ob_tree.specs.Shown.{standing_at};
+ghost use Rattle.ob_tree_bridges.specs.OwnTree.{own_shown_at};
 ghost use Rattle.ob_standing.specs.Contexts.{comes_to};
 ghost use Rattle.ob_standing.specs.Standings.{context};
-ghost use Rattle.ob_tree.specs.Laid.{head_at, paths};
-ghost use Rattle.ob_tree.specs.Paths.{first_twice};
 ghost use Rattle.ob_replies.specs.Plans.{plan as plan_of};
+ghost use Rattle.ob_site_rules.specs.State.{Plan as SitePlan, State as SiteState};
 ghost use Rattle.ob_default_laws.specs.Defaults.{with_library};
 ghost use Rattle.ob_site_state.specs.Contents.{state_in};
 ghost use Rattle.ob_site_shown.specs.Readable.{IsReadable};
-ghost use Rattle.ob_site_defaults.specs.Otherwise.{IsOtherwise, AreOtherwise};
-ghost use Rattle.ob_site_defaults.specs.Watched.{can_be_watched, is_inside};
+ghost use Rattle.ob_site_defaults.specs.Otherwise.{AreOtherwise, AreOtherwiseBelow, AreShown};
+ghost use Rattle.ob_site_defaults.specs.Watched.{can_be_watched};
 
 use ob_contracts::Library;
 use ob_object::{Kind, Obj};
+use ob_plain_state::node_path;
 use ob_replies::Plan;
 use ob_site_settled::library_before;
 use ob_site_shown::dressed_part;
 use ob_site_state::{Contents, State};
-use ob_standing::Standing;
 use ob_tree::{NodeId, Tree};
 use std::alloc::{AllocError, Global};
 
-/// Whether the object of a number is a node that can be watched: any but a feed.
-fn can_be_watched(tree: &Tree, node: NodeId) -> bool
-    requires { node.number < parts tree.now.root }
-    ensures { result ≡ can_be_watched (head_at node.number tree.now.root) }
+/// Whether an own object is a node that can be watched: any but a feed.
+fn can_be_watched(own: &Obj) -> bool
+    ensures { result ≡ can_be_watched (Some own.now.head) }
 {
-    tree.path(node).is_some() && !tree.own(node).kind().same(Kind::Feed)
+    node_path(own.head()).is_some() && !own.kind().same(Kind::Feed)
 }
 
-/// Whether an object comes to the same where it stands by one library and by another.
-fn comes_to_same(
-    alloc: Global,
-    old: &Standing<'_>,
-    new: &Standing<'_>,
-    object: &Obj,
-) -> Result<bool, AllocError>
-    ensures { IfOk result (λ same. IsTrue same ↔ (comes_to (context old.now) object.now ≡ comes_to (context new.now) object.now)) }
+/// Puts the numbers of the nodes in an own object, itself counted, of which a watch shows something else where the one object
+/// is shown of it than where the other one is. What is in a node that is shown as before isn't looked at.
+fn put_otherwise(
+    own: &Obj,
+    number: u64,
+    before: &Obj,
+    after: &Obj,
+    nodes: &mut Vec<NodeId>,
+) -> Result<(), AllocError>
+    requires few { number + parts own.now < 2 ^ 64 }
+    requires shown { (plan : SitePlan) × (s : SiteState) × (old : Contracts) × AreShown plan s old number own.now before.now after.now }
+    ensures { OnOk result ((plan : SitePlan) (s : SiteState) (old : Contracts) → AreShown plan s old number own.now before.now after.now
+        → AreOtherwiseBelow plan (with_library old s) s.library number (map (λ node. node.number) nodes.old.items)
+        → AreOtherwiseBelow plan (with_library old s) s.library (number + parts own.now) (map (λ node. node.number) nodes.new.items)) }
 {
-    let before = old.whole(alloc, object)?;
-    let after = new.whole(alloc, object)?;
-    Ok(before.same(&after))
-}
-
-/// Whether an object is in one, if there is one.
-fn is_inside(tree: &Tree, node: NodeId, round: Option<NodeId>) -> bool
-    requires { IfSome round (λ round. round.number < parts tree.now.root) }
-    ensures { result ≡ is_inside node.number (option_map (λ round. round.number) round) tree.now.root }
-{
-    match round {
-        Some(round) => tree.place(node, round).is_some(),
-        None => false,
+    if can_be_watched(own) {
+        if before.same(after) {
+            return Ok(());
+        }
+        nodes.push(NodeId { number })?;
     }
+    let mut next = number + 1;
+    for (place, child) in own.children().iter().enumerate() {
+        let (before, after) = (&before.children()[place], &after.children()[place]);
+        put_otherwise(child, next, before, after, nodes)?;
+        next += child.parts();
+    }
+    Ok(())
 }
 
-/// Whether the object of a number is a node that can be watched, and isn't in one that is shown as before.
-fn is_compared(tree: &Tree, node: NodeId, same: Option<NodeId>) -> bool
-    requires within { node.number < parts tree.now.root }
-    requires same { IfSome same (λ same. same.number < parts tree.now.root) }
-    ensures { result ≡ (can_be_watched (head_at node.number tree.now.root)
-        && not (is_inside node.number (option_map (λ same. same.number) same) tree.now.root)) }
-{
-    can_be_watched(tree, node) && !is_inside(tree, node, same)
-}
-
-/// Whether a node that can be watched comes to something else where it stands by the library that contents have than by
-/// another one: so a watch shows something else of it.
-fn is_otherwise(
+/// What is shown of the root by the library that contents have and by another one: before and after. An error only for want of
+/// memory.
+fn both_shown(
     alloc: Global,
     plan: &Plan,
     contents: &Contents,
     old: &Library,
-    node: NodeId,
-) -> Result<bool, AllocError>
+    root: NodeId,
+) -> Result<(Obj, Obj), AllocError>
     requires readable { IsReadable (plan_of plan.now) contents.now }
-    requires differ { first_twice [] (paths contents.now.tree.root) ≡ None }
-    requires within { node.number < parts contents.now.tree.root }
-    requires watched { can_be_watched (head_at node.number contents.now.tree.root) ≡ true }
-    ensures { IfOk result (λ otherwise. IsTrue otherwise
-        ↔ IsOtherwise (plan_of plan.now) (with_library old.now (state_in contents.now)) contents.now.library node.number) }
+    requires within { root.number < parts contents.now.ground.tree.root }
+    ensures before { IfOk result (λ both. Some both.0 ≡ own_shown_at (plan_of plan.now) (with_library old.now (state_in contents.now)) root.number) }
+    ensures after { IfOk result (λ both. Some both.1 ≡ own_shown_at (plan_of plan.now) (state_in contents.now) root.number) }
 {
-    let dressed = dressed_part(alloc, plan, contents, node)?;
-    let before = contents.tree.standing(old, node);
-    let after = contents.tree.standing(&contents.library, node);
-    let is_same = comes_to_same(alloc, &before, &after, &dressed)?;
-    Ok(!is_same)
+    let dressed = dressed_part(alloc, plan, contents, root)?;
+    let before = contents.ground.tree().standing(old, root);
+    let after = contents.ground.standing(root);
+    let old_root = before.whole(alloc, &dressed)?;
+    let new_root = after.whole(alloc, &dressed)?;
+    Ok((old_root, new_root))
+}
+
+/// The own objects of a tree can be counted.
+fn is_counted(tree: &Tree)
+    ensures { parts tree.now.root < 2 ^ 64 }
+{
+    let _ = tree.len();
 }
 
 /// The own nodes of which a watch shows something else with the library that contents have than with another one, each
-/// once, in document order. What is in a node that is shown as before isn't looked at.
+/// once, in document order. The root is shown once by each of the two.
 fn nodes_otherwise(
     alloc: Global,
     plan: &Plan,
@@ -97,23 +101,17 @@ fn nodes_otherwise(
     old: &Library,
 ) -> Result<Vec<NodeId>, AllocError>
     requires readable { IsReadable (plan_of plan.now) contents.now }
-    requires differ { first_twice [] (paths contents.now.tree.root) ≡ None }
-    ensures others { IfOk result (λ nodes. AreOtherwise (plan_of plan.now) (with_library old.now (state_in contents.now)) contents.now.library (map (λ node. node.number) nodes.items)) }
-    ensures within { IfOk result (λ nodes. All (λ node. node.number < parts contents.now.tree.root) nodes.items) }
+    requires differ { first_twice [] (paths contents.now.ground.tree.root) ≡ None }
+    ensures others { IfOk result (λ nodes. AreOtherwise (plan_of plan.now) (with_library old.now (state_in contents.now)) contents.now.ground.library (map (λ node. node.number) nodes.items)) }
+    ensures within { IfOk result (λ nodes. All (λ node. node.number < parts contents.now.ground.tree.root) nodes.items) }
 {
+    let tree = contents.ground.tree();
+    is_counted(tree);
+    let root = NodeId { number: 0 };
+    let own = tree.copy(alloc, root)?;
+    let (before, after) = both_shown(alloc, plan, contents, old, root)?;
     let mut nodes = Vec::new(alloc);
-    let mut same = None;
-    for number in 0..contents.tree.len() {
-        let node = NodeId { number };
-        if !is_compared(&contents.tree, node, same) {
-            continue;
-        }
-        if is_otherwise(alloc, plan, contents, old, node)? {
-            nodes.push(node)?;
-        } else {
-            same = Some(node);
-        }
-    }
+    put_otherwise(&own, 0, &before, &after, &mut nodes)?;
     Ok(nodes)
 }
 

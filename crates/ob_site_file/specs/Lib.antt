@@ -5,3 +5,4 @@ pub mod Passes
 pub mod Sizes
 pub mod Abouts
 pub mod Opened
+pub mod Words

@@ -1,5 +1,6 @@
 //! Why a file opens no site.
-ghost use Rattle.std.specs.Prelude.{◌≡◌};
+ghost use Rattle.std.specs.Prelude.{◌≡◌, ◌++◌, string_bytes, IfOk};
+ghost use Rattle.ob_site_file.specs.Words.{contract_words};
 
 use ob_contracts::LibFault;
 use ob_values::Text;
@@ -40,14 +41,47 @@ pub enum LoadFault {
     Memory,
 }
 
+/// A word with a text behind it.
+fn word_and_text(alloc: Global, word: &str, text: &Text) -> Result<String, AllocError>
+    ensures { IfOk result (λ words. string_bytes words ≡ word.now ++ text.now) }
+{
+    let text = text.as_str();
+    format!(in alloc; "{word}{text}")
+}
+
+/// Why a contract isn't taken, and its word.
+fn contract_words(alloc: Global, fault: &LibFault) -> Result<String, AllocError>
+    ensures { IfOk result (λ words. string_bytes words ≡ contract_words fault.now) }
+{
+    match fault {
+        LibFault::Twice { uri } => word_and_text(alloc, "Contract Twice ", uri),
+        LibFault::Later { uri } => word_and_text(alloc, "Contract Later ", uri),
+        LibFault::Large { uri } => word_and_text(alloc, "Contract Large ", uri),
+        LibFault::Memory => String::from_str(alloc, "Contract Memory"),
+    }
+}
+
 impl LoadFault {
     ghost use Rattle.ob_site_file.specs.Passes.{contract_fault};
+    ghost use Rattle.ob_site_file.specs.Words.{load_words};
 
     /// The words that are printed for the refusal, as `RootHref`, `Href 5`, `PathTwice /obix/n`,
     /// `Contract Later /obix/def/A`, `Rule 5`, `Size`, and for a document `SameName at 25`. An error only for want of
     /// memory.
-    pub fn words(&self, alloc: Global) -> Result<String, AllocError> {
-        format!(in alloc; "{self}")
+    pub fn words(&self, alloc: Global) -> Result<String, AllocError>
+        ensures { IfOk result (λ words. string_bytes words ≡ load_words self.now) }
+    {
+        match self {
+            LoadFault::Read => String::from_str(alloc, "Read"),
+            LoadFault::Document(refused) => refused.words(alloc),
+            LoadFault::RootHref => String::from_str(alloc, "RootHref"),
+            LoadFault::Href { part } => format!(in alloc; "Href {part}"),
+            LoadFault::Contract(fault) => contract_words(alloc, fault),
+            LoadFault::PathTwice { path } => word_and_text(alloc, "PathTwice ", path),
+            LoadFault::Rule { part } => format!(in alloc; "Rule {part}"),
+            LoadFault::Size => String::from_str(alloc, "Size"),
+            LoadFault::Memory => String::from_str(alloc, "Memory"),
+        }
     }
 
     /// The fault of a document, where want of memory is that of the whole.

@@ -49,8 +49,8 @@ none_yet p = record { root = p.root; rules = numbered_from 0 p.rules; alarms = [
 
 -- The contents that are filled with what stands opened.
 pub record Fills (o : Opened) (c : Contents) : Type 0 where
-  pub library : c.library ≡ o.library
-  pub tree : c.tree ≡ record { root = o.tree; stamps = replicate (parts o.tree) 0; steps = 0 }
+  pub library : c.ground.library ≡ o.library
+  pub tree : c.ground.tree ≡ record { root = o.tree; stamps = replicate (parts o.tree) 0; steps = 0 }
   pub logs : map entry_in c.logs.items ≡ rolled_logs (map entry_of o.logs.items)
   pub nanos : EachLog HaveNanos (map entry_in c.logs.items)
   pub board : c.board ≡ none_yet (plan_of o.plan)
@@ -107,7 +107,7 @@ module _ (root : Object) (boot : ℕ) (o : Opened) (formed : IsWellFormed root) 
     pub histories : keys (state_in c).logs ≡ map (λ h. h.0) (plan_of o.plan).histories
     histories = ap (λ (s : State). keys s.logs) state_is ∙ ordered.logs
 
-    pub differ : first_twice [] (paths c.tree.root) ≡ None
+    pub differ : first_twice [] (paths c.ground.tree.root) ≡ None
     differ = ap (λ (t : Stamped). first_twice [] (paths t.root)) f.tree ∙ tree_differ
 
     pub in_time : (time : ℕ) → time ≡ st.world.time → LogsAreBy time (state_in c).logs

@@ -17,6 +17,7 @@ ghost use Rattle.ob_site_open.specs.Opens.{Opens, just_opened};
 use crate::board::board_of;
 use crate::logs::{capacities_of, logs_of};
 use crate::time::opening_time;
+use ob_ground::Ground;
 use ob_history::Log;
 use ob_object::Obj;
 use ob_site_file::{LoadFault, Opened, opening};
@@ -91,9 +92,9 @@ pub fn state_of(
     } = opened;
     drop(whole);
     let tree = tree_of(alloc, tree)?;
+    let ground = Ground::new(alloc, library, tree)?;
     let contents = Contents {
-        library,
-        tree,
+        ground,
         logs,
         board,
         roles,

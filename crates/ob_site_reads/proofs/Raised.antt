@@ -94,44 +94,65 @@ alarm_out f s event e there out = raised_late f s event e false there (λ a at. 
 pub early_event : (f : Filter) (s : State) (event : ℕ) (e : Event) → slice_get s.events event ≡ Some e → At (is_before f.start) (alarm_of e.number s.alarms) → passes f (event_object s event) ≡ false
 early_event f s event e there before = alarm_out f s event e there (λ a at. early_out f a (subst (At (is_before f.start)) at before))
 
--- nor does any, where each alarm was raised before the start or after the end
-pub no_event : (f : Filter) (s : State) (from to : ℕ) → HasAllWithin f.start f.end s.alarms from to → from ≡ to → (event : ℕ) (e : Event) → slice_get s.events event ≡ Some e → passes f (event_object s event) ≡ false
-no_event f s from to has none event e there = alarm_out f s event e there (λ a at. numbered_out (nat_eq e.number 0) a at)
+-- nor does one of an alarm outside of a part that has each alarm raised from the start on and up to the end
+pub event_outside : (f : Filter) (s : State) (from to : ℕ) → HasAllWithin f.start f.end s.alarms from to → (event : ℕ) (e : Event) → slice_get s.events event ≡ Some e
+    → (from < e.number → e.number ≤ to → ⊥) → passes f (event_object s event) ≡ false
+event_outside f s from to has event e there none = alarm_out f s event e there (λ a at. numbered_out (nat_eq e.number 0) refl a at)
   where
     index_is : (alarms : List Alarm) (n : ℕ) (a : Alarm) → slice_get alarms n ≡ Some a → (n < length alarms) × (slice_index_or alarms n a ≡ a)
     index_is [] n a e = absurd cc
     index_is (x ∷ xs) zero a e = (omega arith, some_same e)
     index_is (x ∷ xs) (suc n) a e = let later = index_is xs n a e in let lt = later.0 in (omega arith, later.1)
 
-    out : (n : ℕ) (a : Alarm) → slice_get s.alarms n ≡ Some a → is_within f (raised_at a) ≡ false
-    out n a at =
-        let here = index_is s.alarms n a at in
-        elim (leb_tells from n) [
-          | inl h ↦ let past = h.1 in late_out f a (subst (λ (b : Alarm). is_after f.end b ≡ true) here.1 (has.after n a (omega arith) here.0))
-          | inr h ↦ early_out f a (subst (λ (b : Alarm). is_before f.start b ≡ true) here.1 (has.before n a (omega arith) h.1))
+    out : 1 ≤ e.number → (a : Alarm) → slice_get s.alarms (e.number - 1) ≡ Some a → is_within f (raised_at a) ≡ false
+    out some a at =
+        let here = index_is s.alarms (e.number - 1) a at in
+        elim (leb_tells from (e.number - 1)) [
+          | inl h ↦ elim (leb_tells to (e.number - 1)) [
+            | inl g ↦ let past = g.1 in late_out f a (subst (λ (b : Alarm). is_after f.end b ≡ true) here.1 (has.after (e.number - 1) a past here.0))
+            | inr g ↦ let low = h.1 in let high = g.1 in absurd (none (omega arith) (omega arith))
+          ]
+          | inr h ↦ early_out f a (subst (λ (b : Alarm). is_before f.start b ≡ true) here.1 (has.before (e.number - 1) a (omega arith) h.1))
         ]
 
-    numbered_out : (b : Bool) (a : Alarm) → cond b None (slice_get s.alarms (e.number - 1)) ≡ Some a → is_within f (raised_at a) ≡ false
-    numbered_out true a at = absurd cc
-    numbered_out false a at = out (e.number - 1) a at
+    numbered_out : (b : Bool) → nat_eq e.number 0 ≡ b → (a : Alarm) → cond b None (slice_get s.alarms (e.number - 1)) ≡ Some a → is_within f (raised_at a) ≡ false
+    numbered_out true is a at = absurd cc
+    numbered_out false is a at = out (numbered e.number is) a at
+      where
+        numbered : (n : ℕ) → nat_eq n 0 ≡ false → 1 ≤ n
+        numbered zero is = absurd (let q : true ≡ false = is in cc)
+        numbered (suc n) is = omega arith
 
--- so those that pass are among those from one on in front of which none passes
-pub none_early : (f : Filter) (s : State) (given first from : ℕ) → from ≤ length s.events → ((n : ℕ) → given ≤ n → n < from → n < first)
-    → ((event : ℕ) (e : Event) → slice_get s.events event ≡ Some e → event < first → passes f (event_object s event) ≡ false) → some_events f s given from ≡ []
-none_early f s given first zero le low early = none_yet f s given zero (omega arith)
-none_early f s given first (suc n) le low early =
-    elim (leb_tells given n) [
-      | inl h ↦
-          let there = event_there s.events n (omega arith) in
-          let next : suc n ≡ n + 1 = omega arith in
-          ap (λ (k : ℕ). some_events f s given k) next
-          ∙ one_event f s given n h.1
-          ∙ sym (dropped f (event_object s n) (some_events f s given n) (early n there.0 there.1 (low n h.1 (omega arith))))
-          ∙ none_early f s given first n (omega arith) (λ k above below. low k above (omega arith)) early
-      | inr h ↦ let below = h.1 in none_yet f s given (suc n) (omega arith)
+-- nor does any, where each alarm was raised before the start or after the end
+pub no_event : (f : Filter) (s : State) (from to : ℕ) → HasAllWithin f.start f.end s.alarms from to → from ≡ to → (event : ℕ) (e : Event) → slice_get s.events event ≡ Some e → passes f (event_object s event) ≡ false
+no_event f s from to has none event e there = event_outside f s from to has event e there (λ low high. omega (arith, none))
+
+-- those that pass up to an event are those up to another, where none between them passes
+pub none_between : (f : Filter) (s : State) (given from to : ℕ) → from ≤ to → to ≤ length s.events
+    → ((n : ℕ) (e : Event) → slice_get s.events n ≡ Some e → given ≤ n → from ≤ n → n < to → passes f (event_object s n) ≡ false) → some_events f s given to ≡ some_events f s given from
+none_between f s given from zero le within out = ap (λ (k : ℕ). some_events f s given k) (let same : 0 ≡ from = omega arith in same)
+none_between f s given from (suc n) le within out =
+    elim (leb_tells from n) [
+      | inl h ↦ elim (leb_tells given n) [
+        | inl g ↦
+            let there = event_there s.events n (omega arith) in
+            let next : suc n ≡ n + 1 = omega arith in
+            ap (λ (k : ℕ). some_events f s given k) next
+            ∙ one_event f s given n g.1
+            ∙ sym (dropped f (event_object s n) (some_events f s given n) (out n there.0 there.1 g.1 h.1 (omega arith)))
+            ∙ none_between f s given from n h.1 (omega arith) (λ k e at above low high. out k e at above low (omega arith))
+        | inr g ↦ let first = h.1 in let below = g.1 in none_yet f s given (suc n) (omega arith) ∙ sym (none_yet f s given from (omega arith))
+      ]
+      | inr h ↦ let last = h.1 in ap (λ (k : ℕ). some_events f s given k) (let same : suc n ≡ from = omega arith in same)
     ]
   where
     event_there : (es : List Event) (n : ℕ) → n < length es → (e : Event) × (slice_get es n ≡ Some e)
     event_there [] n lt = absurd (omega arith)
     event_there (e ∷ es) zero lt = (e, refl)
     event_there (e ∷ es) (suc n) lt = event_there es n (omega arith)
+
+-- so those that pass are among those from one on in front of which none passes
+pub none_early : (f : Filter) (s : State) (given first from : ℕ) → from ≤ length s.events → ((n : ℕ) → given ≤ n → n < from → n < first)
+    → ((event : ℕ) (e : Event) → slice_get s.events event ≡ Some e → event < first → passes f (event_object s event) ≡ false) → some_events f s given from ≡ []
+none_early f s given first from le low early =
+    none_between f s given 0 from (omega arith) le (λ n e at above start below. early n e at (low n above below)) ∙ none_yet f s given 0 (omega arith)

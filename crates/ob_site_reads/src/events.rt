@@ -142,8 +142,37 @@ fn first_passing(alarms: &Alarms, bounds: &Filter) -> u64
     alarms.first_event(&bounds.start)
 }
 
+/// Whether the alarms that were raised within a filter's bounds are so few that their events are sooner put in order than
+/// all events from a number on are gone through.
+fn has_few_within(alarms: &Alarms, bounds: &Filter, first: u64) -> bool {
+    let (from, to) = alarms.raised_within(&bounds.start, &bounds.end);
+    let rest = (alarms.events(0).len() as u64).saturating_sub(first);
+    to.saturating_sub(from) < rest / 16
+}
+
+/// The alarm events that pass a filter, from an event number on: those alone are looked at whose alarm was raised within
+/// its bounds.
+fn events_within(
+    alloc: Global,
+    alarms: &Alarms,
+    bounds: &Filter,
+    given: u64,
+) -> Result<Vec<Obj>, AllocError>
+    ensures { IfOk result (λ events. events.items ≡ filter (passes_event bounds.now) (drop given (event_objects alarms.now))) }
+{
+    let (from, to) = alarms.raised_within(&bounds.start, &bounds.end);
+    let numbers = alarms.events_of(from, to)?;
+    let mut events = Vec::new(alloc);
+    for event in &numbers {
+        if given <= *event {
+            put_event(alloc, &mut events, alarms, bounds, *event)?;
+        }
+    }
+    Ok(events)
+}
+
 /// The alarm events that pass a filter, from an event number on. Where no alarm was raised within its bounds none is
-/// looked at, and else none in front of the first of such an alarm.
+/// looked at; where few were, the events of those; and else none in front of the first of such an alarm.
 pub(crate) fn alarm_events(
     alloc: Global,
     alarms: &Alarms,
@@ -152,12 +181,15 @@ pub(crate) fn alarm_events(
 ) -> Result<Vec<Obj>, AllocError>
     ensures { IfOk result (λ events. events.items ≡ filter (passes_event bounds.now) (drop given (event_objects alarms.now))) }
 {
-    let mut events = Vec::new(alloc);
     let count = alarms.events(0).len() as u64;
     if count < given {
-        return Ok(events);
+        return Ok(Vec::new(alloc));
     }
     let first = first_passing(alarms, bounds).max(given).min(count);
+    if has_few_within(alarms, bounds, first) {
+        return events_within(alloc, alarms, bounds, given);
+    }
+    let mut events = Vec::new(alloc);
     for event in first..count {
         put_event(alloc, &mut events, alarms, bounds, event)?;
     }

@@ -1,8 +1,13 @@
 //! What an asked href names.
-ghost use Rattle.std.specs.Prelude.{◌≡◌, IfOk};
+ghost use Rattle.std.specs.Prelude.{◌≡◌, cond, Option, option_map, IfOk};
+ghost use Rattle.ob_object.specs.Object.{Object};
+ghost use Rattle.ob_watching.specs.Asked.{NotFound, ObjectAt};
+ghost use Rattle.ob_site_rules.specs.Faults.{NotWatchable};
+ghost use Rattle.ob_site_rules.specs.Places.{Node, place_at};
+ghost use Rattle.ob_site_rules.specs.Shown.{shown};
 ghost use Rattle.ob_site_rules.specs.Locating.{locate};
 ghost use Rattle.ob_site_rules.specs.Sites.{found};
-ghost use Rattle.ob_site_rules.specs.Watched.{found_place};
+ghost use Rattle.ob_site_rules.specs.Watched.{found_at, found_place, is_call_kind};
 ghost use Rattle.ob_replies.specs.Plans.{plan as plan_of};
 ghost use Rattle.ob_plain_state.specs.Named.{place as place_of};
 ghost use Rattle.ob_site_state.specs.Contents.{state_in};
@@ -13,23 +18,70 @@ use ob_object::{Kind, Obj};
 use ob_plain_state::Place;
 use ob_replies::{Fault, Plan};
 use ob_requests::{Asked, Found, feed_with, is_of_watch, located};
-use ob_site_places::place_at;
+use ob_site_places::computed_place;
+use ob_site_shown::shown_kind;
 use ob_site_state::Contents;
 use ob_values::Text;
 use std::alloc::{AllocError, Global};
 
-/// What a place is to watches: nodes but ops and feeds are watched, and the feeds of histories and of the
-/// alarm subject.
+/// What a node of a kind is to watches: all but ops and feeds are watched.
+fn found_node(path: Text, kind: Kind) -> Found
+    ensures { found_of result ≡ cond (is_call_kind kind) (NotFound NotWatchable) (ObjectAt path) }
+{
+    match kind {
+        Kind::Op | Kind::Feed => Found::Nothing(Fault::NotWatchable),
+        _ => Found::Object(path),
+    }
+}
+
+/// What a place is to watches: nodes, and the feeds of histories and of the alarm subject.
 fn found_place(path: Text, input: &Option<Obj>, place: &Place) -> Found
     ensures { found_of result ≡ found_place path input.now (place_of place.now) }
 {
     match place {
-        Place::Node(node) => match node.kind() {
-            Kind::Op | Kind::Feed => Found::Nothing(Fault::NotWatchable),
-            _ => Found::Object(path),
-        },
+        Place::Node(node) => found_node(path, node.kind()),
         Place::FeedOf(_) | Place::AlarmFeed => feed_with(path, input),
         _ => Found::Nothing(Fault::NotWatchable),
+    }
+}
+
+/// What a path is to watches that no computed path is the same as. An own node isn't shown for it.
+#[tactic(auto, using(crate::proofs::FoundKinds::node_found, crate::proofs::FoundKinds::none_found))]
+fn found_shown(
+    alloc: Global,
+    plan: &Plan,
+    contents: &Contents,
+    numbers: &[u64],
+    path: Text,
+) -> Result<Found, AllocError>
+    requires readable { IsReadable (plan_of plan.now) contents.now }
+    ensures { IfOk result (λ f. (input : Option Object) → found_of f ≡ found_at (plan_of plan.now) numbers.now path input (option_map Node (shown (plan_of plan.now) (state_in contents.now) path))) }
+{
+    match shown_kind(alloc, plan, contents, &path)? {
+        Some(kind) => Ok(found_node(path, kind)),
+        None if is_of_watch(plan, numbers, path.as_str()) => Ok(Found::Nothing(
+            Fault::NotWatchable,
+        )),
+        None => Ok(Found::Nothing(Fault::NoSuchObject)),
+    }
+}
+
+/// What a path is to watches: what it names is a computed place, or else a node.
+#[tactic(auto, using(crate::proofs::FoundKinds::place_found, crate::proofs::FoundKinds::shown_found))]
+fn found_at(
+    alloc: Global,
+    plan: &Plan,
+    contents: &Contents,
+    numbers: &[u64],
+    path: Text,
+    input: &Option<Obj>,
+) -> Result<Found, AllocError>
+    requires { IsReadable (plan_of plan.now) contents.now }
+    ensures { IfOk result (λ f. found_of f ≡ found_at (plan_of plan.now) numbers.now path input.now (place_at (plan_of plan.now) (state_in contents.now) path)) }
+{
+    match computed_place(alloc, plan, contents, &path)? {
+        Some(place) => Ok(found_place(path, input, &place)),
+        None => found_shown(alloc, plan, contents, numbers, path),
     }
 }
 
@@ -49,14 +101,8 @@ pub fn found(
     if asked.0.as_str().len() > 1024 {
         return Ok(Found::Nothing(Fault::HrefTooLong));
     }
-    let Some(path) = located(alloc, plan, &asked.0)? else {
-        return Ok(Found::Nothing(Fault::NoSuchObject));
-    };
-    match place_at(alloc, plan, contents, &path)? {
-        Some(place) => Ok(found_place(path, &asked.1, &place)),
-        None if is_of_watch(plan, numbers, path.as_str()) => Ok(Found::Nothing(
-            Fault::NotWatchable,
-        )),
+    match located(alloc, plan, &asked.0)? {
+        Some(path) => found_at(alloc, plan, contents, numbers, path, &asked.1),
         None => Ok(Found::Nothing(Fault::NoSuchObject)),
     }
 }

@@ -64,8 +64,8 @@ pub fn watched_node(
     node: NodeId,
 ) -> Result<Obj, AllocError>
     requires readable { IsReadable (plan_of plan.now) contents.now }
-    requires within { node.number < parts contents.now.tree.root }
-    ensures { IfOk result (λ o. (p : Path) → place_of p (paths contents.now.tree.root) ≡ Some node.number → o ≡ watched_object (plan_of plan.now) (state_in contents.now) p) }
+    requires within { node.number < parts contents.now.ground.tree.root }
+    ensures { IfOk result (λ o. (p : Path) → place_of p (paths contents.now.ground.tree.root) ≡ Some node.number → o ≡ watched_object (plan_of plan.now) (state_in contents.now) p) }
 {
     let object = shown_own(alloc, plan, contents, node)?;
     Ok(unnamed(alloc, object))
@@ -81,10 +81,10 @@ pub fn watched_node_counted<L: Ledger>(
     steps: &mut Steps<L>,
 ) -> Result<Obj, AllocError>
     requires readable { IsReadable (plan_of plan.now) contents.now }
-    requires within { node.number < parts contents.now.tree.root }
-    ensures object { IfOk result (λ o. (p : Path) → place_of p (paths contents.now.tree.root) ≡ Some node.number → o ≡ watched_object (plan_of plan.now) (state_in contents.now) p) }
-    ensures steps { IfOk result (λ o. IsWatchableAt node.number contents.now.tree.root
-        → steps.new ≡ steps.old + depth_at node.number contents.now.tree.root + min (parts o) (2 ^ 64 - 1)) }
+    requires within { node.number < parts contents.now.ground.tree.root }
+    ensures object { IfOk result (λ o. (p : Path) → place_of p (paths contents.now.ground.tree.root) ≡ Some node.number → o ≡ watched_object (plan_of plan.now) (state_in contents.now) p) }
+    ensures steps { IfOk result (λ o. IsWatchableAt node.number contents.now.ground.tree.root
+        → steps.new ≡ steps.old + depth_at node.number contents.now.ground.tree.root + min (parts o) (2 ^ 64 - 1)) }
 {
     let object = shown_own_counted(alloc, plan, contents, node, steps)?;
     Ok(unnamed(alloc, object))

@@ -25,6 +25,7 @@ use Rattle.ob_site_rules.specs.Build.{Path}
 use Rattle.ob_site_rules.specs.State.{Plan, Log, State, rolled, roll}
 use Rattle.ob_shown_laws.specs.Alike.{DifferInValues}
 use Rattle.ob_shown_laws.specs.Changed.{differs, head_in, same_values, same_log}
+use Rattle.ob_ground.specs.Grounds.{Taught}
 use Rattle.ob_site_state.specs.declared.change.Change.{Change}
 use Rattle.ob_site_state.specs.declared.change.Change.TheVariants as change
 use Rattle.ob_site_state.specs.Changes.{cut, rewound, CanRewind, AreTold}
@@ -62,9 +63,9 @@ library_next xs i c h is none so_far =
     ∙ ap (λ (o : Option Contracts). or_else o (first_noted library_noted (drop (i + 1) xs))) none)
     ∙ so_far
 
-pub library_here : (xs : List Change) (i : ℕ) (library : Contracts) (c : Change) (k : Kept) → i < length xs → c ≡ get_or xs i c → c ≡ change.Contracts library
-    → first_noted library_noted (drop i xs) ≡ first_noted library_noted xs → rewound xs k.now ≡ k.before → library ≡ k.before.library
-library_here xs i library c k h is that so_far before =
+pub library_here : (xs : List Change) (i : ℕ) (told : Taught) (c : Change) (k : Kept) → i < length xs → c ≡ get_or xs i c → c ≡ change.Contracts told
+    → first_noted library_noted (drop i xs) ≡ first_noted library_noted xs → rewound xs k.now ≡ k.before → told.library ≡ k.before.library
+library_here xs i told c k h is that so_far before =
     sym
     (ap (λ (s : State). s.library) (sym before)
     ∙ library_before xs k.now
@@ -178,11 +179,11 @@ rule_seen earlier rule status old new updates nodes places seen = record {
   rules = seen_more status_noted earlier (change.Event rule status) old.rules new.rules rule (λ n. only_some (nat_eq rule n) status) seen.rules updates;
 }
 
-library_seen : (earlier : List Change) (library : Contracts) (old : Seen) → HasSeen earlier old → HasSeen (earlier ++ change.Contracts library ∷ []) old
-library_seen earlier library old seen = record {
-  nodes = λ n. seen_still slot_noted earlier (change.Contracts library) old.nodes (λ m. refl) seen.nodes n;
-  places = λ n. seen_still len_noted earlier (change.Contracts library) old.places (λ m. refl) seen.places n;
-  rules = λ n. seen_still status_noted earlier (change.Contracts library) old.rules (λ m. refl) seen.rules n;
+library_seen : (earlier : List Change) (told : Taught) (old : Seen) → HasSeen earlier old → HasSeen (earlier ++ change.Contracts told ∷ []) old
+library_seen earlier told old seen = record {
+  nodes = λ n. seen_still slot_noted earlier (change.Contracts told) old.nodes (λ m. refl) seen.nodes n;
+  places = λ n. seen_still len_noted earlier (change.Contracts told) old.places (λ m. refl) seen.places n;
+  rules = λ n. seen_still status_noted earlier (change.Contracts told) old.rules (λ m. refl) seen.rules n;
 }
 
 -- a new one is the first
@@ -235,8 +236,8 @@ rule_now r c rule status old new is updates nodes places =
     on_ok (Updates nat_cmp old.rules new.rules rule true) ((earlier : List Change) → HasSeen earlier old → HasSeen (earlier ++ c ∷ []) new) r updates
     (λ u earlier has. subst (λ (x : Change). HasSeen (earlier ++ x ∷ []) new) (sym is) (rule_seen earlier rule status old new u nodes places has))
 
-pub library_now : (c : Change) (library : Contracts) (old : Seen) → c ≡ change.Contracts library → (earlier : List Change) → HasSeen earlier old → HasSeen (earlier ++ c ∷ []) old
-library_now c library old is earlier has = subst (λ (x : Change). HasSeen (earlier ++ x ∷ []) old) (sym is) (library_seen earlier library old has)
+pub library_now : (c : Change) (told : Taught) (old : Seen) → c ≡ change.Contracts told → (earlier : List Change) → HasSeen earlier old → HasSeen (earlier ++ c ∷ []) old
+library_now c told old is earlier has = subst (λ (x : Change). HasSeen (earlier ++ x ∷ []) old) (sym is) (library_seen earlier told old has)
 
 -- the numbers of nodes
 abbrev pub numbers : List NodeId → List ℕ

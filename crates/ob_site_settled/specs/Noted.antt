@@ -16,7 +16,7 @@ paths_of plan s (change.Slot node slot) = option_to_list (option_and_then (λ p.
 paths_of plan s (change.Records place len) = option_to_list (slice_get (keys s.logs) place)
 paths_of plan s (change.Event rule status) =
     option_to_list plan.subject ++ option_to_list (option_map (λ r. r.source) (slice_get plan.rules rule))
-paths_of plan s (change.Contracts library) = []
+paths_of plan s (change.Contracts told) = []
 
 -- the paths that some changes are of
 abbrev pub looked_at : Plan → State → List Change → List Path

@@ -1,5 +1,5 @@
 -- What was before a step, as the first notes of it tell, and which own nodes show it otherwise at the end of the step.
-use Rattle.std.specs.Prelude.{◌≡◌, ℕ, ◌-◌, ◌<◌, ◌≤◌, Bool, true, false, not, cond, min, IsTrue, List, [], ◌∷◌, ◌++◌, length, nat_eq, suc, option_and_then, option_to_list, slice_get, Option, Some, None, is_none}
+use Rattle.std.specs.Prelude.{◌≡◌, ℕ, ◌-◌, ◌<◌, ◌≤◌, Bool, true, false, not, cond, min, IsTrue, List, [], ◌∷◌, ◌++◌, length, nat_eq, suc, option_and_then, option_to_list, slice_get, unwrap_or, Option, Some, None, is_none}
 use Rattle.ob_object.specs.declared.head.Head.{Head}
 use Rattle.ob_object.specs.declared.head.Slot.{Slot}
 use Rattle.ob_object.specs.declared.status.Status.{Status}
@@ -48,15 +48,19 @@ status_noted n _ = None
 
 -- the library
 abbrev pub library_noted : Change → Option Contracts
-library_noted (change.Contracts library) = Some library
+library_noted (change.Contracts told) = Some told.library
 library_noted _ = None
+
+-- the library before a step, where it has replaced this one, and where it has replaced none; s is the state that it has made
+abbrev pub replaced_or : Option Contracts → State → Contracts
+replaced_or replaced s = unwrap_or replaced s.library
 
 -- no earlier note is of the same object, history or rule: so the note tells what was before the step
 abbrev pub is_first : List Change → Change → Bool
 is_first earlier (change.Slot node slot) = is_none (first_noted (slot_noted node.number) earlier)
 is_first earlier (change.Records place len) = is_none (first_noted (len_noted place) earlier)
 is_first earlier (change.Event rule status) = is_none (first_noted (status_noted rule) earlier)
-is_first earlier (change.Contracts library) = false
+is_first earlier (change.Contracts told) = false
 
 -- an object, where it stands, shows another slot than it would with this one (oBIX 1.1, chapter 7)
 abbrev pub other_slot_in : Option Context → Option Head → Slot → Bool
@@ -143,7 +147,7 @@ IsComparable s (change.Slot node slot) =
 IsComparable s (change.Records place len) =
     (place < length s.logs) × ((l : Path × Log) → slice_get s.logs place ≡ Some l → len ≤ length l.1.kept)
 IsComparable s (change.Event rule status) = Unit {0}
-IsComparable s (change.Contracts library) = Unit {0}
+IsComparable s (change.Contracts told) = Unit {0}
 
 -- Whatever a step does, but for another library it changes values alone: the slots of nodes, records and alarms.
 abbrev pub NotesAreValues : Type 0

@@ -1,9 +1,11 @@
 //! Which own nodes a step has changed, told by its notes.
 ghost use Rattle.std.specs.Prelude.{◌≡◌, ◌<◌, All, List, [], ◌∷◌, ◌++◌, map, length, option_map, option_to_list, slice_get, Option, Some, IfOk, OnOk};
+ghost use Rattle.std.specs.Option.{option_copied};
 ghost use Rattle.ob_object.specs.Object.{parts};
 ghost use Rattle.ob_contracts.specs.Inherit.{only_if};
 ghost use Rattle.ob_tree.specs.Laid.{head_at};
 ghost use Rattle.ob_tree.specs.Shown.{standing_at};
+ghost use Rattle.ob_standing.specs.Standings.{context};
 ghost use Rattle.ob_site_rules.specs.Build.{Path};
 ghost use Rattle.ob_site_rules.specs.State.{Log as SiteLog, roll};
 ghost use Rattle.ob_site_rules.specs.Shown.{rule_of};
@@ -13,10 +15,10 @@ ghost use Rattle.ob_site_state.specs.declared.change.Change.{Change as Note};
 ghost use Rattle.ob_site_state.specs.declared.change.Change.TheVariants as note;
 ghost use Rattle.ob_site_settled.specs.Ending.{AreChanged};
 ghost use Rattle.ob_site_settled.specs.Seen.{HasSeen};
-ghost use Rattle.ob_site_settled.specs.Telling.{is_first, is_rule, other_slot_in, other_slot, other_records, node_with};
+ghost use Rattle.ob_site_settled.specs.Telling.{replaced_or, is_first, is_rule, other_slot_in, other_slot, other_records, node_with};
 ghost use Rattle.ob_site_settled.specs.Telling.{other_status, told_by, all_told, subject_told, ended_in_values, IsComparable};
 
-use crate::noted::{alarms_before, library_before};
+use crate::noted::{alarms_before, library_replaced};
 use crate::seen::Seen;
 use crate::spans::shows_other_span;
 use crate::values::{same_status, shows_other_values};
@@ -24,41 +26,58 @@ use ob_contracts::Library;
 use ob_history::Log;
 use ob_object::{Slot, Status};
 use ob_site_state::{Change, State};
+use ob_standing::Standing;
 use ob_tree::NodeId;
 use ob_values::Text;
 use std::alloc::AllocError;
 
+/// Where an object stands with the library before the step. Where that is the one of now, the words that its lists tell their
+/// items are found with it, and not looked up for each note.
+fn standing_before<'a>(
+    state: &'a State,
+    replaced: Option<&'a Library>,
+    node: NodeId,
+) -> Standing<'a>
+    requires { node.number < parts state.now.now.tree }
+    ensures { Some (context result) ≡ standing_at (replaced_or (option_copied replaced.entry) state.now.now) node.number state.now.now.tree }
+{
+    match replaced {
+        Some(library) => state.tree().standing(library, node),
+        None => state.contents().ground.standing(node),
+    }
+}
+
 /// Whether an object, where it stands, shows another slot than it would with this one.
 fn shows_other_slot(
     state: &State,
-    library: &Library,
+    replaced: Option<&Library>,
     node: NodeId,
     slot: &Slot,
 ) -> Result<bool, AllocError>
     requires { IsComparable state.now.now (note.Slot node slot.now) }
     ensures { IfOk result (λ other. other ≡ other_slot_in
-        (standing_at library.now node.number state.now.now.tree) (head_at node.number state.now.now.tree) slot.now) }
+        (standing_at (replaced_or (option_copied replaced.entry) state.now.now) node.number state.now.now.tree) (head_at node.number state.now.now.tree) slot.now) }
 {
     let tree = state.tree();
     let slot = slot.copy()?;
     let mut before = tree.own(node).copy()?;
     let _now = before.replace_slot(slot);
-    let standing = tree.standing(library, node);
+    let standing = standing_before(state, replaced, node);
     Ok(shows_other_values(&standing, &before, tree.own(node)))
 }
 
 /// A node of which a note has the slot, if it shows another one.
 fn changed_slot(
     state: &State,
-    library: &Library,
+    replaced: Option<&Library>,
     node: NodeId,
     slot: &Slot,
 ) -> Result<Option<NodeId>, AllocError>
     requires { IsComparable state.now.now (note.Slot node slot.now) }
     ensures { IfOk result (λ found. option_map (λ node. node.number) found
-        ≡ other_slot library.now state.now.now node.number slot.now) }
+        ≡ other_slot (replaced_or (option_copied replaced.entry) state.now.now) state.now.now node.number slot.now) }
 {
-    if shows_other_slot(state, library, node, slot)? {
+    if shows_other_slot(state, replaced, node, slot)? {
         Ok(Some(node))
     } else {
         Ok(None)
@@ -136,16 +155,20 @@ fn changed_status(state: &State, rule: u64, status: Status) -> Option<NodeId>
 }
 
 /// The own node that a note tells of as the first one of its kind, if it shows itself otherwise than before.
-fn told_by(state: &State, library: &Library, change: &Change) -> Result<Option<NodeId>, AllocError>
+fn told_by(
+    state: &State,
+    replaced: Option<&Library>,
+    change: &Change,
+) -> Result<Option<NodeId>, AllocError>
     requires { IsComparable state.now.now change.now }
     ensures { IfOk result (λ found. option_map (λ node. node.number) found
-        ≡ told_by library.now state.now.plan state.now.now change.now) }
+        ≡ told_by (replaced_or (option_copied replaced.entry) state.now.now) state.now.plan state.now.now change.now) }
 {
     match change {
-        Change::Slot { node, slot } => changed_slot(state, library, *node, slot),
+        Change::Slot { node, slot } => changed_slot(state, replaced, *node, slot),
         Change::Records { place, len } => Ok(changed_records(state, *place, *len)),
         Change::Event { rule, status } => Ok(changed_status(state, *rule, *status)),
-        Change::Contracts { library: _ } => Ok(None),
+        Change::Contracts { told: _ } => Ok(None),
     }
 }
 
@@ -166,7 +189,7 @@ fn push_some(found: &mut Vec<NodeId>, node: Option<NodeId>) -> Result<(), AllocE
 /// Puts last the own node that a note tells of, if it is the first one of its kind.
 fn push_told(
     state: &State,
-    library: &Library,
+    replaced: Option<&Library>,
     seen: &mut Seen,
     change: &Change,
     found: &mut Vec<NodeId>,
@@ -176,29 +199,29 @@ fn push_told(
         → HasSeen (earlier ++ change.now ∷ []) seen.new) }
     ensures found { OnOk result ((earlier : List Note) → HasSeen earlier seen.old
         → map (λ node. node.number) found.new.items ≡ map (λ node. node.number) found.old.items
-        ++ option_to_list (only_if (is_first earlier change.now) (told_by library.now state.now.plan state.now.now change.now))) }
+        ++ option_to_list (only_if (is_first earlier change.now) (told_by (replaced_or (option_copied replaced.entry) state.now.now) state.now.plan state.now.now change.now))) }
 {
     if !seen.is_first(change)? {
         return Ok(());
     }
-    let node = told_by(state, library, change)?;
+    let node = told_by(state, replaced, change)?;
     push_some(found, node)
 }
 
 /// Puts last the own nodes that notes tell of.
 fn push_all(
     state: &State,
-    library: &Library,
+    replaced: Option<&Library>,
     changes: &[Change],
     found: &mut Vec<NodeId>,
 ) -> Result<(), AllocError>
     requires { All (IsComparable state.now.now) changes.now }
     ensures { OnOk result (map (λ node. node.number) found.new.items
-        ≡ map (λ node. node.number) found.old.items ++ all_told library.now state.now.plan state.now.now [] changes.now) }
+        ≡ map (λ node. node.number) found.old.items ++ all_told (replaced_or (option_copied replaced.entry) state.now.now) state.now.plan state.now.now [] changes.now) }
 {
     let mut seen = Seen::new(state.allocator());
     for change in changes {
-        push_told(state, library, &mut seen, change, found)?;
+        push_told(state, replaced, &mut seen, change, found)?;
     }
     Ok(())
 }
@@ -229,9 +252,9 @@ pub fn changed(state: &State) -> Result<Vec<NodeId>, AllocError>
     ensures within { IfOk result (λ nodes. All (λ node. node.number < parts state.now.now.tree) nodes.items) }
 {
     state.is_sound();
-    let library = library_before(state);
+    let replaced = library_replaced(state);
     let mut found = Vec::new(state.allocator());
-    push_all(state, library, state.changes(), &mut found)?;
+    push_all(state, replaced, state.changes(), &mut found)?;
     push_some(&mut found, changed_subject(state))?;
     Ok(found)
 }

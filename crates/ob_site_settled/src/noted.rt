@@ -1,24 +1,35 @@
 //! What was before a step, told by its notes.
 ghost use Rattle.std.specs.Prelude.{◌≡◌, ◌≤◌, length, IsTrue};
+ghost use Rattle.std.specs.Option.{option_copied};
 ghost use Rattle.ob_site_rules.specs.State.{roll};
 ghost use Rattle.ob_shown_laws.specs.Alike.{DifferInValues};
-ghost use Rattle.ob_site_settled.specs.Telling.{count_before_what, count_before, is_event, events_noted};
+ghost use Rattle.ob_site_settled.specs.Telling.{replaced_or, count_before_what, count_before, is_event, events_noted};
 
 use ob_alarms::{Event, What};
 use ob_contracts::Library;
 use ob_site_state::{Change, State};
 
+/// The library before this step, if the step has replaced it by another one.
+pub(crate) fn library_replaced(state: &State) -> Option<&Library>
+    ensures { replaced_or (option_copied result) state.now.now ≡ state.now.before.library }
+{
+    let changes = state.changes();
+    for change in changes {
+        if let Change::Contracts { told } = change {
+            return Some(told.library());
+        }
+    }
+    None
+}
+
 /// The library before this step.
 pub fn library_before(state: &State) -> &Library
     ensures { result.now ≡ state.now.before.library }
 {
-    let changes = state.changes();
-    for change in changes {
-        if let Change::Contracts { library } = change {
-            return library;
-        }
+    match library_replaced(state) {
+        Some(library) => library,
+        None => state.library(),
     }
-    state.library()
 }
 
 /// Whether this step has changed values alone, and no library.
@@ -27,7 +38,7 @@ pub fn changes_values(state: &State) -> bool
 {
     let changes = state.changes();
     for change in changes {
-        if let Change::Contracts { library: _ } = change {
+        if let Change::Contracts { told: _ } = change {
             return false;
         }
     }
@@ -42,7 +53,7 @@ fn is_event(change: &Change) -> bool
         Change::Event { rule: _, status: _ } => true,
         Change::Slot { node: _, slot: _ }
         | Change::Records { place: _, len: _ }
-        | Change::Contracts { library: _ } => false,
+        | Change::Contracts { told: _ } => false,
     }
 }
 

@@ -62,7 +62,7 @@ impl Seen {
             Change::Slot { node, slot: _ } => is_new(&mut self.nodes, node.number),
             Change::Records { place, len: _ } => is_new(&mut self.places, *place as u64),
             Change::Event { rule, status: _ } => is_new(&mut self.rules, *rule),
-            Change::Contracts { library: _ } => Ok(false),
+            Change::Contracts { told: _ } => Ok(false),
         }
     }
 }

@@ -1,8 +1,10 @@
 pub mod ByRole
+pub mod ChildNames
 pub mod Frees
 pub mod Leaves
 pub mod Lookups
 pub mod Nowhere
+pub mod OwnHeads
 pub mod Slashes
 pub mod Spans
 pub mod Stands

@@ -1,3 +1,4 @@
 pub mod Deriving
 pub mod Parents
 pub mod Readable
+pub mod Targets

@@ -16,5 +16,5 @@ pub record IsReadable (plan : Plan) (c : Contents) : Type 0 where
   pub rules : c.board.rules ≡ numbered_from 0 plan.rules
   pub roles : AreRoles c.roles plan
   pub histories : keys (state_in c).logs ≡ map (λ h. h.0) plan.histories
-  pub names_free : NamesAreFree plan (state_in c) (row c.tree.root)
+  pub names_free : NamesAreFree plan (state_in c) (row c.ground.tree.root)
   pub paths_differ : PathsDiffer (row (dressed plan (state_in c)))

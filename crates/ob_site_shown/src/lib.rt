@@ -2,14 +2,18 @@
 //! roles derive and the statuses of sources put to them.
 #![tactic(auto)]
 
+mod children;
 mod dressing;
+mod heads;
 mod logs;
 mod owners;
 mod parents;
 mod roles;
 mod shown;
 
+pub use children::shows_child;
 pub use dressing::dress;
+pub use heads::{own_kind, own_target, shown_kind};
 pub use logs::{history_log, log_at};
 pub use owners::{begins_with, shown_derived};
 pub use parents::parent_path;

@@ -4,7 +4,7 @@ ghost use Rattle.std.specs.Option.{option_copied};
 ghost use Rattle.std.specs.List.{starts_with};
 ghost use Rattle.ob_object.specs.Object.{parts};
 ghost use Rattle.ob_standing.specs.Contexts.{comes_to, handed_down, under};
-ghost use Rattle.ob_tree.specs.Laid.{AreLeaves, head_at};
+ghost use Rattle.ob_tree.specs.Laid.{AreLeaves, head_at, leaf};
 ghost use Rattle.ob_tree.specs.Shown.{standing_at};
 ghost use Rattle.ob_replies.specs.Plans.{plan as plan_of};
 ghost use Rattle.ob_shown_laws.specs.Alike.{row};
@@ -44,6 +44,14 @@ fn among<'a>(objects: &'a [Obj], path: &Text) -> Option<&'a Obj>
     None
 }
 
+/// The own object of a number, without its children.
+fn own_in(contents: &Contents, node: NodeId) -> &Obj
+    requires { node.number < parts contents.now.ground.tree.root }
+    ensures { Some result.now ≡ option_map leaf (head_at node.number contents.now.ground.tree.root) }
+{
+    contents.ground.tree().own(node)
+}
+
 /// What is shown of a child that the own object of a number has, where it stands.
 fn shown_inside(
     alloc: Global,
@@ -51,11 +59,11 @@ fn shown_inside(
     node: NodeId,
     child: &Obj,
 ) -> Result<Obj, AllocError>
-    requires { node.number < parts contents.now.tree.root }
-    ensures { IfOk result (λ o. Some o ≡ option_and_then (λ h. option_map (λ c. comes_to (under (handed_down c h) child.now.head.name) child.now) (standing_at contents.now.library node.number contents.now.tree.root)) (head_at node.number contents.now.tree.root)) }
+    requires { node.number < parts contents.now.ground.tree.root }
+    ensures { IfOk result (λ o. Some o ≡ option_and_then (λ h. option_map (λ c. comes_to (under (handed_down c h) child.now.head.name) child.now) (standing_at contents.now.ground.library node.number contents.now.ground.tree.root)) (head_at node.number contents.now.ground.tree.root)) }
 {
-    let standing = contents.tree.standing(&contents.library, node);
-    let own = contents.tree.own(node);
+    let standing = contents.ground.standing(node);
+    let own = own_in(contents, node);
     let inside = standing.inside(own, child.head().name.as_ref());
     inside.whole(alloc, child)
 }
@@ -74,7 +82,8 @@ fn shown_by(
     if !begins_with(path, owner) {
         return Ok(None);
     }
-    let Some(node) = contents.tree.get(owner) else {
+    let tree = contents.ground.tree();
+    let Some(node) = tree.get(owner) else {
         return Ok(None);
     };
     let children = derived(alloc, plan, contents, Some(owner))?;
@@ -133,7 +142,7 @@ pub fn shown_derived(
     path: &Text,
 ) -> Result<Option<Obj>, AllocError>
     requires { IsReadable (plan_of plan.now) contents.now }
-    ensures { IfOk result (ShownOr (plan_of plan.now) (state_in contents.now) path.now (IsNotDerived (plan_of plan.now) (state_in contents.now) path.now (row contents.now.tree.root))) }
+    ensures { IfOk result (ShownOr (plan_of plan.now) (state_in contents.now) path.now (IsNotDerived (plan_of plan.now) (state_in contents.now) path.now (row contents.now.ground.tree.root))) }
 {
     let shown = shown_by(alloc, plan, contents, &plan.root, path)?;
     if shown.is_some() {

@@ -34,10 +34,10 @@ pub fn dressed_part(
     node: NodeId,
 ) -> Result<Obj, AllocError>
     requires readable { IsReadable (plan_of plan.now) contents.now }
-    requires within { node.number < parts contents.now.tree.root }
-    ensures { IfOk result (λ o. Some o ≡ option_map (dressed_own (plan_of plan.now) (state_in contents.now)) (part_at node.number contents.now.tree.root)) }
+    requires within { node.number < parts contents.now.ground.tree.root }
+    ensures { IfOk result (λ o. Some o ≡ option_map (dressed_own (plan_of plan.now) (state_in contents.now)) (part_at node.number contents.now.ground.tree.root)) }
 {
-    let own = contents.tree.copy(alloc, node)?;
+    let own = contents.ground.tree().copy(alloc, node)?;
     dress(alloc, plan, contents, &own)
 }
 
@@ -54,15 +54,13 @@ pub fn shown_own_counted<L: Ledger>(
     steps: &mut Steps<L>,
 ) -> Result<Obj, AllocError>
     requires readable { IsReadable (plan_of plan.now) contents.now }
-    requires within { node.number < parts contents.now.tree.root }
+    requires within { node.number < parts contents.now.ground.tree.root }
     ensures stands { IfOk result (λ o. Some o ≡ own_shown_at (plan_of plan.now) (state_in contents.now) node.number) }
-    ensures shows { IfOk result (λ o. (p : Path) → place_of p (paths contents.now.tree.root) ≡ Some node.number → shown (plan_of plan.now) (state_in contents.now) p ≡ Some o) }
-    ensures steps { IfOk result (λ o. steps.new ≡ steps.old + depth_at node.number contents.now.tree.root + min (parts o) (2 ^ 64 - 1)) }
+    ensures shows { IfOk result (λ o. (p : Path) → place_of p (paths contents.now.ground.tree.root) ≡ Some node.number → shown (plan_of plan.now) (state_in contents.now) p ≡ Some o) }
+    ensures steps { IfOk result (λ o. steps.new ≡ steps.old + depth_at node.number contents.now.ground.tree.root + min (parts o) (2 ^ 64 - 1)) }
 {
     let dressed = dressed_part(alloc, plan, contents, node)?;
-    let standing = contents
-        .tree
-        .standing_counted(&contents.library, node, steps);
+    let standing = contents.ground.standing_counted(node, steps);
     standing.whole_counted(alloc, &dressed, steps)
 }
 
@@ -75,12 +73,12 @@ fn shown_own_by<L: Ledger>(
     blank: Blank,
 ) -> Result<Obj, AllocError>
     requires readable { IsReadable (plan_of plan.now) contents.now }
-    requires within { node.number < parts contents.now.tree.root }
+    requires within { node.number < parts contents.now.ground.tree.root }
     requires name { blank.name ≡ L.name }
     requires parts { blank.parts ≡ L.parts }
     requires cut { 0 < blank.parts }
     ensures stands { IfOk result (λ o. Some o ≡ own_shown_at (plan_of plan.now) (state_in contents.now) node.number) }
-    ensures shows { IfOk result (λ o. (p : Path) → place_of p (paths contents.now.tree.root) ≡ Some node.number → shown (plan_of plan.now) (state_in contents.now) p ≡ Some o) }
+    ensures shows { IfOk result (λ o. (p : Path) → place_of p (paths contents.now.ground.tree.root) ≡ Some node.number → shown (plan_of plan.now) (state_in contents.now) p ≡ Some o) }
 {
     let mut steps = Steps::<L>::begin(blank);
     shown_own_counted(alloc, plan, contents, node, &mut steps)
@@ -94,9 +92,9 @@ pub fn shown_own(
     node: NodeId,
 ) -> Result<Obj, AllocError>
     requires readable { IsReadable (plan_of plan.now) contents.now }
-    requires within { node.number < parts contents.now.tree.root }
+    requires within { node.number < parts contents.now.ground.tree.root }
     ensures stands { IfOk result (λ o. Some o ≡ own_shown_at (plan_of plan.now) (state_in contents.now) node.number) }
-    ensures shows { IfOk result (λ o. (p : Path) → place_of p (paths contents.now.tree.root) ≡ Some node.number → shown (plan_of plan.now) (state_in contents.now) p ≡ Some o) }
+    ensures shows { IfOk result (λ o. (p : Path) → place_of p (paths contents.now.ground.tree.root) ≡ Some node.number → shown (plan_of plan.now) (state_in contents.now) p ≡ Some o) }
 {
     shown_own_by::<Brand>(alloc, plan, contents, node, Blank::new(1))
 }
@@ -114,7 +112,7 @@ pub fn shown_at(
     requires { IsReadable (plan_of plan.now) contents.now }
     ensures { IfOk result (λ o. o ≡ shown (plan_of plan.now) (state_in contents.now) path.now) }
 {
-    match contents.tree.get(path) {
+    match contents.ground.tree().get(path) {
         Some(node) => {
             let shown = shown_own(alloc, plan, contents, node)?;
             Ok(Some(shown))

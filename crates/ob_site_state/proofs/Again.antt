@@ -18,13 +18,13 @@ abbrev before_one : Change → Contracts → Contracts
 before_one (change.Slot node slot) l = l
 before_one (change.Records place len) l = l
 before_one (change.Event rule status) l = l
-before_one (change.Contracts library) l = library
+before_one (change.Contracts told) l = told.library
 
 undone_with : (c : Change) (l : Contracts) (s : State) → undone c (with_library l s) ≡ with_library (before_one c l) (undone c s)
 undone_with (change.Slot node slot) l s = refl
 undone_with (change.Records place len) l s = refl
 undone_with (change.Event rule status) l s = refl
-undone_with (change.Contracts library) l s = refl
+undone_with (change.Contracts told) l s = refl
 
 abbrev before_all : List Change → Contracts → Contracts
 before_all [] l = l
@@ -40,13 +40,13 @@ rewound_again [] l s e = absurd (true≢false (sym e))
 rewound_again (change.Slot node slot ∷ cs) l s e = ap (undone (change.Slot node slot)) (rewound_again cs l s e)
 rewound_again (change.Records place len ∷ cs) l s e = ap (undone (change.Records place len)) (rewound_again cs l s e)
 rewound_again (change.Event rule status ∷ cs) l s e = ap (undone (change.Event rule status)) (rewound_again cs l s e)
-rewound_again (change.Contracts library ∷ cs) l s e = ap (undone (change.Contracts library)) (rewound_with cs l s)
+rewound_again (change.Contracts told ∷ cs) l s e = ap (undone (change.Contracts told)) (rewound_with cs l s)
 
 undo_with : (c : Change) (l : Contracts) (s : State) → CanUndo c s → CanUndo c (with_library l s)
 undo_with (change.Slot node slot) l s can = can
 undo_with (change.Records place len) l s can = can
 undo_with (change.Event rule status) l s can = can
-undo_with (change.Contracts library) l s can = tt
+undo_with (change.Contracts told) l s can = can
 
 rewind_with : (cs : List Change) (l : Contracts) (s : State) → CanRewind cs s → CanRewind cs (with_library l s)
 rewind_with [] l s can = tt

@@ -20,6 +20,7 @@ use Rattle.ob_site_rules.specs.Writes.{events_ever, with_record}
 use Rattle.ob_history.specs.declared.records.Record.{Record}
 use Rattle.ob_times.specs.Times.{moment_instant}
 use Rattle.ob_tree.specs.declared.node.NodeId.{NodeId}
+use Rattle.ob_ground.specs.Grounds.{Taught, AreTold as WordsAreTold}
 use Rattle.ob_site_state.specs.declared.change.Change.{Change}
 use Rattle.ob_site_state.specs.declared.change.Change.TheVariants as change
 use Rattle.ob_site_state.specs.Changes.{cut, undone, rewound, with_log, CanUndo, CanRewind, IsNode, IsTold, AreTold, AddsEvent}
@@ -213,19 +214,19 @@ undone_well : (c : Change) (s : State) → CanUndo c s → IsWellFormed s.tree �
 undone_well (change.Slot node slot) s can well = well_set s.tree node.number slot well can.0 can.1
 undone_well (change.Records place len) s can well = well
 undone_well (change.Event rule status) s can well = well
-undone_well (change.Contracts library) s can well = well
+undone_well (change.Contracts told) s can well = well
 
 undone_differ : (c : Change) (s : State) → CanUndo c s → first_twice [] (paths s.tree) ≡ None → first_twice [] (paths (undone c s).tree) ≡ None
 undone_differ (change.Slot node slot) s can differ = ap (λ (ps : List (Option TreePath)). first_twice [] ps) (paths_stay s.tree node.number slot can.0) ∙ differ
 undone_differ (change.Records place len) s can differ = differ
 undone_differ (change.Event rule status) s can differ = differ
-undone_differ (change.Contracts library) s can differ = differ
+undone_differ (change.Contracts told) s can differ = differ
 
 keys-undone : (c : Change) (s : State) → keys (undone c s).logs ≡ keys s.logs
 keys-undone (change.Slot node slot) s = refl
 keys-undone (change.Records place len) s = keys-with_log (cut len) place s.logs
 keys-undone (change.Event rule status) s = refl
-keys-undone (change.Contracts library) s = refl
+keys-undone (change.Contracts told) s = refl
 
 keys-rewound : (cs : List Change) (s : State) → keys (rewound cs s).logs ≡ keys s.logs
 keys-rewound [] s = refl
@@ -281,12 +282,12 @@ kept_same plan time s t b c since found k root rules is =
     })
 
 -- a library that is taken, and taken back
-pub library_back : (s t : State) (old new : Contracts) → old ≡ s.library → t ≡ record s { library = new } → undone (change.Contracts old) t ≡ s
+pub library_back : (s t : State) (old : Taught) (new : Contracts) → old.library ≡ s.library → t ≡ record s { library = new } → undone (change.Contracts old) t ≡ s
 library_back s t old new was is = ap (undone (change.Contracts old)) is ∙ ap (λ (l : Contracts). let x : State = record s { library = l } in x) was
 
-pub library_noted : (plan : Plan) (time : ℕ) (s t : State) (b : Board) (since : ℕ) (found items : List Change) (old new : Contracts) → IsKept plan time s b since found
-    → old ≡ s.library → t ≡ record s { library = new } → items ≡ found ++ change.Contracts old ∷ [] → IsKept plan time t b since items
-library_noted plan time s t b since found items old new k was is all =
+pub library_noted : (plan : Plan) (time : ℕ) (s t : State) (b : Board) (since : ℕ) (found items : List Change) (old : Taught) (new : Contracts) → IsKept plan time s b since found
+    → old.library ≡ s.library → WordsAreTold s.tree old → t ≡ record s { library = new } → items ≡ found ++ change.Contracts old ∷ [] → IsKept plan time t b since items
+library_noted plan time s t b since found items old new k was told is all =
     subst (λ (l : List Change). IsKept plan time t b since l) (sym all)
     (noted plan time s t b b since found (change.Contracts old) k refl refl
     (subst (λ (x : State). IsWellFormed x.tree) (sym is) k.well_formed)
@@ -294,5 +295,5 @@ library_noted plan time s t b since found items old new k was is all =
     (subst (λ (x : State). LogsAreBy time x.logs) (sym is) k.in_time)
     (ap (λ (x : State). keys x.logs) is)
     (subst (λ (x : State). IsSoundFor plan x) (sym is) (library_sound plan s new k.sound))
-    tt tt
+    (subst (λ (x : State). WordsAreTold x.tree old) (sym is) told) tt
     (library_back s t old new was is))

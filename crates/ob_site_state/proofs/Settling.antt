@@ -57,7 +57,7 @@ undone_other : (c : Change) (s : State) (i : ℕ) → records_at i c ≡ false �
 undone_other (change.Slot node slot) s i e = refl
 undone_other (change.Records place len) s i e = other_log (cut len) place i s.logs (differ_of i place e)
 undone_other (change.Event rule status) s i e = refl
-undone_other (change.Contracts library) s i e = refl
+undone_other (change.Contracts told) s i e = refl
 
 neither : (a b : Bool) → (a || b) ≡ false → (a ≡ false) × (b ≡ false)
 neither true b h = absurd cc
@@ -111,13 +111,13 @@ nearly_by s (change.Records place len) cs ls h = λ i l e at. go i l (nat_eq i p
     go i l true is e at = rolled_here s place l ls (subst (λ (k : ℕ). slice_get (with_log rolled place ls) k ≡ Some l) (equal_of i place is) at)
     go i l false is e at = h i l (ap (λ (b : Bool). b || is_recorded i cs) is ∙ e) (sym (other_log rolled place i ls (differ_of i place is)) ∙ at)
 nearly_by s (change.Event rule status) cs ls h = h
-nearly_by s (change.Contracts library) cs ls h = h
+nearly_by s (change.Contracts told) cs ls h = h
 
 same_rolled : (s : State) (c : Change) (ls : List (Path × Log)) → rolled_logs (settled_by c ls) ≡ rolled_logs ls
 same_rolled s (change.Slot node slot) ls = refl
 same_rolled s (change.Records place len) ls = with_log-rolled s place ls
 same_rolled s (change.Event rule status) ls = refl
-same_rolled s (change.Contracts library) ls = refl
+same_rolled s (change.Contracts told) ls = refl
 
 settled_rolled : (s : State) (cs : List Change) (ls : List (Path × Log)) → NearlyRolled cs ls → settled_all cs ls ≡ rolled_logs ls
 settled_rolled s [] ls h = all_rolled ls (λ i l e. h i l refl e)
@@ -176,13 +176,13 @@ length-settled (c ∷ cs) ls = length-settled cs (settled_by c ls) ∙ one c ls
     one (change.Slot node slot) ls = refl
     one (change.Records place len) ls = length-with_log rolled place ls
     one (change.Event rule status) ls = refl
-    one (change.Contracts library) ls = refl
+    one (change.Contracts told) ls = refl
 
 length-undone : (c : Change) (s : State) → length (undone c s).logs ≡ length s.logs
 length-undone (change.Slot node slot) s = refl
 length-undone (change.Records place len) s = length-with_log (cut len) place s.logs
 length-undone (change.Event rule status) s = refl
-length-undone (change.Contracts library) s = refl
+length-undone (change.Contracts told) s = refl
 
 length-rewound : (cs : List Change) (s : State) → length (rewound cs s).logs ≡ length s.logs
 length-rewound [] s = refl
@@ -192,7 +192,7 @@ placed_by : (c : Change) (s : State) → CanUndo c s → IsPlaced (length s.logs
 placed_by (change.Slot node slot) s can = tt
 placed_by (change.Records place len) s can = can
 placed_by (change.Event rule status) s can = tt
-placed_by (change.Contracts library) s can = tt
+placed_by (change.Contracts told) s can = tt
 
 -- each change that can be taken back is of a history that is there
 placed_at : (cs : List Change) (s : State) (i : ℕ) (x : Change) → CanRewind cs s → i < length cs → x ≡ get_or cs i x → IsPlaced (length s.logs) x

@@ -57,7 +57,7 @@ capacities-undone : (c : Change) (s : State) → capacities_of (undone c s).logs
 capacities-undone (change.Slot node slot) s = refl
 capacities-undone (change.Records place len) s = capacities-with_log (cut len) (λ l. refl) place s.logs
 capacities-undone (change.Event rule status) s = refl
-capacities-undone (change.Contracts library) s = refl
+capacities-undone (change.Contracts told) s = refl
 
 pub capacities-rewound : (cs : List Change) (s : State) → capacities_of (rewound cs s).logs ≡ capacities_of s.logs
 capacities-rewound [] s = refl

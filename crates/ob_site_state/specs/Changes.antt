@@ -5,6 +5,7 @@ use Rattle.ob_object.specs.declared.head.Head.{Head}
 use Rattle.ob_object.specs.Fits.{fits_slot}
 use Rattle.ob_object.specs.Object.{Object, parts}
 use Rattle.ob_tree.specs.Paths.{place_of}
+use Rattle.ob_ground.specs.Grounds.{AreTold as WordsAreTold}
 use Rattle.ob_tree.specs.Laid.{head_at, changed, paths}
 use Rattle.ob_alarms.specs.Lists.{changed_at}
 use Rattle.ob_alarms.specs.States.{status_of}
@@ -59,14 +60,14 @@ abbrev pub undone : Change → State → State
 undone (change.Slot node slot) s = record s { tree = changed (λ h. record h { slot = slot }) node.number s.tree }
 undone (change.Records place len) s = record s { logs = with_log (cut len) place s.logs }
 undone (change.Event rule status) s = without_event s
-undone (change.Contracts library) s = record s { library = library }
+undone (change.Contracts told) s = record s { library = told.library }
 
 -- a change that notes a library
 abbrev pub is_library : Change → Bool
 is_library (change.Slot node slot) = false
 is_library (change.Records place len) = false
 is_library (change.Event rule status) = false
-is_library (change.Contracts library) = true
+is_library (change.Contracts told) = true
 
 -- changes taken back, the last one first
 abbrev pub rewound : List Change → State → State
@@ -82,13 +83,14 @@ AddsEvent true s t = (0 < length t.events) × (without_event t ≡ s)
 abbrev pub HasEvents : Bool → State → Board → Type 0
 HasEvents is s b = length b.events ≡ length s.events + cond is 1 0
 
--- there is what a change changed: an object that takes the slot, a history, an event
+-- there is what a change changed: an object that takes the slot, a history, an event; and the words that a library tells are those of
+-- the lists that are there
 abbrev pub CanUndo : Change → State → Type 0
 CanUndo (change.Slot node slot) s =
     (node.number < parts s.tree) × ((h : Head) → head_at node.number s.tree ≡ Some h → IsTrue (fits_slot h.kind slot))
 CanUndo (change.Records place len) s = place < length s.logs
 CanUndo (change.Event rule status) s = 0 < length s.events
-CanUndo (change.Contracts library) s = Unit {0}
+CanUndo (change.Contracts told) s = WordsAreTold s.tree told
 
 -- and so for each of them, once those behind it are taken back
 abbrev pub CanRewind : List Change → State → Type 0
@@ -118,7 +120,7 @@ IsTold plan (change.Event rule status) b s =
     (status ≡ status_of (numbered_from 0 plan.rules) b.alarms rule)
     × ((j : ℕ) → (j ≡ rule → ⊥) → status_of (numbered_from 0 plan.rules) b.alarms j ≡ status_of (numbered_from 0 plan.rules) s.alarms j)
     × IsNewest plan rule s
-IsTold plan (change.Contracts library) b s = Unit {0}
+IsTold plan (change.Contracts told) b s = Unit {0}
 
 -- and so each of them, of the state once those behind it are taken back
 abbrev pub AreTold : Plan → List Change → State → Type 0

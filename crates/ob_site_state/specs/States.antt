@@ -14,8 +14,8 @@ kept a = record {
   now = state_in a.contents;
   since = a.since;
   before = rewound a.found.items (state_in a.contents);
-  stamps = a.contents.tree.stamps;
-  steps = a.contents.tree.steps;
+  stamps = a.contents.ground.tree.stamps;
+  steps = a.contents.ground.tree.steps;
 }
 
 -- Its parts owe one another what `IsKept` says, its tally is that of its logs, and its roles are those of its plan.

@@ -1,5 +1,5 @@
 //! What a step changed.
-use ob_contracts::Library;
+use ob_ground::Told;
 use ob_object::{Slot, Status};
 use ob_tree::NodeId;
 
@@ -12,6 +12,6 @@ pub enum Change {
     Records { place: usize, len: u64 },
     /// The alarms have one more event: of the alarms of this rule, whose source had this status.
     Event { rule: u64, status: Status },
-    /// The library.
-    Contracts { library: Library },
+    /// The library, with the words that it tells.
+    Contracts { told: Told },
 }

@@ -20,20 +20,19 @@ use crate::change::Change;
 use crate::ending::end_step;
 use crate::logs::{cut_at, record_at, settle_at};
 use ob_alarms::{AckResult, Alarms, Num, Turned};
-use ob_contracts::Library;
+use ob_ground::Ground;
 use ob_history::{Log, Record};
 use ob_object::Slot;
 use ob_site_roles::Roles;
 use ob_times::Moment;
-use ob_tree::{NodeId, Tree};
+use ob_tree::NodeId;
 use ob_values::Text;
 use std::alloc::AllocError;
 
-/// What changes of a site: the library, the own objects, the log of each history under its path, and the alarms. The roles
-/// are those of its plan, for look-ups; they never change.
+/// What changes of a site: its ground, which has the library and the own objects, the log of each history under its path, and
+/// the alarms. The roles are those of its plan, for look-ups; they never change.
 pub struct Contents {
-    pub library: Library,
-    pub tree: Tree,
+    pub ground: Ground,
     pub logs: Vec<(Text, Log)>,
     pub board: Alarms,
     pub roles: Roles,
@@ -43,14 +42,12 @@ impl Drop for Contents {
     // By one call for each part, so that to drop it is one call to whoever may have to.
     fn drop(self) {
         let Contents {
-            library,
-            tree,
+            ground,
             logs,
             board,
             roles,
         } = self;
-        drop(library);
-        drop(tree);
+        drop(ground);
         drop(logs);
         drop(board);
         drop(roles);
@@ -80,13 +77,13 @@ fn is_done(answer: &AckResult) -> bool
 impl Contents {
     /// Sets the slot of an own object, and gives the old one.
     pub(crate) fn set(&mut self, node: NodeId, slot: Slot) -> Slot
-        requires within { node.number < parts self.old.tree.root }
-        requires fits { (h : Head) → head_at node.number self.old.tree.root ≡ Some h → IsTrue (fits_slot h.kind slot) }
-        ensures old { Some result ≡ option_map (λ h. h.slot) (head_at node.number self.old.tree.root) }
-        ensures new { state_in self.new ≡ record (state_in self.old) { tree = changed (λ h. record h { slot = slot }) node.number self.old.tree.root } }
+        requires within { node.number < parts self.old.ground.tree.root }
+        requires fits { (h : Head) → head_at node.number self.old.ground.tree.root ≡ Some h → IsTrue (fits_slot h.kind slot) }
+        ensures old { Some result ≡ option_map (λ h. h.slot) (head_at node.number self.old.ground.tree.root) }
+        ensures new { state_in self.new ≡ record (state_in self.old) { tree = changed (λ h. record h { slot = slot }) node.number self.old.ground.tree.root } }
         ensures rest { SameRest self.old self.new }
     {
-        self.tree.set(node, slot)
+        self.ground.set(node, slot)
     }
 
     /// Puts a record last in the log of a place, and gives how many it kept before.
@@ -192,11 +189,13 @@ impl Contents {
     {
         match change {
             Change::Slot { node, slot } => {
-                let _new = self.tree.set(node, slot);
+                let _new = self.ground.set(node, slot);
             }
             Change::Records { place, len } => cut_at(self.logs.as_mut_slice(), place, len),
             Change::Event { rule: _, status: _ } => self.board.undo(),
-            Change::Contracts { library } => self.library = library,
+            Change::Contracts { told } => {
+                let _new = self.ground.replace(told);
+            }
         }
     }
 
@@ -222,7 +221,7 @@ impl Contents {
             Change::Records { place, len: _ } => settle_at(self.logs.as_mut_slice(), *place),
             Change::Slot { node: _, slot: _ }
             | Change::Event { rule: _, status: _ }
-            | Change::Contracts { library: _ } => {}
+            | Change::Contracts { told: _ } => {}
         }
     }
 
@@ -239,25 +238,25 @@ impl Contents {
 
     /// Counts one more step of the tree, and stamps each of these nodes and all that is round it with its number.
     pub(crate) fn stamp(&mut self, changed: &[NodeId])
-        requires few { self.old.tree.steps < 2 ^ 64 - 1 }
-        requires within { All (λ node. node.number < parts self.old.tree.root) changed.now }
+        requires few { self.old.ground.tree.steps < 2 ^ 64 - 1 }
+        requires within { All (λ node. node.number < parts self.old.ground.tree.root) changed.now }
         ensures same { state_in self.new ≡ state_in self.old }
-        ensures tree { self.new.tree ≡ after_step (map (λ node. node.number) changed.now) self.old.tree }
+        ensures tree { self.new.ground.tree ≡ after_step (map (λ node. node.number) changed.now) self.old.ground.tree }
         ensures root { self.new.board.root ≡ self.old.board.root }
         ensures rules { self.new.board.rules ≡ self.old.board.rules }
         ensures roles { self.new.roles ≡ self.old.roles }
     {
-        end_step(&mut self.tree, changed);
+        end_step(&mut self.ground, changed);
     }
 
     /// Counts the steps of the tree from 1 again: all stamps and the number of steps are 1.
     pub fn renumber(&mut self)
         ensures same { state_in self.new ≡ state_in self.old }
-        ensures tree { self.new.tree ≡ record self.old.tree { stamps = replicate (parts self.old.tree.root) 1; steps = 1 } }
+        ensures tree { self.new.ground.tree ≡ record self.old.ground.tree { stamps = replicate (parts self.old.ground.tree.root) 1; steps = 1 } }
         ensures root { self.new.board.root ≡ self.old.board.root }
         ensures rules { self.new.board.rules ≡ self.old.board.rules }
         ensures roles { self.new.roles ≡ self.old.roles }
     {
-        self.tree.renumber();
+        self.ground.renumber();
     }
 }

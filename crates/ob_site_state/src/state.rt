@@ -104,7 +104,7 @@ fn is_library(change: &Change) -> bool
     ensures { result ≡ is_library change.now }
 {
     match change {
-        Change::Contracts { library: _ } => true,
+        Change::Contracts { told: _ } => true,
         Change::Slot { node: _, slot: _ }
         | Change::Records { place: _, len: _ }
         | Change::Event { rule: _, status: _ } => false,
@@ -136,14 +136,14 @@ impl State {
         requires rules { contents.board.rules ≡ numbered_from 0 (plan_of plan).rules }
         requires histories { keys (state_in contents).logs ≡ map (λ h. h.0) (plan_of plan).histories }
         requires apart { Apart (map (λ h. h.0) (plan_of plan).histories) }
-        requires well_formed { IsWellFormed contents.tree.root }
-        requires differ { first_twice [] (paths contents.tree.root) ≡ None }
+        requires well_formed { IsWellFormed contents.ground.tree.root }
+        requires differ { first_twice [] (paths contents.ground.tree.root) ≡ None }
         requires in_time { LogsAreBy time (state_in contents).logs }
         requires rolled { roll (state_in contents) ≡ state_in contents }
         requires sound { IsSoundFor (plan_of plan) (state_in contents) }
         requires roles { AreRoles contents.roles (plan_of plan) }
         requires capacities { capacities_of (state_in contents).logs ≡ capacities.items }
-        ensures { result ≡ record { plan = plan_of plan; time = time; now = state_in contents; since = time; before = state_in contents; stamps = contents.tree.stamps; steps = contents.tree.steps } }
+        ensures { result ≡ record { plan = plan_of plan; time = time; now = state_in contents; since = time; before = state_in contents; stamps = contents.ground.tree.stamps; steps = contents.ground.tree.steps } }
     {
         let tally = Tally::new(capacities, &contents.logs);
         State {
@@ -170,10 +170,10 @@ impl State {
         ensures value { state_in result.now ≡ self.now.now }
         ensures root { result.now.board.root ≡ self.now.plan.root }
         ensures rules { result.now.board.rules ≡ numbered_from 0 self.now.plan.rules }
-        ensures stamps { result.now.tree.stamps ≡ self.now.stamps }
-        ensures steps { result.now.tree.steps ≡ self.now.steps }
+        ensures stamps { result.now.ground.tree.stamps ≡ self.now.stamps }
+        ensures steps { result.now.ground.tree.steps ≡ self.now.steps }
         ensures roles { AreRoles result.now.roles self.now.plan }
-        ensures differ { first_twice [] (paths result.now.tree.root) ≡ None }
+        ensures differ { first_twice [] (paths result.now.ground.tree.root) ≡ None }
     {
         &self.contents
     }
@@ -187,7 +187,7 @@ impl State {
     pub fn library(&self) -> &Library
         ensures { result.now ≡ self.now.now.library }
     {
-        &self.contents.library
+        self.contents.ground.library()
     }
 
     /// The own objects, no two of which have one path, with their stamps.
@@ -195,7 +195,7 @@ impl State {
         ensures value { result.now ≡ record { root = self.now.now.tree; stamps = self.now.stamps; steps = self.now.steps } }
         ensures differ { first_twice [] (paths self.now.now.tree) ≡ None }
     {
-        &self.contents.tree
+        self.contents.ground.tree()
     }
 
     /// The alarms, with the plan's rules and its root.
@@ -279,13 +279,14 @@ impl State {
         ensures ok { OnOk result (self.new ≡ record self.old { now = record self.old.now { library = library } }) }
         ensures err { OnErr result (self.new ≡ self.old) }
     {
+        let told = self.contents.ground.told_by(self.alloc, library)?;
         if has_library(&self.found) {
-            self.contents.library = library;
+            let _between = self.contents.ground.replace(told);
             return Ok(());
         }
         self.found.reserve(1)?;
-        let library = std::mem::replace(&mut self.contents.library, library);
-        self.found.push_reserved(Change::Contracts { library });
+        let told = self.contents.ground.replace(told);
+        self.found.push_reserved(Change::Contracts { told });
         Ok(())
     }
 
@@ -484,7 +485,7 @@ impl State {
     pub fn steps(&self) -> u64
         ensures { result ≡ self.now.steps }
     {
-        self.contents.tree.steps()
+        self.contents.ground.tree().steps()
     }
 
     /// Counts the steps of the own objects from 1 again: every stamp is 1, and so is the number of steps. It takes no memory.

@@ -88,7 +88,7 @@ module _ (plan : Plan) (c : Contents) where
   m = of_plan plan
 
   abbrev t : Stamped
-  t = c.tree
+  t = c.ground.tree
 
   pub known_there : (now n : ℕ) (table : Table) (w : Leased) → AllKnown plan c table → lookup n (live now table.watches) ≡ Some w → AreKnown plan c w.items
   known_there now n table w known there =

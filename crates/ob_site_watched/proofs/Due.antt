@@ -58,13 +58,13 @@ module _ (plan : Plan) where
   under_text s text path (Feed bounds given) = lists_under text path (m.gone s path - given) (filter (m.passes bounds) (since m s path given))
 
   -- an item that isn't due has no entry
-  pub nothing_due : (c : Contents) (i : Item) → IsKnown plan c i → is_due c.tree i ≡ false → map entry (changes_in plan c i) ≡ []
-  nothing_due c i known h = ap (map entry) ((reports_agree plan c.tree).not_due (state_in c) i known.counted h)
+  pub nothing_due : (c : Contents) (i : Item) → IsKnown plan c i → is_due c.ground.tree i ≡ false → map entry (changes_in plan c i) ≡ []
+  nothing_due c i known h = ap (map entry) ((reports_agree plan c.ground.tree).not_due (state_in c) i known.counted h)
 
   -- the entry of what is due
   pub entry_due : (c : Contents) (i : Item) (o : Option Node) → option_to_list o ≡ map (λ r. content_object r.content) (changes_in plan c i)
       → map entry (changes_in plan c i) ≡ option_to_list (option_map (under_href (Some i.text)) o)
-  entry_due c i o h = under_text (state_in c) i.text i.path (flag_of c.tree i.tracked) ∙ ap (map (under_href (Some i.text))) (sym h) ∙ listed o
+  entry_due c i o h = under_text (state_in c) i.text i.path (flag_of c.ground.tree i.tracked) ∙ ap (map (under_href (Some i.text))) (sym h) ∙ listed o
     where
       listed : (o : Option Node) → map (under_href (Some i.text)) (option_to_list o) ≡ option_to_list (option_map (under_href (Some i.text)) o)
       listed None = refl
@@ -75,18 +75,18 @@ module _ (plan : Plan) where
       → all_changes plan c (take (k + 1) items) ≡ all_changes plan c (take k items) ++ map entry (changes_in plan c i)
   changes_more c items k i l at =
       ap (all_changes plan c) (take_more items k i l ∙ ap (λ j. take k items ++ j ∷ []) (sym at))
-      ∙ ap (λ is. map entry (changes m (state_in c) is)) (map-append (flags c.tree) (take k items) (i ∷ []))
-      ∙ ap (map entry) (changes_push m (state_in c) (map (flags c.tree) (take k items)) (flags c.tree i))
-      ∙ map-append entry (changes m (state_in c) (map (flags c.tree) (take k items))) (changes_in plan c i)
+      ∙ ap (λ is. map entry (changes m (state_in c) is)) (map-append (flags c.ground.tree) (take k items) (i ∷ []))
+      ∙ ap (map entry) (changes_push m (state_in c) (map (flags c.ground.tree) (take k items)) (flags c.ground.tree i))
+      ∙ map-append entry (changes m (state_in c) (map (flags c.ground.tree) (take k items))) (changes_in plan c i)
 
   -- where nothing is due, nothing has an entry
-  pub none_due : (c : Contents) (items : List Item) → AreKnown plan c items → list_any (is_due c.tree) items ≡ false → all_changes plan c items ≡ []
+  pub none_due : (c : Contents) (items : List Item) → AreKnown plan c items → list_any (is_due c.ground.tree) items ≡ false → all_changes plan c items ≡ []
   none_due c [] known none = refl
   none_due c (i ∷ items) known none =
-      let here : is_due c.tree i ≡ false = (none_of (is_due c.tree i) (list_any (is_due c.tree) items) none).0 in
-      map-append entry (changes_in plan c i) (changes m (state_in c) (map (flags c.tree) items))
+      let here : is_due c.ground.tree i ≡ false = (none_of (is_due c.ground.tree i) (list_any (is_due c.ground.tree) items) none).0 in
+      map-append entry (changes_in plan c i) (changes m (state_in c) (map (flags c.ground.tree) items))
       ∙ ap (λ es. es ++ all_changes plan c items) (nothing_due c i known.0 here)
-      ∙ none_due c items known.1 (none_of (is_due c.tree i) (list_any (is_due c.tree) items) none).1
+      ∙ none_due c items known.1 (none_of (is_due c.ground.tree i) (list_any (is_due c.ground.tree) items) none).1
     where
       none_of : (a b : Bool) → (a || b) ≡ false → (a ≡ false) × (b ≡ false)
       none_of true b none = absurd (let e : true ≡ false = none in cc)

@@ -37,11 +37,11 @@ module _ (plan : Plan) (c : Contents) where
   s = state_in c
 
   -- an own node
-  pub object_for : (text : Text) (path : Path) (node : NodeId) → AreStampsPast c.tree → IsOwnFound c.tree.root (ObjectAt path) → Some node.number ≡ place_of path (paths c.tree.root)
-      → IsItemFor plan c text (ObjectAt path) (object_item text path node c.tree.steps)
+  pub object_for : (text : Text) (path : Path) (node : NodeId) → AreStampsPast c.ground.tree → IsOwnFound c.ground.tree.root (ObjectAt path) → Some node.number ≡ place_of path (paths c.ground.tree.root)
+      → IsItemFor plan c text (ObjectAt path) (object_item text path node c.ground.tree.steps)
   object_for text path node past own there = record {
-    adds = λ items. ap (added m s items) (sym ((reports_agree plan c.tree).adds past text path node));
-    known = record { placed = (sym there, λ h e. own.2 h (ap (λ (k : ℕ). head_at k c.tree.root) (same_number own.0 node.number (sym own.1 ∙ sym there)) ∙ e)); counted = record {}; past = (let e : c.tree.steps ≤ c.tree.steps = omega arith in e) };
+    adds = λ items. ap (added m s items) (sym ((reports_agree plan c.ground.tree).adds past text path node));
+    known = record { placed = (sym there, λ h e. own.2 h (ap (λ (k : ℕ). head_at k c.ground.tree.root) (same_number own.0 node.number (sym own.1 ∙ sym there)) ∙ e)); counted = record {}; past = (let e : c.ground.tree.steps ≤ c.ground.tree.steps = omega arith in e) };
   }
     where
       same_number : (a b : ℕ) → (let r : Option ℕ = Some a in r) ≡ Some b → a ≡ b

@@ -42,13 +42,13 @@ module _ (plan : Plan) (c : Contents) where
   past_reported steps (kept.Object node mark) = (let e : steps ≤ steps = omega arith in e)
   past_reported steps (kept.Feed bounds given total due) = record {}
 
-  reported_known : (items : List Item) → AreKnown plan c items → AreKnown plan c (map (reported_at c.tree.steps) items)
+  reported_known : (items : List Item) → AreKnown plan c items → AreKnown plan c (map (reported_at c.ground.tree.steps) items)
   reported_known [] known = known
   reported_known (i ∷ items) known = (
     record {
-      placed = placed_reported c.tree.root i.path c.tree.steps i.tracked known.0.placed;
-      counted = (counts_stay plan).reports (state_in c) c.tree.steps i known.0.counted;
-      past = past_reported c.tree.steps i.tracked;
+      placed = placed_reported c.ground.tree.root i.path c.ground.tree.steps i.tracked known.0.placed;
+      counted = (counts_stay plan).reports (state_in c) c.ground.tree.steps i known.0.counted;
+      past = past_reported c.ground.tree.steps i.tracked;
     },
     reported_known items known.1,
   )

@@ -52,7 +52,7 @@ module _ (plan : Plan) (c : Contents) where
   s = state_in c
 
   abbrev t : Stamped
-  t = c.tree
+  t = c.ground.tree
 
   abbrev Shown : Type 0
   Shown = ItemOf Text Text Filter

@@ -24,14 +24,14 @@ AllKnown plan c table = AllByRecursion (λ e. AreKnown plan c e.1.items) table.w
 
 -- the reply to an operation on a watch, among watches of these numbers
 abbrev pub IsReply : Plan → Contents → ℕ → List ℕ → ℕ → Leased → WatchOperation → Object → Type 0
-IsReply plan c now numbers n w op o = o ≡ sent plan (reply_to (of_plan plan) (state_in c) numbers n (touched (of_plan plan) now (flagged c.tree w)) op)
+IsReply plan c now numbers n w op o = o ≡ sent plan (reply_to (of_plan plan) (state_in c) numbers n (touched (of_plan plan) now (flagged c.ground.tree w)) op)
 
 -- The watches after an operation on the one of a number, and the reply. Watches whose lease has run out at this moment count
 -- as gone, before and after.
 pub record IsDone (plan : Plan) (c : Contents) (now : ℕ) (old new : Table) (n : ℕ) (op : WatchOperation) (o : Object) : Type 0 where
-  pub watches : world_of plan now (state_in c) c.tree (lapsed_at now new)
-      ≡ (on_watch (of_plan plan) (world_of plan now (state_in c) c.tree (lapsed_at now old)) n op (lookup n (flags_of c.tree (live now old.watches)))).0
-  pub reply : o ≡ sent plan (on_watch (of_plan plan) (world_of plan now (state_in c) c.tree (lapsed_at now old)) n op (lookup n (flags_of c.tree (live now old.watches)))).1
+  pub watches : world_of plan now (state_in c) c.ground.tree (lapsed_at now new)
+      ≡ (on_watch (of_plan plan) (world_of plan now (state_in c) c.ground.tree (lapsed_at now old)) n op (lookup n (flags_of c.ground.tree (live now old.watches)))).0
+  pub reply : o ≡ sent plan (on_watch (of_plan plan) (world_of plan now (state_in c) c.ground.tree (lapsed_at now old)) n op (lookup n (flags_of c.ground.tree (live now old.watches)))).1
 
 -- The watches after a new one is asked for, and the reply, whatever the state of the site and its tree.
 pub record IsMade (plan : Plan) (now : ℕ) (old new : Table) (o : Object) : Type 0 where

@@ -26,8 +26,8 @@ Renews n old new (Err fault) = new ≡ old
 abbrev pub marks_after : Contents → ℕ → WatchOperation → Leased → Option Leased
 marks_after c now (Renew input) w = Some (leased_if (lease_asked (state_in c) input) (touched_at now w))
 marks_after c now (Remove texts) w = Some (without texts (touched_at now w))
-marks_after c now PollChanges w = Some (all_reported c.tree.steps (touched_at now w))
-marks_after c now PollRefresh w = Some (all_reported c.tree.steps (touched_at now w))
+marks_after c now PollChanges w = Some (all_reported c.ground.tree.steps (touched_at now w))
+marks_after c now PollRefresh w = Some (all_reported c.ground.tree.steps (touched_at now w))
 marks_after c now Delete w = None
 marks_after c now _ w = Some (touched_at now w)
 

@@ -24,7 +24,7 @@ use Rattle.ob_site_watched.specs.Known.{IsKnown}
 
 -- what adding what is found under a text is, whatever items there are: adding this item
 pub record IsItemFor (plan : Plan) (c : Contents) (text : Text) (f : SiteFound) (item : Item) : Type 0 where
-  pub adds : (items : List (Flagged (of_plan plan))) → add_found (of_plan plan) (state_in c) items text f ≡ added (of_plan plan) (state_in c) items (flags c.tree item)
+  pub adds : (items : List (Flagged (of_plan plan))) → add_found (of_plan plan) (state_in c) items text f ≡ added (of_plan plan) (state_in c) items (flags c.ground.tree item)
   pub known : IsKnown plan c item
 
 -- or leaving them, with this refusal

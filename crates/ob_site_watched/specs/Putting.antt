@@ -35,7 +35,7 @@ entry_put plan c (offer.Refused o) w = o
 
 -- an object that is offered is the own node of its path, and can be watched
 abbrev pub IsPlaced : Contents → Offer → Type 0
-IsPlaced c (offer.Item item) = IsPlacedBy c.tree.root item.path item.tracked
+IsPlaced c (offer.Item item) = IsPlacedBy c.ground.tree.root item.path item.tracked
 IsPlaced c (offer.Refused o) = Unit {0}
 
 -- of the watch of a number, where one is held
@@ -56,8 +56,8 @@ pub record IsPut (plan : Plan) (c : Contents) (n : ℕ) (o : Offer) (old new : T
 
 -- A watch with all that is asked for added, among watches of these numbers, and the entries of that.
 pub record HasAdded (plan : Plan) (c : Contents) (ns : List ℕ) (asked : List Asked) (w left : Leased) (es : List Object) : Type 0 where
-  pub items : map (flags c.tree) left.items ≡ items_added (of_plan plan) (state_in c) ns (map (flags c.tree) w.items) asked
-  pub entries : es ≡ map entry (readings_added (of_plan plan) (state_in c) ns (map (flags c.tree) w.items) asked)
+  pub items : map (flags c.ground.tree) left.items ≡ items_added (of_plan plan) (state_in c) ns (map (flags c.ground.tree) w.items) asked
+  pub entries : es ≡ map entry (readings_added (of_plan plan) (state_in c) ns (map (flags c.ground.tree) w.items) asked)
   pub known : AreKnown plan c w.items → AreKnown plan c left.items
 
 -- The same of all that is asked for, and the WatchOut of the entries.

@@ -94,7 +94,7 @@ fn put_all(
     undo: &mut Additions,
 ) -> Result<Obj, AllocError>
     requires complete { IsComplete (plan_of plan.now) contents.now }
-    requires past { AreStampsPast contents.now.tree }
+    requires past { AreStampsPast contents.now.ground.tree }
     requires held { is_some (lookup adding.now.number watches.old.watches) ≡ true }
     ensures { OfHeld adding.now.number watches.old (ArePut (plan_of plan.now) contents.now (numbers_of (lapsed_at adding.now.moment watches.old).watches) (firsts_of adding.now.asked.now) adding.now.number watches.old watches.new undo.old undo.new result) }
 {
@@ -120,7 +120,7 @@ fn put_or_leave(
     mut undo: Additions,
 ) -> Result<Obj, AllocError>
     requires complete { IsComplete (plan_of plan.now) contents.now }
-    requires past { AreStampsPast contents.now.tree }
+    requires past { AreStampsPast contents.now.ground.tree }
     requires held { is_some (lookup adding.now.number watches.old.watches) ≡ true }
     requires nothing { OfHeld adding.now.number watches.old (λ w. Undoes undo w.items w.items) }
     ensures put { IfOk result (λ out. OfHeld adding.now.number watches.old (HasPut (plan_of plan.now) contents.now (numbers_of (lapsed_at adding.now.moment watches.old).watches) (firsts_of adding.now.asked.now) adding.now.number watches.old watches.new out)) }
@@ -148,7 +148,7 @@ pub(crate) fn add(
     adding: &Adding<'_>,
 ) -> Result<Obj, AllocError>
     requires complete { IsComplete (plan_of plan.now) contents.now }
-    requires past { AreStampsPast contents.now.tree }
+    requires past { AreStampsPast contents.now.ground.tree }
     requires known { AllKnown (plan_of plan.now) contents.now watches.old }
     ensures done { IfOk result (IsDone (plan_of plan.now) contents.now adding.now.moment watches.old watches.new adding.now.number (Add adding.now.asked.now)) }
     ensures err { OnErr result (watches.new ≡ watches.old) }

@@ -27,7 +27,7 @@ fn object_now(
     item: &Item,
 ) -> Result<Obj, AllocError>
     requires complete { IsComplete (plan_of plan.now) contents.now }
-    requires placed { IsPlacedBy contents.now.tree.root item.now.path item.now.tracked }
+    requires placed { IsPlacedBy contents.now.ground.tree.root item.now.path item.now.tracked }
     ensures { IfOk result (λ o. o ≡ object_now (plan_of plan.now) contents.now item.now) }
 {
     match item.tracked() {
@@ -52,7 +52,7 @@ pub fn reading(
     item: &Item,
 ) -> Result<Obj, AllocError>
     requires complete { IsComplete (plan_of plan.now) contents.now }
-    requires placed { IsPlacedBy contents.now.tree.root item.now.path item.now.tracked }
+    requires placed { IsPlacedBy contents.now.ground.tree.root item.now.path item.now.tracked }
     ensures { IfOk result (λ o. o ≡ reading_entry (plan_of plan.now) contents.now item.now) }
 {
     let object = object_now(alloc, plan, contents, item)?;
@@ -91,10 +91,10 @@ fn change_due<L: Ledger>(
     steps: &mut Steps<L>,
 ) -> Result<Option<Obj>, AllocError>
     requires complete { IsComplete (plan_of plan.now) contents.now }
-    requires placed { IsPlacedBy contents.now.tree.root item.now.path item.now.tracked }
-    requires due { is_due contents.now.tree item.now ≡ true }
+    requires placed { IsPlacedBy contents.now.ground.tree.root item.now.path item.now.tracked }
+    requires due { is_due contents.now.ground.tree item.now ≡ true }
     ensures content { IfOk result (λ o. option_to_list o ≡ map (λ r. content_object r.content) (changes_in (plan_of plan.now) contents.now item.now)) }
-    ensures steps { IfOk result (λ o. steps.new ≤ steps.old + steps_in contents.now.tree.root (of_objects (option_to_list o))) }
+    ensures steps { IfOk result (λ o. steps.new ≤ steps.old + steps_in contents.now.ground.tree.root (of_objects (option_to_list o))) }
 {
     match item.tracked() {
         Tracked::Object { node, mark: _ } => {
@@ -129,9 +129,9 @@ fn push_change<L: Ledger>(
     requires complete { IsComplete (plan_of plan.now) contents.now }
     requires known { IsKnown (plan_of plan.now) contents.now item.now }
     ensures entries { IfOk result (λ _. entries.new.items ≡ entries.old.items ++ map entry (changes_in (plan_of plan.now) contents.now item.now)) }
-    ensures steps { IfOk result (λ _. steps.new + steps_in contents.now.tree.root (of_objects entries.old.items) ≤ steps.old + steps_in contents.now.tree.root (of_objects entries.new.items)) }
+    ensures steps { IfOk result (λ _. steps.new + steps_in contents.now.ground.tree.root (of_objects entries.old.items) ≤ steps.old + steps_in contents.now.ground.tree.root (of_objects entries.new.items)) }
 {
-    if !item.is_due(&contents.tree) {
+    if !item.is_due(contents.ground.tree()) {
         return Ok(());
     }
     let Some(content) = change_due(alloc, plan, contents, item, steps)? else {
@@ -158,7 +158,7 @@ pub fn changes<L: Ledger>(
     requires complete { IsComplete (plan_of plan.now) contents.now }
     requires known { AreKnown (plan_of plan.now) contents.now items.now }
     ensures entries { IfOk result (λ os. os.items ≡ all_changes (plan_of plan.now) contents.now items.now) }
-    ensures steps { IfOk result (λ os. steps.new ≤ steps.old + steps_in contents.now.tree.root (of_objects os.items)) }
+    ensures steps { IfOk result (λ os. steps.new ≤ steps.old + steps_in contents.now.ground.tree.root (of_objects os.items)) }
 {
     let mut entries = Vec::new(alloc);
     for item in items {
@@ -180,12 +180,12 @@ pub fn watch_changes<L: Ledger>(
     steps: &mut Steps<L>,
 ) -> Result<Vec<Obj>, AllocError>
     requires complete { IsComplete (plan_of plan.now) contents.now }
-    requires past { AreStampsPast contents.now.tree }
+    requires past { AreStampsPast contents.now.ground.tree }
     requires known { AreKnown (plan_of plan.now) contents.now watch.now.items }
     ensures entries { IfOk result (λ os. os.items ≡ all_changes (plan_of plan.now) contents.now watch.now.items) }
-    ensures steps { IfOk result (λ os. steps.new ≤ steps.old + steps_in contents.now.tree.root (of_objects os.items)) }
+    ensures steps { IfOk result (λ os. steps.new ≤ steps.old + steps_in contents.now.ground.tree.root (of_objects os.items)) }
 {
-    if !watch.has_due(&contents.tree) {
+    if !watch.has_due(contents.ground.tree()) {
         return Ok(Vec::new(alloc));
     }
     changes(alloc, plan, contents, watch.items(), steps)

@@ -36,14 +36,14 @@ fn item_for(
     found: Found,
 ) -> Result<Result<Item, Fault>, AllocError>
     requires complete { IsComplete (plan_of plan.now) contents.now }
-    requires past { AreStampsPast contents.now.tree }
-    requires own { IsOwnFound contents.now.tree.root (found_of found) }
+    requires past { AreStampsPast contents.now.ground.tree }
+    requires own { IsOwnFound contents.now.ground.tree.root (found_of found) }
     ensures { IfOk result (IsFor (plan_of plan.now) contents.now text (found_of found)) }
 {
     match found {
         Found::Nothing(fault) => Ok(Err(fault)),
-        Found::Object(path) => match contents.tree.get(&path) {
-            Some(node) => Ok(Ok(Item::object(text, path, node, contents.tree.steps()))),
+        Found::Object(path) => match contents.ground.tree().get(&path) {
+            Some(node) => Ok(Ok(Item::object(text, path, node, contents.ground.tree().steps()))),
             None => unreachable!(),
         },
         Found::Feed(path, filter) => {
@@ -75,7 +75,7 @@ pub(crate) fn offered(
     asked: &Asked,
 ) -> Result<Offer, AllocError>
     requires complete { IsComplete (plan_of plan.now) contents.now }
-    requires past { AreStampsPast contents.now.tree }
+    requires past { AreStampsPast contents.now.ground.tree }
     ensures { IfOk result (IsOffered (plan_of plan.now) contents.now numbers.now asked.now) }
 {
     watched_are_own();

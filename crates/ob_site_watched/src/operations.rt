@@ -48,7 +48,7 @@ fn lease_told(
 ) -> Result<Obj, AllocError>
     ensures { IfOk result (λ o. o ≡ sent (plan_of plan.now) (told_lease (of_plan (plan_of plan.now)) number (lease_asked (state_in contents.now) input.now))) }
 {
-    match lease_asked(&contents.library, input) {
+    match lease_asked(contents.ground.library(), input) {
         Ok(lease) => watch_part(alloc, plan, number, lease, WatchPart::Lease),
         Err(fault) => refusal(alloc, fault),
     }
@@ -63,10 +63,10 @@ fn poll<L: Ledger>(
     steps: &mut Steps<L>,
 ) -> Result<Obj, AllocError>
     requires complete { IsComplete (plan_of plan.now) contents.now }
-    requires past { AreStampsPast contents.now.tree }
+    requires past { AreStampsPast contents.now.ground.tree }
     requires known { AreKnown (plan_of plan.now) contents.now watch.now.items }
     ensures reply { IfOk result (λ o. o ≡ watch_out (all_changes (plan_of plan.now) contents.now watch.now.items)) }
-    ensures steps { IfOk result (λ o. steps.new ≤ steps.old + steps_in contents.now.tree.root (object_entries o)) }
+    ensures steps { IfOk result (λ o. steps.new ≤ steps.old + steps_in contents.now.ground.tree.root (object_entries o)) }
 {
     let entries = watch_changes(alloc, plan, contents, watch, steps)?;
     watch_out(alloc, entries)
@@ -97,11 +97,11 @@ fn reply<L: Ledger>(
     steps: &mut Steps<L>,
 ) -> Result<Obj, AllocError>
     requires complete { IsComplete (plan_of plan.now) contents.now }
-    requires past { AreStampsPast contents.now.tree }
+    requires past { AreStampsPast contents.now.ground.tree }
     requires known { AreKnown (plan_of plan.now) contents.now watch.now.items }
     requires other { is_add (operation_of call.now.asks) ≡ false }
     ensures reply { IfOk result (λ o. (numbers : List ℕ) → IsReply (plan_of plan.now) contents.now call.now.moment numbers call.now.number watch.now (operation_of call.now.asks) o) }
-    ensures steps { IfOk result (λ o. steps.new ≤ steps.old + steps_in contents.now.tree.root (object_entries o)) }
+    ensures steps { IfOk result (λ o. steps.new ≤ steps.old + steps_in contents.now.ground.tree.root (object_entries o)) }
 {
     match &call.asks {
         Operation::Look(part) => watch_part(alloc, plan, call.number, watch.lease(), *part),
@@ -131,10 +131,10 @@ fn leave(contents: &Contents, watches: &mut Watches, call: &Call) -> bool
 {
     let held = watches.touch(call.number, call.moment);
     match &call.asks {
-        Operation::Renew(input) => renew(&contents.library, watches, call.number, input),
+        Operation::Renew(input) => renew(contents.ground.library(), watches, call.number, input),
         Operation::Remove(texts) => watches.remove(call.number, texts),
         Operation::PollChanges | Operation::PollRefresh => watches.reported(
-            &contents.tree,
+            contents.ground.tree(),
             call.number,
         ),
         Operation::Delete => watches.delete(call.number),
@@ -152,13 +152,13 @@ fn on_other<L: Ledger>(
     steps: &mut Steps<L>,
 ) -> Result<Obj, AllocError>
     requires complete { IsComplete (plan_of plan.now) contents.now }
-    requires past { AreStampsPast contents.now.tree }
+    requires past { AreStampsPast contents.now.ground.tree }
     requires known { AllKnown (plan_of plan.now) contents.now watches.old }
     requires other { is_add (operation_of call.now.asks) ≡ false }
     ensures done { IfOk result (IsDone (plan_of plan.now) contents.now call.now.moment watches.old watches.new call.now.number (operation_of call.now.asks)) }
     ensures err { OnErr result (watches.new ≡ watches.old) }
     ensures known { AllKnown (plan_of plan.now) contents.now watches.new }
-    ensures steps { IfOk result (λ o. steps.new ≤ steps.old + steps_in contents.now.tree.root (object_entries o)) }
+    ensures steps { IfOk result (λ o. steps.new ≤ steps.old + steps_in contents.now.ground.tree.root (object_entries o)) }
 {
     let _numbers = watches.numbers();
     let Some(watch) = watches.get(call.number, call.moment) else {
@@ -184,12 +184,12 @@ pub fn on_watch<L: Ledger>(
     steps: &mut Steps<L>,
 ) -> Result<Obj, AllocError>
     requires complete { IsComplete (plan_of plan.now) contents.now }
-    requires past { AreStampsPast contents.now.tree }
+    requires past { AreStampsPast contents.now.ground.tree }
     requires known { AllKnown (plan_of plan.now) contents.now watches.old }
     ensures done { IfOk result (IsDone (plan_of plan.now) contents.now call.now.moment watches.old watches.new call.now.number (operation_of call.now.asks)) }
     ensures err { OnErr result (watches.new ≡ watches.old) }
     ensures known { AllKnown (plan_of plan.now) contents.now watches.new }
-    ensures steps { IfOk result (λ o. steps.new ≤ steps.old + steps_in contents.now.tree.root (object_entries o)) }
+    ensures steps { IfOk result (λ o. steps.new ≤ steps.old + steps_in contents.now.ground.tree.root (object_entries o)) }
 {
     match &call.asks {
         Operation::Add(asked) => {

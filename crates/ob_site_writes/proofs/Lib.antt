@@ -1,3 +1,5 @@
 pub mod Nowhere
 pub mod Fitting
+pub mod Ranged
 pub mod Refused
+pub mod Targets

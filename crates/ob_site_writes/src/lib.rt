@@ -7,6 +7,7 @@
 mod passing;
 mod putting;
 mod reading;
+mod refusing;
 mod stop;
 mod value;
 mod written;
@@ -14,5 +15,6 @@ mod written;
 pub use passing::passes;
 pub use putting::{put, write_by};
 pub use reading::{replied, shown};
+pub use refusing::{put_fault, write_fault};
 pub use stop::Stop;
 pub use value::is_value_kind;

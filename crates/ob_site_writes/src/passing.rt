@@ -4,6 +4,7 @@ ghost use Rattle.ob_replies.specs.Told as told;
 ghost use Rattle.ob_points.specs.Points.{suits, passes};
 
 use crate::reading::shown;
+use crate::refusing::target_at;
 use crate::value::held_fault;
 use ob_object::Obj;
 use ob_replies::Fault;
@@ -29,13 +30,24 @@ fn suits(state: &State, object: &Obj, value: &Value) -> Result<bool, AllocError>
     Ok(is_nothing(fault))
 }
 
-/// Whether the tests of a Put on a value let it through to what is shown at a path: its kind, a text too long, below min,
-/// above max, not in range. Where nothing is shown, none is let through. An error only for want of memory.
-pub fn passes(state: &State, path: &Text, value: &Value) -> Result<bool, AllocError>
+/// Whether nothing is wrong with a value for what is shown at a path; where nothing is shown, something is.
+fn shown_suits(state: &State, path: &Text, value: &Value) -> Result<bool, AllocError>
     ensures { IfOk result (λ yes. yes ≡ passes state.now.plan state.now.now path.now value.now) }
 {
     match shown(state, path)? {
         Some(object) => suits(state, &object, value),
         None => Ok(false),
+    }
+}
+
+/// Whether the tests of a Put on a value let it through to what is shown at a path: its kind, a text too long, below min,
+/// above max, not in range. Where nothing is shown, none is let through. Of an own node nothing is shown for it. An error
+/// only for want of memory.
+pub fn passes(state: &State, path: &Text, value: &Value) -> Result<bool, AllocError>
+    ensures { IfOk result (λ yes. yes ≡ passes state.now.plan state.now.now path.now value.now) }
+{
+    match target_at(state, path)? {
+        Some(target) => suits(state, &target, value),
+        None => shown_suits(state, path, value),
     }
 }

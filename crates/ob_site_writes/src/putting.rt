@@ -56,7 +56,7 @@ fn write_given(state: &mut State, path: &Text, object: &Obj, new: &Head) -> Resu
 }
 
 /// The kind and the slot that a body gives, with what it inherits by its own words; nothing else of it is looked at.
-fn given_by<'x>(library: &'x Library, body: &'x Obj) -> Result<Head, AllocError>
+pub(crate) fn given_by<'x>(library: &'x Library, body: &'x Obj) -> Result<Head, AllocError>
     ensures kind { IfOk result (λ head. head.kind ≡ (effective_of library.now body.now None None).head.kind) }
     ensures slot { IfOk result (λ head. head.slot ≡ (effective_of library.now body.now None None).head.slot) }
 {

@@ -1,15 +1,16 @@
 //! What is wrong with a write.
-ghost use Rattle.std.specs.Prelude.{◌≡◌, Some, is_some, option_map, option_and_then, option_copied, IfOk};
+ghost use Rattle.std.specs.Prelude.{◌≡◌, None, option_map, option_and_then, option_copied, IfOk};
 ghost use Rattle.ob_object.specs.declared.head.Slot.TheVariants.{Is};
 ghost use Rattle.ob_object.specs.Write.{verdict};
+ghost use Rattle.ob_contracts.specs.Inherit.{contract_of};
 ghost use Rattle.ob_history.specs.Records.{is_value_kind};
 ghost use Rattle.ob_replies.specs.Told as told;
-ghost use Rattle.ob_site_rules.specs.Shown.{shown, node_of};
 ghost use Rattle.ob_site_rules.specs.Writes.{ranged, has_child, is_listed, fault_of, verdict_fault, slot_fault, value_fault, target_fault};
+ghost use Rattle.ob_site_writes.specs.Targets.{IsTarget};
 
-use crate::reading::shown;
 use ob_object::{Head, Kind, Obj, Slot, WriteFault, check_write};
 use ob_replies::Fault;
+use ob_site_shown::shows_child;
 use ob_site_state::State;
 use ob_site_written::overfills;
 use ob_values::{Text, Value};
@@ -38,36 +39,42 @@ pub(crate) fn target_fault(head: &Head) -> Option<Fault>
     }
 }
 
-/// Whether an own node is at a path.
-fn has_node(state: &State, path: &Text) -> bool
-    ensures { result ≡ is_some (node_of path.now state.now.now.tree) }
+/// Whether the own node that a range names, where it names no contract, has a child of a name; so too where none is there.
+fn node_has(state: &State, range: &Text, name: &Text) -> Result<bool, AllocError>
+    ensures { IfOk result (λ has. contract_of state.now.now.library range.now ≡ None → has ≡ has_child name.now (ranged state.now.plan state.now.now range.now)) }
 {
-    state.tree().get(path).is_some()
+    match state.tree().get(range) {
+        Some(node) => {
+            state.is_sound();
+            shows_child(
+                state.allocator(),
+                state.plan(),
+                state.contents(),
+                node,
+                name,
+            )
+        }
+        None => Ok(true),
+    }
 }
 
-/// The object that a range names: a contract, or else what is shown of a node.
-fn ranged(state: &State, range: &Text) -> Result<Option<Obj>, AllocError>
-    ensures { IfOk result (λ o. o ≡ ranged state.now.plan state.now.now range.now) }
+/// Whether the object that a range names, a contract or else an own node, has a child of a name; so too where it names none.
+/// No child is shown for it. An error only for want of memory.
+fn has_child(state: &State, range: &Text, name: &Text) -> Result<bool, AllocError>
+    ensures { IfOk result (λ has. has ≡ has_child name.now (ranged state.now.plan state.now.now range.now)) }
 {
-    if let Some(contract) = state.library().get(range.as_str()) {
-        let contract = contract.copy()?;
-        return Ok(Some(contract));
+    match state.library().get(range.as_str()) {
+        Some(contract) => Ok(contract.child(name.as_str()).is_some()),
+        None => node_has(state, range, name),
     }
-    if !has_node(state, range) {
-        return Ok(None);
-    }
-    shown(state, range)
 }
 
 /// Whether a name is that of a child of the object that a range names, if it names one.
 fn is_in_range(state: &State, range: Option<&Text>, name: &Text) -> Result<bool, AllocError>
     ensures { IfOk result (λ listed. listed ≡ has_child name.now (option_and_then (ranged state.now.plan state.now.now) (option_copied range.entry))) }
 {
-    let Some(range) = range else {
-        return Ok(true);
-    };
-    match ranged(state, range)? {
-        Some(object) => Ok(object.child(name.as_str()).is_some()),
+    match range {
+        Some(range) => has_child(state, range, name),
         None => Ok(true),
     }
 }
@@ -142,15 +149,15 @@ fn slot_fault(state: &State, object: &Obj, slot: &Slot) -> Result<Option<Fault>,
     }
 }
 
-/// What is wrong with a value for the object shown at a path: its kind, a text too long, below min, above max, not in
-/// range, and last that it would store too much. All stays as it is.
+/// What is wrong with a value for the object shown at a path, of which the same is asked as of this one: its kind, a text
+/// too long, below min, above max, not in range, and last that it would store too much. All stays as it is.
 pub(crate) fn value_fault(
     state: &mut State,
     path: &Text,
     object: &Obj,
     new: &Head,
 ) -> Result<Option<Fault>, AllocError>
-    requires { shown state.old.plan state.old.now path.now ≡ Some object.now }
+    requires { IsTarget state.old.plan state.old.now path.now object.now }
     ensures same { state.new ≡ state.old }
     ensures fault { IfOk result (λ fault. option_map told.fault fault ≡ value_fault state.old.plan state.old.now state.old.time path.now object.now.head new.now) }
 {

@@ -2,8 +2,9 @@
 ghost use Rattle.std.specs.Option.{option_copied};
 ghost use Rattle.ob_contracts.specs.Telling.{StandIn};
 
+use crate::handed::Handed;
 use crate::sources::overridden;
-use ob_contracts::{Library, View, effective, view};
+use ob_contracts::{Library, View, effective, source_children, telling, view};
 use ob_object::{Obj, Words};
 use ob_steps::Steps;
 use ob_values::Text;
@@ -16,7 +17,7 @@ use std::sync::ledger::Ledger;
 pub struct Standing<'a> {
     pub library: &'a Library,
     pub implied: Option<&'a Words>,
-    told: Option<&'a Words>,
+    pub(crate) told: Option<&'a Words>,
     pub over: Option<&'a Obj>,
     ghost stand: { StandIn library.now (option_copied told) (option_copied implied) },
 }
@@ -29,7 +30,7 @@ impl<'a> Standing<'a> {
     ghost use Rattle.ob_contracts.specs.Shown.{shown};
     ghost use Rattle.ob_contracts.specs.Telling.{StandFor, StandIn};
     ghost use Rattle.ob_standing.specs.Contexts.{at_root, sources_in, handed_down, under, comes_to};
-    ghost use Rattle.ob_standing.specs.Standings.{context};
+    ghost use Rattle.ob_standing.specs.Standings.{context, Hands};
 
     /// Where the root stands.
     pub fn at_root(library: &'a Library) -> Standing<'a>
@@ -97,6 +98,22 @@ impl<'a> Standing<'a> {
             told,
             over: self.overridden(own, name),
         }
+    }
+
+    /// What an object that stands there, told by its own attributes, hands down to its own children: its sources are
+    /// looked up once for all of these. An error only for want of memory.
+    pub fn hand_down(&self, alloc: Global, own: &'a Obj) -> Result<Handed<'a>, AllocError>
+        ensures { IfOk result (Hands (handed_down (context self.now) own.now.head)) }
+    {
+        let implied = self.implied_by(own);
+        let over = source_children(alloc, self.library, own, self.words(), self.over)?;
+        let told = telling(alloc, self.library, implied)?;
+        Ok(Handed {
+            library: self.library,
+            implied,
+            told,
+            over,
+        })
     }
 
     /// What an object that stands there shows, lent.

@@ -19,10 +19,10 @@ pub data From (c : HandedDown) (a : ℕ) (q : Option ℕ) (r : Objects) (m : ℕ
   top : slice_get (parents a q r) m ≡ Some q → handed_in c m r ≡ c → From c a q r m
   below : (p k : ℕ) (g : Head) → slice_get (parents a q r) m ≡ Some (Some p) → p ≡ a + k → k < m → slice_get (heads r) k ≡ Some g → handed_in c m r ≡ handed (handed_in c k r) g → From c a q r m
 
-inner_context : (c : HandedDown) (h : Head) (i r : Objects) (m : ℕ) → m < count i → handed_in c (suc m) (node h i r) ≡ handed_in (handed c h) m i
+pub inner_context : (c : HandedDown) (h : Head) (i r : Objects) (m : ℕ) → m < count i → handed_in c (suc m) (node h i r) ≡ handed_in (handed c h) m i
 inner_context c h i r m lt = ap (λ (b : Bool). cond b (handed_in (handed c h) m i) (handed_in c (m - count i) r)) (lt-ltb m (count i) lt)
 
-rest_context : (c : HandedDown) (h : Head) (i r : Objects) (m : ℕ) → count i ≤ m → handed_in c (suc m) (node h i r) ≡ handed_in c (m - count i) r
+pub rest_context : (c : HandedDown) (h : Head) (i r : Objects) (m : ℕ) → count i ≤ m → handed_in c (suc m) (node h i r) ≡ handed_in c (m - count i) r
 rest_context c h i r m le = ap (λ (b : Bool). cond b (handed_in (handed c h) m i) (handed_in c (m - count i) r)) (le-ltb m (count i) le)
 
 from_inner : (c : HandedDown) (a : ℕ) (q : Option ℕ) (h : Head) (i r : Objects) (m : ℕ) → m < count i → From (handed c h) (a + 1) (Some a) i m → From c a q (node h i r) (suc m)

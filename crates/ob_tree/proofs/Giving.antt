@@ -1,16 +1,20 @@
 -- Words that stand for those which an object gives to its children.
-use Rattle.std.proofs.Common.{◌≡◌, ℕ, zero, suc, ◌-◌, Bool, true, false, cond, List, Option, Some, None, refl, sym, ap, ◌∙◌, subst}
+use Rattle.std.proofs.Common.{◌≡◌, ℕ, zero, suc, ◌-◌, Bool, true, false, cond, List, [], Option, Some, None, refl, sym, ap, ◌∙◌, subst}
 use Rattle.std.specs.Prelude.{nat_lt, option_map}
+use Rattle.std.proofs.lemmas.Bool.{eqb-true}
+use Rattle.std.specs.Cmp.{unsigned_ties}
+use Rattle.std.specs.Ordering.{nat_cmp}
+use Rattle.std.specs.BTreeMap.{BTreeMap, is_at, get}
+use Rattle.std.specs.Map.{lookup}
 use Rattle.ob_object.specs.declared.head.Head.{Head}
-use Rattle.ob_object.specs.Kinds.{has_of}
 use Rattle.ob_object.specs.Object.{Objects, none, node, Object, count}
-use Rattle.ob_contracts.specs.Inherit.{Contracts, Words, words_in, or_else, only_if, first_given, implied_by, inherited_head}
-use Rattle.ob_contracts.specs.Telling.{StandFor, StandIn}
+use Rattle.ob_contracts.specs.Inherit.{Contracts, Words}
+use Rattle.ob_contracts.specs.Telling.{StandIn}
 use Rattle.ob_contracts.proofs.Dropped.{stand_in_none}
-use Rattle.ob_standing.specs.Contexts.{Context, HandedDown, sources_in, handed_down, under}
+use Rattle.ob_standing.specs.Contexts.{Context, HandedDown, handed_down, under}
 use Rattle.ob_tree.specs.Laid.{head_at}
 use Rattle.ob_tree.specs.Shown.{at_top, handed, handed_in, handed_at, standing_at, row}
-use Rattle.ob_tree.specs.Told.{GivesAs, AreToldBy, words_for}
+use Rattle.ob_tree.specs.Told.{IsToldAt, AreToldBy, words_for}
 use Rattle.ob_tree.proofs.Wholes.{one_standing}
 
 library_by : (c : HandedDown) (a b : HandedDown) (left : Bool) → a.library ≡ c.library → b.library ≡ c.library → (cond left a b).library ≡ c.library
@@ -29,22 +33,31 @@ stands_by lib o r n h stands there =
     ap (λ (c : Context). c.library) (one_standing r (under (handed_at lib n o) h.name) (stands ∙ ap (option_map (λ (x : Head). under (handed_at lib n o) x.name)) there))
     ∙ handed_library (row o) (at_top lib) n
 
--- words of its own an object gives whatever it inherits
-gives_own : (h : Head) (ss : List Object) (own : Words) → implied_by h ≡ Some own → implied_by (inherited_head h ss) ≡ Some own
-gives_own h ss own e = go (has_of h.kind) h.of e
-  where
-    go : (b : Bool) (of : Option Words) → only_if b of ≡ Some own → only_if b (or_else of (first_given (λ s. only_if (has_of h.kind) s.head.of) ss)) ≡ Some own
-    go true (Some ws) e = e
-    go true None e = absurd cc
-    go false of e = absurd cc
-
--- words that are told for an object stand for those that it gives
-pub stand_in : (lib : Contracts) (c : Context) (h : Head) (told : Option Words) → ((ws : Words) → told ≡ Some ws → GivesAs lib h ws) → StandIn lib told (handed_down c h).implied
-stand_in lib c h None gives = stand_in_none lib (handed_down c h).implied
-stand_in lib c h (Some ws) gives =
-    let g = gives ws refl in
-    subst (λ (o : Option Words). StandFor lib ws (words_in o)) (sym (gives_own h (sources_in c h) g.own g.gives)) g.stand
+-- no words stand for any
+none_told_at : (lib : Contracts) (o : Object) (n : ℕ) → IsToldAt lib o n None
+none_told_at lib o n = λ c h stands there. stand_in_none lib (handed_down c h).implied
 
 -- where none are lent, none are told
 pub none_told : (lib : Contracts) (o : Object) → AreToldBy lib o (words_for None)
-none_told lib o = λ n ws h e there. absurd cc
+none_told lib o = none_told_at lib o
+
+-- before the first
+pub told_none : (lib : Contracts) (o : Object) (words : BTreeMap ℕ Words) → words.entries ≡ [] → AreToldBy lib o (get nat_cmp words)
+told_none lib o words e = λ n. subst (λ l. IsToldAt lib o n (lookup (is_at (nat_cmp n)) l)) (sym e) (none_told_at lib o n)
+
+-- words that are told for one object more
+pub told_more : (lib : Contracts) (o : Object) (old new : BTreeMap ℕ Words) (n : ℕ) (ws : Words) → ((m : ℕ) → get nat_cmp new m ≡ cond (is_at (nat_cmp n) m) (Some ws) (get nat_cmp old m))
+    → IsToldAt lib o n (Some ws) → AreToldBy lib o (get nat_cmp old) → AreToldBy lib o (get nat_cmp new)
+told_more lib o old new n ws up here told = λ m. subst (IsToldAt lib o m) (sym (up m)) (go m (is_at (nat_cmp n) m) refl)
+  where
+    go : (m : ℕ) (b : Bool) → is_at (nat_cmp n) m ≡ b → IsToldAt lib o m (cond b (Some ws) (get nat_cmp old m))
+    go m false off = told m
+    go m true on = subst (λ (k : ℕ). IsToldAt lib o k (Some ws)) (eqb-true n m (unsigned_ties n m ∙ on)) here
+
+-- words that stand for those which an object hands down where it stands are told for its number
+pub told_at : (lib : Contracts) (o : Object) (n : ℕ) (r : Context) (h : Head) (told : Option Words) → Some r ≡ standing_at lib n o → head_at n o ≡ Some h → StandIn lib told (handed_down r h).implied → IsToldAt lib o n told
+told_at lib o n r h told stands there stand = λ c g at is.
+    let context : r ≡ c = one_standing r c (stands ∙ sym at) in
+    let head : h ≡ g = cc in
+    subst (λ (x : Context). StandIn lib told (handed_down x g).implied) context
+    (subst (λ (x : Head). StandIn lib told (handed_down r x).implied) head stand)

@@ -15,4 +15,5 @@ pub mod Within
 pub mod Lasting
 pub mod Collecting
 pub mod Deep
+pub mod Below
 pub mod Giving

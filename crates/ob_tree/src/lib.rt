@@ -14,6 +14,7 @@ mod node;
 mod paths;
 mod shown;
 mod spot;
+mod telling;
 mod touching;
 mod tree;
 

@@ -1,6 +1,8 @@
 //! The tree.
 ghost use Rattle.std.specs.Prelude.{◌≡◌, ℕ, ◌<◌, ◌+◌, ◌^◌, ◌-◌, min, [], map, length, replicate, IsTrue, Some, None, IfSome, IfOk, MatchResult, option_map, option_and_then, slice_get};
 ghost use Rattle.std.specs.Option.{option_copied};
+ghost use Rattle.std.specs.Ordering.{nat_cmp};
+ghost use Rattle.std.specs.BTreeMap.{get};
 ghost use Rattle.ob_object.specs.declared.head.Head.{Head};
 ghost use Rattle.ob_object.specs.Fits.{fits_slot};
 ghost use Rattle.ob_object.specs.Object.{parts};
@@ -21,6 +23,7 @@ use crate::node::NodeId;
 use crate::paths::node_path;
 use crate::shown::{Lore, grown, standing_of, uncounted_standing};
 use crate::spot::Spot;
+use crate::telling::{Arena, put_told};
 use crate::touching::{renumber, stamp_up};
 use ob_contracts::Library;
 use ob_object::{Obj, Slot, Status, Words};
@@ -300,6 +303,23 @@ impl Tree {
         let spots = self.spots.as_slice();
         let at = id.number as usize;
         uncounted_standing::<Brand>(Lore { library, told }, leaves, spots, at, Blank::new(1))
+    }
+
+    /// Words that stand for those which lists and feeds with children give, their own or those that they inherit, by the
+    /// numbers of these: where there are several, those alone that tell something. An error only for want of memory.
+    pub fn telling(
+        &self,
+        alloc: Global,
+        library: &Library,
+    ) -> Result<BTreeMap<u64, Words>, AllocError>
+        ensures { IfOk result (λ words. AreToldBy library.now self.now.root (get nat_cmp words)) }
+    {
+        let leaves = self.leaves.as_slice();
+        let spots = self.spots.as_slice();
+        let mut words = BTreeMap::new(alloc);
+        let root = Standing::at_root(library);
+        put_told(alloc, &mut words, Arena { leaves, spots }, 0, root)?;
+        Ok(words)
     }
 
     /// The same as `standing`, counted as one step for each object round it.

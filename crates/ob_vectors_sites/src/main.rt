@@ -6,6 +6,7 @@ mod audits;
 mod desks;
 mod dialogue;
 mod dialogues;
+mod kept;
 mod limits;
 mod links;
 mod loads;
@@ -16,6 +17,7 @@ mod sites;
 
 use desks::Desks;
 use dialogues::Dialogues;
+use kept::Kept;
 use limits::Limits;
 use links::Links;
 use loads::Loads;
@@ -30,6 +32,7 @@ fn run_sites<R: Print + Files + AllocGlobal + Wait>(rt: &R) -> io::Result<()> {
     let lines = fs::read_to_string(rt, "sites.txt")?;
     run(rt, "requests.rows", &mut Requests::new(lines.as_str()))?;
     run(rt, "limits.rows", &mut Limits::new(lines.as_str()))?;
+    run(rt, "kept.rows", &mut Kept::new(lines.as_str()))?;
     run(rt, "desks.rows", &mut Desks::new(rt, lines.as_str()))?;
     run_connections(rt, lines.as_str())?;
     run_records(rt, lines.as_str())

@@ -2,10 +2,11 @@ use Rattle.std.proofs.Common.{◌≡◌, ◌++◌, Option, option_map}
 use Rattle.std.specs.Option.{option_copied}
 use Rattle.ob_object.specs.Object.{Object, children, parts}
 use Rattle.ob_contracts.specs.Found.{lent}
-use Rattle.ob_contracts.specs.Inherit.{Contracts, sources, missing}
+use Rattle.ob_contracts.specs.Inherit.{Contracts, Words, sources, missing}
 use Rattle.ob_opening.specs.Roles.{thin}
 use Rattle.ob_roles.specs.Few.{brief, brief_contracts}
 use Rattle.ob_roles.specs.Kinds.{Tells}
+use Rattle.ob_roles.specs.Summed.{HasNames, IsGivenBy}
 use Rattle.ob_roles.specs.Tables.{Holds}
 use Rattle.ob_roles.proofs.Named.{Missing}
 use Rattle.ob_roles.proofs.WordRows.{Rows, gives_of, few_row}
@@ -15,13 +16,15 @@ abbrev pub decreases-worded : goal.decreases-worded
 decreases-worded l = parts l.object.now
 
 abbrev pub invariant-loop-child : goal.invariant-loop-child
-invariant-loop-child l = (whole lib : Contracts) (o : Option Object) → Tells l.known whole → Holds l.table (brief_contracts whole lib) → option_copied l.over ≡ option_map (brief whole) o
-    → Rows whole lib (gives_of lib l.object.head (option_copied l.implied) o) (sources lib l.object.head (option_copied l.implied) o) l.child-items l.child-index (children l.made)
-    × (l.made.head ≡ thin l.object.head (option_copied l.words) (gives_of lib l.object.head (option_copied l.implied) o))
+invariant-loop-child l = (whole lib : Contracts) (implied : Option Words) (o : Option Object) → Tells l.known whole → Holds l.table (brief_contracts whole lib)
+    → IsGivenBy (option_copied l.list) (brief_contracts whole lib) l.object.head implied → option_copied l.over ≡ option_map (brief whole) o
+    → Rows whole lib (gives_of lib l.object.head implied o) (sources lib l.object.head implied o) l.child-items l.child-index (children l.made)
+    × (l.made.head ≡ thin l.object.head (option_copied l.words) (gives_of lib l.object.head implied o))
 
 abbrev pub invariant-loop-source : goal.invariant-loop-source
-invariant-loop-source l = (whole lib : Contracts) (o : Option Object) → Tells l.known whole → Holds l.table (brief_contracts whole lib) → option_copied l.over ≡ option_map (brief whole) o
+invariant-loop-source l = (whole lib : Contracts) (implied : Option Words) (o : Option Object) → Tells l.known whole → Holds l.table (brief_contracts whole lib)
+    → IsGivenBy (option_copied l.list) (brief_contracts whole lib) l.object.head implied → option_copied l.over ≡ option_map (brief whole) o
     → Missing l.source-items l.source-index
-    (few_row whole lib (gives_of lib l.object.head (option_copied l.implied) o) (sources lib l.object.head (option_copied l.implied) o) l.object.inner ++ missing (children l.object) (lent l.source-items))
+    (few_row whole lib (gives_of lib l.object.head implied o) (sources lib l.object.head implied o) l.object.inner ++ missing (children l.object) (lent l.source-items))
     (children l.made)
-    × (l.made.head ≡ thin l.object.head (option_copied l.words) (gives_of lib l.object.head (option_copied l.implied) o))
+    × (l.made.head ≡ thin l.object.head (option_copied l.words) (gives_of lib l.object.head implied o)) × HasNames l.there l.made

@@ -15,6 +15,6 @@ returns c = λ whole lib tells holds.
     let u = c.args.word.now in
     let p = worded lib o in
     let made : c.in_ok-made.made ≡ briefly whole p.head.is p =
-    c.in_ok-made.ensures whole lib None tells holds refl ∙ ap (λ (ws : Option Words). briefly whole ws (worded_at lib None None o)) c.is.ensures ∙ contract_is whole lib o in
+    c.in_ok-made.ensures whole lib None None tells holds (λ takes. refl) refl ∙ ap (λ (ws : Option Words). briefly whole ws (worded_at lib None None o)) c.is.ensures ∙ contract_is whole lib o in
     subst (λ (l : Contracts). Holds c.put_first.new.table l) (ap (λ (x : Object). brief_contracts whole lib ++ (u, x) ∷ []) made ∙ sym (brief_more whole lib u p))
     (c.in_ok-put_first.ensures (brief_contracts whole lib) holds)

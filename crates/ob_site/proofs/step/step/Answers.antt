@@ -3,13 +3,15 @@ use Rattle.ob_object.specs.Object.{Object}
 use Rattle.ob_site_rules.specs.Sites.{SiteState}
 use Rattle.ob_site_state.specs.Kept.{Kept}
 use Rattle.ob_site_watched.specs.Polls.{object_entries, steps_in}
+use Rattle.ob_site.specs.Keeping.{Stepping, Keeps, MayKeep}
 use Rattle.ob_site.specs.Views.{site_of}
+use Rattle.ob_site.proofs.Keeping.{step_is}
 use Rattle.ob_site.proofs.Levels.{steps_at_most}
 use Rattle.ob_site.proofs.Stepped.{begun_so, stepped, site_after, undone, same_again, site_again}
 use Rattle.ob_site.proofs.step.step.Goals as goal
 
-pub answer-requires : goal.answer-requires
-answer-requires g c = begun_so c.make_room.new.state c.begin.new.self c.make_room.new.watches c.args.moment c.make_room.ensures.kept c.make_room.ensures.room c.begin.ensures
+pub answer-requires-clause-begun : goal.answer-requires-clause-begun
+answer-requires-clause-begun g c = begun_so c.make_room.new.state c.begin.new.self c.make_room.new.watches c.args.moment c.make_room.ensures.kept c.make_room.ensures.room c.begin.ensures
 
 pub returns-in-Ok-clause-done : goal.returns-in-Ok-clause-done
 returns-in-Ok-clause-done g c =
@@ -35,5 +37,17 @@ pub returns-in-Ok-clause-steps : goal.returns-in-Ok-clause-steps
 returns-in-Ok-clause-steps g c =
     let same : c.begin.new.self.now.tree ≡ c.args.state.now.now.tree =
     ap (λ (k : Kept). k.now.tree) c.begin.ensures ∙ ap (λ (st : SiteState). st.world.site.tree) c.make_room.ensures.same in
-    steps_at_most c.args.steps.now c.answer.new.steps c.args.state.now.now.tree (object_entries c.in-Ok.reply) c.requires.kept.shallow
+    steps_at_most c.args.steps.now c.answer.new.steps c.args.state.now.now.tree (object_entries c.in-Ok.reply) c.requires.site.kept.shallow
     (subst (λ (root : Object). c.answer.new.steps ≤ c.args.steps.now + steps_in root (object_entries c.in-Ok.reply)) same c.in-Ok.ensures.steps)
+
+pub returns-in-Ok-clause-keeps : goal.returns-in-Ok-clause-keeps
+returns-in-Ok-clause-keeps g c =
+    subst (λ (s : Stepping). Keeps g.K.Keeper.below g.K.Keeper.keeps c.args.keeper.now c.answer.new.keeper s)
+    (step_is (site_of c.args.state.now c.args.watches.now) c.make_room.new.state c.begin.new.self c.make_room.new.watches c.args.request.now c.args.moment c.make_room.ensures.same c.begin.ensures)
+    c.in-Ok.ensures.keeps
+
+pub returns-in-Err-clause-may_keep : goal.returns-in-Err-clause-may_keep
+returns-in-Err-clause-may_keep g c =
+    subst (λ (s : Stepping). MayKeep g.K.Keeper.below g.K.Keeper.may_keep g.K.Keeper.keeps c.args.keeper.now c.answer.new.keeper s)
+    (step_is (site_of c.args.state.now c.args.watches.now) c.make_room.new.state c.begin.new.self c.make_room.new.watches c.args.request.now c.args.moment c.make_room.ensures.same c.begin.ensures)
+    c.in-Err.ensures.may_keep

@@ -1,12 +1,26 @@
-use Rattle.std.proofs.Common.{sym, ◌∙◌}
-use Rattle.ob_site_calls.proofs.Pointed.{not_hidden}
-use Rattle.ob_site_calls.proofs.Valued.{points_have_values}
+use Rattle.std.proofs.Common.{Option, Some, Bor, sym, ap, subst}
+use Rattle.std.specs.Prelude.{IfOk, IfErr}
+use Rattle.std.specs.Option.{option_copied}
+use Rattle.ob_object.specs.Object.{Object}
+use Rattle.ob_site_rules.specs.Posts.{write_point}
+use Rattle.ob_site_state.specs.Kept.{Kept}
+use Rattle.ob_site_writes.specs.Stops.{IsDone, Stops}
 use Rattle.ob_site_calls.proofs.calls.write_point.Goals as goal
 
-pub unreachable-requires : goal.unreachable-requires
-unreachable-requires c = not_hidden c.args.state.now.plan c.args.state.now.now c.args.point.now c.in_ok-target.field-0 c.is_sound.ensures.sound.consistent c.requires c.in_ok-target.ensures c.in-None.is
+pub returns-clause-ok : goal.returns-clause-ok
+returns-clause-ok c =
+    let old = c.args.state.now in
+    let p = c.args.point.now in
+    subst (λ (v : Option Object). IfOk c.write_shown.result (IsDone old c.write_shown.new.state (write_point old.plan old.now old.time p v)))
+    (sym (ap (λ (o : Option (Bor Object)). option_copied o) c.in-Some.is))
+    (subst (λ (k : Kept). IfOk c.write_shown.result (IsDone k c.write_shown.new.state (write_point k.plan k.now k.time p (Some c.in-Some.new.now))))
+    c.in_ok-fault.ensures.same c.write_shown.ensures.ok)
 
-pub write_by-requires-clause-records : goal.write_by-requires-clause-records
-write_by-requires-clause-records c = λ history has.
-    points_have_values c.args.state.now.plan c.args.state.now.now c.is_sound.ensures.sound.consistent c.is_sound.ensures.sound.paths_differ c.is_sound.ensures.sound.roles.values c.args.point.now history c.in-Some-2.target c.requires has
-    (sym c.in_ok-target.ensures ∙ c.in-Some-2.is)
+pub returns-clause-stop : goal.returns-clause-stop
+returns-clause-stop c =
+    let old = c.args.state.now in
+    let p = c.args.point.now in
+    subst (λ (v : Option Object). IfErr c.write_shown.result (Stops old c.write_shown.new.state (write_point old.plan old.now old.time p v)))
+    (sym (ap (λ (o : Option (Bor Object)). option_copied o) c.in-Some.is))
+    (subst (λ (k : Kept). IfErr c.write_shown.result (Stops k c.write_shown.new.state (write_point k.plan k.now k.time p (Some c.in-Some.new.now))))
+    c.in_ok-fault.ensures.same c.write_shown.ensures.stop)

@@ -1,53 +1,42 @@
-use Rattle.std.proofs.Common.{◌≡◌, ◌∙◌, ◌++◌, ◌∷◌, ◌<◌, [], List, true, false, Vec, Global, sym, ap, arith, true≢false}
-use Rattle.ob_object.specs.Object.{parts}
+use Rattle.std.proofs.Common.{◌≡◌, Some, sym, ap, ◌∙◌, arith}
+use Rattle.ob_object.specs.Object.{Object, parts}
 use Rattle.ob_replies.specs.Plans.{plan as plan_of}
+use Rattle.ob_tree.specs.Shown.{part_at}
+use Rattle.ob_tree.specs.Trees.{Stamped}
 use Rattle.ob_default_laws.specs.Defaults.{with_library}
 use Rattle.ob_site_state.specs.Contents.{state_in}
-use Rattle.ob_tree.specs.declared.node.NodeId.{NodeId}
-use Rattle.ob_site_defaults.proofs.Found.{skipped, put, kept, all_found, within_all}
-use Rattle.ob_site_defaults.proofs.otherwise.nodes_otherwise.Goals.{then-branch+in_ok-push, else-branch}
+use Rattle.ob_site_defaults.proofs.Found.{within_all}
+use Rattle.ob_site_defaults.proofs.Walked.{same_root, root_walked}
 use Rattle.ob_site_defaults.proofs.otherwise.nodes_otherwise.Goals as goal
 
-pub loop-number-preserved-then-not-is_compared : goal.loop-number-preserved-then-not-is_compared
-loop-number-preserved-then-not-is_compared c =
-    let off : c.is_compared.result ≡ false = cc (c.if-not-is_compared.true) in (
-      omega (arith, c.loop-number-test.true),
-      skipped (plan_of c.args.plan.now) (state_in c.args.contents.now) c.args.old.now c.loop-number.number c.loop-number.nodes.items c.loop-number.same
-          c.requires.readable.paths_differ c.requires.differ c.loop-number.invariant.1 (sym c.is_compared.ensures ∙ off),
-    )
-
-pub loop-number-preserved : goal.loop-number-preserved
-loop-number-preserved c =
+pub put_otherwise-requires : goal.put_otherwise-requires
+put_otherwise-requires c =
     let plan = plan_of c.args.plan.now in
     let s = state_in c.args.contents.now in
-    let old = c.args.old.now in
-    let node : NodeId = record { number = c.loop-number.number } in
-    let nodes : List NodeId = c.loop-number.nodes.items in
-    let now : List NodeId = c.if-branch.nodes.items in
-    let on : c.is_compared.result ≡ true = cc (c.if-not-is_compared.false) in
-    elim c.if-branch.branch [
-      | then-branch+in_ok-push w ↦
-          (let pushed : now ≡ nodes ++ node ∷ [] = ap (λ (v : Vec NodeId Global). v.items) w.nodes-is ∙ w.in_ok-push.ensures.items in (
-            omega (arith, c.loop-number-test.true),
-            put plan (with_library old s) s.library node nodes now c.loop-number.same c.if-branch.same c.loop-number.invariant.1
-                (c.in_ok-is_otherwise.ensures.0 w.if-branch.true) pushed w.same-is,
-          ))
-      | else-branch w ↦
-          (let within : c.loop-number.number < parts c.args.contents.now.tree.root = omega (arith, c.loop-number-test.true, c.len-number-end.ensures) in (
-            omega (arith, c.loop-number-test.true),
-            kept plan (with_library old s) s.library node nodes now c.loop-number.same c.if-branch.same c.loop-number.invariant.1
-                within (sym c.is_compared.ensures ∙ on) (λ o. true≢false (sym (c.in_ok-is_otherwise.ensures.1 o) ∙ w.if-branch.false))
-                (ap (λ (v : Vec NodeId Global). v.items) w.nodes-is) w.same-is,
-          ))
-    ]
+    let own_is : Some c.in_ok-own.own ≡ part_at 0 s.tree = c.in_ok-own.ensures ∙ ap (λ (t : Stamped). part_at 0 t.root) c.tree-tree.ensures in
+    let whole : c.in_ok-own.own ≡ s.tree = same_root s.tree c.in_ok-own.own own_is in record {
+      few = omega (arith, ap (λ (o : Object). parts o) whole, ap (λ (t : Stamped). parts t.root) c.tree-tree.ensures, c.is_counted.ensures);
+      shown = (
+        plan,
+        s,
+        c.args.old.now,
+        record {
+          differ = c.requires.readable.paths_differ;
+          once = c.requires.differ;
+          is = sym own_is;
+          before_is = c.in_ok-before.ensures.before;
+          after_is = c.in_ok-before.ensures.after;
+        },
+      );
+    }
 
 pub returns-clause-others : goal.returns-clause-others
 returns-clause-others c =
-    all_found (plan_of c.args.plan.now) (with_library c.args.old.now (state_in c.args.contents.now)) c.args.contents.now.library c.loop-number.nodes.items c.loop-number.same c.loop-number.number
-    (omega (arith, c.loop-number.invariant.0, c.loop-number-test.false, c.len-number-end.ensures)) c.loop-number.invariant.1
+    root_walked (plan_of c.args.plan.now) (state_in c.args.contents.now) c.args.old.now c.in_ok-own.own _ _ c.new-nodes.result.items c.put_otherwise.new.nodes.items c.requires.readable.paths_differ c.requires.differ
+    (c.in_ok-own.ensures ∙ ap (λ (t : Stamped). part_at 0 t.root) c.tree-tree.ensures) c.in_ok-before.ensures.before c.in_ok-before.ensures.after c.new-nodes.ensures.items c.in_ok-put_otherwise.ensures
 
 pub returns-clause-within : goal.returns-clause-within
 returns-clause-within c =
-    within_all (plan_of c.args.plan.now) (with_library c.args.old.now (state_in c.args.contents.now)) c.args.contents.now.library c.loop-number.nodes.items
-    (all_found (plan_of c.args.plan.now) (with_library c.args.old.now (state_in c.args.contents.now)) c.args.contents.now.library c.loop-number.nodes.items c.loop-number.same c.loop-number.number
-    (omega (arith, c.loop-number.invariant.0, c.loop-number-test.false, c.len-number-end.ensures)) c.loop-number.invariant.1)
+    within_all (plan_of c.args.plan.now) (with_library c.args.old.now (state_in c.args.contents.now)) c.args.contents.now.ground.library c.put_otherwise.new.nodes.items
+    (root_walked (plan_of c.args.plan.now) (state_in c.args.contents.now) c.args.old.now c.in_ok-own.own _ _ c.new-nodes.result.items c.put_otherwise.new.nodes.items c.requires.readable.paths_differ c.requires.differ
+    (c.in_ok-own.ensures ∙ ap (λ (t : Stamped). part_at 0 t.root) c.tree-tree.ensures) c.in_ok-before.ensures.before c.in_ok-before.ensures.after c.new-nodes.ensures.items c.in_ok-put_otherwise.ensures)

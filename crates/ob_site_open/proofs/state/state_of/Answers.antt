@@ -1,4 +1,5 @@
-use Rattle.std.proofs.Common.{refl, sym, ◌∙◌}
+use Rattle.std.proofs.Common.{sym, ap, ◌∙◌}
+use Rattle.ob_ground.specs.Grounds.{Grounded}
 use Rattle.ob_site_state.specs.declared.contents.Contents.{Contents}
 use Rattle.ob_site_open.proofs.Opened.{stand, rules_fit, tree_differ, apart, histories, in_time, rolled, sound, capacities}
 use Rattle.ob_site_open.proofs.state.state_of.Goals as goal
@@ -12,37 +13,37 @@ board_of-requires c = rules_fit c.args.root.now c.args.boot c.args.opened c.head
 pub tree_of-requires : goal.tree_of-requires
 tree_of-requires c = tree_differ c.args.root.now c.args.boot c.args.opened c.head-head.ensures.well_formed c.requires.counted c.requires.opens
 
-pub new-requires-clause-histories : goal.new-requires-clause-histories
-new-requires-clause-histories c =
-    let made : Contents = record { library = c.args.opened.library; tree = c.in_ok-tree.tree; logs = c.in_ok-logs.logs; board = c.in_ok-board.board; roles = c.in_ok-roles.roles } in
+pub new-requires-2-clause-histories : goal.new-requires-2-clause-histories
+new-requires-2-clause-histories c =
+    let made : Contents = record { ground = c.in_ok-ground.ground; logs = c.in_ok-logs.logs; board = c.in_ok-board.board; roles = c.in_ok-roles.roles } in
     histories c.args.root.now c.args.boot c.args.opened c.head-head.ensures.well_formed c.requires.counted c.requires.opens made
-    (record { library = refl; tree = c.in_ok-tree.ensures.tree; logs = c.in_ok-logs.ensures.logs; nanos = c.in_ok-logs.ensures.nanos; board = c.in_ok-board.ensures })
+    (record { library = ap (λ (g : Grounded). g.library) c.in_ok-ground.ensures; tree = ap (λ (g : Grounded). g.tree) c.in_ok-ground.ensures ∙ c.in_ok-tree.ensures.tree; logs = c.in_ok-logs.ensures.logs; nanos = c.in_ok-logs.ensures.nanos; board = c.in_ok-board.ensures })
 
-pub new-requires-clause-apart : goal.new-requires-clause-apart
-new-requires-clause-apart c = apart c.args.root.now c.args.boot c.args.opened c.head-head.ensures.well_formed c.requires.counted c.requires.opens
+pub new-requires-2-clause-apart : goal.new-requires-2-clause-apart
+new-requires-2-clause-apart c = apart c.args.root.now c.args.boot c.args.opened c.head-head.ensures.well_formed c.requires.counted c.requires.opens
 
-pub new-requires-clause-in_time : goal.new-requires-clause-in_time
-new-requires-clause-in_time c =
-    let made : Contents = record { library = c.args.opened.library; tree = c.in_ok-tree.tree; logs = c.in_ok-logs.logs; board = c.in_ok-board.board; roles = c.in_ok-roles.roles } in
+pub new-requires-2-clause-in_time : goal.new-requires-2-clause-in_time
+new-requires-2-clause-in_time c =
+    let made : Contents = record { ground = c.in_ok-ground.ground; logs = c.in_ok-logs.logs; board = c.in_ok-board.board; roles = c.in_ok-roles.roles } in
     in_time c.args.root.now c.args.boot c.args.opened c.head-head.ensures.well_formed c.requires.counted c.requires.opens made
-    (record { library = refl; tree = c.in_ok-tree.ensures.tree; logs = c.in_ok-logs.ensures.logs; nanos = c.in_ok-logs.ensures.nanos; board = c.in_ok-board.ensures })
+    (record { library = ap (λ (g : Grounded). g.library) c.in_ok-ground.ensures; tree = ap (λ (g : Grounded). g.tree) c.in_ok-ground.ensures ∙ c.in_ok-tree.ensures.tree; logs = c.in_ok-logs.ensures.logs; nanos = c.in_ok-logs.ensures.nanos; board = c.in_ok-board.ensures })
     c.time_of-time.result c.time_of-time.ensures
 
-pub new-requires-clause-rolled : goal.new-requires-clause-rolled
-new-requires-clause-rolled c =
-    let made : Contents = record { library = c.args.opened.library; tree = c.in_ok-tree.tree; logs = c.in_ok-logs.logs; board = c.in_ok-board.board; roles = c.in_ok-roles.roles } in
+pub new-requires-2-clause-rolled : goal.new-requires-2-clause-rolled
+new-requires-2-clause-rolled c =
+    let made : Contents = record { ground = c.in_ok-ground.ground; logs = c.in_ok-logs.logs; board = c.in_ok-board.board; roles = c.in_ok-roles.roles } in
     rolled c.args.root.now c.args.boot c.args.opened c.head-head.ensures.well_formed c.requires.counted c.requires.opens made
-    (record { library = refl; tree = c.in_ok-tree.ensures.tree; logs = c.in_ok-logs.ensures.logs; nanos = c.in_ok-logs.ensures.nanos; board = c.in_ok-board.ensures })
+    (record { library = ap (λ (g : Grounded). g.library) c.in_ok-ground.ensures; tree = ap (λ (g : Grounded). g.tree) c.in_ok-ground.ensures ∙ c.in_ok-tree.ensures.tree; logs = c.in_ok-logs.ensures.logs; nanos = c.in_ok-logs.ensures.nanos; board = c.in_ok-board.ensures })
 
-pub new-requires-clause-sound : goal.new-requires-clause-sound
-new-requires-clause-sound c =
-    let made : Contents = record { library = c.args.opened.library; tree = c.in_ok-tree.tree; logs = c.in_ok-logs.logs; board = c.in_ok-board.board; roles = c.in_ok-roles.roles } in
+pub new-requires-2-clause-sound : goal.new-requires-2-clause-sound
+new-requires-2-clause-sound c =
+    let made : Contents = record { ground = c.in_ok-ground.ground; logs = c.in_ok-logs.logs; board = c.in_ok-board.board; roles = c.in_ok-roles.roles } in
     sound c.args.root.now c.args.boot c.args.opened c.head-head.ensures.well_formed c.requires.counted c.requires.opens made
-    (record { library = refl; tree = c.in_ok-tree.ensures.tree; logs = c.in_ok-logs.ensures.logs; nanos = c.in_ok-logs.ensures.nanos; board = c.in_ok-board.ensures })
+    (record { library = ap (λ (g : Grounded). g.library) c.in_ok-ground.ensures; tree = ap (λ (g : Grounded). g.tree) c.in_ok-ground.ensures ∙ c.in_ok-tree.ensures.tree; logs = c.in_ok-logs.ensures.logs; nanos = c.in_ok-logs.ensures.nanos; board = c.in_ok-board.ensures })
 
-pub new-requires-clause-capacities : goal.new-requires-clause-capacities
-new-requires-clause-capacities c =
-    let made : Contents = record { library = c.args.opened.library; tree = c.in_ok-tree.tree; logs = c.in_ok-logs.logs; board = c.in_ok-board.board; roles = c.in_ok-roles.roles } in
+pub new-requires-2-clause-capacities : goal.new-requires-2-clause-capacities
+new-requires-2-clause-capacities c =
+    let made : Contents = record { ground = c.in_ok-ground.ground; logs = c.in_ok-logs.logs; board = c.in_ok-board.board; roles = c.in_ok-roles.roles } in
     capacities c.args.root.now c.args.boot c.args.opened c.head-head.ensures.well_formed c.requires.counted c.requires.opens made
-    (record { library = refl; tree = c.in_ok-tree.ensures.tree; logs = c.in_ok-logs.ensures.logs; nanos = c.in_ok-logs.ensures.nanos; board = c.in_ok-board.ensures })
+    (record { library = ap (λ (g : Grounded). g.library) c.in_ok-ground.ensures; tree = ap (λ (g : Grounded). g.tree) c.in_ok-ground.ensures ∙ c.in_ok-tree.ensures.tree; logs = c.in_ok-logs.ensures.logs; nanos = c.in_ok-logs.ensures.nanos; board = c.in_ok-board.ensures })
     ∙ sym c.in_ok-capacities.ensures

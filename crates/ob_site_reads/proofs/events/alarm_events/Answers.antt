@@ -12,7 +12,7 @@ pub returns-then-count-given : goal.returns-then-count-given
 returns-then-count-given c =
     let same = ap (λ (l : List Event). length l) c.events.ensures in
     let few = c.if-count-given.true in
-    c.new-events.ensures.items ∙ sym (none_yet c.args.bounds.now c.args.alarms.now c.args.given (length c.args.alarms.now.events) (omega (arith, same, few)))
+    c.new.ensures.items ∙ sym (none_yet c.args.bounds.now c.args.alarms.now c.args.given (length c.args.alarms.now.events) (omega (arith, same, few)))
 
 pub loop-event-init : goal.loop-event-init
 loop-event-init c =

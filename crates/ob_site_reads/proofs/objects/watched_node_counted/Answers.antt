@@ -10,7 +10,7 @@ use Rattle.ob_site_reads.proofs.objects.watched_node_counted.Goals as goal
 pub returns-clause-steps : goal.returns-clause-steps
 returns-clause-steps g c = λ watchable.
     let n = c.args.node.number in
-    let root = c.args.contents.now.tree.root in
+    let root = c.args.contents.now.ground.tree.root in
     c.in_ok-object.ensures.steps
     ∙ ap (λ (k : ℕ). c.args.steps.now + depth_at n root + min k (2 ^ 64 - 1))
     (sym (told_whole (plan_of c.args.plan.now) (state_in c.args.contents.now) n c.in_ok-object.object c.in_ok-object.ensures.stands watchable) ∙ sym (ap parts c.unnamed.ensures))

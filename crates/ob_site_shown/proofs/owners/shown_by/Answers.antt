@@ -1,6 +1,9 @@
-use Rattle.std.proofs.Common.{sym, ◌∙◌}
+use Rattle.std.proofs.Common.{sym, ap, ◌∙◌}
 use Rattle.ob_replies.specs.Plans.{plan as plan_of}
 use Rattle.ob_site_state.specs.Contents.{state_in}
+use Rattle.ob_tree.specs.Laid.{paths}
+use Rattle.ob_tree.specs.Paths.{place_of}
+use Rattle.ob_tree.specs.Trees.{Stamped}
 use Rattle.ob_site_shown.proofs.Nowhere.{starts_off}
 use Rattle.ob_site_shown.proofs.ByRole.{derives}
 use Rattle.ob_site_shown.proofs.owners.shown_by.Goals as goal
@@ -12,4 +15,4 @@ returns-then-not-begins_with c =
 pub returns-in-Some-among : goal.returns-in-Some-among
 returns-in-Some-among c =
     derives (plan_of c.args.plan.now) (state_in c.args.contents.now) c.args.path.now c.args.owner.now c.in-Some.node.number c.deref.result.now c.in-Some-among.child.now c.in_ok-shown-in-Some-among.shown
-    c.requires.paths_differ c.in-Some.ensures.place (c.deref.ensures.value ∙ c.in_ok-children.ensures) c.in-Some-among.ensures c.in_ok-shown-in-Some-among.ensures
+    c.requires.paths_differ (c.in-Some.ensures.place ∙ ap (λ (t : Stamped). place_of c.args.owner.now (paths t.root)) c.tree-tree.ensures) (c.deref.ensures.value ∙ c.in_ok-children.ensures) c.in-Some-among.ensures c.in_ok-shown-in-Some-among.ensures

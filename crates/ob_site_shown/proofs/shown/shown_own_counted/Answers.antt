@@ -28,5 +28,5 @@ returns-clause-shows g c =
     let n = c.args.node.number in
     let at = context c.standing_counted-standing.result in
     IfOk-weaker c.whole_counted.result (λ o. o ≡ comes_to at c.in_ok-dressed.dressed)
-    (λ o. (p : Path) → place_of p (paths c.args.contents.now.tree.root) ≡ Some n → shown plan s p ≡ Some o)
+    (λ o. (p : Path) → place_of p (paths c.args.contents.now.ground.tree.root) ≡ Some n → shown plan s p ≡ Some o)
     (λ o is p here. shows plan s n at c.in_ok-dressed.dressed o c.standing_counted-standing.ensures.stands c.in_ok-dressed.ensures is c.requires.readable.paths_differ p here) c.whole_counted.ensures.whole

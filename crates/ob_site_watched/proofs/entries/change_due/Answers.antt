@@ -23,16 +23,16 @@ returns-in-Feed-clause-content g c =
     IfOk-weaker c.feed_since.result _ _
     (λ o since.
     since c.args.item.now.text
-    ∙ ap₂ (λ (p : Text) (k : Tracked). map (λ r. content_object r.content) (changes_of (of_plan (plan_of c.args.plan.now)) (state_in c.args.contents.now) c.args.item.now.text p (flag_of c.args.contents.now.tree k)))
+    ∙ ap₂ (λ (p : Text) (k : Tracked). map (λ r. content_object r.content) (changes_of (of_plan (plan_of c.args.plan.now)) (state_in c.args.contents.now) c.args.item.now.text p (flag_of c.args.contents.now.ground.tree k)))
     c.path.ensures (sym c.in-Feed.is ∙ c.tracked.ensures)) c.feed_since.ensures
 
 pub returns-in-Feed-clause-steps : goal.returns-in-Feed-clause-steps
 returns-in-Feed-clause-steps g c =
-    IfOk-weaker c.feed_since.result _ (λ (o : Option Object). c.args.steps.now ≤ c.args.steps.now + steps_in c.args.contents.now.tree.root (of_objects (option_to_list o))) (λ o _. omega arith) c.feed_since.ensures
+    IfOk-weaker c.feed_since.result _ (λ (o : Option Object). c.args.steps.now ≤ c.args.steps.now + steps_in c.args.contents.now.ground.tree.root (of_objects (option_to_list o))) (λ o _. omega arith) c.feed_since.ensures
 
 pub returns-in_ok-object-in-Object-clause-steps : goal.returns-in_ok-object-in-Object-clause-steps
 returns-in_ok-object-in-Object-clause-steps g c =
-    let root = c.args.contents.now.tree.root in
+    let root = c.args.contents.now.ground.tree.root in
     let placed = subst (λ (k : Tracked). IsPlacedBy root c.args.item.now.path k) (sym (sym c.in-Object.is ∙ c.tracked.ensures)) c.requires.placed in
     let read = c.in_ok-object-in-Object.ensures.object c.args.item.now.path placed.0 in
     read_for root c.in-Object.node.number c.args.steps.now c.watched_node_counted.new.steps (2 ^ 64 - 1) c.in_ok-object-in-Object.object

@@ -15,5 +15,5 @@ returns-in-Feed c =
     IfOk-weaker c.whole_feed.result _ _
     (λ o whole.
     whole c.in-Feed.given
-    ∙ ap₂ (λ (p : Text) (k : Tracked). content_object (content_now (of_plan (plan_of c.args.plan.now)) (state_in c.args.contents.now) p (flag_of c.args.contents.now.tree k)))
+    ∙ ap₂ (λ (p : Text) (k : Tracked). content_object (content_now (of_plan (plan_of c.args.plan.now)) (state_in c.args.contents.now) p (flag_of c.args.contents.now.ground.tree k)))
     c.path.ensures (sym c.in-Feed.is ∙ c.tracked.ensures)) c.whole_feed.ensures

@@ -9,7 +9,7 @@ use Rattle.ob_site_watched.proofs.offering.offered.Goals as goal
 
 pub item_for-requires-clause-own : goal.item_for-requires-clause-own
 item_for-requires-clause-own c =
-    subst (IsOwnFound c.args.contents.now.tree.root) (sym c.in_ok-found.ensures) (c.watched_are_own.ensures (plan_of c.args.plan.now) (state_in c.args.contents.now) c.args.numbers.now c.args.asked.now.0 c.args.asked.now.1)
+    subst (IsOwnFound c.args.contents.now.ground.tree.root) (sym c.in_ok-found.ensures) (c.watched_are_own.ensures (plan_of c.args.plan.now) (state_in c.args.contents.now) c.args.numbers.now c.args.asked.now.0 c.args.asked.now.1)
 
 pub returns-in_ok-entry-in-Err : goal.returns-in_ok-entry-in-Err
 returns-in_ok-entry-in-Err c =

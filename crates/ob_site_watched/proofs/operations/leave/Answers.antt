@@ -9,8 +9,10 @@ use Rattle.ob_site_state.specs.Contents.{state_in}
 use Rattle.ob_requests.specs.Calls.{lease_in}
 use Rattle.ob_requests.specs.Targets.{operation_of}
 use Rattle.ob_watch.specs.Reported.{all_reported}
-use Rattle.ob_watch.specs.Tables.{holding, touched_at, without}
-use Rattle.ob_site_watched.specs.Leaving.{leased_if, leaving}
+use Rattle.ob_watch.specs.Tables.{at_number, holding, touched_at, without}
+use Rattle.ob_tree.specs.Trees.{Stamped}
+use Rattle.ob_contracts.specs.Inherit.{Contracts}
+use Rattle.ob_site_watched.specs.Leaving.{Renews, leased_if, leaving}
 use Rattle.ob_site_watched.proofs.Answering.{same_lease}
 use Rattle.ob_site_watched.proofs.Leaving.{none_left, polled_left, renewed_left, two_left}
 use Rattle.ob_site_watched.proofs.operations.leave.Goals as goal
@@ -23,7 +25,8 @@ returns-in-Renew c =
     subst (λ (op : WatchOperation). c.renew.new.watches ≡ leaving c.args.contents.now now n op old) (sym (ap operation_of c.in-Renew.is))
     (subst (λ (r : Result ℕ Fault). c.renew.new.watches ≡ holding (replace n (option_and_then (λ w. Some (leased_if r (touched_at now w))) (lookup n old.watches)) old.watches) old)
     (same_lease (state_in c.args.contents.now) c.in-Renew.input)
-    (renewed_left n (touched_at now) old c.touch-held.new.self c.renew.new.watches (lease_in c.args.contents.now.library c.in-Renew.input) c.touch-held.ensures.touched c.renew.ensures))
+    (renewed_left n (touched_at now) old c.touch-held.new.self c.renew.new.watches (lease_in c.args.contents.now.ground.library c.in-Renew.input) c.touch-held.ensures.touched
+    (subst (λ (l : Contracts). Renews n c.touch-held.new.self c.renew.new.watches (lease_in l c.in-Renew.input)) c.library.ensures c.renew.ensures)))
 
 pub returns-in-Remove : goal.returns-in-Remove
 returns-in-Remove c =
@@ -48,4 +51,5 @@ returns-in-PollChanges c =
     let now = c.args.call.now.moment in
     let old = c.args.watches.now in
     polled_left c.args.contents.now now n old c.reported.new.self c.args.call.now.asks c.in-PollChanges.is
-    (two_left n (all_reported c.args.contents.now.tree.steps) (touched_at now) old c.touch-held.new.self c.reported.new.self c.touch-held.ensures.touched c.reported.ensures.reported)
+    (two_left n (all_reported c.args.contents.now.ground.tree.steps) (touched_at now) old c.touch-held.new.self c.reported.new.self c.touch-held.ensures.touched
+    (subst (λ (t : Stamped). c.reported.new.self ≡ holding (at_number n (all_reported t.steps) c.touch-held.new.self.watches) c.touch-held.new.self) c.tree.ensures c.reported.ensures.reported))

@@ -44,4 +44,4 @@ returns-clause-known g c =
     (left_known (plan_of c.args.plan.now) c.args.contents.now c.args.call.now.moment c.args.call.now.number (operation_of c.args.call.now.asks) c.args.watches.now c.requires.known)
 
 pub returns-in_default-clause-steps : goal.returns-in_default-clause-steps
-returns-in_default-clause-steps g c = unmoved c.args.contents.now.tree.root c.args.steps.now c.refusal.result
+returns-in_default-clause-steps g c = unmoved c.args.contents.now.ground.tree.root c.args.steps.now c.refusal.result

@@ -15,10 +15,10 @@ use Rattle.ob_site_watched.proofs.operations.poll.Goals as goal
 pub watch_out-requires : goal.watch_out-requires
 watch_out-requires g c =
     subst (λ (os : List Object). list_all (λ (o : Object). is_none o.head.name) os ≡ true) (sym c.in_ok-entries.ensures.entries)
-    (changes_named (plan_of c.args.plan.now) (state_in c.args.contents.now) (map (flags c.args.contents.now.tree) c.args.watch.now.items))
+    (changes_named (plan_of c.args.plan.now) (state_in c.args.contents.now) (map (flags c.args.contents.now.ground.tree) c.args.watch.now.items))
 
 pub returns-clause-steps : goal.returns-clause-steps
 returns-clause-steps g c =
-    let readings = changes (of_plan (plan_of c.args.plan.now)) (state_in c.args.contents.now) (map (flags c.args.contents.now.tree) c.args.watch.now.items) in
+    let readings = changes (of_plan (plan_of c.args.plan.now)) (state_in c.args.contents.now) (map (flags c.args.contents.now.ground.tree) c.args.watch.now.items) in
     IfOk-weaker c.watch_out.result _ _
-    (λ o is. polled_for c.args.contents.now.tree.root c.args.steps.now c.watch_changes.new.steps readings c.in_ok-entries.entries.items o c.in_ok-entries.ensures.entries is c.in_ok-entries.ensures.steps) c.watch_out.ensures
+    (λ o is. polled_for c.args.contents.now.ground.tree.root c.args.steps.now c.watch_changes.new.steps readings c.in_ok-entries.entries.items o c.in_ok-entries.ensures.entries is c.in_ok-entries.ensures.steps) c.watch_out.ensures

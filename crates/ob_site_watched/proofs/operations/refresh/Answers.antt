@@ -11,4 +11,4 @@ use Rattle.ob_site_watched.proofs.operations.refresh.Goals as goal
 pub watch_out-requires : goal.watch_out-requires
 watch_out-requires c =
     subst (λ (os : List Object). list_all (λ (o : Object). is_none o.head.name) os ≡ true) (sym c.in_ok-entries.ensures)
-    (readings_named (plan_of c.args.plan.now) (state_in c.args.contents.now) (map (flags c.args.contents.now.tree) c.args.items.now))
+    (readings_named (plan_of c.args.plan.now) (state_in c.args.contents.now) (map (flags c.args.contents.now.ground.tree) c.args.items.now))

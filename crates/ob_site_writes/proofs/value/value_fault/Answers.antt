@@ -1,4 +1,7 @@
-use Rattle.std.proofs.Common.{sym, ◌∙◌}
+use Rattle.std.proofs.Common.{IsTrue, sym, ap, ◌∙◌, subst}
+use Rattle.ob_object.specs.Fits.{fits_slot}
+use Rattle.ob_object.specs.Object.{Object}
+use Rattle.ob_object.specs.declared.kind.Kind.{Kind}
 use Rattle.ob_site_written.proofs.Passed.{slot_fits}
 use Rattle.ob_site_written.proofs.Refused.{none_told}
 use Rattle.ob_site_writes.proofs.Fitting.{rule_takes}
@@ -8,5 +11,7 @@ pub overfills-requires : goal.overfills-requires
 overfills-requires c =
     let k = c.args.state.now in
     let slot = c.args.new.now.slot in
-    rule_takes k.plan k.now c.args.path.now c.args.object.now slot c.is_sound.ensures.sound.consistent c.requires
-    (slot_fits k.plan k.now c.args.object.now.head slot (sym c.in_ok-fault.ensures ∙ sym (none_told c.in_ok-fault.fault (sym c.is_some.ensures ∙ c.if-is_some.false))))
+    let o = c.args.object.now in
+    rule_takes k.plan k.now c.args.path.now c.requires.0 slot c.is_sound.ensures.sound.consistent c.requires.1.0
+    (subst (λ (kind : Kind). IsTrue (fits_slot kind slot)) (sym (ap (λ (x : Object). x.head.kind) c.requires.1.1))
+    (slot_fits k.plan k.now o.head slot (sym c.in_ok-fault.ensures ∙ sym (none_told c.in_ok-fault.fault (sym c.is_some.ensures ∙ c.if-is_some.false)))))

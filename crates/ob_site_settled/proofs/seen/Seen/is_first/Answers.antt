@@ -28,4 +28,4 @@ returns-in-Event-clause-seen c =
     rule_now c.is_new-in-Event.result c.args.change.now c.in-Event.rule c.in-Event.status c.args.self.now new c.in-Event.is c.is_new-in-Event.ensures.seen refl refl
 
 pub returns-in-Contracts-clause-seen : goal.returns-in-Contracts-clause-seen
-returns-in-Contracts-clause-seen c = library_now c.args.change.now c.in-Contracts.library c.args.self.now c.in-Contracts.is
+returns-in-Contracts-clause-seen c = library_now c.args.change.now c.in-Contracts.told c.args.self.now c.in-Contracts.is

@@ -53,7 +53,7 @@ returns-then-is_event-clause-ok c =
     let ch : Change = change.Event c.rule_of_alarm-rule.result c.status_of-status.result in
     let rest = c.acknowledge.ensures.rest in
     let adds = subst (λ (b : Bool). AddsEvent b s t) c.if-is_event.true c.in_ok-is_event.ensures.event in
-    seen_as (kept a) c.args.self.now (λ k. with_board k.now (on_ack (board k.plan k.now) c.args.number c.args.user k.time).0) t (rewound items t) c.acknowledge.new.self.tree.stamps c.acknowledge.new.self.tree.steps c.self.view_is
+    seen_as (kept a) c.args.self.now (λ k. with_board k.now (on_ack (board k.plan k.now) c.args.number c.args.user k.time).0) t (rewound items t) c.acknowledge.new.self.ground.tree.stamps c.acknowledge.new.self.ground.tree.steps c.self.view_is
     (c.in_ok-is_event.ensures.ok
     ∙ ap (λ (x : Board). with_board s (on_ack x c.args.number c.args.user a.time).0) (board_is (plan_of a.plan) s a.contents.board c.self.invariant.kept.root c.self.invariant.kept.rules refl refl)
     ∙ ack_spare s (board (plan_of a.plan) s) a.contents.board.spare c.args.number c.args.user a.time)

@@ -42,5 +42,5 @@ returns c =
     c.settle.ensures.new
     ∙ ap (λ (l : List Change). let x : State = record s { logs = settled_all l s.logs } in x) c.deref.ensures.value
     ∙ ap (λ (ls : List (Path × Log)). let x : State = record s { logs = ls } in x) (settles a.found.items s c.self.invariant.kept.rolled_before) in
-    ended_as (kept a) c.args.self.now t (rewound c.clear.new.self.items t) c.settle.new.self.tree.stamps c.settle.new.self.tree.steps c.self.view_is is
+    ended_as (kept a) c.args.self.now t (rewound c.clear.new.self.items t) c.settle.new.self.ground.tree.stamps c.settle.new.self.ground.tree.steps c.self.view_is is
     (ap (λ (l : List Change). rewound l t) c.clear.ensures.items) rest.stamps rest.steps

@@ -65,7 +65,7 @@ returns-clause-ok c =
     let with : Instant → Record = λ time. record { time = time; kind = c.args.kind; slot = c.args.slot } in
     let ch : Change = change.Records c.args.place c.in_ok-len.len in
     let rest = c.record.ensures.rest in
-    seen_as (kept a) c.args.self.now (λ k. let x : State = record k.now { logs = with_log (with_record (with (moment_instant k.time))) c.args.place k.now.logs } in x) t (rewound items t) c.record.new.self.tree.stamps c.record.new.self.tree.steps c.self.view_is
+    seen_as (kept a) c.args.self.now (λ k. let x : State = record k.now { logs = with_log (with_record (with (moment_instant k.time))) c.args.place k.now.logs } in x) t (rewound items t) c.record.new.self.ground.tree.stamps c.record.new.self.ground.tree.steps c.self.view_is
     (c.in_ok-len.ensures.ok ∙ ap (λ (i : Instant). let x : State = record s { logs = with_log (with_record (with i)) c.args.place s.logs } in x) c.abstime-time.ensures)
     (before_as s t a.found.items items ch (record_back s t (with c.abstime-time.result) c.args.place c.in_ok-len.len c.in_ok-len.ensures.len c.in_ok-len.ensures.ok)
     (c.push_reserved.ensures.items ∙ ap (λ (l : List Change). l ++ ch ∷ []) c.reserve.ensures.items))

@@ -26,5 +26,5 @@ returns c =
     let a = c.self.inside in
     let t = state_in c.renumber.new.self in
     let stays = c.renumber.ensures in
-    renumbered_as (kept a) c.args.self.now t (rewound a.found.items t) c.renumber.new.self.tree c.self.view_is
+    renumbered_as (kept a) c.args.self.now t (rewound a.found.items t) c.renumber.new.self.ground.tree c.self.view_is
     stays.same (ap (rewound a.found.items) stays.same) stays.tree

@@ -52,7 +52,7 @@ returns-clause-ok c =
     let ch : Change = change.Slot c.args.node c.set-old.result in
     let rest = c.set-old.ensures.rest in
     let within : c.args.node.number < parts s.tree = subst (λ (k : Kept). c.args.node.number < parts k.now.tree) (sym c.self.view_is) c.requires.within in
-    seen_as (kept a) c.args.self.now (λ k. let x : State = record k.now { tree = changed (set_to c.args.slot) c.args.node.number k.now.tree } in x) t (rewound items t) c.set-old.new.self.tree.stamps c.set-old.new.self.tree.steps c.self.view_is c.set-old.ensures.new
+    seen_as (kept a) c.args.self.now (λ k. let x : State = record k.now { tree = changed (set_to c.args.slot) c.args.node.number k.now.tree } in x) t (rewound items t) c.set-old.new.self.ground.tree.stamps c.set-old.new.self.ground.tree.steps c.self.view_is c.set-old.ensures.new
     (before_as s t a.found.items items ch (slot_back s t c.args.node c.set-old.result c.args.slot within c.set-old.ensures.old c.set-old.ensures.new)
     (c.push_reserved.ensures.items ∙ ap (λ (l : List Change). l ++ ch ∷ []) c.reserve.ensures.items))
     rest.stamps rest.steps

@@ -26,5 +26,5 @@ returns c =
     let a = c.self.inside in
     let t = state_in c.stamp.new.self in
     let stays = c.stamp.ensures in
-    stamped_as (kept a) c.args.self.now t (rewound a.found.items t) c.stamp.new.self.tree (map (λ node. node.number) c.args.changed.now) c.self.view_is
+    stamped_as (kept a) c.args.self.now t (rewound a.found.items t) c.stamp.new.self.ground.tree (map (λ node. node.number) c.args.changed.now) c.self.view_is
     stays.same (ap (rewound a.found.items) stays.same) stays.tree

@@ -33,5 +33,5 @@ returns c =
     let a = c.self.inside in
     let t = state_in c.take_all_back.new.self in
     let rest = c.take_all_back.ensures.rest in
-    undone_as (kept a) c.args.self.now t (rewound c.take_all_back.new.found.items t) c.take_all_back.new.self.tree.stamps c.take_all_back.new.self.tree.steps c.self.view_is c.take_all_back.ensures.new
+    undone_as (kept a) c.args.self.now t (rewound c.take_all_back.new.found.items t) c.take_all_back.new.self.ground.tree.stamps c.take_all_back.new.self.ground.tree.steps c.self.view_is c.take_all_back.ensures.new
     (ap (λ (l : List Change). rewound l t) c.take_all_back.ensures.none) rest.stamps rest.steps

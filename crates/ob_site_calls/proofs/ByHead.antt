@@ -1,0 +1,51 @@
+-- What an own node refuses by its own head, whatever is in it.
+use Rattle.std.proofs.Common.{◌≡◌, ℕ, cond, List, Option, Some, None, option_map, refl, sym, ap, ap₂, ◌∙◌}
+use Rattle.ob_values.specs.declared.verb.Verb.{Verb}
+use Rattle.ob_values.specs.declared.verb.Verb.TheVariants.{Post}
+use Rattle.ob_object.specs.declared.kind.Kind.{Kind}
+use Rattle.ob_object.specs.Object.{Object}
+use Rattle.ob_contracts.specs.Inherit.{or_else}
+use Rattle.ob_site_rules.specs.declared.request.Request.{Request}
+use Rattle.ob_site_rules.specs.Build.{Path}
+use Rattle.ob_site_rules.specs.Faults.{Fault, NotSupported, err}
+use Rattle.ob_site_rules.specs.State.{Plan, State, at}
+use Rattle.ob_site_rules.specs.Shown.{shown}
+use Rattle.ob_site_rules.specs.Locating.{locate}
+use Rattle.ob_site_rules.specs.Places.{Place, Node, computed_places}
+use Rattle.ob_site_rules.specs.Posts.{write_point}
+use Rattle.ob_site_rules.specs.Writes.{write_by}
+use Rattle.ob_site_rules.specs.Actions.{act_at, act_located, item_on}
+use Rattle.ob_requests.proofs.Requests.{act_done, item_done}
+use Rattle.ob_site_writes.specs.Targets.{IsRefused}
+use Rattle.ob_site_calls.specs.Refusing.{IsRefusedThere}
+use Rattle.ob_site_calls.proofs.Pointed.{point_written}
+
+-- no node is called
+pub never_called : (plan : Plan) (s : State) (now : ℕ) (p : Path) (body : Option Object) (kind : Kind) → option_map (λ (o : Object). o.head.kind) (shown plan s p) ≡ Some kind
+    → IsRefused plan s p (λ o. act_at plan s now p Post (Node o) body) NotSupported
+never_called plan s now p body kind is = go (shown plan s p) refl is
+  where
+    none_same : (let q : Option Kind = None in q) ≡ Some kind → ⊥
+    none_same e = cc
+
+    go : (q : Option Object) → shown plan s p ≡ q → option_map (λ (o : Object). o.head.kind) q ≡ Some kind → IsRefused plan s p (λ o. act_at plan s now p Post (Node o) body) NotSupported
+    go None e of_kind = absurd (none_same of_kind)
+    go (Some o) e of_kind = (o, (e, refl))
+
+-- where no computed path is that of what refuses, it is what the path names
+pub refused_there : (plan : Plan) (s : State) (now : ℕ) (p : Path) (verb : Verb) (body : Option Object) (fault : Fault) → IsRefused plan s p (λ o. act_at plan s now p verb (Node o) body) fault
+    → at p (computed_places plan s) ≡ None → IsRefusedThere plan s now p verb body fault
+refused_there plan s now p verb body fault is free =
+    (is.0, (ap₂ (λ (i : Option Place) (j : Option Object). or_else i (option_map Node j)) free is.1.0, is.1.1))
+
+pub item_refused : (plan : Plan) (s : State) (ns : List ℕ) (now : ℕ) (r : Request) (p : Path) (fault : Fault) → IsRefusedThere plan s now p r.verb r.body fault → item_on plan s ns now r (Some p) ≡ (s, err fault)
+item_refused plan s ns now r p fault there = item_done plan s ns now r p (Node there.0) there.1.0 refl ∙ there.1.1
+
+pub act_refused : (plan : Plan) (s : State) (ns : List ℕ) (now : ℕ) (r : Request) (p : Path) (fault : Fault) → IsRefusedThere plan s now p r.verb r.body fault
+    → act_located locate plan s ns now r (Some p) ≡ (s, err fault)
+act_refused plan s ns now r p fault there = act_done locate plan s ns now r p (Node there.0) there.1.0 refl ∙ there.1.1
+
+-- a write to a point that the point refuses
+pub point_refused : (plan : Plan) (s : State) (now : ℕ) (p : Path) (new : Object) (fault : Fault) → IsRefused plan s p (λ o. write_by plan s now p o None new) fault
+    → write_point plan s now p (Some new) ≡ (s, err fault)
+point_refused plan s now p new fault is = sym (point_written plan s now p is.0 new is.1.0) ∙ is.1.1

@@ -1,0 +1,79 @@
+-- What is shown of an own node, as far as its own head tells it.
+use Rattle.std.proofs.Common.{◌≡◌, ℕ, Option, Some, None, option_map, refl, sym, ap, ap₂, ◌∙◌}
+use Rattle.std.specs.Prelude.{option_and_then}
+use Rattle.ob_object.specs.declared.head.Head.{Head}
+use Rattle.ob_object.specs.declared.kind.Kind.{Kind}
+use Rattle.ob_object.specs.Object.{Object}
+use Rattle.ob_contracts.specs.Inherit.{result_of}
+use Rattle.ob_site_rules.specs.Build.{Path, leaf}
+use Rattle.ob_site_rules.specs.State.{Plan, State}
+use Rattle.ob_site_rules.specs.Shown.{dressed, node_path, rule_of, shown, with_status, with_status_at, with_status_by}
+use Rattle.ob_standing.specs.Contexts.{Context, comes_to, under}
+use Rattle.ob_shown_laws.specs.Alike.{row}
+use Rattle.ob_shown_laws.specs.Changed.{PathsDiffer, head_in}
+use Rattle.ob_shown_laws.specs.Own.{dressed_own}
+use Rattle.ob_tree.specs.Laid.{head_at, leaf as leaf_of, paths}
+use Rattle.ob_tree.specs.Paths.{place_of}
+use Rattle.ob_tree.specs.Shown.{handed_at, standing_at}
+use Rattle.ob_tree_bridges.proofs.Owned.{own_trees_tell, part_there}
+use Rattle.ob_site_shown.specs.Targets.{target, target_head}
+
+-- the head of an object that is lent without its children
+pub leaf_there : (q : Option Head) (o : Object) → Some o ≡ option_map leaf_of q → q ≡ Some o.head
+leaf_there None o e = absurd cc
+leaf_there (Some h) o e = ap (λ (x : Object). Some x.head) (sym (some_same e))
+  where
+    some_same : {a b : Object} → Some a ≡ Some b → a ≡ b
+    some_same f = cc
+
+-- what an object comes to has the head that its own comes to
+comes_head : (c : Context) (o : Object) → (comes_to c o).head ≡ head_in c o.head
+unfolding result_of
+comes_head c o = refl
+
+-- a status leaves what is asked of a target
+status_by : (plan : Plan) (s : State) (c : Context) (h : Head) (r : Option ℕ) → target_head (head_in c (with_status_by plan s h r)) ≡ target_head (head_in c h)
+status_by plan s c h None = refl
+status_by plan s c h (Some rule) = refl
+
+status_at : (plan : Plan) (s : State) (c : Context) (h : Head) (o : Option Path) → target_head (head_in c (with_status_at plan s h o)) ≡ target_head (head_in c h)
+status_at plan s c h None = refl
+status_at plan s c h (Some p) = status_by plan s c h (rule_of plan p)
+
+-- an own node is shown, and of what is shown the same is asked as of what its own head comes to
+pub own_shows : (plan : Plan) (s : State) (p : Path) (n : ℕ) (c : Context) (own : Object) → PathsDiffer (row (dressed plan s)) → Some n ≡ place_of p (paths s.tree)
+    → Some c ≡ standing_at s.library n s.tree → Some own ≡ option_map leaf_of (head_at n s.tree)
+    → (o : Object) × ((shown plan s p ≡ Some o) × (target o ≡ target (comes_to c own)))
+own_shows plan s p n c own differ here stands lent =
+    let part = part_there n s.tree own.head (leaf_there (head_at n s.tree) own lent) in
+    let x : Object = part.0 in (
+      comes_to c (dressed_own plan s x),
+      (
+        (own_trees_tell plan s).shows_own p n differ (sym here)
+            ∙ ap₂ (λ (i : Option Context) (j : Option Object). option_and_then (λ c. option_map (λ o. comes_to c (dressed_own plan s o)) j) i) (sym stands) part.1,
+        ap (λ (h : Head). leaf (target_head h)) (comes_head c (dressed_own plan s x))
+            ∙ ap leaf (status_at plan s c x.head (node_path x.head))
+            ∙ ap (λ (h : Head). leaf (target_head (head_in c h))) part.2
+            ∙ sym (ap (λ (h : Head). leaf (target_head h)) (comes_head c own)),
+      ),
+    )
+
+-- so what is asked of it is told
+pub own_shows_target : (plan : Plan) (s : State) (p : Path) (n : ℕ) (c : Context) (own seen made : Object) (h : Head) → PathsDiffer (row (dressed plan s)) → Some n ≡ place_of p (paths s.tree)
+    → Some c ≡ standing_at s.library n s.tree → Some own ≡ option_map leaf_of (head_at n s.tree)
+    → seen ≡ comes_to c own → h ≡ target_head seen.head → made ≡ leaf h → option_map target (shown plan s p) ≡ Some made
+own_shows_target plan s p n c own seen made h differ here stands lent sees asks makes =
+    let w = own_shows plan s p n c own differ here stands lent in
+    ap (option_map target) w.1.0
+    ∙ ap (λ (o : Object). Some o) (w.1.1 ∙ sym (makes ∙ ap leaf asks ∙ ap target sees))
+
+-- and its kind
+pub own_shows_kind : (plan : Plan) (s : State) (p : Path) (n : ℕ) (own : Object) (kind : Kind) → PathsDiffer (row (dressed plan s)) → Some n ≡ place_of p (paths s.tree)
+    → Some own ≡ option_map leaf_of (head_at n s.tree) → kind ≡ own.head.kind → option_map (λ (o : Object). o.head.kind) (shown plan s p) ≡ Some kind
+own_shows_kind plan s p n own kind differ here lent is =
+    let c : Context = under (handed_at s.library n s.tree) own.head.name in
+    let stands : Some c ≡ standing_at s.library n s.tree =
+    sym (ap (option_map (λ (h : Head). under (handed_at s.library n s.tree) h.name)) (leaf_there (head_at n s.tree) own lent)) in
+    let w = own_shows plan s p n c own differ here stands lent in
+    ap (option_map (λ (o : Object). o.head.kind)) w.1.0
+    ∙ ap (λ (k : Kind). Some k) (ap (λ (o : Object). o.head.kind) w.1.1 ∙ ap (λ (h : Head). h.kind) (comes_head c own) ∙ sym is)
