@@ -64,7 +64,7 @@ pub(crate) struct Kept<'a> {
 }
 
 // No number is given, and nothing was asked.
-fn book() -> Book {
+fn new_book() -> Book {
     Book {
         below: 1,
         fails: false,
@@ -86,7 +86,7 @@ impl<'a> Kept<'a> {
         Kept {
             sites,
             site: None,
-            book: book(),
+            book: new_book(),
             next: 0,
         }
     }
@@ -94,7 +94,7 @@ impl<'a> Kept<'a> {
     // Opens the site of a name.
     fn open(&mut self, alloc: Global, name: &str) -> &'static str {
         self.site = open(alloc, self.sites, name);
-        self.book = book();
+        self.book = new_book();
         match &self.site {
             Some(site) => {
                 self.next = site.time().ms();
