@@ -41,7 +41,8 @@ pub enum Ending {
     Memory,
 }
 
-fn frame_word(fault: FrameFault) -> &'static str
+/// The name of a fault of framing, as it is printed.
+pub fn frame_word(fault: FrameFault) -> &'static str
     ensures { result.now ≡ frame_word fault }
 {
     match fault {

@@ -16,6 +16,6 @@ mod stage;
 mod taking;
 
 pub use driver::converse;
-pub use ending::{Ending, Peer};
+pub use ending::{Ending, Peer, frame_word};
 pub use laws::completes;
 pub use plan::{Plan, Topic};

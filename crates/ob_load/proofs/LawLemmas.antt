@@ -7,6 +7,8 @@ use Rattle.ob_xml.specs.declared.doc.Doc.{Doc}
 use Rattle.ob_site_rules.specs.Sites.{SiteState}
 use Rattle.ob_opening.specs.Loading as loading
 use Rattle.ob_opening.specs.Opening.{opening}
+use Rattle.ob_opens_laws.specs.Moments.{at_moment}
+use Rattle.ob_opens_laws.proofs.Moments.{opens_at_each}
 use Rattle.ob_site_file.specs.Passes.{IsRefusal}
 use Rattle.ob_site_file.specs.declared.fault.LoadFault.{LoadFault}
 use Rattle.ob_site_file.specs.declared.fault.LoadFault.TheVariants.{Read, Document, RootHref, Href, Contract, PathTwice, Rule, Size, Memory}
@@ -39,13 +41,15 @@ module _ (one_verdict : (bytes : List ℕ) (ended : Bool) (v w : Verdict) → Ju
 
   pub opened_unrefused : (only : (bytes : List ℕ) (ns : Option (List ℕ)) (o : Object) → Spells bytes ns o → Judged bytes true (document (record { ns = ns; root = o })))
       (one_document : (bytes : List ℕ) (ns other : Option (List ℕ)) (o p : Object) → Spells bytes ns o → Spells bytes other p → (ns ≡ other) × (o ≡ p)) → OpenedIsNotRefused
-  opened_unrefused only one_document = λ bytes boot ns site why opened refuses.
-      let root = opened.0 in
-      let spells = opened.1.0 in
-      let opens = opened.1.1 in
+  opened_unrefused only one_document = λ bytes site boot why refuses.
+      let ns = site.1 in
+      let root = site.3.0 in
+      let spells = site.3.1.0 in
+      let opens = opens_at_each root site.0 site.2 site.3.1.1 boot in
       elim refuses [
         | unspelled e ↦ spelled_none bytes (record { ns = ns; root = root }) why (only bytes ns root spells) e
         | refused other_ns other other_spells e ↦
             (let same = (one_document bytes ns other_ns root other spells other_spells).1 in
-            refusal_none (opening other boot) site why (subst (λ (o : Object). opening o boot ≡ Ok site) same opens) e)
+            let here : SiteState = at_moment boot opens.0 site.2 in
+            refusal_none (opening other boot) here why (subst (λ (o : Object). opening o boot ≡ Ok here) same opens.1) e)
       ]

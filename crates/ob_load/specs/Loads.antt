@@ -25,9 +25,9 @@ IsUnspelled bytes _ = ⊥
 abbrev pub IsSite : List ℕ → ℕ → Option (List ℕ) → SiteState → Type 0
 IsSite bytes boot ns site = (root : Object) × (Spells bytes ns root × (opening root boot ≡ Ok site))
 
--- They open a site, whatever the moment is.
-abbrev pub OpensAlways : List ℕ → Type 0
-OpensAlways bytes = (boot : ℕ) → (ns : Option (List ℕ)) × (site : SiteState) × IsSite bytes boot ns site
+-- They open a site at some moment, and so at each: what is opened is the same but for the boot's moment and the time.
+abbrev pub OpensSite : List ℕ → Type 0
+OpensSite bytes = (boot : ℕ) × (ns : Option (List ℕ)) × (site : SiteState) × IsSite bytes boot ns site
 
 -- Why bytes open no site: they spell no document, and this is the first refused construct; or the root of the document that they
 -- spell is refused so by the definition of the opening.
@@ -35,8 +35,6 @@ pub data RefusesBytes (bytes : List ℕ) (boot : ℕ) (fault : LoadFault) : Type
   unspelled : IsUnspelled bytes fault → RefusesBytes bytes boot fault
   refused : (ns : Option (List ℕ)) → (root : Object) → Spells bytes ns root → Refuses root boot fault → RefusesBytes bytes boot fault
 
--- Bytes that open a site at a moment aren't refused then: only a read that failed or want of memory keeps them from it.
+-- Bytes that open a site at some moment are refused at none: only a read that failed or want of memory keeps them from it.
 abbrev pub OpenedIsNotRefused : Type 0
-OpenedIsNotRefused =
-    (bytes : List ℕ) (boot : ℕ) (ns : Option (List ℕ)) (site : SiteState) (fault : LoadFault)
-    → IsSite bytes boot ns site → RefusesBytes bytes boot fault → IsOutside fault
+OpenedIsNotRefused = (bytes : List ℕ) → OpensSite bytes → (boot : ℕ) (fault : LoadFault) → RefusesBytes bytes boot fault → IsOutside fault

@@ -5,7 +5,7 @@ use Rattle.std.proofs.lemmas.List.{take_all}
 use Rattle.ob_io.specs.Faults.{Rose}
 use Rattle.ob_io.specs.Told.{Gains, IsFront, Sends}
 use Rattle.ob_load.specs.Causes.{HasLoadCause}
-use Rattle.ob_load.specs.Loads.{IsSite, OpenedIsNotRefused, OpensAlways, RefusesBytes, IsOutside}
+use Rattle.ob_load.specs.Loads.{IsSite, OpenedIsNotRefused, OpensSite, RefusesBytes, IsOutside}
 use Rattle.ob_record.specs.Broken.{BreaksAt, SpelledIsUnbroken}
 use Rattle.ob_record.specs.Legal.{Audits}
 use Rattle.ob_record.specs.Runs.{Recorded, Records, IsRecord}
@@ -24,6 +24,8 @@ use Rattle.ob_program.specs.declared.exit.Exit.TheVariants as exits
 use Rattle.ob_program.specs.Audit.{IsRecordOf, IsNoRecord, Unread, NoRun, Opens, Refuses, Judges, Unjudged, JudgesNone, Audited, AuditComes, AuditRose, AuditRan, IsUntold, most_bytes, verdict_text, exit_of_verdict, exit_of_audit, end_of_load, end_of_run}
 use Rattle.ob_program.specs.Serving.{Prints}
 use Rattle.ob_program.specs.Stdio.{site_bytes, IsRefusedAs}
+use Rattle.ob_program.specs.Telling.{ErrorsTold, Tells}
+use Rattle.ob_program.specs.Words.{audit_words}
 
 -- ---- a record's file, as far as it is read
 
@@ -194,14 +196,13 @@ is_recorded unbroken run place whole is (inl none) = unbroken whole run place is
 is_recorded unbroken run place whole is (inr none) = omega (arith, is.0, none.0)
 
 -- a file that opens a site isn't refused
-is_opened : (law : OpenedIsNotRefused) (boot : ℕ) (fault : LoadFault) (other : List ℕ) → OpensAlways (site_bytes other) → IsRefusedAs (Some other) boot fault → ⊥
+is_opened : (law : OpenedIsNotRefused) (boot : ℕ) (fault : LoadFault) (other : List ℕ) → OpensSite (site_bytes other) → IsRefusedAs (Some other) boot fault → ⊥
 is_opened law boot fault other opens refused =
-    let opened = opens boot in
-    refused.1 (law (site_bytes other) boot opened.0 opened.1 fault opened.2 refused.0)
+    refused.1 (law (site_bytes other) opens boot fault refused.0)
 
 ends_well : (unbroken : SpelledIsUnbroken) (law : OpenedIsNotRefused) (other whole : List ℕ) (held held' : Option (List ℕ)) (end : AuditEnd) (FileRises SinkRises : Type 0)
     → AuditComes (Some other) (Some whole) held held' end → (end ≡ ends.ReadFault → FileRises) → (end ≡ ends.WriteFault → SinkRises)
-    → (run : Recorded) → IsRecordOf run whole → OpensAlways (site_bytes other) → (FileRises → ⊥) → (SinkRises → ⊥) → EndsWell (exit_of_audit end)
+    → (run : Recorded) → IsRecordOf run whole → OpensSite (site_bytes other) → (FileRises → ⊥) → (SinkRises → ⊥) → EndsWell (exit_of_audit end)
 ends_well unbroken law other whole held held' (ends.Told (Legal entries)) F K comes file sink run is opens f k = inl refl
 ends_well unbroken law other whole held held' (ends.Told (Illegal entry expected)) F K comes file sink run is opens f k = inr (inl refl)
 ends_well unbroken law other whole held held' (ends.NoRecord place) F K comes file sink run is opens f k = absurd (is_recorded unbroken run place whole is comes.0)
@@ -212,20 +213,22 @@ ends_well unbroken law other whole held held' ends.Memory F K comes file sink ru
 
 complete : (unbroken : SpelledIsUnbroken) (law : OpenedIsNotRefused) (site file held held' : Option (List ℕ)) (end : AuditEnd) (exit : Exit) (FileRises SinkRises : Type 0) → exit ≡ exit_of_audit end
     → AuditComes site file held held' end → (end ≡ ends.ReadFault → FileRises) → (end ≡ ends.WriteFault → SinkRises)
-    → IfSome file (λ whole. IfSome site (λ other. (run : Recorded) → IsRecordOf run whole → OpensAlways (site_bytes other) → ¬ FileRises → ¬ SinkRises → EndsWell exit))
+    → IfSome file (λ whole. IfSome site (λ other. (run : Recorded) → IsRecordOf run whole → OpensSite (site_bytes other) → ¬ FileRises → ¬ SinkRises → EndsWell exit))
 complete unbroken law site None held held' end exit F K is comes file sink = tt
 complete unbroken law None (Some whole) held held' end exit F K is comes file sink = tt
 complete unbroken law (Some other) (Some whole) held held' end exit F K is comes file sink = λ run recorded opens f k.
     subst EndsWell (sym is) (ends_well unbroken law other whole held held' end F K comes file sink run recorded opens f k)
 
 -- the audit came to this end, which is the exit
-pub audit_ran : (unbroken : SpelledIsUnbroken) (law : OpenedIsNotRefused) (site file : Option (List ℕ)) (files files' : ℕ) (held held' : Option (List ℕ)) (writes writes' : ℕ) (end : AuditEnd) (exit : Exit)
-    → exit ≡ exit_of_audit end → AuditComes site file held held' end → AuditRose end files files' writes writes' → AuditRan site file files files' held held' writes writes' exit
-audit_ran unbroken law site file files files' held held' writes writes' end exit is comes rose = record {
+pub audit_ran : (unbroken : SpelledIsUnbroken) (law : OpenedIsNotRefused) (site file : Option (List ℕ)) (files files' : ℕ) (held held' : Option (List ℕ)) (writes writes' : ℕ) (e e' : ErrorsTold) (end : AuditEnd) (exit : Exit)
+    → exit ≡ exit_of_audit end → AuditComes site file held held' end → AuditRose end files files' writes writes' → Tells e e' exit (audit_words end)
+    → AuditRan site file files files' held held' writes writes' e e' exit
+audit_ran unbroken law site file files files' held held' writes writes' e e' end exit is comes rose says = record {
   end = end;
   exit_is = is;
   comes = comes;
-  read = λ e. rose.read (read_failed end (sym is ∙ e));
-  write = λ e. rose.write (write_failed end (sym is ∙ e));
+  read = λ ended. rose.read (read_failed end (sym is ∙ ended));
+  write = λ ended. rose.write (write_failed end (sym is ∙ ended));
   complete = complete unbroken law site file held held' end exit (Rose files files') (Rose writes writes') is comes rose.read rose.write;
+  says = says;
 }

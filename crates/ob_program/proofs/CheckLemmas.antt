@@ -14,7 +14,9 @@ use Rattle.ob_program.specs.declared.check.CheckEnd.TheVariants.{Printed, Refuse
 use Rattle.ob_program.specs.declared.exit.Exit.{Exit}
 use Rattle.ob_program.specs.declared.exit.Exit.TheVariants as exits
 use Rattle.ob_program.specs.Reading.{IsFaulty, Reads, ReadsFile}
-use Rattle.ob_program.specs.Check.{Checks, ChecksFile, CheckRan, printed, exit_of_check}
+use Rattle.ob_program.specs.Check.{Checks, ChecksFile, HasFault, CheckRan, printed, exit_of_check}
+use Rattle.ob_program.specs.Telling.{ErrorsTold, Tells}
+use Rattle.ob_program.specs.Words.{check_words}
 use Rattle.ob_program.proofs.FileLemmas.{IsOnce, if_told}
 
 checked : (content before after : Option (List ℕ)) (result : Result Doc DocumentFault) (end : CheckEnd) → ReadsFile content result → ((bytes : List ℕ) → Reads bytes result → Checks bytes before after (exit_of_check end))
@@ -92,15 +94,17 @@ spells_check spelled (Some bytes) before after Memory exit e c = λ ok. (let f =
 
 -- the check came to this end, which is the exit
 pub check_ran : (once : IsOnce) (spelled : (bytes : List ℕ) (d : Doc) → Judged bytes true (document d) → Spells bytes d.ns d.root)
-    (content : Option (List ℕ)) (files files' : ℕ) (before after : Option (List ℕ)) (writes writes' : ℕ) (end : CheckEnd) (exit : Exit) → exit ≡ exit_of_check end
+    (content : Option (List ℕ)) (files files' : ℕ) (before after : Option (List ℕ)) (writes writes' : ℕ) (e e' : ErrorsTold) (end : CheckEnd) (exit : Exit) → exit ≡ exit_of_check end
     → ChecksFile content before after end → (end ≡ ReadFault → Rose files files') → (end ≡ WriteFault → Rose writes writes')
-    → CheckRan content files files' before after writes writes' exit
-check_ran once spelled content files files' before after writes writes' end exit is c file sink = record {
-  some_bytes = (c.bytes, subst (λ (e : Exit). Checks c.bytes before after e) (sym is) c.checks);
-  checks = if_told content (λ bytes. Checks bytes before after (exit_of_check end)) (λ bytes. Checks bytes before after exit) (λ bytes k. subst (λ (e : Exit). Checks bytes before after e) (sym is) k) c.told;
+    → HasFault content end → Tells e e' exit (check_words end)
+    → CheckRan content files files' before after writes writes' e e' exit
+check_ran once spelled content files files' before after writes writes' e e' end exit is c file sink has says = record {
+  some_bytes = (c.bytes, subst (λ (x : Exit). Checks c.bytes before after x) (sym is) c.checks);
+  checks = if_told content (λ bytes. Checks bytes before after (exit_of_check end)) (λ bytes. Checks bytes before after exit) (λ bytes k. subst (λ (x : Exit). Checks bytes before after x) (sym is) k) c.told;
   spells = spells_check spelled content before after end exit is c.told;
   refuses = refuses_check once content before after end exit (Rose files files') is file c.told;
   complete = complete_check once content before after end exit (Rose files files') (Rose writes writes') is file sink c.told;
-  read = λ e. file (read_failed end (sym is ∙ e));
-  write = λ e. sink (write_failed end (sym is ∙ e));
+  read = λ ended. file (read_failed end (sym is ∙ ended));
+  write = λ ended. sink (write_failed end (sym is ∙ ended));
+  says = record { end = end; exit_is = is; judged = has; tells = says };
 }

@@ -1,6 +1,6 @@
 -- What the service of a file's site with schedules comes to, and what that says of the exit.
 use Rattle.std.proofs.Common.{◌≡◌, ◌≢◌, ◌⊎◌, ◌≤◌, ◌∙◌, ℕ, true, List, [], length, Option, Some, None, Result, Ok, Err, refl, sym, ap, subst, arith, inl, inr}
-use Rattle.std.specs.Prelude.{IfSome, IsSome, IfOk, IfErr, Contains, min}
+use Rattle.std.specs.Prelude.{codes, IfSome, IsSome, IfOk, IfErr, Contains, min}
 use Rattle.ob_grammar.specs.Spelling.{Spells}
 use Rattle.ob_io.specs.Faults.{Rose}
 use Rattle.ob_io.specs.Links.{inlet}
@@ -8,6 +8,8 @@ use Rattle.ob_io.specs.Ticks.{last_moment}
 use Rattle.ob_load.specs.Loads.{IsSite, OpenedIsNotRefused, RefusesBytes, IsOutside}
 use Rattle.ob_object.specs.Object.{Object}
 use Rattle.ob_opening.specs.Opening.{opening}
+use Rattle.ob_opens_laws.specs.Moments.{at_moment}
+use Rattle.ob_opens_laws.proofs.Moments.{opens_at_each}
 use Rattle.ob_schedule.specs.Forms.{offences, IsFile, IsFirstOffence}
 use Rattle.ob_schedule.specs.PointRules.{PointRules}
 use Rattle.ob_schedule.specs.Weeks.{Says}
@@ -25,6 +27,8 @@ use Rattle.ob_program.specs.Reading.{Reads, ReadsFile}
 use Rattle.ob_program.specs.Form.{plain, end_of_document}
 use Rattle.ob_program.specs.Schedule.{IsScheduled, IsFormless, Offends, SaysNone, ServesSchedules, IsUnscheduled, ScheduleComesAt, ScheduleComes, OpensScheduled, ScheduledRan}
 use Rattle.ob_program.specs.Stdio.{exit_of, end_of_fault, site_bytes, Comes, IsIdle, IsRefusedAs, HasCause}
+use Rattle.ob_program.specs.Telling.{ErrorsTold, Tells}
+use Rattle.ob_program.specs.Words.{form_words}
 use Rattle.ob_program.specs.declared.document.DocumentFault.{DocumentFault}
 use Rattle.ob_program.specs.declared.document.DocumentFault.TheVariants as documents
 use Rattle.ob_program.specs.declared.exit.Exit.{Exit}
@@ -36,6 +40,7 @@ use Rattle.ob_program.specs.declared.stdio.StdioEnd.TheVariants.{Served, Refused
 use Rattle.ob_command.specs.declared.server.Output.TheVariants.{Answers}
 use Rattle.ob_program.proofs.FileLemmas.{IsOnce}
 use Rattle.ob_program.proofs.FormLemmas.{IsOnly, one_root}
+use Rattle.ob_program.proofs.PointLemmas.{rules_same}
 use Rattle.ob_program.proofs.StdioLemmas.{rose_later, unserved_cause, comes_refused, refused_serves_none, read_rose, write_rose, clock_rose, complete_told, exit_refused, few_moments, told_empty}
 
 -- ---- the file of the schedules
@@ -168,30 +173,31 @@ schedule_moments site file boot (Shape part) left taken left' taken' held held' 
 -- ---- files that are not refused
 
 module _ (only : IsOnly) (once : IsOnce) where
-  one_site : (bytes : List ℕ) (boot : ℕ) (ns ns' : Option (List ℕ)) (st st' : SiteState) → IsSite bytes boot ns st → IsSite bytes boot ns' st' → st ≡ st'
-  one_site bytes boot ns ns' st st' a b =
+  -- two moments of one site have the same points
+  one_site : (bytes : List ℕ) (boot boot' : ℕ) (ns ns' : Option (List ℕ)) (st st' : SiteState) → IsSite bytes boot ns st → IsSite bytes boot' ns' st' → rules_of st' ≡ rules_of st
+  one_site bytes boot boot' ns ns' st st' a b =
       let root = one_root only once bytes ns ns' a.0 b.0 a.1.0 b.1.0 in
-      let same = sym a.1.1 ∙ ap (λ (o : Object). opening o boot) root ∙ b.1.1 in
-      cc same
+      let there = opens_at_each a.0 boot st a.1.1 boot' in
+      let same = sym b.1.1 ∙ sym (ap (λ (o : Object). opening o boot') root) ∙ there.1 in
+      let moved : st' ≡ at_moment boot' there.0 st = cc same in
+      ap rules_of moved ∙ rules_same boot' there.0 st
 
   never_refused : (law : OpenedIsNotRefused) (whole other : List ℕ) (boot : ℕ) (end : FormEnd) (why : LoadFault) (left taken left' taken' held held' given given' : Option (List ℕ)) → plain end ≡ Refused why
       → OpensScheduled whole other → ScheduleComesAt (Some whole) (Some other) boot end left taken left' taken' held held' given given' → ⊥
   never_refused law whole other boot (Stdio (Refused fault)) why left taken left' taken' held held' given given' is opens comes =
-      let o = opens boot in comes.1.1 (law (site_bytes whole) boot o.0 o.1 fault o.2 comes.1.0)
+      comes.1.1 (law (site_bytes whole) (opens.0, opens.1, opens.2, opens.3) boot fault comes.1.0)
   never_refused law whole other boot (Stdio (Served link)) why left taken left' taken' held held' given given' is opens comes = cc is
   never_refused law whole other boot (Stdio ReadFault) why left taken left' taken' held held' given given' is opens comes = cc is
   never_refused law whole other boot (Stdio ClockFault) why left taken left' taken' held held' given given' is opens comes = cc is
   never_refused law whole other boot (Stdio Memory) why left taken left' taken' held held' given given' is opens comes = cc is
   never_refused law whole other boot (NoDocument refusal) why left taken left' taken' held held' given given' is opens comes =
-      let o = opens boot in
-      let same = once other true _ _ (only other o.3.0 o.3.1 o.3.2) comes.1.none in
+      let same = once other true _ _ (only other opens.4.0 opens.4.1 opens.4.2) comes.1.none in
       cc same
   never_refused law whole other boot (Shape part) why left taken left' taken' held held' given given' is opens comes =
-      let o = opens boot in
       let none = comes.1 in
-      let site : none.opening ≡ o.1 = one_site (site_bytes whole) boot none.ns o.0 none.opening o.1 none.opened o.2 in
-      let root : none.none.root ≡ o.3.1 = one_root only once other none.none.ns o.3.0 none.none.root o.3.1 none.none.spelled o.3.2 in
-      let no_offence : offences (rules_of none.opening) none.none.root ≡ [] = ap (λ (st : SiteState). offences (rules_of st) none.none.root) site ∙ ap (λ (r : Object). offences (rules_of o.1) r) root ∙ o.3.3 in
+      let points : rules_of none.opening ≡ rules_of opens.2 = one_site (site_bytes whole) opens.0 boot opens.1 none.ns opens.2 none.opening opens.3 none.opened in
+      let root : none.none.root ≡ opens.4.1 = one_root only once other none.none.ns opens.4.0 none.none.root opens.4.1 none.none.spelled opens.4.2 in
+      let no_offence : offences (rules_of none.opening) none.none.root ≡ [] = ap (λ (rs : PointRules). offences rs none.none.root) points ∙ ap (λ (r : Object). offences (rules_of opens.2) r) root ∙ opens.4.3 in
       let found = subst (λ (l : List ℕ). Contains l part) no_offence none.none.first.offends in
       absurd (omega (arith, found.1))
 
@@ -211,12 +217,13 @@ module _ (only : IsOnly) (once : IsOnce) where
       by_at (Some start) why is opens c = never_refused law whole other (min start last_moment) end why left taken left' taken' held held' (Some []) c.1.0 is opens c.1.1
 
   -- the service came to this end, which is the exit
-  pub schedule_ran : (law : OpenedIsNotRefused) (site file : Option (List ℕ)) (at : Option ℕ) (tick files files' : ℕ) (s s' : Streams) (t t' : ClockTold) (end : FormEnd) (exit : Exit) → exit ≡ exit_of (plain end)
+  pub schedule_ran : (law : OpenedIsNotRefused) (site file : Option (List ℕ)) (at : Option ℕ) (tick files files' : ℕ) (s s' : Streams) (t t' : ClockTold) (e e' : ErrorsTold) (end : FormEnd) (exit : Exit) → exit ≡ exit_of (plain end)
       → ScheduleComes site file at tick end s.left None s'.left None s.held s'.held t.given t'.given
       → HasCause (plain end) files files' s.reads s'.reads s.writes s'.writes t.faults t'.faults
       → ((link : LinkEnd) → plain end ≡ Served link → ServesWhole s.left s.reads s'.reads s.writes s'.writes t.faults t'.faults link)
-      → ScheduledRan site file at tick files files' s s' t t' exit
-  schedule_ran law site file at tick files files' s s' t t' end exit is comes cause whole = record {
+      → Tells e e' exit (form_words (codes "Schedule") end)
+      → ScheduledRan site file at tick files files' s s' t t' e e' exit
+  schedule_ran law site file at tick files files' s s' t t' e e' end exit is comes cause whole says = record {
     end = end;
     exit_is = is;
     comes = comes;
@@ -224,5 +231,6 @@ module _ (only : IsOnly) (once : IsOnce) where
     write = write_rose (plain end) exit files files' s.reads s'.reads s.writes s'.writes t.faults t'.faults is cause;
     clock = clock_rose (plain end) exit files files' s.reads s'.reads s.writes s'.writes t.faults t'.faults is cause;
     complete = complete_told (plain end) exit files files' s.reads s'.reads s.writes s'.writes t.faults t'.faults s.left is cause whole;
+    says = says;
     opens = schedule_opens law site file at tick end exit s.left None s'.left None s.held s'.held t.given t'.given is comes;
   }

@@ -3,7 +3,7 @@ use Rattle.std.proofs.Common.{◌≡◌, ◌≢◌, ℕ, ◌≤◌, Bool, ◌⊎
 use Rattle.std.specs.Prelude.{IfSome}
 use Rattle.ob_io.specs.Faults.{Rose}
 use Rattle.ob_io.specs.Told.{Gains}
-use Rattle.ob_load.specs.Loads.{IsSite, OpenedIsNotRefused, OpensAlways, RefusesBytes, IsOutside}
+use Rattle.ob_load.specs.Loads.{IsSite, OpenedIsNotRefused, OpensSite, RefusesBytes, IsOutside}
 use Rattle.ob_server.specs.GivenBack.{PortTold, ClockTold}
 use Rattle.ob_site_file.specs.declared.fault.LoadFault.{LoadFault}
 use Rattle.ob_site_file.specs.declared.fault.LoadFault.TheVariants as faults
@@ -17,6 +17,8 @@ use Rattle.ob_program.specs.Stdio.{site_bytes, IsRefusedAs}
 use Rattle.ob_program.specs.declared.exit.Exit.{Exit}
 use Rattle.ob_program.specs.declared.exit.Exit.TheVariants as exits
 use Rattle.ob_program.specs.Serving.{exit_of_serve, end_of_load, AtPlace, ServeRose, IsUnserved, ServeComes, ServeRan}
+use Rattle.ob_program.specs.Telling.{ErrorsTold, Tells}
+use Rattle.ob_program.specs.Words.{serve_words}
 
 told_refused : (fault : LoadFault) (file : Option (List ℕ)) (boot : ℕ) → (IsOutside fault → ⊥) → IfSome file (λ whole. IsOutside fault ⊎ RefusesBytes (site_bytes whole) boot fault) → IsRefusedAs file boot fault
 told_refused fault None boot inside h = (tt, inside)
@@ -81,7 +83,7 @@ module _ {D C : Type 0} (door_faults handed returned : D → ℕ) (visits : D �
   }
 
   -- a file that opens a site isn't refused
-  unrefused : (law : OpenedIsNotRefused) (whole : List ℕ) (held held' : Option (List ℕ)) (writes writes' : ℕ) (p p' : PortTold) (t t' : ClockTold) (fault : LoadFault) → file ≡ Some whole → OpensAlways (site_bytes whole)
+  unrefused : (law : OpenedIsNotRefused) (whole : List ℕ) (held held' : Option (List ℕ)) (writes writes' : ℕ) (p p' : PortTold) (t t' : ClockTold) (fault : LoadFault) → file ≡ Some whole → OpensSite (site_bytes whole)
       → Comes_ held held' writes writes' p p' t t' (Refused fault) → ⊥
   unrefused law whole held held' writes writes' p p' t t' fault told opens c =
       elim c.comes [
@@ -89,13 +91,12 @@ module _ {D C : Type 0} (door_faults handed returned : D → ℕ) (visits : D �
         | inr (boot, booted, gave, twins, what) ↦ elim what [
           | inl (untouched, refused) ↦
               (let why = subst (λ (f : Option (List ℕ)). IsRefusedAs f boot fault) told refused in
-              let opened = opens boot in
-              why.1 (law (site_bytes whole) boot opened.0 opened.1 fault opened.2 why.0))
+              why.1 (law (site_bytes whole) opens boot fault why.0))
           | inr served ↦ served.served.unrefused fault refl
         ]
       ]
 
-  complete_by : (law : OpenedIsNotRefused) (whole : List ℕ) (held held' : Option (List ℕ)) (writes writes' : ℕ) (p p' : PortTold) (t t' : ClockTold) (end : ServeEnd) → file ≡ Some whole → OpensAlways (site_bytes whole)
+  complete_by : (law : OpenedIsNotRefused) (whole : List ℕ) (held held' : Option (List ℕ)) (writes writes' : ℕ) (p p' : PortTold) (t t' : ClockTold) (end : ServeEnd) → file ≡ Some whole → OpensSite (site_bytes whole)
       → Comes_ held held' writes writes' p p' t t' end
       → ¬ (Rose files files') → ¬ (Rose writes writes') → ¬ (Rose p.faults p'.faults) → ¬ (Rose t.faults t'.faults)
       → (exit_of_serve end ≡ exits.Ok) ⊎ (exit_of_serve end ≡ exits.Memory)
@@ -109,17 +110,19 @@ module _ {D C : Type 0} (door_faults handed returned : D → ℕ) (visits : D �
   complete_by law whole held held' writes writes' p p' t t' Memory told opens c no_read no_write no_port no_clock = inr refl
 
   -- the service came to this end, which is the exit
-  pub serve_ran : (law : OpenedIsNotRefused) (held held' : Option (List ℕ)) (writes writes' : ℕ) (p p' : PortTold) (t t' : ClockTold) (end : ServeEnd) (exit : Exit) → exit ≡ exit_of_serve end
+  pub serve_ran : (law : OpenedIsNotRefused) (held held' : Option (List ℕ)) (writes writes' : ℕ) (p p' : PortTold) (t t' : ClockTold) (e e' : ErrorsTold) (end : ServeEnd) (exit : Exit) → exit ≡ exit_of_serve end
       → Comes_ held held' writes writes' p p' t t' end
-      → ServeRan door_faults handed returned visits closed given pace misses file host place wanted quota files files' held held' writes writes' p p' t t' exit
-  serve_ran law held held' writes writes' p p' t t' end exit is c = record {
+      → Tells e e' exit (serve_words end)
+      → ServeRan door_faults handed returned visits closed given pace misses file host place wanted quota files files' held held' writes writes' p p' t t' e e' exit
+  serve_ran law held held' writes writes' p p' t t' e e' end exit is c says = record {
     end = end;
     exit_is = is;
     comes = c;
+    says = says;
     complete = told file refl;
   }
     where
-      told : (f : Option (List ℕ)) → file ≡ f → IfSome f (λ whole. OpensAlways (site_bytes whole)
+      told : (f : Option (List ℕ)) → file ≡ f → IfSome f (λ whole. OpensSite (site_bytes whole)
           → ¬ (Rose files files') → ¬ (Rose writes writes') → ¬ (Rose p.faults p'.faults) → ¬ (Rose t.faults t'.faults)
           → (exit ≡ exits.Ok) ⊎ (exit ≡ exits.Memory))
       told None same = tt

@@ -12,9 +12,9 @@ use Rattle.ob_server.specs.Port.{HasPortCause, PortRose, ServesDoors}
 use Rattle.ob_server.specs.Working.{is_fault}
 use Rattle.ob_server.specs.declared.worker.WorkerEnd.{WorkerEnd}
 use Rattle.ob_server.specs.declared.worker.WorkerEnd.TheVariants as workers
-use Rattle.ob_seen_laws.proofs.Seen.{keeps_watches}
+use Rattle.ob_seen_laws.specs.Seen.{KeepsWatches}
 use Rattle.ob_site_file.specs.declared.fault.LoadFault.{LoadFault}
-use Rattle.ob_site_laws.specs.SiteLaws.{acts, IsSoundSite}
+use Rattle.ob_site_laws.specs.SiteLaws.{acts}
 use Rattle.ob_site_rules.specs.Sites.{SiteState}
 use Rattle.ob_program.specs.declared.serve.ServeEnd.{ServeEnd}
 use Rattle.ob_program.specs.declared.serve.ServeEnd.TheVariants.{Done, Refused, ReadFault, WriteFault, PortFault, ClockFault, Memory}
@@ -146,13 +146,13 @@ module _ {D C : Type 0} (faults handed returned : D → ℕ) (visits : D → Opt
 
   -- it listened, that was printed, and then its doors were served
   pub served_there : (held held' held'' : Option (List ℕ)) (writes writes' writes'' : ℕ) (p q r : PortTold) (t v : ClockTold) (announced reported : Option ServeEnd) (links : Option ℕ) (ends : WorkerEnd) (end : ServeEnd) (left : SiteState)
-      → IsSoundSite opening → (listened : Listened host place p q) → listened.failed ≡ false
+      → (listened : Listened host place p q) → listened.failed ≡ false
       → announced ≡ None → Prints held held' (listening_text host place) (announced ≡ None) → writes ≤ writes'
-      → ((history : List Call) × ServesDoors faults handed returned visits given pace misses acts closed ns opening wanted quota history q r t v links ends × (left ≡ after acts opening history))
+      → ((history : List Call) × ServesDoors faults handed returned visits given pace misses acts closed ns opening wanted quota history q r t v links ends × KeepsWatches opening history × (left ≡ after acts opening history))
       → HasPortCause ends q.faults r.faults t.faults v.faults
       → Prints held' held'' (served_text links) (reported ≡ None) → IfSome reported (λ f. PrintRose f writes' writes'') → writes' ≤ writes'' → end ≡ end_with ends reported
       → At_ held held'' writes writes'' p r t v end
-  served_there held held' held'' writes writes' writes'' p q r t v announced reported links ends end left sound listened heard none announces writes_later (history, doors, left_is) cause prints rose writes_last is =
+  served_there held held' held'' writes writes' writes'' p q r t v announced reported links ends end left listened heard none announces writes_later (history, doors, watches, left_is) cause prints rose writes_last is =
       let all : announces.text ≡ listening_text host place = announces.all none in
       let reports : IfSome reported (λ f. PrintRose f writes writes'') = rose_since reported rose in
       let well = λ (e : end ≡ Done). well_reported ends reported writes writes'' reports (sym is ∙ e) in
@@ -164,7 +164,7 @@ module _ {D C : Type 0} (faults handed returned : D → ℕ) (visits : D → Opt
           history = history;
           worker_end = ends;
           doors = doors;
-          watches = keeps_watches opening sound history doors.legal;
+          watches = watches;
           well = λ e. well_ends ends ((well e).1);
         });
         prints = record {

@@ -14,22 +14,25 @@ use Rattle.ob_server.specs.declared.end.LinkEnd.{LinkEnd}
 use Rattle.ob_server.specs.declared.end.LinkEnd.TheVariants as ends
 use Rattle.ob_site_rules.specs.Sites.{SiteState}
 use Rattle.ob_site_laws.specs.SiteLaws.{acts, IsSoundSite}
+use Rattle.ob_seen_laws.specs.Seen.{KeepsWatches}
 use Rattle.ob_seen_laws.proofs.Seen.{keeps_watches}
 use Rattle.ob_program.specs.declared.exit.Exit.{Exit}
 use Rattle.ob_program.specs.declared.exit.Exit.TheVariants as exits
 use Rattle.ob_program.specs.declared.stdio.StdioEnd.{StdioEnd}
 use Rattle.ob_program.specs.declared.stdio.StdioEnd.TheVariants.{Served, Refused, ReadFault, ClockFault, Memory}
-use Rattle.ob_load.specs.Loads.{IsSite, OpenedIsNotRefused, OpensAlways, RefusesBytes, IsOutside}
+use Rattle.ob_load.specs.Loads.{IsSite, OpenedIsNotRefused, OpensSite, RefusesBytes, IsOutside}
 use Rattle.ob_site_file.specs.declared.fault.LoadFault.{LoadFault}
 use Rattle.ob_site_file.specs.declared.fault.LoadFault.TheVariants as faults
 use Rattle.ob_program.specs.Stdio.{exit_of, end_of_fault, site_bytes, ServesSite, RecordsSite, HasCause, IsIdle, IsRefusedAs, Comes, StdioComes, StdioRan, IsUnserved}
+use Rattle.ob_program.specs.Telling.{ErrorsTold, Tells}
+use Rattle.ob_program.specs.Words.{stdio_words}
 use Rattle.ob_program.specs.Outside.{Streams, ClockTold}
 
 -- a sound site was served
 pub serves_site : (file : Option (List ℕ)) (boot : ℕ) (ns : Option (List ℕ)) (opening : SiteState) (left taken left' taken' held held' given given' : Option (List ℕ)) (end : LinkEnd) → IfSome file (λ whole. IsSite (site_bytes whole) boot ns opening) → IsSoundSite opening
-    → ServesAlone acts opening ns (inlet left taken) (inlet left' taken') held held' given given' end → ServesSite file boot left taken left' taken' held held' given given' end
-serves_site file boot ns opening left taken left' taken' held held' given given' end opened sound alone =
-    record { ns = ns; opening = opening; opened = opened; sound = sound; alone = alone; watches = keeps_watches opening sound alone.calls alone.legal }
+    → ((alone : ServesAlone acts opening ns (inlet left taken) (inlet left' taken') held held' given given' end) × KeepsWatches opening alone.calls) → ServesSite file boot left taken left' taken' held held' given given' end
+serves_site file boot ns opening left taken left' taken' held held' given given' end opened sound (alone, watches) =
+    record { ns = ns; opening = opening; opened = opened; sound = sound; alone = alone; watches = watches }
 
 -- the requests of a link were recorded from a sound site
 pub records_site : (file : Option (List ℕ)) (boot : ℕ) (ns : Option (List ℕ)) (opening last : SiteState) (left taken left' taken' held held' given given' : Option (List ℕ)) (end : LinkEnd) → IfSome file (λ whole. IsSite (site_bytes whole) boot ns opening)
@@ -313,13 +316,12 @@ complete_told end exit files files' reads reads' writes writes' clocks clocks' (
     subst (λ (x : Exit). (x ≡ exits.Ok) ⊎ ((x ≡ exits.Refused) ⊎ (x ≡ exits.Memory))) (sym is) (ends_well end files files' reads reads' writes writes' clocks clocks' all c whole short framed f r w k)
 
 -- a file that opens a site isn't refused
-comes_unrefused : (output : Output) (law : OpenedIsNotRefused) (whole : List ℕ) (boot : ℕ) (fault : LoadFault) (left taken left' taken' held held' given given' : Option (List ℕ)) → OpensAlways (site_bytes whole)
+comes_unrefused : (output : Output) (law : OpenedIsNotRefused) (whole : List ℕ) (boot : ℕ) (fault : LoadFault) (left taken left' taken' held held' given given' : Option (List ℕ)) → OpensSite (site_bytes whole)
     → Comes output (Some whole) boot (Refused fault) left taken left' taken' held held' given given' → ⊥
 comes_unrefused output law whole boot fault left taken left' taken' held held' given given' opens comes =
-    let opened = opens boot in
-    comes.1.1 (law (site_bytes whole) boot opened.0 opened.1 fault opened.2 comes.1.0)
+    comes.1.1 (law (site_bytes whole) opens boot fault comes.1.0)
 
-stdio_unrefused : (output : Output) (law : OpenedIsNotRefused) (whole : List ℕ) (at : Option ℕ) (tick : ℕ) (fault : LoadFault) (left taken left' taken' held held' given given' : Option (List ℕ)) → OpensAlways (site_bytes whole)
+stdio_unrefused : (output : Output) (law : OpenedIsNotRefused) (whole : List ℕ) (at : Option ℕ) (tick : ℕ) (fault : LoadFault) (left taken left' taken' held held' given given' : Option (List ℕ)) → OpensSite (site_bytes whole)
     → StdioComes output (Some whole) at tick (Refused fault) left taken left' taken' held held' given given' → ⊥
 stdio_unrefused output law whole None tick fault left taken left' taken' held held' given given' opens comes =
     elim comes [
@@ -345,7 +347,7 @@ exit_refused ClockFault e = absurd (cc)
 exit_refused Memory e = absurd (cc)
 
 opens_unrefused : (output : Output) (law : OpenedIsNotRefused) (file : Option (List ℕ)) (at : Option ℕ) (tick : ℕ) (end : StdioEnd) (exit : Exit) (left taken left' taken' held held' given given' : Option (List ℕ)) → exit ≡ exit_of end
-    → StdioComes output file at tick end left taken left' taken' held held' given given' → IfSome file (λ whole. OpensAlways (site_bytes whole) → exit ≢ exits.Refused)
+    → StdioComes output file at tick end left taken left' taken' held held' given given' → IfSome file (λ whole. OpensSite (site_bytes whole) → exit ≢ exits.Refused)
 opens_unrefused output law None at tick end exit left taken left' taken' held held' given given' is comes = tt
 opens_unrefused output law (Some whole) at tick end exit left taken left' taken' held held' given given' is comes = λ opens refused.
     let r = exit_refused end (sym is ∙ refused) in
@@ -353,12 +355,13 @@ opens_unrefused output law (Some whole) at tick end exit left taken left' taken'
     (subst (λ (e : StdioEnd). StdioComes output (Some whole) at tick e left taken left' taken' held held' given given') r.1 comes)
 
 -- the service came to this end, which is the exit
-pub stdio_ran : (output : Output) (file : Option (List ℕ)) (at : Option ℕ) (tick files files' : ℕ) (s s' : Streams) (t t' : ClockTold) (end : StdioEnd) (exit : Exit) → exit ≡ exit_of end
+pub stdio_ran : (output : Output) (file : Option (List ℕ)) (at : Option ℕ) (tick files files' : ℕ) (s s' : Streams) (t t' : ClockTold) (e e' : ErrorsTold) (end : StdioEnd) (exit : Exit) → exit ≡ exit_of end
     → OpenedIsNotRefused → StdioComes output file at tick end s.left None s'.left None s.held s'.held t.given t'.given
     → HasCause end files files' s.reads s'.reads s.writes s'.writes t.faults t'.faults
     → ((link : LinkEnd) → end ≡ Served link → ServesWhole s.left s.reads s'.reads s.writes s'.writes t.faults t'.faults link)
-    → StdioRan output file at tick files files' s s' t t' exit
-stdio_ran output file at tick files files' s s' t t' end exit is law comes cause whole = record {
+    → Tells e e' exit (stdio_words end)
+    → StdioRan output file at tick files files' s s' t t' e e' exit
+stdio_ran output file at tick files files' s s' t t' e e' end exit is law comes cause whole says = record {
   end = end;
   exit_is = is;
   comes = comes;
@@ -366,6 +369,7 @@ stdio_ran output file at tick files files' s s' t t' end exit is law comes cause
   write = write_rose end exit files files' s.reads s'.reads s.writes s'.writes t.faults t'.faults is cause;
   clock = clock_rose end exit files files' s.reads s'.reads s.writes s'.writes t.faults t'.faults is cause;
   complete = complete_told end exit files files' s.reads s'.reads s.writes s'.writes t.faults t'.faults s.left is cause whole;
+  says = says;
   opens = opens_unrefused output law file at tick end exit s.left None s'.left None s.held s'.held t.given t'.given is comes;
 }
 

@@ -1,11 +1,11 @@
 -- A storm.
-use Rattle.std.proofs.Common.{◌≡◌, ◌≢◌, ◌⊎◌, inl, inr, ℕ, refl, sym, subst, ap, ◌∙◌, List, Option, Result, Ok, Err, arith}
+use Rattle.std.proofs.Common.{◌≡◌, ◌⊎◌, inl, inr, ℕ, refl, sym, subst, ap, ◌∙◌, List, [], Option, Result, Ok, Err, arith}
 use Rattle.std.specs.Prelude.{IfOk, IfErr, IsErrOf}
 use Rattle.ob_load.specs.declared.site.Loaded.{Loaded}
 use Rattle.ob_command.specs.Storm.{Storm}
 use Rattle.ob_io.specs.Faults.{Rose}
 use Rattle.ob_io.specs.Told.{Gains, IsFront}
-use Rattle.ob_load.specs.Loads.{IsOutside, IsSite, RefusesBytes}
+use Rattle.ob_load.specs.Loads.{IsOutside, IsSite, OpenedIsNotRefused, RefusesBytes}
 use Rattle.ob_site_file.specs.declared.fault.LoadFault.{LoadFault}
 use Rattle.ob_site_file.specs.declared.fault.LoadFault.TheVariants as faults
 use Rattle.ob_site_laws.specs.SiteLaws.{acts}
@@ -15,33 +15,37 @@ use Rattle.ob_storm.specs.Site.{site_text}
 use Rattle.ob_storm.specs.Runs.{boot, totals}
 use Rattle.ob_storm.specs.Lines.{lines}
 use Rattle.ob_program.specs.Stdio.{site_bytes}
+use Rattle.ob_program.specs.declared.exit.Exit.{Exit}
+use Rattle.ob_program.specs.declared.exit.Exit.TheVariants as exits
 use Rattle.ob_program.specs.declared.storm.StormEnd.{StormEnd}
-use Rattle.ob_program.specs.declared.storm.StormEnd.TheVariants.{Done, Refused, WriteFault, Memory}
-use Rattle.ob_program.specs.Storm.{IsOpened, asked_for, IsPrinted, StormComes, end_of_refusal}
+use Rattle.ob_program.specs.declared.storm.StormEnd.TheVariants.{Done, WriteFault, Memory}
+use Rattle.ob_program.specs.Storm.{IsOpened, asked_for, exit_of_storm, IsPrinted, StormComes, StormRan}
+use Rattle.ob_program.specs.Telling.{ErrorsTold, Tells}
+use Rattle.ob_program.proofs.StormOpens.{text_opens}
 
--- a file that never fails, and memory that isn't wanting
-not_outside : (fault : LoadFault) → IsOutside fault → (fault ≡ faults.Read → Rose 0 0) → fault ≢ faults.Memory → ⊥
-not_outside faults.Read outside rose other = let no = rose refl in omega (arith, no)
-not_outside faults.Memory outside rose other = other refl
-not_outside (faults.Document x) outside rose other = outside
-not_outside faults.RootHref outside rose other = outside
-not_outside (faults.Href x) outside rose other = outside
-not_outside (faults.Contract x) outside rose other = outside
-not_outside (faults.PathTwice x) outside rose other = outside
-not_outside (faults.Rule x) outside rose other = outside
-not_outside faults.Size outside rose other = outside
+-- ---- the site
 
-pub refused_site : (text : List ℕ) (at : ℕ) (fault : LoadFault) → text ≡ site_text → at ≡ boot → IsOutside fault ⊎ RefusesBytes (site_bytes text) at fault → (fault ≡ faults.Read → Rose 0 0)
-    → fault ≢ faults.Memory → RefusesBytes (site_bytes site_text) boot fault
-refused_site text at fault text_is at_is (inl outside) rose other = absurd (not_outside fault outside rose other)
-refused_site text at fault text_is at_is (inr refuses) rose other =
-    subst (λ (t : List ℕ). RefusesBytes (site_bytes t) boot fault) text_is (subst (λ (m : ℕ). RefusesBytes (site_bytes text) m fault) at_is refuses)
+-- a file that never fails and bytes that aren't refused leave want of memory alone
+only_memory : (fault : LoadFault) → IsOutside fault → (fault ≡ faults.Read → Rose 0 0) → fault ≡ faults.Memory
+only_memory faults.Read outside rose = absurd (let no = rose refl in omega (arith, no))
+only_memory faults.Memory outside rose = refl
+only_memory (faults.Document x) outside rose = absurd outside
+only_memory faults.RootHref outside rose = absurd outside
+only_memory (faults.Href x) outside rose = absurd outside
+only_memory (faults.Contract x) outside rose = absurd outside
+only_memory (faults.PathTwice x) outside rose = absurd outside
+only_memory (faults.Rule x) outside rose = absurd outside
+only_memory faults.Size outside rose = absurd outside
 
-pub all_refused : (result : Result Loaded LoadFault) (text : List ℕ) (at : ℕ) → text ≡ site_text → at ≡ boot
-    → IfErr result (λ fault. IsOutside fault ⊎ RefusesBytes (site_bytes text) at fault) → (IsErrOf result faults.Read → Rose 0 0)
-    → IfErr result (λ fault. fault ≢ faults.Memory → RefusesBytes (site_bytes site_text) boot fault)
-all_refused (Ok site) text at text_is at_is refused rose = tt
-all_refused (Err fault) text at text_is at_is refused rose = refused_site text at fault text_is at_is refused (λ e. rose (ap (λ f. Err f) e))
+module _ (law : OpenedIsNotRefused) where
+  outside_alone : (text : List ℕ) (at : ℕ) (fault : LoadFault) → text ≡ site_text → IsOutside fault ⊎ RefusesBytes (site_bytes text) at fault → IsOutside fault
+  outside_alone text at fault is (inl outside) = outside
+  outside_alone text at fault is (inr refuses) = law (site_bytes site_text) text_opens at fault (subst (λ (t : List ℕ). RefusesBytes (site_bytes t) at fault) is refuses)
+
+  pub unrefused : (result : Result Loaded LoadFault) (text : List ℕ) (at : ℕ) → text ≡ site_text → IfErr result (λ fault. IsOutside fault ⊎ RefusesBytes (site_bytes text) at fault)
+      → (IsErrOf result faults.Read → Rose 0 0) → IfErr result (λ fault. fault ≡ faults.Memory)
+  unrefused (Ok loaded) text at is refused rose = tt
+  unrefused (Err fault) text at is refused rose = only_memory fault (outside_alone text at fault is refused) (λ e. rose (ap (λ f. Err f) e))
 
 pub all_opened : (result : Result Loaded LoadFault) (text : List ℕ) (at : ℕ) → text ≡ site_text → at ≡ boot
     → IfOk result (λ loaded. IsSite (site_bytes text) at loaded.ns loaded.site) → IfOk result (λ loaded. IsOpened loaded.site)
@@ -55,35 +59,28 @@ pub comes_printed : (end : StormEnd) (asked : Storm) (opening : SiteState) (t : 
 comes_printed Done asked opening t held held' opened is printed = (opening, opened, subst (λ (u : Totals). Gains held (lines u) held') is printed)
 comes_printed WriteFault asked opening t held held' opened is printed =
     (opening, opened, subst (λ (u : Totals). (written : List ℕ) × IsFront written (lines u) × Gains held written held') is printed)
-comes_printed (Refused fault) asked opening t held held' opened is printed = absurd printed
 comes_printed Memory asked opening t held held' opened is printed = printed
 
--- the site was refused, or there was no memory for it
-by_fault : (fault : LoadFault) (asked : Storm) (held : Option (List ℕ)) → (fault ≢ faults.Memory → RefusesBytes (site_bytes site_text) boot fault) → StormComes (end_of_refusal fault) asked held held
-by_fault faults.Memory asked held refuses = refl
-by_fault faults.Read asked held refuses = (refl, refuses (λ e. cc))
-by_fault (faults.Document x) asked held refuses = (refl, refuses (λ e. cc))
-by_fault faults.RootHref asked held refuses = (refl, refuses (λ e. cc))
-by_fault (faults.Href x) asked held refuses = (refl, refuses (λ e. cc))
-by_fault (faults.Contract x) asked held refuses = (refl, refuses (λ e. cc))
-by_fault (faults.PathTwice x) asked held refuses = (refl, refuses (λ e. cc))
-by_fault (faults.Rule x) asked held refuses = (refl, refuses (λ e. cc))
-by_fault faults.Size asked held refuses = (refl, refuses (λ e. cc))
+-- ---- the exit
 
-pub comes_refused : (end : StormEnd) (fault : LoadFault) (asked : Storm) (held : Option (List ℕ)) → end ≡ end_of_refusal fault
-    → (fault ≢ faults.Memory → RefusesBytes (site_bytes site_text) boot fault) → StormComes end asked held held
-comes_refused end fault asked held is refuses = subst (λ (e : StormEnd). StormComes e asked held held) (sym is) (by_fault fault asked held refuses)
+write_failed : (end : StormEnd) → exit_of_storm end ≡ exits.WriteFault → end ≡ WriteFault
+write_failed Done is = absurd (cc)
+write_failed WriteFault is = refl
+write_failed Memory is = absurd (cc)
 
-not_written : (fault : LoadFault) → end_of_refusal fault ≡ WriteFault → ⊥
-not_written faults.Memory e = cc
-not_written faults.Read e = cc
-not_written (faults.Document x) e = cc
-not_written faults.RootHref e = cc
-not_written (faults.Href x) e = cc
-not_written (faults.Contract x) e = cc
-not_written (faults.PathTwice x) e = cc
-not_written (faults.Rule x) e = cc
-not_written faults.Size e = cc
+ends_well : (end : StormEnd) (Rises : Type 0) → (end ≡ WriteFault → Rises) → ¬ Rises → (exit_of_storm end ≡ exits.Ok) ⊎ (exit_of_storm end ≡ exits.Memory)
+ends_well Done Rises rose none = inl refl
+ends_well WriteFault Rises rose none = absurd (none (rose refl))
+ends_well Memory Rises rose none = inr refl
 
-pub refused_unwritten : (end : StormEnd) (fault : LoadFault) (Rises : Type 0) → end ≡ end_of_refusal fault → end ≡ WriteFault → Rises
-refused_unwritten end fault Rises is e = absurd (not_written fault (sym is ∙ e))
+-- the storm came to this end, which is the exit
+pub storm_ran : (asked : Storm) (held held' : Option (List ℕ)) (writes writes' : ℕ) (e e' : ErrorsTold) (end : StormEnd) (exit : Exit) → exit ≡ exit_of_storm end → StormComes end asked held held'
+    → (end ≡ WriteFault → Rose writes writes') → Tells e e' exit [] → StormRan asked held held' writes writes' e e' exit
+storm_ran asked held held' writes writes' e e' end exit is comes rose says = record {
+  end = end;
+  exit_is = is;
+  comes = comes;
+  write = λ ended. rose (write_failed end (sym is ∙ ended));
+  says = says;
+  complete = λ none. subst (λ (x : Exit). (x ≡ exits.Ok) ⊎ (x ≡ exits.Memory)) (sym is) (ends_well end (Rose writes writes') rose none);
+}

@@ -1,6 +1,6 @@
 -- What the supervision of the servers of a config comes to, and what that says of the exit.
 use Rattle.std.proofs.Common.{◌≡◌, ◌≢◌, ◌⊎◌, ◌≤◌, ◌<◌, ◌^◌, ◌∙◌, ℕ, true, List, [], length, Option, Some, None, Result, Ok, Err, refl, sym, ap, subst, arith, inl, inr}
-use Rattle.std.specs.Prelude.{IfSome, Contains}
+use Rattle.std.specs.Prelude.{codes, IfSome, Contains}
 use Rattle.ob_grammar.specs.Spelling.{Spells}
 use Rattle.ob_io.specs.Faults.{Rose}
 use Rattle.ob_object.specs.Object.{Object}
@@ -18,6 +18,8 @@ use Rattle.ob_program.specs.Form.{plain, end_of_document}
 use Rattle.ob_program.specs.Outside.{Streams, Dialled}
 use Rattle.ob_program.specs.Reading.{ReadsFile}
 use Rattle.ob_program.specs.Stdio.{exit_of, HasCause}
+use Rattle.ob_program.specs.Telling.{ErrorsTold, Tells}
+use Rattle.ob_program.specs.Words.{form_words}
 use Rattle.ob_program.specs.Super.{end_of_config, FollowsNone, IsUntouched, SuperComes, SpellsConfig, SuperRan, reached}
 use Rattle.ob_program.specs.declared.document.DocumentFault.{DocumentFault}
 use Rattle.ob_program.specs.declared.document.DocumentFault.TheVariants as documents
@@ -124,12 +126,13 @@ module _ (only : IsOnly) (once : IsOnce) where
       never_refused whole rounds end r.0 left taken left' taken' held held' before after r.1 spells comes
 
   -- the supervision came to this end, which is the exit
-  pub super_ran : (config : Option (List ℕ)) (rounds files files' : ℕ) (s s' : Streams) (d d' : Dialled) (end : FormEnd) (exit : Exit) → exit ≡ exit_of (plain end)
+  pub super_ran : (config : Option (List ℕ)) (rounds files files' : ℕ) (s s' : Streams) (d d' : Dialled) (e e' : ErrorsTold) (end : FormEnd) (exit : Exit) → exit ≡ exit_of (plain end)
       → SuperComes config rounds end s.left None s'.left None s.held s'.held (reached d) (reached d')
       → HasCause (plain end) files files' s.reads s'.reads s.writes s'.writes 0 0
       → ((link : LinkEnd) → plain end ≡ Served link → ServesWhole s.left s.reads s'.reads s.writes s'.writes 0 0 link)
-      → SuperRan config rounds files files' s s' d d' exit
-  super_ran config rounds files files' s s' d d' end exit is comes cause whole = record {
+      → Tells e e' exit (form_words (codes "Config") end)
+      → SuperRan config rounds files files' s s' d d' e e' exit
+  super_ran config rounds files files' s s' d d' e e' end exit is comes cause whole says = record {
     end = end;
     exit_is = is;
     comes = comes;
@@ -138,5 +141,6 @@ module _ (only : IsOnly) (once : IsOnce) where
     timeless = λ ended. never_rose (clock_rose (plain end) exit files files' s.reads s'.reads s.writes s'.writes 0 0 is cause ended);
     complete = timeless s.left files files' s.reads s'.reads s.writes s'.writes exit
         (complete_told (plain end) exit files files' s.reads s'.reads s.writes s'.writes 0 0 s.left is cause whole);
+    says = says;
     opens = super_opens config rounds end exit s.left None s'.left None s.held s'.held (reached d) (reached d') is comes;
   }

@@ -1,7 +1,7 @@
 -- What the audit of a record from a site file comes to.
 use Rattle.std.specs.Prelude.{◌≡◌, ◌⊎◌, ℕ, ◌≤◌, ◌<◌, ◌^◌, List, ◌++◌, length, codes, decimal, Option, Ok, IfSome}
 use Rattle.ob_io.specs.Faults.{Rose}
-use Rattle.ob_load.specs.Loads.{IsSite, OpensAlways, RefusesBytes, IsOutside}
+use Rattle.ob_load.specs.Loads.{IsSite, OpensSite, RefusesBytes, IsOutside}
 use Rattle.ob_record.specs.Broken.{BreaksAt}
 use Rattle.ob_record.specs.Legal.{Audits}
 use Rattle.ob_record.specs.Runs.{Recorded, Records}
@@ -19,6 +19,8 @@ use Rattle.ob_program.specs.declared.exit.Exit.{Exit}
 use Rattle.ob_program.specs.declared.exit.Exit.TheVariants as exits
 use Rattle.ob_program.specs.Serving.{Prints}
 use Rattle.ob_program.specs.Stdio.{site_bytes, IsRefusedAs}
+use Rattle.ob_program.specs.Telling.{ErrorsTold, Tells}
+use Rattle.ob_program.specs.Words.{audit_words}
 
 -- a record's file has at most 1,073,741,824 bytes
 abbrev pub most_bytes : ℕ
@@ -132,13 +134,14 @@ pub record AuditRose (end : AuditEnd) (files files' writes writes' : ℕ) : Type
   pub write : end ≡ ends.WriteFault → Rose writes writes'
 
 -- The audit came to some end, which is the exit: `Illegal` exactly where the verdict is. Where the record's file is the record
--- of a run, the site's file opens a site and no count rose, a verdict is told, or memory was wanting.
-pub record AuditRan (site file : Option (List ℕ)) (files files' : ℕ) (held held' : Option (List ℕ)) (writes writes' : ℕ) (exit : Exit) : Type 0 where
+-- of a run, the site's file opens a site and no count rose, a verdict is told, or memory was wanting. The end is told on `errors`.
+pub record AuditRan (site file : Option (List ℕ)) (files files' : ℕ) (held held' : Option (List ℕ)) (writes writes' : ℕ) (e e' : ErrorsTold) (exit : Exit) : Type 0 where
   pub end : AuditEnd
   pub exit_is : exit ≡ exit_of_audit end
   pub comes : AuditComes site file held held' end
   pub read : exit ≡ exits.ReadFault → Rose files files'
   pub write : exit ≡ exits.WriteFault → Rose writes writes'
-  pub complete : IfSome file (λ whole. IfSome site (λ other. (run : Recorded) → IsRecordOf run whole → OpensAlways (site_bytes other)
+  pub complete : IfSome file (λ whole. IfSome site (λ other. (run : Recorded) → IsRecordOf run whole → OpensSite (site_bytes other)
       → ¬ (Rose files files') → ¬ (Rose writes writes')
       → (exit ≡ exits.Ok) ⊎ ((exit ≡ exits.Illegal) ⊎ (exit ≡ exits.Memory))))
+  pub says : Tells e e' exit (audit_words end)

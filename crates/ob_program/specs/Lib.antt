@@ -1,5 +1,7 @@
 pub mod Exits
 pub mod Outside
+pub mod Telling
+pub mod Words
 pub mod Causes
 pub mod Reading
 pub mod Stdio

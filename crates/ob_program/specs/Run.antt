@@ -8,6 +8,7 @@ use Rattle.ob_io.specs.Visits.{Visit}
 use Rattle.ob_program.specs.declared.exit.Exit.{Exit}
 use Rattle.ob_program.specs.declared.exit.Exit.TheVariants as exits
 use Rattle.ob_program.specs.Outside.{Streams, PortTold, Dialled, ClockTold}
+use Rattle.ob_program.specs.Telling.{ErrorsTold}
 use Rattle.ob_program.specs.Stdio.{StdioRan}
 use Rattle.ob_program.specs.Check.{CheckRan}
 use Rattle.ob_program.specs.Serving.{ServeRan}
@@ -24,27 +25,27 @@ IsUnread words exit untouched = (exit ≡ exits.Memory) × (commands.is_client w
 module _ {D C : Type 0} (faults handed returned : D → ℕ) (visits : D → Option (List Visit)) (closed : D → Bool) (given : C → Option (List ℕ))
     (pace : C → Option Pace) (misses : C → ℕ) where
   -- the command was done
-  abbrev pub Ran : (content : List ℕ → Option (List ℕ)) → (files files' : ℕ) → (s s' : Streams) → (p p' : PortTold) → (d d' : Dialled) → (t t' : ClockTold)
+  abbrev pub Ran : (content : List ℕ → Option (List ℕ)) → (files files' : ℕ) → (s s' : Streams) → (p p' : PortTold) → (d d' : Dialled) → (t t' : ClockTold) → (e e' : ErrorsTold)
       → Command → Exit → Type 0
-  Ran content files files' s s' p p' d d' t t' (commands.stdio output site at tick) exit =
-      StdioRan output (content site) at tick files files' s s' t t' exit
-  Ran content files files' s s' p p' d d' t t' (commands.schedule site file at tick) exit =
-      ScheduledRan (content site) (content file) at tick files files' s s' t t' exit
-  Ran content files files' s s' p p' d d' t t' (commands.serve site host port workers quota) exit =
+  Ran content files files' s s' p p' d d' t t' e e' (commands.stdio output site at tick) exit =
+      StdioRan output (content site) at tick files files' s s' t t' e e' exit
+  Ran content files files' s s' p p' d d' t t' e e' (commands.schedule site file at tick) exit =
+      ScheduledRan (content site) (content file) at tick files files' s s' t t' e e' exit
+  Ran content files files' s s' p p' d d' t t' e e' (commands.serve site host port workers quota) exit =
       ServeRan faults handed returned visits closed given pace misses (content site) host port workers quota files files'
-      s.held s'.held s.writes s'.writes p p' t t' exit
-  Ran content files files' s s' p p' d d' t t' (commands.auditing site file) exit =
-      AuditRan (content site) (content file) files files' s.held s'.held s.writes s'.writes exit
-  Ran content files files' s s' p p' d d' t t' (commands.check file) exit =
-      CheckRan (content file) files files' s.held s'.held s.writes s'.writes exit
-  Ran content files files' s s' p p' d d' t t' (commands.watch url hrefs polls retries) exit =
-      ClientRan (record { url = url; watched = Hrefs hrefs; polls = polls; retries = retries }) s.held s'.held s.writes s'.writes d d' exit
-  Ran content files files' s s' p p' d d' t t' (commands.console url subject polls ack user) exit =
-      ClientRan (record { url = url; watched = Alarms subject ack user; polls = polls; retries = 0 }) s.held s'.held s.writes s'.writes d d' exit
-  Ran content files files' s s' p p' d d' t t' (commands.storm asked) exit =
-      StormRan asked s.held s'.held s.writes s'.writes exit
-  Ran content files files' s s' p p' d d' t t' (commands.supervise config rounds) exit =
-      SuperRan (content config) rounds files files' s s' d d' exit
+      s.held s'.held s.writes s'.writes p p' t t' e e' exit
+  Ran content files files' s s' p p' d d' t t' e e' (commands.auditing site file) exit =
+      AuditRan (content site) (content file) files files' s.held s'.held s.writes s'.writes e e' exit
+  Ran content files files' s s' p p' d d' t t' e e' (commands.check file) exit =
+      CheckRan (content file) files files' s.held s'.held s.writes s'.writes e e' exit
+  Ran content files files' s s' p p' d d' t t' e e' (commands.watch url hrefs polls retries) exit =
+      ClientRan (record { url = url; watched = Hrefs hrefs; polls = polls; retries = retries }) s.held s'.held s.writes s'.writes d d' e e' exit
+  Ran content files files' s s' p p' d d' t t' e e' (commands.console url subject polls ack user) exit =
+      ClientRan (record { url = url; watched = Alarms subject ack user; polls = polls; retries = 0 }) s.held s'.held s.writes s'.writes d d' e e' exit
+  Ran content files files' s s' p p' d d' t t' e e' (commands.storm asked) exit =
+      StormRan asked s.held s'.held s.writes s'.writes e e' exit
+  Ran content files files' s s' p p' d d' t t' e e' (commands.supervise config rounds) exit =
+      SuperRan (content config) rounds files files' s s' d d' e e' exit
 
 -- the parts of the outside that a command has nothing to do with are as they were
 abbrev pub LeavesAlone : Option Command → (files source sink port dialer clock : Type 0) → Type 0

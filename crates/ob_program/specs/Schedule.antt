@@ -1,5 +1,5 @@
 -- What the service of a file's site with the weekly schedules of another file comes to.
-use Rattle.std.specs.Prelude.{◌≡◌, ◌≢◌, ◌⊎◌, ◌<◌, ◌^◌, ⊤, ℕ, List, [], ◌∷◌, Option, Some, None, IfSome, IsSome, min, length}
+use Rattle.std.specs.Prelude.{codes, ◌≡◌, ◌≢◌, ◌⊎◌, ◌<◌, ◌^◌, ⊤, ℕ, List, [], ◌∷◌, Option, Some, None, IfSome, IsSome, min, length}
 use Rattle.ob_grammar.specs.Spelling.{Spells}
 use Rattle.ob_io.specs.Faults.{Rose}
 use Rattle.ob_io.specs.Links.{inlet}
@@ -21,6 +21,8 @@ use Rattle.ob_weekly.specs.declared.schedule.Schedules.{Schedules}
 use Rattle.ob_program.specs.Form.{plain, IsUnspelled}
 use Rattle.ob_program.specs.Outside.{Streams, ClockTold}
 use Rattle.ob_program.specs.Stdio.{exit_of, site_bytes, IsIdle, IsRefusedAs}
+use Rattle.ob_program.specs.Telling.{ErrorsTold, Tells}
+use Rattle.ob_program.specs.Words.{form_words}
 use Rattle.ob_program.specs.declared.exit.Exit.{Exit}
 use Rattle.ob_program.specs.declared.exit.Exit.TheVariants as exits
 use Rattle.ob_program.specs.declared.form.FormEnd.{FormEnd}
@@ -103,16 +105,18 @@ ScheduleComes site file (Some at) tick end left taken left' taken' held held' gi
 
 -- ---- the exit
 
--- Whatever the moment of the boot is, the bytes open a site, and the other ones are a document of the form for its points.
+-- At some moment the bytes open a site, and the other ones are a document of the form for its points. So it is at each: what is
+-- opened is the same but for the boot's moment and the time, and so are its points.
 abbrev pub OpensScheduled : (site file : List ℕ) → Type 0
 OpensScheduled site file =
-    (boot : ℕ) → (ns : Option (List ℕ)) × (opening : SiteState) × IsSite (site_bytes site) boot ns opening
+    (boot : ℕ) × (ns : Option (List ℕ)) × (opening : SiteState) × IsSite (site_bytes site) boot ns opening
     × ((file_ns : Option (List ℕ)) × (root : Object) × Spells file file_ns root × IsFile (rules_of opening) root)
 
 -- The service of a file's site with the schedules of another over a source and a sink came to some end, which is the exit; a fault has
 -- its cause in a count. Where the source's bytes are whole requests, fewer than 2^40, and nothing fails, they are asked to their end, or
--- a file is refused. Files of which the one opens a site and the other has the form for its points are not refused.
-pub record ScheduledRan (site file : Option (List ℕ)) (at : Option ℕ) (tick files files' : ℕ) (s s' : Streams) (t t' : ClockTold) (exit : Exit) : Type 0 where
+-- a file is refused. Files of which the one opens a site and the other has the form for its points are not refused. The
+-- end is told on `errors`.
+pub record ScheduledRan (site file : Option (List ℕ)) (at : Option ℕ) (tick files files' : ℕ) (s s' : Streams) (t t' : ClockTold) (e e' : ErrorsTold) (exit : Exit) : Type 0 where
   pub end : FormEnd
   pub exit_is : exit ≡ exit_of (plain end)
   pub comes : ScheduleComes site file at tick end s.left None s'.left None s.held s'.held t.given t'.given
@@ -122,4 +126,5 @@ pub record ScheduledRan (site file : Option (List ℕ)) (at : Option ℕ) (tick 
   pub complete : IfSome s.left (λ all. length all < 2 ^ 40 → IsWellFramed all
       → ¬ (Rose files files') → ¬ (Rose s.reads s'.reads) → ¬ (Rose s.writes s'.writes) → ¬ (Rose t.faults t'.faults)
       → (exit ≡ exits.Ok) ⊎ ((exit ≡ exits.Refused) ⊎ (exit ≡ exits.Memory)))
+  pub says : Tells e e' exit (form_words (codes "Schedule") end)
   pub opens : IfSome site (λ whole. IfSome file (λ other. OpensScheduled whole other → exit ≢ exits.Refused))

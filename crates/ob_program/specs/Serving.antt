@@ -4,7 +4,7 @@ use Rattle.ob_io.specs.Faults.{Rose}
 use Rattle.ob_io.specs.Told.{Gains, IsFront}
 use Rattle.ob_io.specs.Ticks.{Pace}
 use Rattle.ob_io.specs.Visits.{Visit}
-use Rattle.ob_load.specs.Loads.{IsSite, OpensAlways}
+use Rattle.ob_load.specs.Loads.{IsSite, OpensSite}
 use Rattle.ob_server.specs.Exchange.{Call}
 use Rattle.ob_server.specs.GivenBack.{PortTold, ClockTold}
 use Rattle.ob_server.specs.Port.{ServesDoors}
@@ -21,6 +21,8 @@ use Rattle.ob_program.specs.declared.exit.Exit.TheVariants as exits
 use Rattle.ob_program.specs.declared.serve.ServeEnd.{ServeEnd}
 use Rattle.ob_program.specs.declared.serve.ServeEnd.TheVariants.{Done, Refused, ReadFault, WriteFault, PortFault, ClockFault, Memory}
 use Rattle.ob_program.specs.Stdio.{site_bytes, IsRefusedAs}
+use Rattle.ob_program.specs.Telling.{ErrorsTold, Tells}
+use Rattle.ob_program.specs.Words.{serve_words}
 
 abbrev pub exit_of_serve : ServeEnd → Exit
 exit_of_serve Done = exits.Ok
@@ -167,12 +169,13 @@ module _ {D C : Type 0} (faults handed returned : D → ℕ) (visits : D → Opt
     pub rose : ServeRose end files files' writes writes' p p' t t'
 
   -- The service came to some end, which is the exit. Where the file opens a site and no count rose, that is a good one, or
-  -- memory was wanting, whatever the links did.
+  -- memory was wanting, whatever the links did. The end is told on `errors`.
   pub record ServeRan (file : Option (List ℕ)) (host : List ℕ) (place wanted quota : ℕ) (files files' : ℕ)
-      (held held' : Option (List ℕ)) (writes writes' : ℕ) (p p' : PortTold) (t t' : ClockTold) (exit : Exit) : Type 0 where
+      (held held' : Option (List ℕ)) (writes writes' : ℕ) (p p' : PortTold) (t t' : ClockTold) (e e' : ErrorsTold) (exit : Exit) : Type 0 where
     pub end : ServeEnd
     pub exit_is : exit ≡ exit_of_serve end
     pub comes : ServeComes file host place wanted quota files files' held held' writes writes' p p' t t' end
-    pub complete : IfSome file (λ whole. OpensAlways (site_bytes whole)
+    pub says : Tells e e' exit (serve_words end)
+    pub complete : IfSome file (λ whole. OpensSite (site_bytes whole)
         → ¬ (Rose files files') → ¬ (Rose writes writes') → ¬ (Rose p.faults p'.faults) → ¬ (Rose t.faults t'.faults)
         → (exit ≡ exits.Ok) ⊎ (exit ≡ exits.Memory))

@@ -1,5 +1,5 @@
 -- What the supervision of the servers of a config comes to.
-use Rattle.std.specs.Prelude.{◌≡◌, ◌≢◌, ◌⊎◌, ◌<◌, ◌^◌, ⊤, ℕ, List, Option, Some, None, IfSome, length}
+use Rattle.std.specs.Prelude.{codes, ◌≡◌, ◌≢◌, ◌⊎◌, ◌<◌, ◌^◌, ⊤, ℕ, List, Option, Some, None, IfSome, length}
 use Rattle.ob_grammar.specs.Spelling.{Spells}
 use Rattle.ob_io.specs.Faults.{Rose}
 use Rattle.ob_io.specs.Links.{inlet}
@@ -13,6 +13,8 @@ use Rattle.ob_supervising.specs.Supervising.{SupervisesLink}
 use Rattle.ob_program.specs.Form.{plain, IsUnspelled}
 use Rattle.ob_program.specs.Outside.{Streams, Dialled}
 use Rattle.ob_program.specs.Stdio.{exit_of}
+use Rattle.ob_program.specs.Telling.{ErrorsTold, Tells}
+use Rattle.ob_program.specs.Words.{form_words}
 use Rattle.ob_program.specs.declared.exit.Exit.{Exit}
 use Rattle.ob_program.specs.declared.exit.Exit.TheVariants as exits
 use Rattle.ob_program.specs.declared.form.FormEnd.{FormEnd}
@@ -79,8 +81,9 @@ SpellsConfig bytes = (ns : Option (List ℕ)) × (root : Object) × Spells bytes
 
 -- The supervision over a source and a sink came to some end, which is the exit; a fault has its cause in a count, and none of a link to
 -- an upstream or of a clock is among them. Where the source's bytes are whole requests, fewer than 2^40, and files, source and sink
--- count no fault, they are answered to their end, whatever the links do, or the config is refused. One of the form is not refused.
-pub record SuperRan (config : Option (List ℕ)) (rounds files files' : ℕ) (s s' : Streams) (d d' : Dialled) (exit : Exit) : Type 0 where
+-- count no fault, they are answered to their end, whatever the links do, or the config is refused. One of the form is not refused. The end
+-- is told on `errors`.
+pub record SuperRan (config : Option (List ℕ)) (rounds files files' : ℕ) (s s' : Streams) (d d' : Dialled) (e e' : ErrorsTold) (exit : Exit) : Type 0 where
   pub end : FormEnd
   pub exit_is : exit ≡ exit_of (plain end)
   pub comes : SuperComes config rounds end s.left None s'.left None s.held s'.held (reached d) (reached d')
@@ -90,4 +93,5 @@ pub record SuperRan (config : Option (List ℕ)) (rounds files files' : ℕ) (s 
   pub complete : IfSome s.left (λ all. length all < 2 ^ 40 → IsWellFramed all
       → ¬ (Rose files files') → ¬ (Rose s.reads s'.reads) → ¬ (Rose s.writes s'.writes)
       → (exit ≡ exits.Ok) ⊎ ((exit ≡ exits.Refused) ⊎ (exit ≡ exits.Memory)))
+  pub says : Tells e e' exit (form_words (codes "Config") end)
   pub opens : IfSome config (λ whole. SpellsConfig whole → exit ≢ exits.Refused)

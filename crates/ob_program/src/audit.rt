@@ -3,9 +3,11 @@ ghost use Rattle.std.specs.Prelude.{◌≡◌, ◌≤◌, ℕ, List, IfOk, IfErr
 ghost use Rattle.ob_io.specs.Faults.{Rose};
 ghost use Rattle.ob_record.specs.Runs.{Recorded, Records, IsRecord};
 ghost use Rattle.ob_program.specs.Audit.{IsRecordOf, Unread, NoRun, Judges, Unjudged, JudgesNone, IsUntold, AuditComes, AuditRose, AuditRan, verdict_text};
+ghost use Rattle.ob_program.specs.Telling.{errors_told};
 
-use crate::exit::{Exit, tell};
-use crate::lines::site_line;
+use crate::exit::Exit;
+use crate::telling::tell;
+use crate::words::{load_words, word_and_number};
 use ob_command::Audit;
 use ob_io::{FileFault, Files, Sink, write_all};
 use ob_load::{LoadFault, load, opened_is_not_refused};
@@ -41,6 +43,7 @@ pub(crate) enum AuditEnd {
 
 impl AuditEnd {
     ghost use Rattle.ob_program.specs.Audit.{exit_of_audit, end_of_load, end_of_run};
+    ghost use Rattle.ob_program.specs.Words.{audit_words};
 
     /// The end that a refusal of a site file leads to.
     fn of_load(fault: LoadFault) -> AuditEnd
@@ -85,23 +88,18 @@ impl AuditEnd {
         }
     }
 
-    /// What is printed of it on `errors`; nothing where a verdict was written.
-    fn line(&self, alloc: Global) -> Result<Vec<u8>, AllocError> {
+    /// The words that tell it on `errors`, where its line has some.
+    fn words(&self, alloc: Global) -> Result<Vec<u8>, AllocError>
+        ensures { IfOk result (λ words. words.items ≡ audit_words self.now) }
+    {
         match self {
-            AuditEnd::Told(_) => Ok(Vec::new(alloc)),
-            AuditEnd::NoRecord { place } => record_line(alloc, *place),
-            AuditEnd::NoSite(fault) => site_line(alloc, fault),
-            AuditEnd::ReadFault => b"obix: read fault\n".to_vec(alloc),
-            AuditEnd::WriteFault => b"obix: write fault\n".to_vec(alloc),
-            AuditEnd::Memory => b"obix: out of memory\n".to_vec(alloc),
+            AuditEnd::NoRecord { place } => word_and_number(alloc, "Record", *place),
+            AuditEnd::NoSite(fault) => load_words(alloc, fault),
+            AuditEnd::Told(_) | AuditEnd::ReadFault | AuditEnd::WriteFault | AuditEnd::Memory => Ok(
+                Vec::new(alloc),
+            ),
         }
     }
-}
-
-/// What is printed of a file that is no record.
-fn record_line(alloc: Global, place: u64) -> Result<Vec<u8>, AllocError> {
-    let text = format!(in alloc; "obix: refused: Record {place}\n")?;
-    text.as_bytes().to_vec(alloc)
 }
 
 /// The run of the record that bytes are.
@@ -208,11 +206,13 @@ pub(crate) fn run_audit<F: Files, K: Sink, E: Sink>(
     errors: &mut E,
 ) -> Exit
     ensures ran { AuditRan (F.content files.old words.entry.site.now) (F.content files.old words.entry.file.now) (F.faults files.old) (F.faults files.new)
-        (K.held sink.old) (K.held sink.new) (K.faults sink.old) (K.faults sink.new) result }
+        (K.held sink.old) (K.held sink.new) (K.faults sink.old) (K.faults sink.new)
+        (errors_told (E.held errors.old) (E.faults errors.old)) (errors_told (E.held errors.new) (E.faults errors.new)) result }
 {
     opened_is_not_refused();
     spelled_is_unbroken();
     let end = audit_file(alloc, words, files, sink);
-    tell(errors, end.line(alloc));
-    end.exit()
+    let exit = end.exit();
+    tell(alloc, errors, exit, end.words(alloc));
+    exit
 }

@@ -2,11 +2,13 @@
 ghost use Rattle.std.specs.Prelude.{◌≡◌, ◌≢◌, ◌≤◌, ◌++◌, IfOk};
 ghost use Rattle.ob_io.specs.Faults.{Rose};
 ghost use Rattle.ob_xml.specs.declared.doc.Doc.{Doc};
-ghost use Rattle.ob_program.specs.Check.{printed, ChecksFile, CheckRan};
+ghost use Rattle.ob_program.specs.Check.{printed, ChecksFile, HasFault, CheckRan};
+ghost use Rattle.ob_program.specs.Telling.{errors_told};
 
 use crate::document::{DocumentFault, read_file};
-use crate::exit::{Exit, tell};
-use crate::lines::refusal_line;
+use crate::exit::Exit;
+use crate::telling::tell;
+use crate::words::refusal_words;
 use ob_io::{Files, Sink, write_all};
 use ob_xml::{Doc, Refused, encode};
 use std::alloc::{AllocError, Global};
@@ -25,6 +27,7 @@ pub(crate) enum CheckEnd {
 
 impl CheckEnd {
     ghost use Rattle.ob_program.specs.Check.{exit_of_check};
+    ghost use Rattle.ob_program.specs.Words.{check_words};
 
     /// The exit that it leads to.
     fn exit(&self) -> Exit
@@ -39,14 +42,15 @@ impl CheckEnd {
         }
     }
 
-    /// What is printed of it; nothing where all is well.
-    fn line(&self, alloc: Global) -> Result<Vec<u8>, AllocError> {
+    /// The words that tell it on `errors`, where its line has some.
+    fn words(&self, alloc: Global) -> Result<Vec<u8>, AllocError>
+        ensures { IfOk result (λ words. words.items ≡ check_words self.now) }
+    {
         match self {
-            CheckEnd::Printed => Ok(Vec::new(alloc)),
-            CheckEnd::Refused(refused) => refusal_line(alloc, refused),
-            CheckEnd::ReadFault => b"obix: read fault\n".to_vec(alloc),
-            CheckEnd::WriteFault => b"obix: write fault\n".to_vec(alloc),
-            CheckEnd::Memory => b"obix: out of memory\n".to_vec(alloc),
+            CheckEnd::Refused(refused) => refusal_words(alloc, *refused),
+            CheckEnd::Printed | CheckEnd::ReadFault | CheckEnd::WriteFault | CheckEnd::Memory => Ok(
+                Vec::new(alloc),
+            ),
         }
     }
 }
@@ -68,6 +72,7 @@ fn print(alloc: Global, doc: Doc) -> Result<Vec<u8>, AllocError>
 /// Writes the canonical text of a file's document and a line feed.
 fn check<F: Files, K: Sink>(alloc: Global, name: &str, files: &mut F, sink: &mut K) -> CheckEnd
     ensures checks { ChecksFile (F.content files.old name.now) (K.held sink.old) (K.held sink.new) result }
+    ensures judged { HasFault (F.content files.old name.now) result }
     ensures read_fault { result ≡ CheckEnd.ReadFault → Rose (F.faults files.old) (F.faults files.new) }
     ensures write_fault { result ≡ CheckEnd.WriteFault → Rose (K.faults sink.old) (K.faults sink.new) }
     ensures unwritten { result ≢ CheckEnd.Printed → result ≢ CheckEnd.WriteFault → sink.new ≡ sink.old }
@@ -96,12 +101,14 @@ pub(crate) fn run_check<F: Files, K: Sink, E: Sink>(
     errors: &mut E,
 ) -> Exit
     ensures ran { CheckRan (F.content files.old name.now) (F.faults files.old) (F.faults files.new)
-        (K.held sink.old) (K.held sink.new) (K.faults sink.old) (K.faults sink.new) result }
+        (K.held sink.old) (K.held sink.new) (K.faults sink.old) (K.faults sink.new)
+        (errors_told (E.held errors.old) (E.faults errors.old)) (errors_told (E.held errors.new) (E.faults errors.new)) result }
     ensures refused { result ≡ Exit.Refused → sink.new ≡ sink.old }
 {
     ob_xml::one_verdict();
     ob_documents::spelled();
     let end = check(alloc, name, files, sink);
-    tell(errors, end.line(alloc));
-    end.exit()
+    let exit = end.exit();
+    tell(alloc, errors, exit, end.words(alloc));
+    exit
 }

@@ -1,12 +1,15 @@
 //! `watch` and `console`: dialogues with a server.
-ghost use Rattle.std.specs.Prelude.{◌≡◌};
+ghost use Rattle.std.specs.Prelude.{◌≡◌, IfOk};
 ghost use Rattle.ob_dialogue.specs.Told.{program};
 ghost use Rattle.ob_program.specs.Client.{watched, alarms, exit_of_dialogue, ClientRan};
 ghost use Rattle.ob_program.specs.Outside.{dialled};
+ghost use Rattle.ob_program.specs.Telling.{errors_told};
+ghost use Rattle.ob_program.specs.Words.{dialogue_words};
 
-use crate::exit::{Exit, tell};
+use crate::exit::Exit;
+use crate::telling::tell;
 use ob_command::{Console, Watch};
-use ob_dialogue::{Ending, Peer, Plan, Topic, converse};
+use ob_dialogue::{Ending, Plan, Topic, converse};
 use ob_io::{Dialer, Sink};
 use std::alloc::{AllocError, Global};
 
@@ -60,23 +63,13 @@ fn exit_of(ending: &Ending) -> Exit
     }
 }
 
-/// What is printed of a peer's fault.
-fn peer_line(alloc: Global, peer: &Peer) -> Result<Vec<u8>, AllocError> {
-    let words = peer.words(alloc)?;
-    let mut line = b"obix: peer: ".to_vec(alloc)?;
-    line.extend_from_slice(&words)?;
-    line.extend_from_slice(b"\n")?;
-    Ok(line)
-}
-
-/// What is printed of the end of a dialogue; nothing where all is well.
-fn line_of(alloc: Global, ending: &Ending) -> Result<Vec<u8>, AllocError> {
+/// The words that tell the end of a dialogue on `errors`, where its line has some.
+fn words_of(alloc: Global, ending: &Ending) -> Result<Vec<u8>, AllocError>
+    ensures { IfOk result (λ words. words.items ≡ dialogue_words ending.now) }
+{
     match ending {
-        Ending::Done => Ok(Vec::new(alloc)),
-        Ending::Link => b"obix: link fault\n".to_vec(alloc),
-        Ending::Peer(peer) => peer_line(alloc, peer),
-        Ending::Write => b"obix: write fault\n".to_vec(alloc),
-        Ending::Memory => b"obix: out of memory\n".to_vec(alloc),
+        Ending::Peer(peer) => peer.words(alloc),
+        Ending::Done | Ending::Link | Ending::Write | Ending::Memory => Ok(Vec::new(alloc)),
     }
 }
 
@@ -90,9 +83,11 @@ pub(crate) fn run_client<W: Dialer, K: Sink, E: Sink>(
 ) -> Exit
     ensures { ClientRan (program plan) (K.held sink.old) (K.held sink.new) (K.faults sink.old) (K.faults sink.new)
         (dialled (W.dials dialer.old) (W.visits dialer.old) (W.rose dialer.old) (W.faults dialer.old))
-        (dialled (W.dials dialer.new) (W.visits dialer.new) (W.rose dialer.new) (W.faults dialer.new)) result }
+        (dialled (W.dials dialer.new) (W.visits dialer.new) (W.rose dialer.new) (W.faults dialer.new))
+        (errors_told (E.held errors.old) (E.faults errors.old)) (errors_told (E.held errors.new) (E.faults errors.new)) result }
 {
     let ending = converse(alloc, &plan, dialer, sink);
-    tell(errors, line_of(alloc, &ending));
-    exit_of(&ending)
+    let exit = exit_of(&ending);
+    tell(alloc, errors, exit, words_of(alloc, &ending));
+    exit
 }

@@ -1,9 +1,6 @@
 //! How a run ends.
 ghost use Rattle.std.specs.Prelude.{◌≡◌};
 
-use ob_io::{Sink, write_all};
-use std::alloc::AllocError;
-
 /// How a run ends.
 #[derive(Clone, Copy, PartialEq, Eq)]
 pub enum Exit {
@@ -57,12 +54,4 @@ impl Exit {
             Exit::Illegal => 13,
         }
     }
-}
-
-/// Tells a line, where it was to be had; faults change nothing.
-pub(crate) fn tell<E: Sink>(errors: &mut E, line: Result<Vec<u8>, AllocError>) {
-    let _ = match line {
-        Ok(line) => write_all(errors, &line),
-        Err(AllocError) => write_all(errors, b"obix: out of memory\n"),
-    };
 }

@@ -1,10 +1,10 @@
 //! The ends of a command that reads a file of a form of its own.
-ghost use Rattle.std.specs.Prelude.{◌≡◌};
+ghost use Rattle.std.specs.Prelude.{◌≡◌, IfOk};
 
 use crate::document::DocumentFault;
 use crate::exit::Exit;
-use crate::lines::{part_line, refusal_line};
 use crate::stdio::StdioEnd;
+use crate::words::{refusal_words, word_and_number};
 use ob_xml::Refused;
 use std::alloc::{AllocError, Global};
 
@@ -22,6 +22,7 @@ pub(crate) enum FormEnd {
 impl FormEnd {
     ghost use Rattle.ob_program.specs.Form.{plain, end_of_document};
     ghost use Rattle.ob_program.specs.Stdio.{exit_of};
+    ghost use Rattle.ob_program.specs.Words.{form_words};
 
     /// The end where the file gives no document.
     pub(crate) fn of_document(fault: DocumentFault) -> FormEnd
@@ -45,12 +46,14 @@ impl FormEnd {
         }
     }
 
-    /// What is printed of it, with this name for the form; nothing where all is well.
-    pub(crate) fn line(&self, alloc: Global, form: &str) -> Result<Vec<u8>, AllocError> {
+    /// The words that tell it on `errors`, where its line has some, with this name for the form.
+    pub(crate) fn words(&self, alloc: Global, form: &str) -> Result<Vec<u8>, AllocError>
+        ensures { IfOk result (λ words. words.items ≡ form_words form.now self.now) }
+    {
         match self {
-            FormEnd::Stdio(end) => end.line(alloc),
-            FormEnd::NoDocument(refused) => refusal_line(alloc, refused),
-            FormEnd::Shape { part } => part_line(alloc, form, *part),
+            FormEnd::Stdio(end) => end.words(alloc),
+            FormEnd::NoDocument(refused) => refusal_words(alloc, *refused),
+            FormEnd::Shape { part } => word_and_number(alloc, form, *part),
         }
     }
 }

@@ -12,7 +12,6 @@ mod client;
 mod document;
 mod exit;
 mod form;
-mod lines;
 mod points;
 mod program;
 mod schedule;
@@ -20,6 +19,8 @@ mod serve;
 mod stdio;
 mod storm;
 mod supervise;
+mod telling;
+mod words;
 
 pub use exit::Exit;
 pub use program::run;

@@ -1,21 +1,23 @@
 //! The top call: the words of a command line, done over the outside that is handed in.
-ghost use Rattle.std.specs.Prelude.{◌≡◌, ◌↔◌, ◌⊎◌, map, string_bytes, None, IfSome};
+ghost use Rattle.std.specs.Prelude.{◌≡◌, ◌↔◌, ◌⊎◌, ℕ, List, map, string_bytes, None, IfSome};
 ghost use Rattle.ob_command.specs.Command.{command};
 ghost use Rattle.ob_program.specs.Causes.{CauseOf};
 ghost use Rattle.ob_program.specs.Outside.{streams, dialled, port_told, clock_told};
 ghost use Rattle.ob_program.specs.Run.{IsUnread, Ran, LeavesAlone};
+ghost use Rattle.ob_program.specs.Telling.{errors_told, Tells};
 
 use crate::audit::run_audit;
 use crate::check::run_check;
 use crate::client::{console_plan, run_client, watch_plan};
-use crate::exit::{Exit, tell};
+use crate::exit::Exit;
 use crate::schedule::run_schedule;
 use crate::serve::run_serve;
 use crate::stdio::run_stdio;
 use crate::storm::run_storm;
 use crate::supervise::run_super;
+use crate::telling::tell;
 use ob_command::{Command, read_command};
-use ob_io::{Clock, Dialer, Door, Files, Pair, Port, Sink, Source, write_all};
+use ob_io::{Clock, Dialer, Door, Files, Pair, Port, Sink, Source};
 use std::alloc::Global;
 use std::sync::Wait;
 use std::thread::Threads;
@@ -73,6 +75,8 @@ where
         (dialled (W.dials dialer.new) (W.visits dialer.new) (W.rose dialer.new) (W.faults dialer.new))
         (clock_told (C.faults clock.old) (C.given clock.old) (C.pace clock.old) (C.twins clock.old))
         (clock_told (C.faults clock.new) (C.given clock.new) (C.pace clock.new) (C.twins clock.new)) }
+    // Whatever the command is, this is told of its end, with the words that its record has.
+    ensures told { (words : List ℕ) × Tells (errors_told (E.held errors.old) (E.faults errors.old)) (errors_told (E.held errors.new) (E.faults errors.new)) result words }
     // The command was done, and this is how it ended; but to read a client's words there may be no memory.
     ensures ran { IfSome (command (map string_bytes words.now)) (λ asked.
         Ran P.D.faults P.D.handed P.D.returned P.D.visits P.D.is_closed C.given C.pace C.faults
@@ -84,18 +88,19 @@ where
         (dialled (W.dials dialer.old) (W.visits dialer.old) (W.rose dialer.old) (W.faults dialer.old))
         (dialled (W.dials dialer.new) (W.visits dialer.new) (W.rose dialer.new) (W.faults dialer.new))
         (clock_told (C.faults clock.old) (C.given clock.old) (C.pace clock.old) (C.twins clock.old))
-        (clock_told (C.faults clock.new) (C.given clock.new) (C.pace clock.new) (C.twins clock.new)) asked result)
+        (clock_told (C.faults clock.new) (C.given clock.new) (C.pace clock.new) (C.twins clock.new))
+        (errors_told (E.held errors.old) (E.faults errors.old)) (errors_told (E.held errors.new) (E.faults errors.new)) asked result)
         ⊎ IsUnread (map string_bytes words.now) result ((link.new.sink ≡ link.old.sink) × (dialer.new ≡ dialer.old)) }
 {
     let read = match read_command(alloc, words) {
         Ok(read) => read,
         Err(fault) => {
-            tell(errors, Err(fault));
+            tell(alloc, errors, Exit::Memory, Err(fault));
             return Exit::Memory;
         }
     };
     let Some(command) = read else {
-        let _ = write_all(errors, b"obix: usage\n");
+        tell(alloc, errors, Exit::Usage, Ok(Vec::new(alloc)));
         return Exit::Usage;
     };
     match command {

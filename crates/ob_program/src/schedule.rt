@@ -15,14 +15,16 @@ ghost use Rattle.ob_program.specs.Outside.{streams, clock_told};
 ghost use Rattle.ob_program.specs.Form.{plain};
 ghost use Rattle.ob_program.specs.Schedule.{IsScheduled, IsFormless, SaysNone, ScheduleComesAt, ScheduleComes, ScheduledRan};
 ghost use Rattle.ob_program.specs.Stdio.{HasCause, IsUnserved};
+ghost use Rattle.ob_program.specs.Telling.{errors_told};
 ghost use Rattle.ob_program.specs.declared.stdio.StdioEnd.TheVariants as plainly;
 ghost use Rattle.ob_program.specs.declared.form.FormEnd.TheVariants as variants;
 
 use crate::document::read_file;
-use crate::exit::{Exit, tell};
+use crate::exit::Exit;
 use crate::form::FormEnd;
 use crate::points::SitePoints;
 use crate::stdio::{StdioEnd, moment};
+use crate::telling::tell;
 use ob_command::Scheduled;
 use ob_io::{Clock, Files, Link, Pair, Sink, Source, Ticker};
 use ob_load::{Loaded, Site, load, opened_is_not_refused};
@@ -172,7 +174,8 @@ pub(crate) fn run_schedule<F: Files, S: Source, K: Sink, E: Sink, C: Clock>(
         (streams (S.left link.old.source) (K.held link.old.sink) (S.faults link.old.source) (K.faults link.old.sink))
         (streams (S.left link.new.source) (K.held link.new.sink) (S.faults link.new.source) (K.faults link.new.sink))
         (clock_told (C.faults clock.old) (C.given clock.old) (C.pace clock.old) (C.twins clock.old))
-        (clock_told (C.faults clock.new) (C.given clock.new) (C.pace clock.new) (C.twins clock.new)) result }
+        (clock_told (C.faults clock.new) (C.given clock.new) (C.pace clock.new) (C.twins clock.new))
+        (errors_told (E.held errors.old) (E.faults errors.old)) (errors_told (E.held errors.new) (E.faults errors.new)) result }
     ensures refused { result ≡ Exit.Refused → link.new ≡ link.old }
     ensures unasked { IsSome service.entry.at → clock.new ≡ clock.old }
 {
@@ -180,6 +183,7 @@ pub(crate) fn run_schedule<F: Files, S: Source, K: Sink, E: Sink, C: Clock>(
     ob_documents::only();
     ob_xml::one_verdict();
     let end = serve_file(alloc, service, files, link, clock);
-    tell(errors, end.line(alloc, "Schedule"));
-    end.exit()
+    let exit = end.exit();
+    tell(alloc, errors, exit, end.words(alloc, "Schedule"));
+    exit
 }

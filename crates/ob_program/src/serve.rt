@@ -2,14 +2,16 @@
 ghost use Rattle.std.specs.Prelude.{◌≡◌, ◌≤◌, Some, None, option_copied, IfOk, IfSome, MatchResult};
 ghost use Rattle.ob_program.specs.Outside.{port_told, clock_told};
 ghost use Rattle.ob_program.specs.Serving.{listening_text, served_text, end_with, Prints, PrintRose, AtPlace, ServeComes, ServeRan};
-ghost use Rattle.ob_site_laws.specs.SiteLaws.{IsSoundSite};
+ghost use Rattle.ob_program.specs.Telling.{errors_told};
 
-use crate::exit::{Exit, tell};
-use crate::lines::site_line;
+use crate::exit::Exit;
+use crate::telling::tell;
+use crate::words::load_words;
 use ob_command::Serve;
 use ob_io::{Clock, Door, Files, Port, Sink, write_all};
 use ob_load::{LoadFault, Loaded, Site, load, opened_is_not_refused};
-use ob_server::{Staff, WorkerEnd, serve_port};
+use ob_server::{Staff, WorkerEnd};
+use ob_site_desk::serve_port;
 use ob_values::Text;
 use std::alloc::{AllocError, Global};
 use std::sync::Wait;
@@ -34,6 +36,7 @@ pub(crate) enum ServeEnd {
 
 impl ServeEnd {
     ghost use Rattle.ob_program.specs.Serving.{exit_of_serve, end_of_load, end_of_workers};
+    ghost use Rattle.ob_program.specs.Words.{serve_words};
 
     /// The end that a refusal of a file leads to.
     fn of_fault(fault: LoadFault) -> ServeEnd
@@ -79,16 +82,18 @@ impl ServeEnd {
         }
     }
 
-    /// What is printed of it; nothing where all is well.
-    fn line(&self, alloc: Global) -> Result<Vec<u8>, AllocError> {
+    /// The words that tell it on `errors`, where its line has some.
+    fn words(&self, alloc: Global) -> Result<Vec<u8>, AllocError>
+        ensures { IfOk result (λ words. words.items ≡ serve_words self.now) }
+    {
         match self {
-            ServeEnd::Done => Ok(Vec::new(alloc)),
-            ServeEnd::Refused(fault) => site_line(alloc, fault),
-            ServeEnd::ReadFault => b"obix: read fault\n".to_vec(alloc),
-            ServeEnd::WriteFault => b"obix: write fault\n".to_vec(alloc),
-            ServeEnd::PortFault => b"obix: port fault\n".to_vec(alloc),
-            ServeEnd::ClockFault => b"obix: clock fault\n".to_vec(alloc),
-            ServeEnd::Memory => b"obix: out of memory\n".to_vec(alloc),
+            ServeEnd::Refused(fault) => load_words(alloc, fault),
+            ServeEnd::Done
+            | ServeEnd::ReadFault
+            | ServeEnd::WriteFault
+            | ServeEnd::PortFault
+            | ServeEnd::ClockFault
+            | ServeEnd::Memory => Ok(Vec::new(alloc)),
         }
     }
 }
@@ -175,7 +180,6 @@ fn serve_site<R: Threads + Wait + Sync, K: Sink, P: Port, C: Clock + Send>(
 ) -> ServeEnd
 where
     <P::D as Door>::L: Send,
-    requires { IsSoundSite site }
     ensures { AtPlace P.D.faults P.D.handed P.D.returned P.D.visits P.D.is_closed C.given C.pace C.faults site (option_copied ns.entry)
         service.entry.host.now service.entry.port service.entry.workers service.entry.quota
         (K.held sink.old) (K.held sink.new) (K.faults sink.old) (K.faults sink.new)
@@ -256,10 +260,12 @@ where
         (port_told (P.faults port.old) (P.opened port.old) (P.returned port.old) (P.listens port.old) (P.doors port.old))
         (port_told (P.faults port.new) (P.opened port.new) (P.returned port.new) (P.listens port.new) (P.doors port.new))
         (clock_told (C.faults clock.old) (C.given clock.old) (C.pace clock.old) (C.twins clock.old))
-        (clock_told (C.faults clock.new) (C.given clock.new) (C.pace clock.new) (C.twins clock.new)) result }
+        (clock_told (C.faults clock.new) (C.given clock.new) (C.pace clock.new) (C.twins clock.new))
+        (errors_told (E.held errors.old) (E.faults errors.old)) (errors_told (E.held errors.new) (E.faults errors.new)) result }
 {
     opened_is_not_refused();
     let end = serve_file(rt, alloc, service, files, sink, port, clock);
-    tell(errors, end.line(alloc));
-    end.exit()
+    let exit = end.exit();
+    tell(alloc, errors, exit, end.words(alloc));
+    exit
 }

@@ -1,9 +1,10 @@
 //! `stdio` and `record`: the requests of the source are asked of the site of a file, and their answers or their record written.
-ghost use Rattle.std.specs.Prelude.{◌≡◌, ◌≤◌, min, length, IsSome};
+ghost use Rattle.std.specs.Prelude.{◌≡◌, ◌≤◌, min, length, IsSome, IfOk};
 ghost use Rattle.ob_io.specs.Ticks.{last_moment};
 ghost use Rattle.ob_io.specs.Faults.{Rose};
 ghost use Rattle.ob_io.specs.Links.{inlet};
 ghost use Rattle.ob_recording.specs.Recording.{RecordsRun};
+ghost use Rattle.ob_seen_laws.specs.Seen.{KeepsWatches};
 ghost use Rattle.ob_server.specs.Alone.{ServesAlone};
 ghost use Rattle.ob_server.specs.Answered.{HasEndCause};
 ghost use Rattle.ob_site_laws.specs.SiteLaws.{acts, IsSoundSite};
@@ -12,18 +13,24 @@ ghost use Rattle.ob_server.specs.declared.end.LinkEnd.{LinkEnd};
 ghost use Rattle.ob_server.specs.Complete.{ServesWhole};
 ghost use Rattle.ob_program.specs.Outside.{streams, clock_told};
 ghost use Rattle.ob_program.specs.Stdio.{Comes, StdioComes, IsUnserved, HasCause, StdioRan};
+ghost use Rattle.ob_program.specs.Telling.{errors_told};
+ghost use Rattle.ob_program.specs.Words.{frame_words, link_words};
 
-use crate::exit::{Exit, tell};
-use crate::lines::site_line;
+use crate::exit::Exit;
+use crate::telling::tell;
+use crate::words::load_words;
 use ob_command::{Output, Stdio};
+use ob_dialogue::frame_word;
 use ob_http::FrameFault;
 use ob_io::{Clock, Files, Link, Pair, Sink, Source, Ticker};
 use ob_load::{LoadFault, Loaded, load, opened_is_not_refused};
 use ob_recording::record_run;
-use ob_server::{LinkEnd, serve_alone};
+use ob_server::LinkEnd;
+use ob_site_desk::serve_alone;
 use ob_times::Moment;
 use std::alloc::{AllocError, Global};
 use std::sync::Wait;
+
 /// The last moment that there is, in milliseconds since 1970.
 const LAST_MOMENT: u64 = 253_402_300_799_999;
 
@@ -42,6 +49,7 @@ pub(crate) enum StdioEnd {
 
 impl StdioEnd {
     ghost use Rattle.ob_program.specs.Stdio.{exit_of, end_of_fault};
+    ghost use Rattle.ob_program.specs.Words.{stdio_words};
 
     /// The end that a refusal of a file leads to.
     pub(crate) fn of_fault(fault: LoadFault) -> StdioEnd
@@ -81,43 +89,42 @@ impl StdioEnd {
         }
     }
 
-    /// What is printed of it; nothing where all is well.
-    pub(crate) fn line(&self, alloc: Global) -> Result<Vec<u8>, AllocError> {
+    /// The words that tell it on `errors`, where its line has some.
+    pub(crate) fn words(&self, alloc: Global) -> Result<Vec<u8>, AllocError>
+        ensures { IfOk result (λ words. words.items ≡ stdio_words self.now) }
+    {
         match self {
-            StdioEnd::Served(LinkEnd::Closed) => Ok(Vec::new(alloc)),
-            StdioEnd::Served(LinkEnd::Asked) => Ok(Vec::new(alloc)),
-            StdioEnd::Served(LinkEnd::BadFrame(fault, place)) => frame_line(alloc, *fault, *place),
-            StdioEnd::Refused(fault) => site_line(alloc, fault),
-            StdioEnd::Served(LinkEnd::Truncated) => b"obix: truncated\n".to_vec(alloc),
-            StdioEnd::Served(LinkEnd::ReadFault) => b"obix: read fault\n".to_vec(alloc),
-            StdioEnd::Served(LinkEnd::WriteFault) => b"obix: write fault\n".to_vec(alloc),
-            StdioEnd::Served(LinkEnd::ClockFault) => b"obix: clock fault\n".to_vec(alloc),
-            StdioEnd::Served(LinkEnd::Budget) => b"obix: budget\n".to_vec(alloc),
-            StdioEnd::Served(LinkEnd::Memory) => b"obix: out of memory\n".to_vec(alloc),
-            StdioEnd::ReadFault => b"obix: read fault\n".to_vec(alloc),
-            StdioEnd::ClockFault => b"obix: clock fault\n".to_vec(alloc),
-            StdioEnd::Memory => b"obix: out of memory\n".to_vec(alloc),
+            StdioEnd::Served(end) => link_words(alloc, end),
+            StdioEnd::Refused(fault) => load_words(alloc, fault),
+            StdioEnd::ReadFault | StdioEnd::ClockFault | StdioEnd::Memory => Ok(Vec::new(alloc)),
         }
     }
 }
 
-/// The name of a fault of framing.
-fn frame_word(fault: FrameFault) -> &'static str {
-    match fault {
-        FrameFault::Head => "Head",
-        FrameFault::HeadBig => "HeadBig",
-        FrameFault::NoLength => "NoLength",
-        FrameFault::Length => "Length",
-        FrameFault::BodyBig => "BodyBig",
-        FrameFault::Memory => "Memory",
-    }
+/// Why bytes begin no request, and the place where that request begins.
+fn frame_words(alloc: Global, fault: FrameFault, place: u64) -> Result<Vec<u8>, AllocError>
+    ensures { IfOk result (λ words. words.items ≡ frame_words fault place) }
+{
+    let word = frame_word(fault);
+    let text = format!(in alloc; "{word} at {place}")?;
+    text.as_bytes().to_vec(alloc)
 }
 
-/// What is printed of bytes that begin no request: the fault, and the place where that request begins.
-fn frame_line(alloc: Global, fault: FrameFault, place: u64) -> Result<Vec<u8>, AllocError> {
-    let word = frame_word(fault);
-    let text = format!(in alloc; "obix: frame {word} at {place}\n")?;
-    text.as_bytes().to_vec(alloc)
+/// The words that tell the end of a link's service, where its line has some.
+fn link_words(alloc: Global, end: &LinkEnd) -> Result<Vec<u8>, AllocError>
+    ensures { IfOk result (λ words. words.items ≡ link_words end.now) }
+{
+    match end {
+        LinkEnd::BadFrame(fault, place) => frame_words(alloc, *fault, *place),
+        LinkEnd::Closed
+        | LinkEnd::Asked
+        | LinkEnd::Truncated
+        | LinkEnd::ReadFault
+        | LinkEnd::WriteFault
+        | LinkEnd::ClockFault
+        | LinkEnd::Budget
+        | LinkEnd::Memory => Ok(Vec::new(alloc)),
+    }
 }
 
 /// A moment, the last that there is where the number is larger.
@@ -139,9 +146,9 @@ fn answer_site<R: Wait, L: Link, C: Clock>(
     clock: &mut C,
 ) -> LinkEnd
     ensures sound { IsSoundSite loaded.site }
-    ensures serves { ServesAlone acts loaded.site loaded.ns
+    ensures serves { (alone : ServesAlone acts loaded.site loaded.ns
         (inlet (L.left link.old) (L.taken link.old)) (inlet (L.left link.new) (L.taken link.new))
-        (L.held link.old) (L.held link.new) (C.given clock.old) (C.given clock.new) result }
+        (L.held link.old) (L.held link.new) (C.given clock.old) (C.given clock.new) result) × KeepsWatches loaded.site alone.calls }
     ensures pace { C.pace clock.new ≡ C.pace clock.old }
     ensures cause { HasEndCause (L.read_faults link.old) (L.read_faults link.new)
         (L.write_faults link.old) (L.write_faults link.new) (C.faults clock.old) (C.faults clock.new) result }
@@ -149,7 +156,6 @@ fn answer_site<R: Wait, L: Link, C: Clock>(
         (L.write_faults link.old) (L.write_faults link.new) (C.faults clock.old) (C.faults clock.new) result }
 {
     let Loaded { ns, site } = loaded;
-    site.is_sound();
     serve_alone(rt, alloc, site, ns.as_ref(), link, clock)
 }
 
@@ -270,12 +276,14 @@ pub(crate) fn run_stdio<R: Wait, F: Files, S: Source, K: Sink, E: Sink, C: Clock
         (streams (S.left link.old.source) (K.held link.old.sink) (S.faults link.old.source) (K.faults link.old.sink))
         (streams (S.left link.new.source) (K.held link.new.sink) (S.faults link.new.source) (K.faults link.new.sink))
         (clock_told (C.faults clock.old) (C.given clock.old) (C.pace clock.old) (C.twins clock.old))
-        (clock_told (C.faults clock.new) (C.given clock.new) (C.pace clock.new) (C.twins clock.new)) result }
+        (clock_told (C.faults clock.new) (C.given clock.new) (C.pace clock.new) (C.twins clock.new))
+        (errors_told (E.held errors.old) (E.faults errors.old)) (errors_told (E.held errors.new) (E.faults errors.new)) result }
     ensures refused { result ≡ Exit.Refused → link.new ≡ link.old }
     ensures unasked { IsSome service.entry.at → clock.new ≡ clock.old }
 {
     opened_is_not_refused();
     let end = stdio(rt, alloc, service, files, link, clock);
-    tell(errors, end.line(alloc));
-    end.exit()
+    let exit = end.exit();
+    tell(alloc, errors, exit, end.words(alloc));
+    exit
 }

@@ -3,21 +3,19 @@ ghost use Rattle.std.specs.Prelude.{◌≡◌, ◌≢◌, ◌≤◌, ◌⊎◌, 
 ghost use Rattle.ob_command.specs.Named.{storm_values};
 ghost use Rattle.ob_io.specs.Faults.{Rose, HasFileCause};
 ghost use Rattle.ob_io.specs.Told.{Sends};
-ghost use Rattle.ob_load.specs.Loads.{RefusesBytes};
 ghost use Rattle.ob_storm.specs.Lines.{lines};
-ghost use Rattle.ob_storm.specs.Runs.{boot};
 ghost use Rattle.ob_storm.specs.Site.{site_text};
-ghost use Rattle.ob_program.specs.Stdio.{site_bytes};
 ghost use Rattle.ob_program.specs.Storm.{IsOpened, IsPrinted, StormComes, StormRan};
+ghost use Rattle.ob_program.specs.Telling.{errors_told};
 
-use crate::exit::{Exit, tell};
-use crate::lines::site_line;
+use crate::exit::Exit;
 use crate::stdio::moment;
+use crate::telling::tell;
 use ob_command::Storm;
 use ob_io::{FileFault, Files, Sink, write_all};
-use ob_load::{LoadFault, Loaded, Site, load};
+use ob_load::{LoadFault, Loaded, Site, load, opened_is_not_refused};
 use ob_storm::{BOOT, Totals, count_storm, site_text};
-use std::alloc::{AllocError, Global};
+use std::alloc::Global;
 use std::sync::Wait;
 
 /// How it ended, with what is printed of it.
@@ -25,31 +23,12 @@ use std::sync::Wait;
 pub(crate) enum StormEnd {
     /// The lines were written.
     Done,
-    /// The text of the site opens none.
-    Refused(LoadFault),
     WriteFault,
     Memory,
 }
 
 impl StormEnd {
-    ghost use Rattle.ob_program.specs.Storm.{exit_of_storm, end_of_refusal};
-
-    /// The end that a refusal of the site leads to.
-    fn of_fault(fault: LoadFault) -> StormEnd
-        ensures { result ≡ end_of_refusal fault }
-    {
-        match fault {
-            LoadFault::Memory => StormEnd::Memory,
-            LoadFault::Read
-            | LoadFault::Document(_)
-            | LoadFault::RootHref
-            | LoadFault::Href { .. }
-            | LoadFault::Contract(_)
-            | LoadFault::PathTwice { .. }
-            | LoadFault::Rule { .. }
-            | LoadFault::Size => StormEnd::Refused(fault),
-        }
-    }
+    ghost use Rattle.ob_program.specs.Storm.{exit_of_storm};
 
     /// The exit that it leads to.
     fn exit(&self) -> Exit
@@ -57,19 +36,8 @@ impl StormEnd {
     {
         match self {
             StormEnd::Done => Exit::Ok,
-            StormEnd::Refused(_) => Exit::Refused,
             StormEnd::WriteFault => Exit::WriteFault,
             StormEnd::Memory => Exit::Memory,
-        }
-    }
-
-    /// What is printed of it; nothing where all is well.
-    fn line(&self, alloc: Global) -> Result<Vec<u8>, AllocError> {
-        match self {
-            StormEnd::Done => Ok(Vec::new(alloc)),
-            StormEnd::Refused(fault) => site_line(alloc, fault),
-            StormEnd::WriteFault => b"obix: write fault\n".to_vec(alloc),
-            StormEnd::Memory => b"obix: out of memory\n".to_vec(alloc),
         }
     }
 }
@@ -97,12 +65,13 @@ impl Files for OwnFile {
     }
 }
 
-/// The site that the text of the storm's file opens at its boot.
+/// The site that the text of the storm's file opens at its boot. The text opens one, so only memory may be wanting.
 fn loaded(alloc: Global, text: String) -> Result<Loaded, LoadFault>
     requires { string_bytes text ≡ site_text }
     ensures opened { IfOk result (λ loaded. IsOpened loaded.site) }
-    ensures refused { IfErr result (λ fault. fault ≢ LoadFault.Memory → RefusesBytes (site_bytes site_text) boot fault) }
+    ensures unrefused { IfErr result (λ fault. fault ≡ LoadFault.Memory) }
 {
+    opened_is_not_refused();
     let mut file = OwnFile { text };
     load(alloc, &mut file, "", moment(BOOT))
 }
@@ -110,7 +79,7 @@ fn loaded(alloc: Global, text: String) -> Result<Loaded, LoadFault>
 /// Opens the site of the storm at its boot.
 fn open(alloc: Global) -> Result<Site, LoadFault>
     ensures opened { IfOk result IsOpened }
-    ensures refused { IfErr result (λ fault. fault ≢ LoadFault.Memory → RefusesBytes (site_bytes site_text) boot fault) }
+    ensures unrefused { IfErr result (λ fault. fault ≡ LoadFault.Memory) }
 {
     let text = site_text(alloc)?;
     let Loaded { ns: _, site } = loaded(alloc, text)?;
@@ -155,7 +124,7 @@ fn storm<R: Wait, K: Sink>(rt: &R, alloc: Global, asked: Storm, sink: &mut K) ->
 {
     match open(alloc) {
         Ok(site) => ask(rt, alloc, site, asked, sink),
-        Err(fault) => StormEnd::of_fault(fault),
+        Err(_) => StormEnd::Memory,
     }
 }
 
@@ -167,9 +136,11 @@ pub(crate) fn run_storm<R: Wait, K: Sink, E: Sink>(
     sink: &mut K,
     errors: &mut E,
 ) -> Exit
-    ensures { StormRan (storm_values asked) (K.held sink.old) (K.held sink.new) (K.faults sink.old) (K.faults sink.new) result }
+    ensures { StormRan (storm_values asked) (K.held sink.old) (K.held sink.new) (K.faults sink.old) (K.faults sink.new)
+        (errors_told (E.held errors.old) (E.faults errors.old)) (errors_told (E.held errors.new) (E.faults errors.new)) result }
 {
     let end = storm(rt, alloc, asked, sink);
-    tell(errors, end.line(alloc));
-    end.exit()
+    let exit = end.exit();
+    tell(alloc, errors, exit, Ok(Vec::new(alloc)));
+    exit
 }

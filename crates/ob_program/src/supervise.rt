@@ -8,14 +8,16 @@ ghost use Rattle.ob_super.specs.Told.{upstreams, outside};
 ghost use Rattle.ob_program.specs.Form.{plain};
 ghost use Rattle.ob_program.specs.Outside.{streams, dialled};
 ghost use Rattle.ob_program.specs.Stdio.{HasCause, IsUnserved};
+ghost use Rattle.ob_program.specs.Telling.{errors_told};
 ghost use Rattle.ob_program.specs.Super.{end_of_config, IsFollowed, FollowsNone, SuperComes, SuperRan};
 ghost use Rattle.ob_program.specs.declared.form.FormEnd.TheVariants as variants;
 ghost use Rattle.ob_program.specs.declared.stdio.StdioEnd.TheVariants as plainly;
 
 use crate::document::read_file;
-use crate::exit::{Exit, tell};
+use crate::exit::Exit;
 use crate::form::FormEnd;
 use crate::stdio::StdioEnd;
+use crate::telling::tell;
 use ob_command::Supervise;
 use ob_io::{Dialer, Files, Link, Pair, Sink, Source};
 use ob_super::{ConfigFault, Super};
@@ -99,12 +101,14 @@ where
         (streams (S.left link.old.source) (K.held link.old.sink) (S.faults link.old.source) (K.faults link.old.sink))
         (streams (S.left link.new.source) (K.held link.new.sink) (S.faults link.new.source) (K.faults link.new.sink))
         (dialled (W.dials dialer.old) (W.visits dialer.old) (W.rose dialer.old) (W.faults dialer.old))
-        (dialled (W.dials dialer.new) (W.visits dialer.new) (W.rose dialer.new) (W.faults dialer.new)) result }
+        (dialled (W.dials dialer.new) (W.visits dialer.new) (W.rose dialer.new) (W.faults dialer.new))
+        (errors_told (E.held errors.old) (E.faults errors.old)) (errors_told (E.held errors.new) (E.faults errors.new)) result }
     ensures refused { result ≡ Exit.Refused → (link.new ≡ link.old) × (dialer.new ≡ dialer.old) }
 {
     ob_documents::only();
     ob_xml::one_verdict();
     let end = serve_tree(alloc, asked, files, link, dialer);
-    tell(errors, end.line(alloc, "Config"));
-    end.exit()
+    let exit = end.exit();
+    tell(alloc, errors, exit, end.words(alloc, "Config"));
+    exit
 }

@@ -3,5 +3,5 @@ use Rattle.ob_program.proofs.schedule.run_schedule.Goals as goal
 
 pub returns-clause-ran : goal.returns-clause-ran
 returns-clause-ran g c =
-    schedule_ran c.only.ensures c.one_verdict.ensures c.opened_is_not_refused.ensures _ _ _ _ _ _ _ _ _ _ c.serve_file-end.result c.exit.result c.exit.ensures c.serve_file-end.ensures.comes c.serve_file-end.ensures.cause
-    c.serve_file-end.ensures.whole
+    schedule_ran c.only.ensures c.one_verdict.ensures c.opened_is_not_refused.ensures _ _ _ _ _ _ _ _ _ _ _ _ c.serve_file-end.result c.exit-exit.result c.exit-exit.ensures c.serve_file-end.ensures.comes c.serve_file-end.ensures.cause
+    c.serve_file-end.ensures.whole (c.tell.ensures _ c.words.ensures)

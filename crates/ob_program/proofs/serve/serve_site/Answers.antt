@@ -1,11 +1,6 @@
 use Rattle.std.proofs.Common.{option_copied, sym, ◌∙◌}
-use denote.Param.Send.{sendable}
-use Rattle.ob_load.proofs.Crossing.{site_send}
 use Rattle.ob_program.proofs.ServingLemmas.{unlistened, unannounced, served_there, on_err}
 use Rattle.ob_program.proofs.serve.serve_site.Goals as goal
-
-pub serve_port-served-requires-send-M : goal.serve_port-served-requires-send-M
-serve_port-served-requires-send-M g c κs = search (sendable, site_send)
 
 pub returns-then-is_err : goal.returns-then-is_err
 returns-then-is_err g c =
@@ -32,5 +27,5 @@ returns g c =
     served_there g.P.D.Door.faults g.P.D.Door.handed g.P.D.Door.returned g.P.D.Door.visits g.P.D.Door.is_closed g.C.Clock.given g.C.Clock.pace g.C.Clock.faults
     c.args.site (option_copied c.args.ns) c.args.service.host.now c.args.service.port c.args.service.workers c.args.service.quota
     _ _ _ _ _ _ _ _ _ _ _ c.announce.result c.report.result _ _ _ _
-    c.requires (record { failed = _; listens = l.listens; apart = l.apart; later = l.cause.later }) (sym c.is_err.ensures.value ∙ c.if-is_err.false)
+    (record { failed = _; listens = l.listens; apart = l.apart; later = l.cause.later }) (sym c.is_err.ensures.value ∙ c.if-is_err.false)
     c.in_default.is a.prints a.later s.serves s.cause r.prints r.rose r.later c.end_with.ensures

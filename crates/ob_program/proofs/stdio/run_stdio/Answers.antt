@@ -3,4 +3,5 @@ use Rattle.ob_program.proofs.stdio.run_stdio.Goals as goal
 
 pub returns-clause-ran : goal.returns-clause-ran
 returns-clause-ran g c =
-    stdio_ran _ _ _ _ _ _ _ _ _ _ c.stdio-end.result c.exit.result c.exit.ensures c.opened_is_not_refused.ensures c.stdio-end.ensures.comes c.stdio-end.ensures.cause c.stdio-end.ensures.whole
+    stdio_ran _ _ _ _ _ _ _ _ _ _ _ _ c.stdio-end.result c.exit-exit.result c.exit-exit.ensures c.opened_is_not_refused.ensures c.stdio-end.ensures.comes c.stdio-end.ensures.cause c.stdio-end.ensures.whole
+    (c.tell.ensures _ c.words.ensures)

@@ -1,0 +1,52 @@
+-- What is told on `errors` of how a run ended.
+use Rattle.std.specs.Prelude.{◌≡◌, ◌⊎◌, ℕ, Bool, true, false, if◌then◌else◌, List, [], ◌++◌, codes, Option}
+use Rattle.ob_io.specs.Faults.{Rose}
+use Rattle.ob_io.specs.Told.{Gains, IsFront}
+use Rattle.ob_program.specs.declared.exit.Exit.{Exit}
+use Rattle.ob_program.specs.declared.exit.Exit.TheVariants as exits
+
+-- what is told of `errors`: the bytes that it holds, and its count of faults
+pub record ErrorsTold : Type 0 where
+  pub held : Option (List ℕ)
+  pub faults : ℕ
+
+abbrev pub errors_told : Option (List ℕ) → ℕ → ErrorsTold
+errors_told held faults = record { held = held; faults = faults }
+
+-- the line of an exit, but for its words; none where all is well, or a verdict was printed
+abbrev pub lead : Exit → List ℕ
+lead exits.Ok = []
+lead exits.Usage = codes "obix: usage\n"
+lead exits.Refused = codes "obix: refused: "
+lead exits.ReadFault = codes "obix: read fault\n"
+lead exits.WriteFault = codes "obix: write fault\n"
+lead exits.Frame = codes "obix: frame "
+lead exits.Truncated = codes "obix: truncated\n"
+lead exits.LinkFault = codes "obix: link fault\n"
+lead exits.Peer = codes "obix: peer: "
+lead exits.PortFault = codes "obix: port fault\n"
+lead exits.ClockFault = codes "obix: clock fault\n"
+lead exits.Budget = codes "obix: budget\n"
+lead exits.Memory = codes "obix: out of memory\n"
+lead exits.Illegal = []
+
+-- its line goes on with words, and a line feed
+abbrev pub has_words : Exit → Bool
+has_words exits.Refused = true
+has_words exits.Frame = true
+has_words exits.Peer = true
+has_words _ = false
+
+-- the line of an exit with these words, if it has some
+abbrev pub line : Exit → (words : List ℕ) → List ℕ
+line exit words = if has_words exit then lead exit ++ (words ++ codes "\n") else lead exit
+
+-- The line of an exit was told: a front of it was written, and all of it where no write failed. A line with words may want memory;
+-- then that is told in its place.
+pub record Tells (e e' : ErrorsTold) (exit : Exit) (words : List ℕ) : Type 0 where
+  pub text : List ℕ
+  pub line_is : (text ≡ line exit words) ⊎ ((has_words exit ≡ true) × (text ≡ line exits.Memory []))
+  pub written : List ℕ
+  pub gained : Gains e.held written e'.held
+  pub front : IsFront written text
+  pub whole : ¬ (Rose e.faults e'.faults) → written ≡ text

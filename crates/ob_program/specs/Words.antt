@@ -1,0 +1,56 @@
+-- The words that tell an end on `errors`, where its line has some.
+use Rattle.std.specs.Prelude.{ℕ, List, [], ◌++◌, codes, decimal}
+use Rattle.ob_dialogue.specs.Words.{frame_word, peer_words}
+use Rattle.ob_dialogue.specs.declared.ending.Ending.{Ending}
+use Rattle.ob_dialogue.specs.declared.ending.Ending.TheVariants as endings
+use Rattle.ob_http.specs.declared.fault.FrameFault.{FrameFault}
+use Rattle.ob_server.specs.declared.end.LinkEnd.{LinkEnd}
+use Rattle.ob_server.specs.declared.end.LinkEnd.TheVariants as links
+use Rattle.ob_site_file.specs.Words.{load_words}
+use Rattle.ob_xml.specs.Words.{refusal_words}
+use Rattle.ob_program.specs.declared.audit.AuditEnd.{AuditEnd}
+use Rattle.ob_program.specs.declared.audit.AuditEnd.TheVariants as audits
+use Rattle.ob_program.specs.declared.check.CheckEnd.{CheckEnd}
+use Rattle.ob_program.specs.declared.check.CheckEnd.TheVariants as checks
+use Rattle.ob_program.specs.declared.form.FormEnd.{FormEnd}
+use Rattle.ob_program.specs.declared.form.FormEnd.TheVariants as forms
+use Rattle.ob_program.specs.declared.serve.ServeEnd.{ServeEnd}
+use Rattle.ob_program.specs.declared.serve.ServeEnd.TheVariants as serves
+use Rattle.ob_program.specs.declared.stdio.StdioEnd.{StdioEnd}
+use Rattle.ob_program.specs.declared.stdio.StdioEnd.TheVariants as services
+
+-- bytes that begin no request: the fault, and the place where that request begins
+abbrev pub frame_words : FrameFault → (at : ℕ) → List ℕ
+frame_words fault at = frame_word fault ++ (codes " at " ++ decimal at)
+
+abbrev pub link_words : LinkEnd → List ℕ
+link_words (links.BadFrame fault at) = frame_words fault at
+link_words _ = []
+
+abbrev pub stdio_words : StdioEnd → List ℕ
+stdio_words (services.Served end) = link_words end
+stdio_words (services.Refused fault) = load_words fault
+stdio_words _ = []
+
+-- with the name of the form that the file is of
+abbrev pub form_words : (form : List ℕ) → FormEnd → List ℕ
+form_words form (forms.Stdio end) = stdio_words end
+form_words form (forms.NoDocument refused) = refusal_words refused
+form_words form (forms.Shape part) = form ++ (codes " " ++ decimal part)
+
+abbrev pub serve_words : ServeEnd → List ℕ
+serve_words (serves.Refused fault) = load_words fault
+serve_words _ = []
+
+abbrev pub check_words : CheckEnd → List ℕ
+check_words (checks.Refused refused) = refusal_words refused
+check_words _ = []
+
+abbrev pub audit_words : AuditEnd → List ℕ
+audit_words (audits.NoRecord place) = codes "Record " ++ decimal place
+audit_words (audits.NoSite fault) = load_words fault
+audit_words _ = []
+
+abbrev pub dialogue_words : Ending → List ℕ
+dialogue_words (endings.Peer peer) = peer_words peer
+dialogue_words _ = []

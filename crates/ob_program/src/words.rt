@@ -1,0 +1,32 @@
+//! The words that tell an end on `errors`, where its line has some.
+ghost use Rattle.std.specs.Prelude.{◌≡◌, ◌++◌, codes, decimal, IfOk};
+ghost use Rattle.ob_site_file.specs.Words.{load_words};
+ghost use Rattle.ob_xml.specs.Words.{refusal_words};
+
+use ob_load::LoadFault;
+use ob_xml::Refused;
+use std::alloc::{AllocError, Global};
+
+/// A word with a number behind it.
+pub(crate) fn word_and_number(alloc: Global, word: &str, number: u64) -> Result<Vec<u8>, AllocError>
+    ensures { IfOk result (λ words. words.items ≡ word.now ++ (codes " " ++ decimal number)) }
+{
+    let text = format!(in alloc; "{word} {number}")?;
+    text.as_bytes().to_vec(alloc)
+}
+
+/// Why a document is refused, and where.
+pub(crate) fn refusal_words(alloc: Global, refused: Refused) -> Result<Vec<u8>, AllocError>
+    ensures { IfOk result (λ words. words.items ≡ refusal_words refused) }
+{
+    let words = refused.words(alloc)?;
+    words.as_bytes().to_vec(alloc)
+}
+
+/// Why a file opens no site.
+pub(crate) fn load_words(alloc: Global, fault: &LoadFault) -> Result<Vec<u8>, AllocError>
+    ensures { IfOk result (λ words. words.items ≡ load_words fault.now) }
+{
+    let words = fault.words(alloc)?;
+    words.as_bytes().to_vec(alloc)
+}

@@ -1,0 +1,7 @@
+use Rattle.ob_seen_laws.proofs.Seen.{keeps_watches}
+use Rattle.ob_site_desk.proofs.serving.serve_alone.Goals as goal
+
+pub returns-clause-serves : goal.returns-clause-serves
+returns-clause-serves g c =
+    let served = c.serve_alone.ensures.serves in
+    (served, keeps_watches c.args.site c.is_sound.ensures served.calls served.legal)
