@@ -5,3 +5,4 @@ pub mod OnceLemmas
 pub mod ChangeLemmas
 pub mod MirrorLemmas
 pub mod SessionLemmas
+pub mod UnfinishedLemmas

@@ -1,5 +1,6 @@
 -- What the calls of a mirror make and find.
-use Rattle.std.proofs.Common.{◌≡◌, ℕ, Bool, true, false, cond, List, [], map, refl, sym, ap, ◌∙◌, Bor}
+use Rattle.std.proofs.Common.{◌≡◌, ℕ, Bool, true, false, cond, List, [], map, length, refl, sym, ap, ◌∙◌, Bor}
+use Rattle.std.proofs.lemmas.List.{length-map}
 use Rattle.std.specs.Prelude.{Option, Some, None, codes, slice_get, option_map, option_and_then, string_bytes, String, is_some}
 use Rattle.std.specs.List.{list_all}
 use Rattle.std.specs.Str.{bytes_eq}
@@ -82,3 +83,6 @@ get_is es m t o view own e = sym (held_is (found t) es m view) ∙ found_values 
 
 pub at_is : (es : Entries) (m : Mirrored) (place : ℕ) (o : Option (String Global × Held)) {stale : Bool} → mirrored es stale ≡ m → o ≡ slice_get es place → slice_get m.held place ≡ option_map (λ (e : String Global × Held). e.1) o
 at_is es m place o view e = sym (held_is (λ hs. slice_get hs place) es m view) ∙ values_at es place ∙ ap (option_map (λ (e : String Global × Held). e.1)) (sym e)
+
+pub length_is : (es : Entries) (m : Mirrored) {stale : Bool} → mirrored es stale ≡ m → length es ≡ length m.held
+length_is es m view = sym (length-map es (λ (e : String Global × Held). e.1)) ∙ held_is (λ hs. length hs) es m view

@@ -50,6 +50,22 @@ not_link frame.Length e = let g : PeerFrame frame.Length ≡ Link = e in cc
 not_link frame.BodyBig e = let g : PeerFrame frame.BodyBig ≡ Link = e in cc
 not_link frame.Memory e = let g : Memory ≡ Link = e in cc
 
+-- nor that of a session which is dead
+pub not_dead : (f : FrameFault) → fault_of f ≡ Dead → ⊥
+not_dead frame.Head e = let g : PeerFrame frame.Head ≡ Dead = e in cc
+not_dead frame.HeadBig e = let g : PeerFrame frame.HeadBig ≡ Dead = e in cc
+not_dead frame.NoLength e = let g : PeerFrame frame.NoLength ≡ Dead = e in cc
+not_dead frame.Length e = let g : PeerFrame frame.Length ≡ Dead = e in cc
+not_dead frame.BodyBig e = let g : PeerFrame frame.BodyBig ≡ Dead = e in cc
+not_dead frame.Memory e = let g : Memory ≡ Dead = e in cc
+
+-- nor is a fault of reading or of asking
+pub reading_lives : (e : CallFault) → is_of_reading e ≡ true → e ≡ Dead → ⊥
+reading_lives e h is = never (sym (ap is_of_reading is) ∙ h)
+
+pub asking_lives : (e : CallFault) → is_of_asking e ≡ true → e ≡ Dead → ⊥
+asking_lives e h is = never (sym (ap is_of_asking is) ∙ h)
+
 -- a piece that wasn't read behind bytes that hold no whole reply
 comes_stop : (stream : List ℕ) (replies : List Response) (old new piece : List ℕ) (e : CallFault) → is_of_reading e ≡ true → (e ≡ Ended → (piece ≡ []) × (new ≡ old))
     → Replied stream replies (resting old) → Comes (stream ++ piece) replies new (Err e)
@@ -99,15 +115,6 @@ reads_fault u v first mid new taken f e is takes held next = record {
   takes = takes;
   tells = λ stream replies h. subst (λ (x : CallFault). Comes (stream ++ taken) replies new (Err x)) (sym is) (comes_fault (stream ++ taken) replies new f (next (stream ++ taken) replies (held stream replies h)).0);
   ended = λ g. absurd (not_ended f (sym is ∙ g));
-}
-
--- want of memory
-pub reads_memory : (u v : Inlet) (first mid taken : List ℕ) → Takes u v taken → Reads Comes u v first mid (Err Memory)
-reads_memory u v first mid taken takes = record {
-  taken = taken;
-  takes = takes;
-  tells = λ stream replies h. tt;
-  ended = λ g. absurd (let x : Memory ≡ Ended = g in cc);
 }
 
 -- a piece that was read
@@ -219,6 +226,16 @@ gives_link r (Err Link) g e = g
 gives_link r (Err (PeerFrame d)) g e = g
 gives_link r (Err Ended) g e = g
 gives_link r (Err Dead) g e = g
+
+pub gives_dead : (r : Response) (answer : Result Object CallFault) → Gives r answer → Fails answer Dead → ⊥
+gives_dead r (Ok o) g e = e
+gives_dead r (Err (PeerStatus n)) g e = let f : PeerStatus n ≡ Dead = e in cc
+gives_dead r (Err (PeerDocument d)) g e = let f : PeerDocument d ≡ Dead = e in cc
+gives_dead r (Err Memory) g e = let f : Memory ≡ Dead = e in cc
+gives_dead r (Err Link) g e = g
+gives_dead r (Err (PeerFrame d)) g e = g
+gives_dead r (Err Ended) g e = g
+gives_dead r (Err Dead) g e = g
 
 -- the reply's bytes were read, and it tells this answer
 pub reads_answer : (u v : Inlet) (old new : List ℕ) (reply : Reply) (answer : Result Object CallFault) → Reads Comes u v old new (Ok reply) → Gives (reply_response reply) answer → Reads Answers u v old new answer

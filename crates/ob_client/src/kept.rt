@@ -47,15 +47,22 @@ impl Model for Kept {
 /// The most events that are counted as missed.
 const MOST_MISSED: u64 = 9_223_372_036_854_775_807;
 
+// The object without its name, which each object may do without.
+fn without_name(mut object: Obj) -> Obj
+    ensures { result ≡ without_name object }
+{
+    match object.put_name(None) {
+        Ok(()) => object,
+        Err(_name) => unreachable!(),
+    }
+}
+
 // Puts a copy of an event last, without its name.
 fn push_event(feed: &mut Obj, event: &Obj) -> Result<(), AllocError>
     ensures { OnOk result (feed.new ≡ with_child feed.old (without_name event.now)) }
 {
-    let mut copy = event.copy()?;
-    let Ok(()) = copy.put_name(None) else {
-        return Err(AllocError);
-    };
-    match feed.push_new(copy) {
+    let copy = event.copy()?;
+    match feed.push_new(without_name(copy)) {
         Ok(()) => Ok(()),
         Err(_copy) => Err(AllocError),
     }

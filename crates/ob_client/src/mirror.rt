@@ -1,5 +1,5 @@
 //! What a client holds that replays the replies on a watch.
-ghost use Rattle.std.specs.Prelude.{◌≡◌, not, option_map, option_copied, slice_get, string_bytes};
+ghost use Rattle.std.specs.Prelude.{◌≡◌, not, length, option_map, option_copied, slice_get, string_bytes};
 ghost use Rattle.std.specs.Str.{bytes_eq};
 ghost use Rattle.ob_watching.specs.Tables.{is_among};
 ghost use Rattle.ob_client.specs.Mirrors.{empty, lost, removed, found, events_under, missed_under, Adds, Changes, Refreshes};
@@ -134,6 +134,13 @@ impl Mirror {
         ensures { result ≡ self.now.stale }
     {
         self.is_stale
+    }
+
+    /// How many entries are held.
+    pub fn len(&self) -> u64
+        ensures { result ≡ length self.now.held }
+    {
+        self.table.len() as u64
     }
 
     /// What is held at a place of the list, from 0, as `get` gives it.

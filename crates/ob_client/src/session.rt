@@ -1,5 +1,5 @@
 //! Calls over a link, one after the other.
-ghost use Rattle.std.specs.Prelude.{◌≡◌, ◌≤◌, ◌⊎◌, [], true, false, IfOk, IfErr, MatchResult, Err};
+ghost use Rattle.std.specs.Prelude.{◌≡◌, ◌≤◌, ◌<◌, ◌⊎◌, [], true, false, length, IfOk, IfErr, OnOk, MatchResult, Err};
 ghost use Rattle.std.specs.Option.{option_copied};
 ghost use Rattle.ob_io.specs.Faults.{Rose};
 ghost use Rattle.ob_io.specs.Links.{inlet};
@@ -74,6 +74,7 @@ fn read_piece<L: Link>(link: &mut L, framer: &mut ReplyFramer) -> Result<(), Cal
     ensures apart { (L.held link.new ≡ L.held link.old) × (L.write_faults link.new ≡ L.write_faults link.old) }
     ensures later { L.read_faults link.old ≤ L.read_faults link.new }
     ensures cause { Fails result fault.Link → Rose (L.read_faults link.old) (L.read_faults link.new) }
+    ensures grows { OnOk result (length framer.old < length framer.new) }
 {
     let mut buffer = [0u8; PIECE];
     let Ok(count) = link.read(&mut buffer) else {
@@ -89,14 +90,15 @@ fn read_piece<L: Link>(link: &mut L, framer: &mut ReplyFramer) -> Result<(), Cal
     }
 }
 
-// The next reply of the bytes that the link gives.
+// The next reply of the bytes that the link gives: each piece has some, and a part of a reply has not many.
 fn next_reply<L: Link>(link: &mut L, framer: &mut ReplyFramer) -> Result<Reply, CallFault>
     ensures reads { Reads Comes (inlet (L.left link.old) (L.taken link.old)) (inlet (L.left link.new) (L.taken link.new)) framer.old framer.new result }
     ensures apart { (L.held link.new ≡ L.held link.old) × (L.write_faults link.new ≡ L.write_faults link.old) }
     ensures later { L.read_faults link.old ≤ L.read_faults link.new }
     ensures cause { Fails result fault.Link → Rose (L.read_faults link.old) (L.read_faults link.new) }
+    ensures alive { Fails result fault.Dead → ⊥ }
 {
-    'pieces: for _piece in 0..u64::MAX {
+    'pieces: loop {
         match framer.take() {
             Ok(Some(reply)) => return Ok(reply),
             Ok(None) => match read_piece(link, framer) {
@@ -106,7 +108,6 @@ fn next_reply<L: Link>(link: &mut L, framer: &mut ReplyFramer) -> Result<Reply, 
             Err(fault) => return Err(fault_of(fault)),
         }
     }
-    Err(CallFault::Memory)
 }
 
 // What a fault of framing is to a call.
@@ -167,6 +168,7 @@ fn exchange<L: Link>(
     ensures reads { Reads Answers (inlet (L.left link.old) (L.taken link.old)) (inlet (L.left link.new) (L.taken link.new)) framer.old framer.new result }
     ensures later { (L.read_faults link.old ≤ L.read_faults link.new) × (L.write_faults link.old ≤ L.write_faults link.new) }
     ensures cause { Fails result fault.Link → Rose (L.read_faults link.old) (L.read_faults link.new) ⊎ Rose (L.write_faults link.old) (L.write_faults link.new) }
+    ensures alive { Fails result fault.Dead → ⊥ }
 {
     match ask(alloc, link, host, verb, target, body) {
         Ok(()) => answer(alloc, link, framer),
@@ -180,6 +182,7 @@ fn answer<L: Link>(alloc: Global, link: &mut L, framer: &mut ReplyFramer) -> Res
     ensures apart { (L.held link.new ≡ L.held link.old) × (L.write_faults link.new ≡ L.write_faults link.old) }
     ensures later { L.read_faults link.old ≤ L.read_faults link.new }
     ensures cause { Fails result fault.Link → Rose (L.read_faults link.old) (L.read_faults link.new) }
+    ensures alive { Fails result fault.Dead → ⊥ }
 {
     match next_reply(link, framer) {
         Ok(reply) => object_of(alloc, &reply),
@@ -224,6 +227,7 @@ impl<L: Link> Session<L> {
     /// PeerFrame, Ended or Memory.
     pub fn call(&mut self, verb: Verb, target: &Text, body: Option<&Obj>) -> Result<Obj, CallFault>
         ensures dead { (self.old.is_dead ≡ true) → (result ≡ Err fault.Dead) × (self.new ≡ self.old) }
+        ensures alive { Fails result fault.Dead → self.old.is_dead ≡ true }
         ensures asks { (self.old.is_dead ≡ false) → Asks (L.held self.old.link) (L.held self.new.link) (request_text verb target.now self.old.host (body_text (option_copied body.entry))) result }
         ensures reads { (self.old.is_dead ≡ false) → Reads Answers (inlet (L.left self.old.link) (L.taken self.old.link)) (inlet (L.left self.new.link) (L.taken self.new.link)) self.old.framer self.new.framer result }
         ensures stands { (self.old.is_dead ≡ false) → (self.new.host ≡ self.old.host) × (self.new.is_dead ≡ is_last result) }

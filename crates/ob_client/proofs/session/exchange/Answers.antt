@@ -1,5 +1,5 @@
 use Rattle.ob_client.specs.Sessions.{Answers}
-use Rattle.ob_client.proofs.SessionLemmas.{asks_whole, asks_again, reads_from, reads_none, same_inlet}
+use Rattle.ob_client.proofs.SessionLemmas.{asks_whole, asks_again, reads_from, reads_none, same_inlet, asking_lives}
 use Rattle.ob_client.proofs.session.exchange.Goals as goal
 
 pub returns-in-Ok-clause-asks : goal.returns-in-Ok-clause-asks
@@ -13,3 +13,6 @@ returns-in-Err-clause-reads g c = reads_none _ _ c.args.framer.now c.in-Err.faul
 
 pub returns-in-Err-clause-asks : goal.returns-in-Err-clause-asks
 returns-in-Err-clause-asks g c = asks_again _ _ _ c.in-Err.fault c.in-Err.ensures.asks
+
+pub returns-in-Err-clause-alive : goal.returns-in-Err-clause-alive
+returns-in-Err-clause-alive g c = asking_lives c.in-Err.fault c.in-Err.ensures.causes

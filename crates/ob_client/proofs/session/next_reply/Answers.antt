@@ -1,6 +1,7 @@
-use Rattle.std.proofs.Common.{◌++◌, ◌∙◌, arith}
+use Rattle.std.proofs.Common.{◌++◌, ◌∙◌, length, ap, sym, arith}
 use Rattle.ob_io.specs.Links.{inlet, Takes-then}
-use Rattle.ob_client.proofs.SessionLemmas.{reads_stop, reads_reply, reads_fault, reads_memory, held_behind, same_kept}
+use Rattle.ob_client.proofs.SessionLemmas.{reads_stop, reads_reply, reads_fault, held_behind, same_kept, reading_lives, not_dead}
+use Rattle.ob_client.proofs.UnfinishedLemmas.{front_size}
 use Rattle.ob_client.proofs.session.next_reply.Goals as goal
 
 pub returns-in-Ok-Some-clause-reads : goal.returns-in-Ok-Some-clause-reads
@@ -18,9 +19,6 @@ returns-in-Err-clause-reads g c =
     let i = c.pieces.invariant in
     reads_fault _ _ c.args.framer.now c.pieces.framer c.take.new.self i.taken c.in-Err.fault c.fault_of.result c.fault_of.ensures i.takes i.held c.in-Err.ensures.next
 
-pub returns-clause-reads : goal.returns-clause-reads
-returns-clause-reads g c = reads_memory _ _ c.args.framer.now c.pieces.framer c.pieces.invariant.taken c.pieces.invariant.takes
-
 pub pieces-preserved : goal.pieces-preserved
 pieces-preserved g c =
     let i = c.pieces.invariant in
@@ -33,3 +31,18 @@ pieces-preserved g c =
       writes = c.read_piece.ensures.apart.1 ∙ i.writes;
       later = omega (arith, i.later, c.read_piece.ensures.later);
     }
+
+pub pieces-smaller : goal.pieces-smaller
+pieces-smaller g c =
+    let few = front_size c.pieces.framer c.take.new.self c.in-Ok-None.field-0 c.in-Ok-None.field-0-is c.in-Ok-None.ensures.takes in
+    let same = same_kept c.pieces.framer c.take.new.self c.in-Ok-None.field-0 c.in-Ok-None.field-0-is c.in-Ok-None.ensures.takes in
+    omega (arith, few, ap length same, c.in-Ok.ensures.grows)
+
+pub returns-in-Ok-Some-clause-alive : goal.returns-in-Ok-Some-clause-alive
+returns-in-Ok-Some-clause-alive g c = λ f. f
+
+pub returns-in-Err-read_piece-clause-alive : goal.returns-in-Err-read_piece-clause-alive
+returns-in-Err-read_piece-clause-alive g c = reading_lives c.in-Err-read_piece.fault c.in-Err-read_piece.ensures.piece.causes
+
+pub returns-in-Err-clause-alive : goal.returns-in-Err-clause-alive
+returns-in-Err-clause-alive g c = λ f. not_dead c.in-Err.fault (sym c.fault_of.ensures ∙ f)
