@@ -8,6 +8,7 @@ use Rattle.ob_href.specs.declared.fault.HrefFault.TheVariants as href
 use Rattle.ob_object.specs.Object.{Object}
 use Rattle.ob_watching.specs.WatchOuts.{Text}
 use Rattle.ob_client.specs.declared.call_fault.CallFault.{CallFault}
+use Rattle.ob_client.specs.declared.call_fault.CallFault.TheVariants as session
 use Rattle.ob_console.specs.Acks.{Standing, Calls, Acknowledges, FindsTarget, ack_request, answer_as, leads_to, path_or_origin, fault_of}
 use Rattle.ob_console.specs.declared.ack_call.AckFault.{AckFault}
 use Rattle.ob_console.specs.declared.ack_call.AckFault.TheVariants.{NoSuch, Origin, Call, Memory}
@@ -15,7 +16,13 @@ use Rattle.ob_console.specs.declared.ack_call.AckFault.TheVariants.{NoSuch, Orig
 -- the op was called
 pub answered : (target user : Text) (old new : Standing) (answer : Result Object CallFault) → Calls (ack_request target user) old new answer → Acknowledges (Ok target) user old new (answer_as answer)
 answered target user old new (Ok o) h = (target, refl, h)
-answered target user old new (Err f) h = (target, refl, h)
+answered target user old new (Err session.Link) h = (target, refl, h)
+answered target user old new (Err (session.PeerStatus n)) h = (target, refl, h)
+answered target user old new (Err (session.PeerDocument r)) h = (target, refl, h)
+answered target user old new (Err (session.PeerFrame f)) h = (target, refl, h)
+answered target user old new (Err session.Ended) h = (target, refl, h)
+answered target user old new (Err session.Dead) h = (target, refl, h)
+answered target user old new (Err session.Memory) h = inr (target, refl, h)
 
 -- at the place that was found
 pub at_target : (leads : Result Text AckFault) (target user : Text) (old new : Standing) (result : Result Object AckFault) → leads ≡ Ok target → Acknowledges (Ok target) user old new result → Acknowledges leads user old new result
@@ -26,7 +33,7 @@ pub refused : (leads : Result Text AckFault) (user : Text) (at : Standing) (faul
 refused leads user at NoSuch h = (h, refl)
 refused leads user at Origin h = (h, refl)
 refused leads user at (Call f) h = absurd h
-refused leads user at Memory h = refl
+refused leads user at Memory h = inl refl
 
 -- where an href leads
 pub found_there : (base : Parts) (op target : Text) → resolved_path base op ≡ Ok target → leads_to base (Some op) ≡ Ok target

@@ -82,16 +82,24 @@ pub record Calls (request : Text → List ℕ) (old new : Standing) (answer : Re
 abbrev pub ack_request : Text → Text → Text → List ℕ
 ack_request target user host = request_text Post target host (body_text (Some (ack_in user)))
 
+-- the session's answer was its want of memory
+abbrev pub FindsNoMemory : Result Text AckFault → Text → Standing → Standing → Type 0
+FindsNoMemory leads user old new =
+    (target : Text) × (leads ≡ Ok target) × Calls (ack_request target user) old new (Err session.Memory)
+
 -- The op of the alarm was called with this user, and this is the session's answer; or NoSuch exactly where the board has no
--- such alarm with an op, Origin exactly where its href leads to no place on the server, and the session is as it was.
+-- such alarm with an op, Origin exactly where its href leads to no place on the server, and the session is as it was. Want of
+-- memory is Memory, whoever found none: the session is as it was, or it is the session's answer.
 abbrev pub Acknowledges : Result Text AckFault → Text → Standing → Standing → Result Object AckFault → Type 0
 Acknowledges leads user old new (Ok o) = (target : Text) × (leads ≡ Ok target) × Calls (ack_request target user) old new (Ok o)
+Acknowledges leads user old new (Err (Call session.Memory)) = ⊥
 Acknowledges leads user old new (Err (Call f)) = (target : Text) × (leads ≡ Ok target) × Calls (ack_request target user) old new (Err f)
 Acknowledges leads user old new (Err NoSuch) = (leads ≡ Err NoSuch) × (new ≡ old)
 Acknowledges leads user old new (Err Origin) = (leads ≡ Err Origin) × (new ≡ old)
-Acknowledges leads user old new (Err Memory) = new ≡ old
+Acknowledges leads user old new (Err Memory) = (new ≡ old) ⊎ FindsNoMemory leads user old new
 
 -- what the session's answer is to who acknowledges
 abbrev pub answer_as : Result Object CallFault → Result Object AckFault
 answer_as (Ok o) = Ok o
+answer_as (Err session.Memory) = Err Memory
 answer_as (Err f) = Err (Call f)

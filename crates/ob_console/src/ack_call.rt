@@ -10,7 +10,7 @@ use crate::board::Board;
 use ob_client::{CallFault, Session};
 use ob_href::{Base, HrefFault, Path, resolve};
 use ob_io::Link;
-use ob_object::{Head, Kind, Obj, Slot, Words};
+use ob_object::{Head, Kind, Obj, Slot, WordFault, Words};
 use ob_values::{Text, Value, Verb};
 use std::alloc::{AllocError, Global};
 use thiserror::Error;
@@ -24,7 +24,7 @@ pub enum AckFault {
     /// The href of the op leads to no place on the server.
     #[error("Origin")]
     Origin,
-    /// The call gave no object.
+    /// The call gave no object, but not for want of memory.
     #[error("{0}")]
     Call(CallFault),
     /// There was no memory.
@@ -95,7 +95,8 @@ fn one_word(alloc: Global) -> Result<Words, AllocError>
     let word = Text::from_ascii(alloc, "obix:AckAlarmIn")?;
     match words.push(word) {
         Ok(()) => Ok(words),
-        Err(_) => Err(AllocError),
+        Err(WordFault::NotWord { word: _word }) => unreachable!(),
+        Err(WordFault::Memory { word: _word }) => Err(AllocError),
     }
 }
 
@@ -119,6 +120,7 @@ fn answer_as(answer: Result<Obj, CallFault>) -> Result<Obj, AckFault>
 {
     match answer {
         Ok(reply) => Ok(reply),
+        Err(CallFault::Memory) => Err(AckFault::Memory),
         Err(fault) => Err(AckFault::Call(fault)),
     }
 }
@@ -143,7 +145,8 @@ fn call_ack<L: Link>(
 
 /// Acknowledges the alarm of this href as this user, over the session; `base` is the URL that the board's events were
 /// read from. NoSuch where the board has no such alarm with an op `ack`; Origin where the op's href is refused against the
-/// base; Call where the session gave no object; Memory, and then nothing was asked.
+/// base; Call where the session gave no object for another reason than memory; Memory: nothing was asked, or the session found
+/// none and is dead.
 pub fn acknowledge<L: Link>(
     alloc: Global,
     session: &mut Session<L>,
