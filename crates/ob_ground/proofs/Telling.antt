@@ -1,6 +1,6 @@
 -- Words that are told stay so where an object is given another slot.
 use Rattle.std.proofs.Common.{◌≡◌, ℕ, zero, suc, ◌-◌, Bool, true, false, cond, List, [], ◌∷◌, ◌++◌, map, Option, Some, None, refl, sym, ap, ◌∙◌, subst}
-use Rattle.std.specs.Prelude.{nat_lt, slice_get, option_map}
+use Rattle.std.specs.Prelude.{nat_lt, slice_get, option_map, option_and_then}
 use Rattle.std.proofs.lemmas.List.{map-append}
 use Rattle.std.proofs.lemmas.Option.{slice_get-map}
 use Rattle.std.specs.Ordering.{nat_cmp}
@@ -14,11 +14,12 @@ use Rattle.ob_object.specs.Object.{Objects, none, node, Object, count}
 use Rattle.ob_contracts.specs.Inherit.{Contracts, Words}
 use Rattle.ob_contracts.specs.Telling.{StandIn}
 use Rattle.ob_standing.specs.Contexts.{Context, HandedDown, handed_down, under}
-use Rattle.ob_tree.specs.Laid.{heads, heads_of, head_at, changed_in, changed}
+use Rattle.ob_tree.specs.Laid.{heads, heads_of, head_at, leaf, changed_in, changed}
 use Rattle.ob_tree.specs.Shown.{at_top, handed, handed_in, handed_at, standing_at, row}
 use Rattle.ob_tree.specs.Told.{IsToldAt, AreToldBy, words_for}
 use Rattle.ob_tree.proofs.Changing.{count-changed_in}
-use Rattle.ob_ground.specs.Grounds.{Taught, AreTold}
+use Rattle.ob_tree.proofs.Giving.{stands_by}
+use Rattle.ob_ground.specs.Grounds.{Taught, AreTold, words_at, inside_at}
 
 -- what an object says of itself but for its slot: all that it hands down is told by that
 abbrev rest_of : Head → Head
@@ -26,6 +27,22 @@ rest_of h = record h { slot = Absent }
 
 abbrev rests : List Head → List Head
 rests hs = map rest_of hs
+
+-- words stay told for an object whose parts say the same of themselves but for their slots, and take the same
+kept_at : (lib : Contracts) (m : ℕ) (o : Object) (told : Option Words) (c : Context) (h : Head) (at : Option Head) → head_at m o ≡ at → Some (rest_of h) ≡ option_map rest_of at
+    → Some c ≡ Some (under (handed_at lib m o) h.name) → IsToldAt lib o m told → StandIn lib told (handed_down c h).implied
+kept_at lib m o told c h None there e stands t = absurd cc
+kept_at lib m o told c h (Some g) there e stands t =
+    let same : rest_of h ≡ rest_of g = cc in
+    let here : Some c ≡ standing_at lib m o =
+    stands ∙ ap (λ (x : Head). Some (under (handed_at lib m o) x.name)) same ∙ sym (ap (option_map (λ (x : Head). under (handed_at lib m o) x.name)) there) in
+    subst (λ (x : Head). StandIn lib told (handed_down c x).implied) (sym same) (t c g here there)
+
+kept_by : (lib : Contracts) (told : ℕ → Option Words) (o p : Object) → ((m : ℕ) → option_map rest_of (head_at m p) ≡ option_map rest_of (head_at m o)) → ((m : ℕ) → handed_at lib m p ≡ handed_at lib m o)
+    → AreToldBy lib o told → AreToldBy lib p told
+kept_by lib told o p rest takes t = λ m c h stands there.
+    kept_at lib m o (told m) c h (head_at m o) refl (sym (ap (option_map rest_of) there) ∙ rest m)
+    (stands ∙ ap (option_map (λ (x : Head). under (handed_at lib m p) x.name)) there ∙ ap (λ (d : HandedDown). Some (under d h.name)) (takes m)) (t m)
 
 module _ (slot : Slot) where
   abbrev with_slot : Head → Head
@@ -81,24 +98,17 @@ module _ (slot : Slot) where
   takes_at lib (suc n) (suc m) o =
       takes_by o.head o.inner none (changed_in with_slot n o.inner) none (at_top lib) m true (count-changed_in with_slot o.inner n) (λ d k. takes_in o.inner d n k) (λ d k. refl)
 
-  kept_at : (lib : Contracts) (n m : ℕ) (o : Object) (told : Option Words) (c : Context) (h : Head) (at : Option Head) → head_at m o ≡ at → Some (rest_of h) ≡ option_map rest_of at
-      → Some c ≡ Some (under (handed_at lib m o) h.name) → IsToldAt lib o m told → StandIn lib told (handed_down c h).implied
-  kept_at lib n m o told c h None there e stands t = absurd cc
-  kept_at lib n m o told c h (Some g) there e stands t =
-      let same : rest_of h ≡ rest_of g = cc in
-      let here : Some c ≡ standing_at lib m o =
-      stands ∙ ap (λ (x : Head). Some (under (handed_at lib m o) x.name)) same ∙ sym (ap (option_map (λ (x : Head). under (handed_at lib m o) x.name)) there) in
-      subst (λ (x : Head). StandIn lib told (handed_down c x).implied) (sym same) (t c g here there)
-
-  pub kept_by : (lib : Contracts) (told : ℕ → Option Words) (n : ℕ) (o : Object) → AreToldBy lib o told → AreToldBy lib (changed with_slot n o) told
-  kept_by lib told n o t = λ m c h stands there.
-      kept_at lib n m o (told m) c h (head_at m o) refl (sym (ap (option_map rest_of) there) ∙ rest_at n m o)
-      (stands ∙ ap (option_map (λ (x : Head). under (handed_at lib m (changed with_slot n o)) x.name)) there ∙ ap (λ (d : HandedDown). Some (under d h.name)) (takes_at lib n m o)) (t m)
-
 -- a slot tells nothing
 pub told_set : (slot : Slot) (n : ℕ) (o : Object) (t : Taught) → AreTold o t → AreTold (changed (λ h. record h { slot = slot }) n o) t
 unfolding AreTold
-told_set slot n o t told = kept_by slot t.library (λ m. lookup (is_at (nat_cmp m)) t.words) n o told
+told_set slot n o t told =
+    kept_by t.library (words_at t) o (changed (with_slot slot) n o) (λ m. rest_at slot n m o) (λ m. takes_at slot t.library n m o) told
+
+-- nor did the one that was there
+pub told_unset : (slot : Slot) (n : ℕ) (o : Object) (t : Taught) → AreTold (changed (λ h. record h { slot = slot }) n o) t → AreTold o t
+unfolding AreTold
+told_unset slot n o t told =
+    kept_by t.library (words_at t) (changed (with_slot slot) n o) o (λ m. sym (rest_at slot n m o)) (λ m. sym (takes_at slot t.library n m o)) told
 
 -- words of a map that is lent
 pub told_lent : (lib : Contracts) (o : Object) (t : Taught) (words : Bor (BTreeMap ℕ Words)) → words.now.entries ≡ t.words → t.library ≡ lib → AreTold o t → AreToldBy lib o (words_for (Some words))
@@ -106,3 +116,27 @@ unfolding AreTold
 told_lent lib o t words e l told =
     subst (λ (x : Contracts). AreToldBy x o (words_for (Some words))) l
     (subst (λ (x : List (ℕ × Words)). AreToldBy t.library o (λ n. lookup (is_at (nat_cmp n)) x)) (sym e) told)
+
+-- words that are told for an object stand for those that it gives where it stands
+pub told_inside : (t : Taught) (o : Object) (r : Context) (n : ℕ) (h : Head) (told : Option Words) → AreTold o t → Some r ≡ standing_at t.library n o → head_at n o ≡ Some h → told ≡ words_at t n
+    → StandIn r.library told (handed_down r h).implied
+unfolding AreTold
+told_inside t o r n h told are stands there is =
+    subst (λ (l : Contracts). StandIn l told (handed_down r h).implied) (sym (stands_by t.library o r n h stands there))
+    (subst (λ (x : Option Words). StandIn t.library x (handed_down r h).implied) (sym is) (are n r h stands there))
+
+-- what an object says of itself, told by its own without children
+pub own_head : (n : ℕ) (o own : Object) → Some own ≡ option_map leaf (head_at n o) → head_at n o ≡ Some own.head
+own_head n o own is = by (head_at n o) is
+  where
+    by : (h : Option Head) → Some own ≡ option_map leaf h → h ≡ Some own.head
+    by None e = absurd cc
+    by (Some h) e = sym (ap (option_map (λ (x : Object). x.head)) e)
+
+-- and where a child stands in it
+pub stands_inside : (lib : Contracts) (o : Object) (r s : Context) (n : ℕ) (h : Head) (name : Option (List ℕ)) → Some r ≡ standing_at lib n o → head_at n o ≡ Some h → s ≡ under (handed_down r h) name
+    → Some s ≡ inside_at lib n name o
+stands_inside lib o r s n h name stands there is =
+    ap (λ (x : Context). Some x) is
+    ∙ ap (option_map (λ (c : Context). under (handed_down c h) name)) stands
+    ∙ ap (option_and_then (λ (x : Head). option_map (λ (c : Context). under (handed_down c x) name) (standing_at lib n o))) (sym there)

@@ -1,5 +1,6 @@
 //! The library and the tree of a site.
 ghost use Rattle.std.specs.Prelude.{◌≡◌, ◌<◌, ◌+◌, ◌-◌, ◌^◌, replicate, Some, IsTrue, IfOk, option_map};
+ghost use Rattle.std.specs.Option.{option_copied};
 ghost use Rattle.ob_object.specs.declared.head.Head.{Head};
 ghost use Rattle.ob_object.specs.Fits.{fits_slot};
 ghost use Rattle.ob_object.specs.Object.{parts};
@@ -8,7 +9,7 @@ ghost use Rattle.ob_tree.specs.Laid.{head_at, changed};
 ghost use Rattle.ob_tree.specs.Shown.{standing_at};
 ghost use Rattle.ob_tree.specs.Stamps.{touched};
 ghost use Rattle.ob_standing.specs.Standings.{context};
-ghost use Rattle.ob_ground.specs.Grounds.{AreTold};
+ghost use Rattle.ob_ground.specs.Grounds.{AreTold, inside_at};
 
 use crate::told::Told;
 use ob_contracts::Library;
@@ -16,6 +17,7 @@ use ob_object::Slot;
 use ob_standing::Standing;
 use ob_steps::Steps;
 use ob_tree::{NodeId, Tree};
+use ob_values::Text;
 use std::alloc::{AllocError, Global};
 use std::marker::Model;
 use std::sync::ledger::Ledger;
@@ -129,11 +131,19 @@ impl Ground {
         requires { id.number < parts self.now.tree.root }
         ensures { Some (context result) ≡ standing_at self.now.library id.number self.now.tree.root }
     {
-        let words = Some(self.told.words());
-        self.tree.standing_told(self.told.library(), words, id)
+        self.told.standing(&self.tree, id)
     }
 
-    /// The same, counted as one step for each object round it.
+    /// Where a child of a name stands, or would stand, in an object.
+    pub fn inside<'a>(&'a self, id: NodeId, name: Option<&Text>) -> Standing<'a>
+        requires { id.number < parts self.now.tree.root }
+        ensures { Some (context result) ≡ inside_at self.now.library id.number (option_copied name.entry) self.now.tree.root }
+    {
+        let standing = self.standing(id);
+        standing.inside_told(self.tree.own(id), name, self.told.words_for(id))
+    }
+
+    /// The same as `standing`, counted as one step for each object round it.
     pub fn standing_counted<L: Ledger>(&self, id: NodeId, steps: &mut Steps<L>) -> Standing<'_>
         requires { id.number < parts self.now.tree.root }
         ensures stands { Some (context result) ≡ standing_at self.now.library id.number self.now.tree.root }

@@ -1,10 +1,15 @@
 //! A library, with the words that are told by it.
-ghost use Rattle.std.specs.Prelude.{◌≡◌, IfOk};
-ghost use Rattle.ob_ground.specs.Grounds.{AreTold};
+ghost use Rattle.std.specs.Prelude.{◌≡◌, ◌<◌, Some, IfOk};
+ghost use Rattle.std.specs.Option.{option_copied};
+ghost use Rattle.ob_object.specs.Object.{parts};
+ghost use Rattle.ob_standing.specs.Standings.{context};
+ghost use Rattle.ob_tree.specs.Shown.{standing_at};
+ghost use Rattle.ob_ground.specs.Grounds.{AreTold, words_at};
 
 use ob_contracts::Library;
 use ob_object::Words;
-use ob_tree::Tree;
+use ob_standing::Standing;
+use ob_tree::{NodeId, Tree};
 use std::alloc::{AllocError, Global};
 use std::collections::BTreeMap;
 use std::marker::Model;
@@ -51,6 +56,22 @@ impl Told {
         ensures { result.now ≡ self.now.library }
     {
         &self.library
+    }
+
+    /// Where an object of a tree for which the words are told stands with the library.
+    pub fn standing<'a>(&'a self, tree: &'a Tree, id: NodeId) -> Standing<'a>
+        requires within { id.number < parts tree.now.root }
+        requires told { AreTold tree.now.root self.now }
+        ensures { Some (context result) ≡ standing_at self.now.library id.number tree.now.root }
+    {
+        tree.standing_told(self.library(), Some(self.words()), id)
+    }
+
+    /// The words for the list of a number, where some are told.
+    pub(crate) fn words_for(&self, id: NodeId) -> Option<&Words>
+        ensures { option_copied result ≡ words_at self.now id.number }
+    {
+        self.words.get(&id.number)
     }
 
     /// The words by the numbers of lists.

@@ -25,7 +25,8 @@ use Rattle.ob_site_rules.specs.Build.{Path}
 use Rattle.ob_site_rules.specs.State.{Plan, Log, State, rolled, roll}
 use Rattle.ob_shown_laws.specs.Alike.{DifferInValues}
 use Rattle.ob_shown_laws.specs.Changed.{differs, head_in, same_values, same_log}
-use Rattle.ob_ground.specs.Grounds.{Taught}
+use Rattle.ob_ground.specs.Grounds.{Taught, AreTold as WordsAreTold}
+use Rattle.ob_ground.proofs.Telling.{told_unset}
 use Rattle.ob_site_state.specs.declared.change.Change.{Change}
 use Rattle.ob_site_state.specs.declared.change.Change.TheVariants as change
 use Rattle.ob_site_state.specs.Changes.{cut, rewound, CanRewind, AreTold}
@@ -76,6 +77,26 @@ library_here xs i told c k h is that so_far before =
 
 none_noted : (xs : List Change) (i : ℕ) → length xs ≤ i → first_noted library_noted (drop i xs) ≡ first_noted library_noted xs → first_noted library_noted xs ≡ None
 none_noted xs i h so_far = sym so_far ∙ ap (first_noted library_noted) (drop_all xs i h)
+
+-- Words that are told for the tree once the changes behind are taken back are told for the tree that is there: these change slots
+-- alone.
+tells_now : (cs : List Change) (s : State) (told : Taught) → WordsAreTold (rewound cs s).tree told → WordsAreTold s.tree told
+tells_now [] s told t = t
+tells_now (change.Slot node slot ∷ cs) s told t = tells_now cs s told (told_unset slot node.number (rewound cs s).tree told t)
+tells_now (change.Records place len ∷ cs) s told t = tells_now cs s told t
+tells_now (change.Event rule status ∷ cs) s told t = tells_now cs s told t
+tells_now (change.Contracts other ∷ cs) s told t = tells_now cs s told t
+
+can_drop : (i : ℕ) (xs : List Change) (s : State) → CanRewind xs s → CanRewind (drop i xs) s
+can_drop zero xs s can = can
+can_drop (suc i) [] s can = can
+can_drop (suc i) (x ∷ xs) s can = can_drop i xs s can.1
+
+pub tells_here : (xs : List Change) (i : ℕ) (told : Taught) (c : Change) (s : State) → i < length xs → c ≡ get_or xs i c → c ≡ change.Contracts told → CanRewind xs s → WordsAreTold s.tree told
+tells_here xs i told c s h is that can =
+    let there : CanRewind (change.Contracts told ∷ drop (i + 1) xs) s =
+    subst (λ (x : Change). CanRewind (x ∷ drop (i + 1) xs) s) that (subst (λ (l : List Change). CanRewind l s) (drop_item xs i c h is) (can_drop i xs s can)) in
+    tells_now (drop (i + 1) xs) s told there.0
 
 pub library_stays : (xs : List Change) (i : ℕ) (k : Kept) → length xs ≤ i → first_noted library_noted (drop i xs) ≡ first_noted library_noted xs → rewound xs k.now ≡ k.before
     → k.now.library ≡ k.before.library

@@ -1,5 +1,5 @@
 -- What was before a step, as the first notes of it tell, and which own nodes show it otherwise at the end of the step.
-use Rattle.std.specs.Prelude.{◌≡◌, ℕ, ◌-◌, ◌<◌, ◌≤◌, Bool, true, false, not, cond, min, IsTrue, List, [], ◌∷◌, ◌++◌, length, nat_eq, suc, option_and_then, option_to_list, slice_get, unwrap_or, Option, Some, None, is_none}
+use Rattle.std.specs.Prelude.{◌≡◌, ℕ, ◌-◌, ◌<◌, ◌≤◌, Bool, true, false, not, cond, min, IsTrue, List, [], ◌∷◌, ◌++◌, length, nat_eq, suc, option_and_then, option_to_list, slice_get, Option, Some, None, is_none}
 use Rattle.ob_object.specs.declared.head.Head.{Head}
 use Rattle.ob_object.specs.declared.head.Slot.{Slot}
 use Rattle.ob_object.specs.declared.status.Status.{Status}
@@ -7,6 +7,7 @@ use Rattle.ob_object.specs.Fits.{fits_slot}
 use Rattle.ob_object.specs.Object.{parts}
 use Rattle.ob_contracts.specs.Inherit.{Contracts, or_else, only_if}
 use Rattle.ob_standing.specs.Contexts.{Context}
+use Rattle.ob_ground.specs.Grounds.{Taught, AreTold as WordsAreTold}
 use Rattle.ob_alarms.specs.States.{status_of}
 use Rattle.ob_alarms.specs.declared.alarm.Event.{Event}
 use Rattle.ob_alarms.specs.declared.alarm.What.{What}
@@ -52,8 +53,14 @@ library_noted (change.Contracts told) = Some told.library
 library_noted _ = None
 
 -- the library before a step, where it has replaced this one, and where it has replaced none; s is the state that it has made
-abbrev pub replaced_or : Option Contracts → State → Contracts
-replaced_or replaced s = unwrap_or replaced s.library
+abbrev pub replaced_or : Option Taught → State → Contracts
+replaced_or None s = s.library
+replaced_or (Some told) s = told.library
+
+-- the words that the library before tells are those of the objects that are there
+abbrev pub TellsOf : Option Taught → State → Type 0
+TellsOf None s = Unit {0}
+TellsOf (Some told) s = WordsAreTold s.tree told
 
 -- no earlier note is of the same object, history or rule: so the note tells what was before the step
 abbrev pub is_first : List Change → Change → Bool

@@ -15,14 +15,14 @@ ghost use Rattle.ob_site_state.specs.declared.change.Change.{Change as Note};
 ghost use Rattle.ob_site_state.specs.declared.change.Change.TheVariants as note;
 ghost use Rattle.ob_site_settled.specs.Ending.{AreChanged};
 ghost use Rattle.ob_site_settled.specs.Seen.{HasSeen};
-ghost use Rattle.ob_site_settled.specs.Telling.{replaced_or, is_first, is_rule, other_slot_in, other_slot, other_records, node_with};
+ghost use Rattle.ob_site_settled.specs.Telling.{replaced_or, TellsOf, is_first, is_rule, other_slot_in, other_slot, other_records, node_with};
 ghost use Rattle.ob_site_settled.specs.Telling.{other_status, told_by, all_told, subject_told, ended_in_values, IsComparable};
 
 use crate::noted::{alarms_before, library_replaced};
 use crate::seen::Seen;
 use crate::spans::shows_other_span;
 use crate::values::{same_status, shows_other_values};
-use ob_contracts::Library;
+use ob_ground::Told;
 use ob_history::Log;
 use ob_object::{Slot, Status};
 use ob_site_state::{Change, State};
@@ -31,18 +31,15 @@ use ob_tree::NodeId;
 use ob_values::Text;
 use std::alloc::AllocError;
 
-/// Where an object stands with the library before the step. Where that is the one of now, the words that its lists tell their
-/// items are found with it, and not looked up for each note.
-fn standing_before<'a>(
-    state: &'a State,
-    replaced: Option<&'a Library>,
-    node: NodeId,
-) -> Standing<'a>
-    requires { node.number < parts state.now.now.tree }
+/// Where an object stands with the library before the step: the words that objects name and give are found by those that this
+/// library tells, and not looked up for each note.
+fn standing_before<'a>(state: &'a State, replaced: Option<&'a Told>, node: NodeId) -> Standing<'a>
+    requires within { node.number < parts state.now.now.tree }
+    requires told { TellsOf (option_copied replaced) state.now.now }
     ensures { Some (context result) ≡ standing_at (replaced_or (option_copied replaced.entry) state.now.now) node.number state.now.now.tree }
 {
     match replaced {
-        Some(library) => state.tree().standing(library, node),
+        Some(told) => told.standing(state.tree(), node),
         None => state.contents().ground.standing(node),
     }
 }
@@ -50,11 +47,12 @@ fn standing_before<'a>(
 /// Whether an object, where it stands, shows another slot than it would with this one.
 fn shows_other_slot(
     state: &State,
-    replaced: Option<&Library>,
+    replaced: Option<&Told>,
     node: NodeId,
     slot: &Slot,
 ) -> Result<bool, AllocError>
-    requires { IsComparable state.now.now (note.Slot node slot.now) }
+    requires comparable { IsComparable state.now.now (note.Slot node slot.now) }
+    requires told { TellsOf (option_copied replaced) state.now.now }
     ensures { IfOk result (λ other. other ≡ other_slot_in
         (standing_at (replaced_or (option_copied replaced.entry) state.now.now) node.number state.now.now.tree) (head_at node.number state.now.now.tree) slot.now) }
 {
@@ -69,11 +67,12 @@ fn shows_other_slot(
 /// A node of which a note has the slot, if it shows another one.
 fn changed_slot(
     state: &State,
-    replaced: Option<&Library>,
+    replaced: Option<&Told>,
     node: NodeId,
     slot: &Slot,
 ) -> Result<Option<NodeId>, AllocError>
-    requires { IsComparable state.now.now (note.Slot node slot.now) }
+    requires comparable { IsComparable state.now.now (note.Slot node slot.now) }
+    requires told { TellsOf (option_copied replaced) state.now.now }
     ensures { IfOk result (λ found. option_map (λ node. node.number) found
         ≡ other_slot (replaced_or (option_copied replaced.entry) state.now.now) state.now.now node.number slot.now) }
 {
@@ -157,10 +156,11 @@ fn changed_status(state: &State, rule: u64, status: Status) -> Option<NodeId>
 /// The own node that a note tells of as the first one of its kind, if it shows itself otherwise than before.
 fn told_by(
     state: &State,
-    replaced: Option<&Library>,
+    replaced: Option<&Told>,
     change: &Change,
 ) -> Result<Option<NodeId>, AllocError>
-    requires { IsComparable state.now.now change.now }
+    requires comparable { IsComparable state.now.now change.now }
+    requires told { TellsOf (option_copied replaced) state.now.now }
     ensures { IfOk result (λ found. option_map (λ node. node.number) found
         ≡ told_by (replaced_or (option_copied replaced.entry) state.now.now) state.now.plan state.now.now change.now) }
 {
@@ -189,12 +189,13 @@ fn push_some(found: &mut Vec<NodeId>, node: Option<NodeId>) -> Result<(), AllocE
 /// Puts last the own node that a note tells of, if it is the first one of its kind.
 fn push_told(
     state: &State,
-    replaced: Option<&Library>,
+    replaced: Option<&Told>,
     seen: &mut Seen,
     change: &Change,
     found: &mut Vec<NodeId>,
 ) -> Result<(), AllocError>
-    requires { IsComparable state.now.now change.now }
+    requires comparable { IsComparable state.now.now change.now }
+    requires told { TellsOf (option_copied replaced) state.now.now }
     ensures seen { OnOk result ((earlier : List Note) → HasSeen earlier seen.old
         → HasSeen (earlier ++ change.now ∷ []) seen.new) }
     ensures found { OnOk result ((earlier : List Note) → HasSeen earlier seen.old
@@ -211,11 +212,12 @@ fn push_told(
 /// Puts last the own nodes that notes tell of.
 fn push_all(
     state: &State,
-    replaced: Option<&Library>,
+    replaced: Option<&Told>,
     changes: &[Change],
     found: &mut Vec<NodeId>,
 ) -> Result<(), AllocError>
-    requires { All (IsComparable state.now.now) changes.now }
+    requires comparable { All (IsComparable state.now.now) changes.now }
+    requires told { TellsOf (option_copied replaced) state.now.now }
     ensures { OnOk result (map (λ node. node.number) found.new.items
         ≡ map (λ node. node.number) found.old.items ++ all_told (replaced_or (option_copied replaced.entry) state.now.now) state.now.plan state.now.now [] changes.now) }
 {

@@ -3,20 +3,22 @@ ghost use Rattle.std.specs.Prelude.{◌≡◌, ◌≤◌, length, IsTrue};
 ghost use Rattle.std.specs.Option.{option_copied};
 ghost use Rattle.ob_site_rules.specs.State.{roll};
 ghost use Rattle.ob_shown_laws.specs.Alike.{DifferInValues};
-ghost use Rattle.ob_site_settled.specs.Telling.{replaced_or, count_before_what, count_before, is_event, events_noted};
+ghost use Rattle.ob_site_settled.specs.Telling.{replaced_or, TellsOf, count_before_what, count_before, is_event, events_noted};
 
 use ob_alarms::{Event, What};
 use ob_contracts::Library;
+use ob_ground::Told;
 use ob_site_state::{Change, State};
 
-/// The library before this step, if the step has replaced it by another one.
-pub(crate) fn library_replaced(state: &State) -> Option<&Library>
-    ensures { replaced_or (option_copied result) state.now.now ≡ state.now.before.library }
+/// The library before this step, with the words that it tells the objects of the tree, if the step has replaced it by another one.
+pub(crate) fn library_replaced(state: &State) -> Option<&Told>
+    ensures library { replaced_or (option_copied result) state.now.now ≡ state.now.before.library }
+    ensures told { TellsOf (option_copied result) state.now.now }
 {
     let changes = state.changes();
     for change in changes {
         if let Change::Contracts { told } = change {
-            return Some(told.library());
+            return Some(told);
         }
     }
     None
@@ -27,7 +29,7 @@ pub fn library_before(state: &State) -> &Library
     ensures { result.now ≡ state.now.before.library }
 {
     match library_replaced(state) {
-        Some(library) => library,
+        Some(told) => told.library(),
         None => state.library(),
     }
 }

@@ -6,6 +6,8 @@ use Rattle.ob_object.specs.Object.{Object, in_row}
 use Rattle.ob_site_rules.specs.Build.{Path}
 use Rattle.ob_site_rules.specs.State.{Plan, State}
 use Rattle.ob_site_rules.specs.Shown.{dressed, derived_at, shown}
+use Rattle.ob_contracts.specs.Inherit.{Contracts}
+use Rattle.ob_ground.specs.Grounds.{inside_at}
 use Rattle.ob_standing.specs.Contexts.{Context, comes_to, handed_down, under}
 use Rattle.ob_shown_laws.specs.Alike.{row}
 use Rattle.ob_shown_laws.specs.Changed.{is_in, PathsDiffer}
@@ -31,6 +33,17 @@ not_there plan s p q e here = absurd (none_there (place_of q (paths s.tree)) e h
 pub not_among : (plan : Plan) (s : State) (p q : Path) (os : List Object) (o : Option Object) → os ≡ derived_at plan s q → IsAmong p os o → o ≡ None → IsOff plan s p q
 not_among plan s p q os o is there e here =
     ap (λ (l : List Object). is_in p (in_row l)) (sym is) ∙ subst (IsAmong p os) e there
+
+-- what a child comes to where it stands in an object
+pub comes_inside : (lib : Contracts) (o : Object) (n : ℕ) (d : Object) (c : Context) → Some c ≡ inside_at lib n d.head.name o
+    → Some (comes_to c d) ≡ option_and_then (λ (h : Head). option_map (λ (x : Context). comes_to (under (handed_down x h) d.head.name) d) (standing_at lib n o)) (head_at n o)
+comes_inside lib o n d c is = by (head_at n o) (standing_at lib n o) is
+  where
+    by : (h : Option Head) (s : Option Context) → Some c ≡ option_and_then (λ (x : Head). option_map (λ (y : Context). under (handed_down y x) d.head.name) s) h
+        → Some (comes_to c d) ≡ option_and_then (λ (x : Head). option_map (λ (y : Context). comes_to (under (handed_down y x) d.head.name) d) s) h
+    by None s e = absurd cc
+    by (Some h) None e = absurd cc
+    by (Some h) (Some s) e = ap (option_map (λ (y : Context). comes_to y d)) e
 
 -- or they derive one
 pub derives : (plan : Plan) (s : State) (p q : Path) (n : ℕ) (os : List Object) (d o : Object) → PathsDiffer (row (dressed plan s)) → Some n ≡ place_of q (paths s.tree) → os ≡ derived_at plan s q

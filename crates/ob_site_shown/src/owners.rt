@@ -4,8 +4,8 @@ ghost use Rattle.std.specs.Option.{option_copied};
 ghost use Rattle.std.specs.List.{starts_with};
 ghost use Rattle.ob_object.specs.Object.{parts};
 ghost use Rattle.ob_standing.specs.Contexts.{comes_to, handed_down, under};
-ghost use Rattle.ob_tree.specs.Laid.{AreLeaves, head_at, leaf};
 ghost use Rattle.ob_tree.specs.Shown.{standing_at};
+ghost use Rattle.ob_tree.specs.Laid.{AreLeaves, head_at};
 ghost use Rattle.ob_replies.specs.Plans.{plan as plan_of};
 ghost use Rattle.ob_shown_laws.specs.Alike.{row};
 ghost use Rattle.ob_shown_laws.specs.OwnShown.{IsNotDerived};
@@ -44,14 +44,6 @@ fn among<'a>(objects: &'a [Obj], path: &Text) -> Option<&'a Obj>
     None
 }
 
-/// The own object of a number, without its children.
-fn own_in(contents: &Contents, node: NodeId) -> &Obj
-    requires { node.number < parts contents.now.ground.tree.root }
-    ensures { Some result.now ≡ option_map leaf (head_at node.number contents.now.ground.tree.root) }
-{
-    contents.ground.tree().own(node)
-}
-
 /// What is shown of a child that the own object of a number has, where it stands.
 fn shown_inside(
     alloc: Global,
@@ -62,9 +54,7 @@ fn shown_inside(
     requires { node.number < parts contents.now.ground.tree.root }
     ensures { IfOk result (λ o. Some o ≡ option_and_then (λ h. option_map (λ c. comes_to (under (handed_down c h) child.now.head.name) child.now) (standing_at contents.now.ground.library node.number contents.now.ground.tree.root)) (head_at node.number contents.now.ground.tree.root)) }
 {
-    let standing = contents.ground.standing(node);
-    let own = own_in(contents, node);
-    let inside = standing.inside(own, child.head().name.as_ref());
+    let inside = contents.ground.inside(node, child.head().name.as_ref());
     inside.whole(alloc, child)
 }
 

@@ -1,14 +1,21 @@
-use Rattle.std.proofs.Common.{ap, sym, ◌∙◌}
+use Rattle.std.proofs.Common.{Option, sym, ap, ◌∙◌, subst}
 use Rattle.std.specs.Option.{option_copied}
+use Rattle.ob_object.specs.Object.{Object}
 use Rattle.ob_site_rules.specs.State.{State}
 use Rattle.ob_tree.specs.Shown.{standing_at}
 use Rattle.ob_tree.specs.Trees.{Stamped}
-use Rattle.ob_site_settled.specs.Telling.{replaced_or}
+use Rattle.ob_ground.specs.Grounds.{Taught, AreTold}
+use Rattle.ob_site_settled.specs.Telling.{replaced_or, TellsOf}
 use Rattle.ob_site_settled.proofs.changes.standing_before.Goals as goal
+
+pub standing-requires-clause-told : goal.standing-requires-clause-told
+standing-requires-clause-told c =
+    subst (λ (o : Object). AreTold o c.in-Some.told.now) (sym (ap (λ (t : Stamped). t.root) c.tree.ensures.value))
+    (subst (λ (t : Option Taught). TellsOf t c.args.state.now.now) (ap (λ r. option_copied r) c.in-Some.is) c.requires.told)
 
 pub returns-in-Some : goal.returns-in-Some
 returns-in-Some c =
-    c.standing.ensures ∙ ap (λ (t : Stamped). standing_at c.in-Some.library.now c.args.node.number t.root) c.tree.ensures.value
+    c.standing.ensures ∙ ap (λ (t : Stamped). standing_at c.in-Some.told.now.library c.args.node.number t.root) c.tree.ensures.value
     ∙ ap (λ r. standing_at (replaced_or (option_copied r) c.args.state.now.now) c.args.node.number c.args.state.now.now.tree) (sym c.in-Some.is)
 
 pub returns-in-None : goal.returns-in-None

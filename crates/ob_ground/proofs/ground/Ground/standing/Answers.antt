@@ -1,7 +1,0 @@
-use Rattle.std.proofs.Common.{sym}
-use Rattle.ob_ground.proofs.Telling.{told_lent}
-use Rattle.ob_ground.proofs.ground.Ground.standing.Goals as goal
-
-pub standing_told-requires-clause-told : goal.standing_told-requires-clause-told
-standing_told-requires-clause-told c =
-    told_lent c.library.result.now c.self.inside.tree.root c.self.inside.told c.words.result c.words.ensures (sym c.library.ensures) c.self.invariant

@@ -1,0 +1,19 @@
+use Rattle.std.proofs.Common.{◌≡◌, ap, ◌∙◌, Some, List, ℕ, Option}
+use Rattle.std.proofs.lemmas.Result.{IfOk-weaker}
+use Rattle.std.specs.Option.{option_copied}
+use Rattle.ob_object.specs.declared.head.Head.{Head}
+use Rattle.ob_object.specs.Object.{Object}
+use Rattle.ob_ground.specs.Grounds.{inside_at}
+use Rattle.ob_standing.specs.Standings.{context}
+use Rattle.ob_site_shown.proofs.ByRole.{comes_inside}
+use Rattle.ob_site_shown.proofs.owners.shown_inside.Goals as goal
+
+pub returns : goal.returns
+returns c =
+    let g = c.args.contents.now.ground in
+    let n = c.args.node.number in
+    let named : option_copied c.as_ref.result ≡ c.args.child.now.head.name = c.as_ref.ensures.value ∙ ap (λ (h : Head). h.name) c.head.ensures.value in
+    let stands : Some (context c.inside-inside.result) ≡ inside_at g.library n c.args.child.now.head.name g.tree.root =
+    c.inside-inside.ensures ∙ ap (λ (m : Option (List ℕ)). inside_at g.library n m g.tree.root) named in
+    IfOk-weaker c.whole.result _ _
+    (λ made is. ap (λ (o : Object). Some o) is ∙ comes_inside g.library g.tree.root n c.args.child.now (context c.inside-inside.result) stands) c.whole.ensures
