@@ -4,6 +4,7 @@ use Rattle.std.specs.Prelude.{is_some}
 use Rattle.std.specs.Option.{option_copied}
 use Rattle.std.proofs.lemmas.Slice.Eq.{bytes_eq-Decides}
 use Rattle.ob_object.specs.declared.head.Head.{Head}
+use Rattle.ob_object.specs.declared.kind.Kind.{Kind}
 use Rattle.ob_object.specs.Kinds.{is_ref, same_kind, has_of, has_input, has_output}
 use Rattle.ob_object.specs.Object.{Object, Objects, none, node, listed, in_row, children}
 use Rattle.ob_object.specs.WellFormed.{named, is_taken, has_name}
@@ -11,6 +12,7 @@ use Rattle.ob_contracts.specs.Telling.{TellTheSame, Gave, IsTold, Same, named_by
 use Rattle.ob_contracts.specs.Inherit.{Contracts, Words, words_in, contract_of, present, or_else, only_if, given, first_given, overridden, is_new, missing, bare, sources, implied_by, inherited_head, row_results, result_of}
 use Rattle.ob_contracts.specs.HandedDown.{MayGive}
 use Rattle.ob_contracts.specs.Shown.{shown_result, own_child_of, view_sources}
+use Rattle.ob_contracts.specs.Places.{sources_by}
 use Rattle.ob_contracts.specs.declared.reading.View.{View}
 use Rattle.ob_contracts.proofs.Children.{named-append}
 
@@ -220,17 +222,23 @@ map-append F (x ∷ xs) ys = ap (λ l. F x ∷ l) (map-append F xs ys)
 pub named_by-append : (lib : Contracts) (vs ws : Words) → named_by lib (vs ++ ws) ≡ named_by lib vs ++ named_by lib ws
 named_by-append lib vs ws = ap present (map-append (contract_of lib) vs ws) ∙ present-append (map (contract_of lib) vs) (map (contract_of lib) ws)
 
+-- what is looked up for an object is the same by words that stand for others
+pub same_by : (lib : Contracts) (k : Kind) (ts ws : Words) (over : Option Object) → StandFor lib ts ws → Same (sources_by lib k ts over) (sources_by lib k ws over)
+same_by lib k ts ws over e = go (is_ref k)
+  where
+    go : (r : Bool) → Same (present (cond r [] (map (contract_of lib) ts ++ over ∷ []))) (present (cond r [] (map (contract_of lib) ws ++ over ∷ [])))
+    go true = same_refl []
+    go false =
+        subst (λ (x : List Object). Same x (present (map (contract_of lib) ws ++ over ∷ []))) (sym (present-append (map (contract_of lib) ts) (over ∷ [])))
+        (subst (λ (x : List Object). Same (named_by lib ts ++ present (over ∷ [])) x) (sym (present-append (map (contract_of lib) ws) (over ∷ []))) (e (present (over ∷ []))))
+
 -- the sources of an object are the same by words that stand for others
 pub same_sources : (lib : Contracts) (told words : Option Words) → StandFor lib (words_in told) (words_in words) → (h : Head) (over : Option Object) → Same (sources lib h told over) (sources lib h words over)
-same_sources lib told words e h over = go h.is (is_ref h.kind)
+same_sources lib told words e h over = go h.is
   where
-    go : (is : Option Words) (r : Bool)
-        → Same (present (cond r [] (map (contract_of lib) (words_in (or_else is told)) ++ over ∷ []))) (present (cond r [] (map (contract_of lib) (words_in (or_else is words)) ++ over ∷ [])))
-    go (Some vs) r = same_refl (present (cond r [] (map (contract_of lib) vs ++ over ∷ [])))
-    go None true = same_refl []
-    go None false =
-        subst (λ (x : List Object). Same x (present (map (contract_of lib) (words_in words) ++ over ∷ []))) (sym (present-append (map (contract_of lib) (words_in told)) (over ∷ [])))
-        (subst (λ (x : List Object). Same (named_by lib (words_in told) ++ present (over ∷ [])) x) (sym (present-append (map (contract_of lib) (words_in words)) (over ∷ []))) (e (present (over ∷ []))))
+    go : (is : Option Words) → Same (sources_by lib h.kind (words_in (or_else is told)) over) (sources_by lib h.kind (words_in (or_else is words)) over)
+    go (Some vs) = same_refl (sources_by lib h.kind vs over)
+    go None = same_by lib h.kind (words_in told) (words_in words) over e
 
 -- such words tell the same
 pub tell_the_same : (lib : Contracts) (told words : Option Words) → StandFor lib (words_in told) (words_in words) → TellTheSame lib told words

@@ -8,7 +8,7 @@ pub mod Names
 pub mod Kinship
 pub mod Known
 pub mod Parts
-pub mod Sources
+pub mod Giving
 pub mod Added
 pub mod Tabled
 pub mod Indexed

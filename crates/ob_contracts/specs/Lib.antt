@@ -2,6 +2,7 @@ pub mod Inherit
 pub mod Sound
 pub mod Index
 pub mod Shown
+pub mod Places
 pub mod Adding
 pub mod Found
 pub mod HandedDown

@@ -17,6 +17,7 @@ mod fewer;
 mod inherited;
 mod kin;
 mod library;
+mod lookup;
 mod named;
 mod reading;
 mod standard;
@@ -24,8 +25,8 @@ mod standard;
 pub use adding::LibFault;
 pub use build::{effective, view};
 pub use fewer::{telling, told_by};
-pub use inherited::source_children;
 pub use library::Library;
+pub use lookup::Sources;
 pub use reading::View;
 
 /// Worked rows of the inheritance rules, computed on the definition.

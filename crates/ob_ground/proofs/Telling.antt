@@ -11,14 +11,15 @@ use Rattle.ob_object.specs.declared.head.Head.{Head}
 use Rattle.ob_object.specs.declared.head.Slot.{Slot}
 use Rattle.ob_object.specs.declared.head.Slot.TheVariants.{Absent}
 use Rattle.ob_object.specs.Object.{Objects, none, node, Object, count}
-use Rattle.ob_contracts.specs.Inherit.{Contracts, Words}
+use Rattle.ob_contracts.specs.Inherit.{Contracts}
 use Rattle.ob_contracts.specs.Telling.{StandIn}
+use Rattle.ob_standing.specs.declared.instead.Instead.{Instead}
 use Rattle.ob_standing.specs.Contexts.{Context, HandedDown, handed_down, under}
+use Rattle.ob_standing.specs.Standings.{MayStand, is_of, items_of}
 use Rattle.ob_tree.specs.Laid.{heads, heads_of, head_at, leaf, changed_in, changed}
 use Rattle.ob_tree.specs.Shown.{at_top, handed, handed_in, handed_at, standing_at, row}
 use Rattle.ob_tree.specs.Told.{IsToldAt, AreToldBy, words_for}
 use Rattle.ob_tree.proofs.Changing.{count-changed_in}
-use Rattle.ob_tree.proofs.Giving.{stands_by}
 use Rattle.ob_ground.specs.Grounds.{Taught, AreTold, words_at, inside_at}
 
 -- what an object says of itself but for its slot: all that it hands down is told by that
@@ -29,16 +30,20 @@ abbrev rests : List Head → List Head
 rests hs = map rest_of hs
 
 -- words stay told for an object whose parts say the same of themselves but for their slots, and take the same
-kept_at : (lib : Contracts) (m : ℕ) (o : Object) (told : Option Words) (c : Context) (h : Head) (at : Option Head) → head_at m o ≡ at → Some (rest_of h) ≡ option_map rest_of at
-    → Some c ≡ Some (under (handed_at lib m o) h.name) → IsToldAt lib o m told → StandIn lib told (handed_down c h).implied
+kept_at : (lib : Contracts) (m : ℕ) (o : Object) (told : Option Instead) (c : Context) (h : Head) (at : Option Head) → head_at m o ≡ at → Some (rest_of h) ≡ option_map rest_of at
+    → Some c ≡ Some (under (handed_at lib m o) h.name) → IsToldAt lib o m told → MayStand c h told
 kept_at lib m o told c h None there e stands t = absurd cc
 kept_at lib m o told c h (Some g) there e stands t =
     let same : rest_of h ≡ rest_of g = cc in
     let here : Some c ≡ standing_at lib m o =
     stands ∙ ap (λ (x : Head). Some (under (handed_at lib m o) x.name)) same ∙ sym (ap (option_map (λ (x : Head). under (handed_at lib m o) x.name)) there) in
-    subst (λ (x : Head). StandIn lib told (handed_down c x).implied) (sym same) (t c g here there)
+    let may = t c g here there in
+    record {
+      is = subst (λ (x : Head). StandIn c.library (is_of told) x.is) (sym same) may.is;
+      items = subst (λ (x : Head). StandIn c.library (items_of told) (handed_down c x).implied) (sym same) may.items;
+    }
 
-kept_by : (lib : Contracts) (told : ℕ → Option Words) (o p : Object) → ((m : ℕ) → option_map rest_of (head_at m p) ≡ option_map rest_of (head_at m o)) → ((m : ℕ) → handed_at lib m p ≡ handed_at lib m o)
+kept_by : (lib : Contracts) (told : ℕ → Option Instead) (o p : Object) → ((m : ℕ) → option_map rest_of (head_at m p) ≡ option_map rest_of (head_at m o)) → ((m : ℕ) → handed_at lib m p ≡ handed_at lib m o)
     → AreToldBy lib o told → AreToldBy lib p told
 kept_by lib told o p rest takes t = λ m c h stands there.
     kept_at lib m o (told m) c h (head_at m o) refl (sym (ap (option_map rest_of) there) ∙ rest m)
@@ -111,19 +116,17 @@ told_unset slot n o t told =
     kept_by t.library (words_at t) (changed (with_slot slot) n o) o (λ m. sym (rest_at slot n m o)) (λ m. sym (takes_at slot t.library n m o)) told
 
 -- words of a map that is lent
-pub told_lent : (lib : Contracts) (o : Object) (t : Taught) (words : Bor (BTreeMap ℕ Words)) → words.now.entries ≡ t.words → t.library ≡ lib → AreTold o t → AreToldBy lib o (words_for (Some words))
+pub told_lent : (lib : Contracts) (o : Object) (t : Taught) (words : Bor (BTreeMap ℕ Instead)) → words.now.entries ≡ t.words → t.library ≡ lib → AreTold o t → AreToldBy lib o (words_for (Some words))
 unfolding AreTold
 told_lent lib o t words e l told =
     subst (λ (x : Contracts). AreToldBy x o (words_for (Some words))) l
-    (subst (λ (x : List (ℕ × Words)). AreToldBy t.library o (λ n. lookup (is_at (nat_cmp n)) x)) (sym e) told)
+    (subst (λ (x : List (ℕ × Instead)). AreToldBy t.library o (λ n. lookup (is_at (nat_cmp n)) x)) (sym e) told)
 
--- words that are told for an object stand for those that it gives where it stands
-pub told_inside : (t : Taught) (o : Object) (r : Context) (n : ℕ) (h : Head) (told : Option Words) → AreTold o t → Some r ≡ standing_at t.library n o → head_at n o ≡ Some h → told ≡ words_at t n
-    → StandIn r.library told (handed_down r h).implied
+-- words that are told for an object may stand for its own where it stands
+pub told_inside : (t : Taught) (o : Object) (r : Context) (n : ℕ) (h : Head) (told : Option Instead) → AreTold o t → Some r ≡ standing_at t.library n o → head_at n o ≡ Some h → told ≡ words_at t n
+    → MayStand r h told
 unfolding AreTold
-told_inside t o r n h told are stands there is =
-    subst (λ (l : Contracts). StandIn l told (handed_down r h).implied) (sym (stands_by t.library o r n h stands there))
-    (subst (λ (x : Option Words). StandIn t.library x (handed_down r h).implied) (sym is) (are n r h stands there))
+told_inside t o r n h told are stands there is = subst (λ (x : Option Instead). MayStand r h x) (sym is) (are n r h stands there)
 
 -- what an object says of itself, told by its own without children
 pub own_head : (n : ℕ) (o own : Object) → Some own ≡ option_map leaf (head_at n o) → head_at n o ≡ Some own.head

@@ -52,7 +52,7 @@ impl Model for Ground {
 }
 
 impl Ground {
-    /// A library and a tree, with the words that the library tells the lists of the tree. An error only for want of memory.
+    /// A library and a tree, with the words that the library tells the objects of the tree. An error only for want of memory.
     pub fn new(alloc: Global, library: Library, tree: Tree) -> Result<Ground, AllocError>
         ensures { IfOk result (λ made. made ≡ record { library = library; tree = tree }) }
     {
@@ -74,7 +74,7 @@ impl Ground {
         &self.tree
     }
 
-    /// A library, with the words that it tells the lists of this tree. An error only for want of memory.
+    /// A library, with the words that it tells the objects of this tree. An error only for want of memory.
     pub fn told_by(&self, alloc: Global, library: Library) -> Result<Told, AllocError>
         ensures library { IfOk result (λ told. told.library ≡ library) }
         ensures told { IfOk result (AreTold self.now.tree.root) }

@@ -7,17 +7,17 @@ ghost use Rattle.ob_tree.specs.Shown.{standing_at};
 ghost use Rattle.ob_ground.specs.Grounds.{AreTold, words_at};
 
 use ob_contracts::Library;
-use ob_object::Words;
-use ob_standing::Standing;
+use ob_standing::{Instead, Standing};
 use ob_tree::{NodeId, Tree};
 use std::alloc::{AllocError, Global};
 use std::collections::BTreeMap;
 use std::marker::Model;
 
-/// A library, with the words that tell the items of lists the same as the lists' own, by the numbers of the lists.
+/// A library, with the words that are looked up in place of those which objects name, and of those which lists and feeds give,
+/// by the numbers of these.
 pub struct Told {
     library: Library,
-    words: BTreeMap<u64, Words>,
+    words: BTreeMap<u64, Instead>,
 }
 
 impl Drop for Told {
@@ -41,7 +41,7 @@ impl Model for Told {
 }
 
 impl Told {
-    /// A library, with the words for the lists of a tree. An error only for want of memory.
+    /// A library, with the words for the objects of a tree. An error only for want of memory.
     #[tactic(auto, unfolding(crate::specs::Grounds::AreTold))]
     pub fn of(alloc: Global, library: Library, tree: &Tree) -> Result<Told, AllocError>
         ensures library { IfOk result (λ told. told.library ≡ library) }
@@ -67,15 +67,15 @@ impl Told {
         tree.standing_told(self.library(), Some(self.words()), id)
     }
 
-    /// The words for the list of a number, where some are told.
-    pub(crate) fn words_for(&self, id: NodeId) -> Option<&Words>
+    /// The words for the object of a number, where some are told.
+    pub(crate) fn words_for(&self, id: NodeId) -> Option<&Instead>
         ensures { option_copied result ≡ words_at self.now id.number }
     {
         self.words.get(&id.number)
     }
 
-    /// The words by the numbers of lists.
-    pub(crate) fn words(&self) -> &BTreeMap<u64, Words>
+    /// The words by the numbers of objects.
+    pub(crate) fn words(&self) -> &BTreeMap<u64, Instead>
         ensures { result.now.entries ≡ self.now.words }
     {
         &self.words

@@ -3,8 +3,8 @@ ghost use Rattle.std.specs.Option.{option_copied};
 ghost use Rattle.ob_contracts.specs.Telling.{StandIn};
 
 use crate::handed::Handed;
-use crate::sources::overridden;
-use ob_contracts::{Library, View, effective, source_children, telling, view};
+use crate::instead::{Instead, is_of, items_of};
+use ob_contracts::{Library, Sources, View, effective, telling, view};
 use ob_object::{Obj, Words};
 use ob_steps::Steps;
 use ob_values::Text;
@@ -26,11 +26,12 @@ impl<'a> Standing<'a> {
     ghost use Rattle.std.specs.Prelude.{◌≡◌, ◌+◌, ◌-◌, ◌^◌, min, IfOk, OnErr};
     ghost use Rattle.std.specs.Option.{option_copied};
     ghost use Rattle.ob_object.specs.Object.{parts};
-    ghost use Rattle.ob_contracts.specs.Inherit.{words_in, implied_by, inherited_head, overridden};
+    ghost use Rattle.ob_contracts.specs.Inherit.{or_else, words_in};
+    ghost use Rattle.ob_contracts.specs.Places.{sources_of};
     ghost use Rattle.ob_contracts.specs.Shown.{shown};
-    ghost use Rattle.ob_contracts.specs.Telling.{StandFor, StandIn};
+    ghost use Rattle.ob_contracts.specs.Telling.{Same, StandFor, StandIn};
     ghost use Rattle.ob_standing.specs.Contexts.{at_root, sources_in, handed_down, under, comes_to};
-    ghost use Rattle.ob_standing.specs.Standings.{context, Hands};
+    ghost use Rattle.ob_standing.specs.Standings.{context, Hands, MayStand};
 
     /// Where the root stands.
     pub fn at_root(library: &'a Library) -> Standing<'a>
@@ -54,59 +55,63 @@ impl<'a> Standing<'a> {
         }
     }
 
-    /// The words that an object that stands there, told by its own attributes, gives to its children.
-    fn implied_by(&self, own: &'a Obj) -> Option<&'a Words>
-        ensures { option_copied result ≡ implied_by (inherited_head own.now.head (sources_in (context self.now) own.now.head)) }
+    /// The words that name the contracts of an object that stands there, where some may be told that stand for its own.
+    fn words_of(&self, own: &'a Obj, is: Option<&'a Words>) -> Option<&'a Words>
+        requires { StandIn self.now.library.now (option_copied is) own.now.head.is }
+        ensures { StandFor self.now.library.now (words_in (option_copied result)) (words_in (or_else own.now.head.is (option_copied self.now.implied))) }
     {
-        if own.kind().has_of() {
-            self.view(own).of()
-        } else {
-            None
+        match own.is() {
+            Some(words) => match is {
+                Some(told) => Some(told),
+                None => Some(words),
+            },
+            None => self.words(),
         }
     }
 
-    /// The child that an own child of a name overrides, of an object that stands there, told by its own attributes.
-    fn overridden(&self, own: &'a Obj, name: Option<&Text>) -> Option<&'a Obj>
-        ensures { option_copied result ≡ overridden (option_copied name.entry) (sources_in (context self.now) own.now.head) }
+    /// What an object that stands there may inherit from, told by its own attributes.
+    fn sources(&self, own: &'a Obj, is: Option<&'a Words>) -> Sources<'a>
+        requires { StandIn self.now.library.now (option_copied is) own.now.head.is }
+        ensures own { result.own.now ≡ own.now }
+        ensures same { Same (sources_of result) (sources_in (context self.now) own.now.head) }
     {
-        match name {
-            Some(name) => overridden(self.library, own, self.words(), self.over, name.as_str()),
-            None => None,
-        }
+        Sources::new(self.library, own, self.words_of(own, is), self.over)
     }
 
-    /// Where an own child of a name stands, of an object that stands there, told by its own attributes.
-    pub fn inside(&self, own: &'a Obj, name: Option<&Text>) -> Standing<'a>
-        ensures { context result ≡ under (handed_down (context self.now) own.now.head) (option_copied name.entry) }
-    {
-        self.inside_told(own, name, None)
-    }
-
-    /// The same, where words may be told that stand for those that the object gives to its children.
+    /// Where an own child of a name stands, of an object that stands there, told by its own attributes. Words may be told that
+    /// stand for the object's own, and for those that it gives to its children.
     pub fn inside_told(
         &self,
         own: &'a Obj,
         name: Option<&Text>,
-        told: Option<&'a Words>,
+        told: Option<&'a Instead>,
     ) -> Standing<'a>
-        requires { StandIn self.now.library.now (option_copied told) (handed_down (context self.now) own.now.head).implied }
+        requires { MayStand (context self.now) own.now.head (option_copied told) }
         ensures { context result ≡ under (handed_down (context self.now) own.now.head) (option_copied name.entry) }
     {
+        let sources = self.sources(own, is_of(told));
         Standing {
             library: self.library,
-            implied: self.implied_by(own),
-            told,
-            over: self.overridden(own, name),
+            implied: sources.implied_by(),
+            told: items_of(told),
+            over: sources.overridden(name),
         }
     }
 
     /// What an object that stands there, told by its own attributes, hands down to its own children: its sources are
-    /// looked up once for all of these. An error only for want of memory.
-    pub fn hand_down(&self, alloc: Global, own: &'a Obj) -> Result<Handed<'a>, AllocError>
+    /// looked up once for all of these, by words that stand for its own where such are told. An error only for want of memory.
+    pub fn hand_down(
+        &self,
+        alloc: Global,
+        own: &'a Obj,
+        is: Option<&'a Words>,
+    ) -> Result<Handed<'a>, AllocError>
+        requires { StandIn self.now.library.now (option_copied is) own.now.head.is }
         ensures { IfOk result (Hands (handed_down (context self.now) own.now.head)) }
     {
-        let implied = self.implied_by(own);
-        let over = source_children(alloc, self.library, own, self.words(), self.over)?;
+        let sources = self.sources(own, is);
+        let implied = sources.implied_by();
+        let over = sources.children(alloc)?;
         let told = telling(alloc, self.library, implied)?;
         Ok(Handed {
             library: self.library,
@@ -132,15 +137,15 @@ impl<'a> Standing<'a> {
         effective(alloc, self.library, object, self.words(), self.over)
     }
 
-    /// The same as `inside_told`, counted as one step: the view of the own object that it may take.
+    /// The same as `inside_told`, counted as one step: the look at the sources of the own object.
     pub fn inside_counted<L: Ledger>(
         &self,
         own: &'a Obj,
         name: Option<&Text>,
-        told: Option<&'a Words>,
+        told: Option<&'a Instead>,
         steps: &mut Steps<L>,
     ) -> Standing<'a>
-        requires { StandIn self.now.library.now (option_copied told) (handed_down (context self.now) own.now.head).implied }
+        requires { MayStand (context self.now) own.now.head (option_copied told) }
         ensures inside { context result ≡ under (handed_down (context self.now) own.now.head) (option_copied name.entry) }
         ensures steps { steps.new ≡ steps.old + 1 }
     {

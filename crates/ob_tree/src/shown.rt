@@ -11,18 +11,18 @@ ghost use Rattle.ob_tree.specs.Told.{words_for, AreToldBy};
 
 use crate::spot::Spot;
 use ob_contracts::Library;
-use ob_object::{Head, Obj, Words};
-use ob_standing::Standing;
+use ob_object::{Head, Obj};
+use ob_standing::{Instead, Standing};
 use ob_steps::Steps;
 use std::alloc::{AllocError, Global};
 use std::collections::BTreeMap;
 use std::sync::ledger::{Blank, Ledger};
 
-/// A library, and the words that are looked up in it for those which lists and feeds give, by the numbers of these.
+/// A library, and the words that are looked up in it in place of those which objects name and give, by the numbers of these.
 #[derive(Clone, Copy)]
 pub(crate) struct Lore<'a> {
     pub(crate) library: &'a Library,
-    pub(crate) told: Option<&'a BTreeMap<u64, Words>>,
+    pub(crate) told: Option<&'a BTreeMap<u64, Instead>>,
 }
 
 /// The object of a number, without its children.
@@ -50,7 +50,7 @@ pub(crate) fn spot_in(spots: &[Spot], place: usize) -> Spot
 }
 
 /// The words of a number.
-fn words_for<'a>(told: Option<&'a BTreeMap<u64, Words>>, place: usize) -> Option<&'a Words>
+fn words_for<'a>(told: Option<&'a BTreeMap<u64, Instead>>, place: usize) -> Option<&'a Instead>
     ensures { option_copied result ≡ words_for told.entry place }
 {
     match told {

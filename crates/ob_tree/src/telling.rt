@@ -1,9 +1,10 @@
-//! Words that are told for those which the lists and feeds of a tree give, found by one walk from the root down.
-ghost use Rattle.std.specs.Prelude.{◌≡◌, ◌<◌, length, Some, Option, OnOk};
+//! Words that are told for those which the objects of a tree name and give, found by one walk from the root down.
+ghost use Rattle.std.specs.Prelude.{◌≡◌, ◌<◌, length, Some, Option, IfOk, OnOk};
 ghost use Rattle.std.specs.Ordering.{nat_cmp};
 ghost use Rattle.std.specs.BTreeMap.{get};
 ghost use Rattle.ob_object.specs.Object.{Object};
 ghost use Rattle.ob_contracts.specs.Inherit.{Contracts};
+ghost use Rattle.ob_contracts.specs.Telling.{StandIn};
 ghost use Rattle.ob_standing.specs.Standings.{context};
 ghost use Rattle.ob_tree.specs.Laid.{object_of, said};
 ghost use Rattle.ob_tree.specs.Shown.{standing_at, AreLaid};
@@ -11,8 +12,9 @@ ghost use Rattle.ob_tree.specs.Told.{IsToldAt, AreToldBy};
 
 use crate::shown::{leaf_in, spot_in};
 use crate::spot::Spot;
+use ob_contracts::{Library, telling};
 use ob_object::{Obj, Words};
-use ob_standing::Standing;
+use ob_standing::{Instead, Standing};
 use std::alloc::{AllocError, Global};
 use std::collections::BTreeMap;
 
@@ -24,25 +26,40 @@ pub(crate) struct Arena<'a> {
 }
 
 /// Puts the words for the object of a number, if any are told.
-fn put_words(
-    words: &mut BTreeMap<u64, Words>,
-    at: usize,
-    told: Option<Words>,
-) -> Result<(), AllocError>
-    ensures { OnOk result ((lib : Contracts) (o : Object) → IsToldAt lib o at told → AreToldBy lib o (get nat_cmp words.old) → AreToldBy lib o (get nat_cmp words.new)) }
+fn put_words(words: &mut BTreeMap<u64, Instead>, at: usize, told: Instead) -> Result<(), AllocError>
+    ensures { OnOk result ((lib : Contracts) (o : Object) → IsToldAt lib o at (Some told) → AreToldBy lib o (get nat_cmp words.old) → AreToldBy lib o (get nat_cmp words.new)) }
 {
-    let Some(told) = told else {
+    if told.is.is_none() && told.items.is_none() {
         return Ok(());
-    };
+    }
     let _none = words.insert(at as u64, told)?;
     Ok(())
+}
+
+/// Whether the own `is` of an object, which may inherit by it, has more than eight words.
+fn has_long_is(own: &Obj) -> bool {
+    match own.is() {
+        Some(words) => words.as_slice().len() > 8 && !own.kind().is_ref(),
+        None => false,
+    }
+}
+
+/// Words that stand for the own `is` of an object, where that is long; a short one is looked up word by word.
+fn told_is(alloc: Global, library: &Library, own: &Obj) -> Result<Option<Words>, AllocError>
+    ensures { IfOk result (λ told. StandIn library.now told own.now.head.is) }
+{
+    if has_long_is(own) {
+        telling(alloc, library, own.is())
+    } else {
+        Ok(None)
+    }
 }
 
 /// Puts the words for the object of a number, which stands so, and for all in it: its sources are looked up once for all
 /// of its children.
 pub(crate) fn put_told<'a>(
     alloc: Global,
-    words: &mut BTreeMap<u64, Words>,
+    words: &mut BTreeMap<u64, Instead>,
     arena: Arena<'a>,
     at: usize,
     standing: Standing<'a>,
@@ -54,11 +71,19 @@ pub(crate) fn put_told<'a>(
         → AreToldBy standing.entry.library.now (object_of (said arena.entry.leaves.now) arena.entry.spots.now) (get nat_cmp words.new)) }
 {
     let spot = spot_in(arena.spots, at);
-    if spot.len == 0 {
-        return Ok(());
-    }
     let own = leaf_in(arena.leaves, at);
-    let handed = standing.hand_down(alloc, own)?;
+    let told = told_is(alloc, standing.library, own)?;
+    if spot.len == 0 {
+        return put_words(
+            words,
+            at,
+            Instead {
+                is: told,
+                items: None,
+            },
+        );
+    }
+    let handed = standing.hand_down(alloc, own, told.as_ref())?;
     let mut next = at + 1;
     for place in 0..spot.len {
         let child = leaf_in(arena.leaves, next);
@@ -67,5 +92,6 @@ pub(crate) fn put_told<'a>(
         let behind = spot_in(arena.spots, next);
         next = behind.end;
     }
-    put_words(words, at, handed.into_told())
+    let items = handed.into_told();
+    put_words(words, at, Instead { is: told, items })
 }

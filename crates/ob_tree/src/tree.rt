@@ -26,8 +26,8 @@ use crate::spot::Spot;
 use crate::telling::{Arena, put_told};
 use crate::touching::{renumber, stamp_up};
 use ob_contracts::Library;
-use ob_object::{Obj, Slot, Status, Words};
-use ob_standing::Standing;
+use ob_object::{Obj, Slot, Status};
+use ob_standing::{Instead, Standing};
 use ob_steps::Steps;
 use ob_values::Text;
 use std::alloc::{AllocError, Global};
@@ -288,11 +288,11 @@ impl Tree {
         self.standing_told(library, None, id)
     }
 
-    /// The same, where words may be told that stand for those which lists and feeds give, by the numbers of these.
+    /// The same, where words may be told that stand for those which objects name and give, by the numbers of these.
     pub fn standing_told<'a>(
         &'a self,
         library: &'a Library,
-        told: Option<&'a BTreeMap<u64, Words>>,
+        told: Option<&'a BTreeMap<u64, Instead>>,
         id: NodeId,
     ) -> Standing<'a>
         requires within { id.number < parts self.now.root }
@@ -305,13 +305,14 @@ impl Tree {
         uncounted_standing::<Brand>(Lore { library, told }, leaves, spots, at, Blank::new(1))
     }
 
-    /// Words that stand for those which lists and feeds with children give, their own or those that they inherit, by the
-    /// numbers of these: where there are several, those alone that tell something. An error only for want of memory.
+    /// Words that stand for those of the objects with children, by the numbers of these: for the own `is`, and for those that a
+    /// list or feed gives, its own or inherited. Where there are several, those alone that tell something. An error only for want
+    /// of memory.
     pub fn telling(
         &self,
         alloc: Global,
         library: &Library,
-    ) -> Result<BTreeMap<u64, Words>, AllocError>
+    ) -> Result<BTreeMap<u64, Instead>, AllocError>
         ensures { IfOk result (λ words. AreToldBy library.now self.now.root (get nat_cmp words)) }
     {
         let leaves = self.leaves.as_slice();
@@ -340,7 +341,7 @@ impl Tree {
     pub fn standing_told_counted<'a, L: Ledger>(
         &'a self,
         library: &'a Library,
-        told: Option<&'a BTreeMap<u64, Words>>,
+        told: Option<&'a BTreeMap<u64, Instead>>,
         id: NodeId,
         steps: &mut Steps<L>,
     ) -> Standing<'a>

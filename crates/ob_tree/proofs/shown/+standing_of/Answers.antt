@@ -1,12 +1,10 @@
 use Rattle.std.proofs.Common.{◌≡◌, ◌<◌, ◌∙◌, ℕ, Option, Some, None, List, length, sym, ap, subst, arith}
 use Rattle.std.specs.Prelude.{slice_get}
-use Rattle.std.specs.Option.{option_copied}
 use Rattle.ob_object.specs.declared.head.Head.{Head}
 use Rattle.ob_object.specs.Object.{parts}
-use Rattle.ob_contracts.specs.Inherit.{Contracts, Words}
-use Rattle.ob_contracts.specs.Telling.{StandIn}
+use Rattle.ob_standing.specs.declared.instead.Instead.{Instead}
 use Rattle.ob_standing.specs.Contexts.{handed_down, under}
-use Rattle.ob_standing.specs.Standings.{context}
+use Rattle.ob_standing.specs.Standings.{context, MayStand}
 use Rattle.ob_tree.specs.Laid.{object_of, said, head_at}
 use Rattle.ob_tree.specs.Shown.{handed_at, handed}
 use Rattle.ob_tree.proofs.Standing.{count_spots}
@@ -14,7 +12,6 @@ use Rattle.ob_tree.proofs.Leaves.{count_leaves, said_read}
 use Rattle.ob_tree.proofs.Contexts.{context_below, context_top, parent_before, parent_read, stands_below, stands_on_top}
 use Rattle.ob_tree.proofs.Deep.{depth_below, depth_top}
 use Rattle.ob_tree.proofs.Growing.{grows}
-use Rattle.ob_tree.proofs.Giving.{stands_by}
 use Rattle.ob_tree.proofs.shown.+standing_of.Goals as goal
 
 pub spot_in-spot-requires : goal.spot_in-spot-requires
@@ -40,15 +37,13 @@ leaf_in-own-requires g t c =
 
 pub inside_counted-requires : goal.inside_counted-requires
 inside_counted-requires g t c =
-    let lib = c.args.lore.library.now in
     let os = c.args.leaves.now in
     let o = object_of (said os) c.args.spots.now in
     let p = c.in-Some.parent in
     let h = c.leaf_in-own.result.now.head in
     let r = context c.standing_of-round.result in
     let there : head_at p o ≡ Some h = ap (λ (l : List Head). slice_get l p) (sym c.requires.laid.heads_are) ∙ said_read os p c.leaf_in-own.result.now c.leaf_in-own.ensures in
-    subst (λ (l : Contracts). StandIn l (option_copied c.words_for-told.result) (handed_down r h).implied) (sym (stands_by lib o r p h c.standing_of-round.ensures.stands there))
-    (subst (λ (t : Option Words). StandIn lib t (handed_down r h).implied) (sym c.words_for-told.ensures) (c.requires.told p r h c.standing_of-round.ensures.stands there))
+    subst (λ (t : Option Instead). MayStand r h t) (sym c.words_for-told.ensures) (c.requires.told p r h c.standing_of-round.ensures.stands there)
 
 pub returns-in-Some : goal.returns-in-Some
 returns-in-Some g t c =

@@ -1,13 +1,15 @@
-use Rattle.std.proofs.Common.{◌≡◌, ◌<◌, ◌-◌, ◌∙◌, ℕ, Some, List, length, sym, ap, subst, arith}
+use Rattle.std.proofs.Common.{◌≡◌, ◌<◌, ◌-◌, ◌∙◌, ℕ, Option, Some, None, List, length, sym, ap, subst, arith}
 use Rattle.std.proofs.lemmas.Result.{on_ok_weaker}
 use Rattle.std.specs.Prelude.{slice_get}
 use Rattle.std.specs.Ordering.{nat_cmp}
 use Rattle.std.specs.BTreeMap.{get}
 use Rattle.ob_object.specs.declared.head.Head.{Head}
 use Rattle.ob_object.specs.Object.{parts}
-use Rattle.ob_contracts.specs.Inherit.{Contracts}
+use Rattle.ob_contracts.specs.Inherit.{Contracts, Words}
+use Rattle.ob_contracts.specs.Telling.{StandIn}
+use Rattle.ob_contracts.proofs.Dropped.{stand_in_none}
 use Rattle.ob_standing.specs.Contexts.{Context, handed_down, under}
-use Rattle.ob_standing.specs.Standings.{context}
+use Rattle.ob_standing.specs.Standings.{context, MayStand}
 use Rattle.ob_tree.specs.Laid.{object_of, said, head_at}
 use Rattle.ob_tree.specs.Shown.{standing_at}
 use Rattle.ob_tree.specs.Told.{AreToldBy}
@@ -24,6 +26,18 @@ spot_in-spot-requires t c =
     let o = object_of (said os) ss in
     omega (arith, c.requires.within, count_leaves o os c.requires.laid.heads_are, count_spots o ss c.requires.laid.spots_are)
 
+-- an object without children
+pub returns-then-spot-eq0 : goal.returns-then-spot-eq0
+returns-then-spot-eq0 t c =
+    let os = c.args.arena.leaves.now in
+    let o = object_of (said os) c.args.arena.spots.now in
+    let at = c.args.at in
+    let h = c.leaf_in-own.result.now.head in
+    let r = context c.args.standing in
+    let there : head_at at o ≡ Some h = ap (λ (l : List Head). slice_get l at) (sym c.requires.laid.heads_are) ∙ said_read os at c.leaf_in-own.result.now c.leaf_in-own.ensures in
+    let may : MayStand r h (Some (record { is = c.in_ok-told.told; items = None })) = record { is = c.in_ok-told.ensures; items = stand_in_none r.library (handed_down r h).implied } in
+    on_ok_weaker c.put_words.result (λ puts told. puts r.library o (told_at r.library o at r h _ c.requires.stands there may) told) c.put_words.ensures
+
 pub loop-place-init : goal.loop-place-init
 loop-place-init t c = record {
   number = first_child (object_of (said c.args.arena.leaves.now) c.args.arena.spots.now) c.args.at;
@@ -38,6 +52,11 @@ leaf_in-child-requires t c =
     let n : length os ≡ parts o = count_leaves o os c.requires.laid.heads_are in
     let s = child_at o ss c.args.at c.loop-place.place c.loop-place.next c.spot_in-spot.result c.requires.laid.spots_are c.requires.laid.well_formed (omega (arith, c.requires.within, n)) c.spot_in-spot.ensures c.loop-place-test.true c.loop-place.invariant.number in
     omega (arith, s.less, n)
+
+pub hand_down-requires : goal.hand_down-requires
+hand_down-requires t c =
+    let lib = c.args.standing.library.now in
+    subst (λ (x : Option Words). StandIn lib x c.leaf_in-own.result.now.head.is) (sym c.as_ref.ensures.value) c.in_ok-told.ensures
 
 pub put_told-requires : goal.put_told-requires
 put_told-requires t c =
@@ -93,5 +112,6 @@ returns t c =
     let h = c.leaf_in-own.result.now.head in
     let r = context c.args.standing in
     let there : head_at at o ≡ Some h = ap (λ (l : List Head). slice_get l at) (sym c.requires.laid.heads_are) ∙ said_read os at c.leaf_in-own.result.now c.leaf_in-own.ensures in
-    on_ok_weaker c.put_words.result
-    (λ puts told. puts r.library o (told_at r.library o at r h c.into_told.result c.requires.stands there (c.into_told.ensures (handed_down r h) c.in_ok-handed.ensures)) (c.loop-place.invariant.told told)) c.put_words.ensures
+    let may : MayStand r h (Some (record { is = c.in_ok-told.told; items = c.into_told-items.result })) =
+    record { is = c.in_ok-told.ensures; items = c.into_told-items.ensures (handed_down r h) c.in_ok-handed.ensures } in
+    on_ok_weaker c.put_words-2.result (λ puts told. puts r.library o (told_at r.library o at r h _ c.requires.stands there may) (c.loop-place.invariant.told told)) c.put_words-2.ensures

@@ -1,12 +1,14 @@
-use Rattle.std.proofs.Common.{Some, refl, ◌∙◌}
-use Rattle.std.specs.Option.{option_copied}
-use Rattle.ob_standing.specs.Standings.{context}
-use Rattle.ob_standing.proofs.Walking.{over_the_same}
+use Rattle.std.proofs.Common.{Some, refl, ap, ◌∙◌}
+use Rattle.ob_object.specs.Object.{Object}
+use Rattle.ob_contracts.specs.Inherit.{implied_by, inherited_head}
+use Rattle.ob_contracts.specs.Places.{sources_of}
 use Rattle.ob_standing.proofs.standing.Standing.hand_down.Goals as goal
 
 pub returns : goal.returns
-returns c = record {
-  library = refl;
-  implied = c.implied_by-implied.ensures;
-  over = λ n. c.in_ok-over.ensures n ∙ over_the_same (context c.args.self.now) c.args.own.now.head (option_copied c.words.result) (Some n) c.words.ensures;
-}
+returns c =
+    let s = c.sources-sources in
+    record {
+      library = refl;
+      implied = c.implied_by-implied.ensures ∙ ap (λ (o : Object). implied_by (inherited_head o.head (sources_of s.result))) s.ensures.own ∙ ap implied_by (s.ensures.same.head c.args.own.now.head);
+      over = λ n. c.in_ok-over.ensures n ∙ s.ensures.same.over (Some n);
+    }
