@@ -1,1 +1,3 @@
 mod Texts
+pub mod Said
+pub mod Closing

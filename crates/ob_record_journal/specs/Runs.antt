@@ -1,10 +1,15 @@
 -- The blocks of a run, and the file at rest that says them.
-use Rattle.std.specs.Prelude.{◌≡◌, ℕ, List, [], ◌∷◌, ◌++◌, map, Some, None}
+use Rattle.std.specs.Prelude.{◌≡◌, ℕ, List, [], ◌∷◌, ◌++◌, map, Option, Some, None}
 use Rattle.std.specs.List.{AllByRecursion}
 use Rattle.ob_journal.specs.Journal.{front}
 use Rattle.ob_record.specs.declared.run.Entry.{Entry}
 use Rattle.ob_record.specs.Blocks.{IsBlock, block_text}
-use Rattle.ob_record.specs.Runs.{IsRun, parts_of, run_text}
+use Rattle.ob_record.specs.Runs.{IsRun, boot_line, parts_of, run_text}
+
+-- the line of an opening at a moment; nothing where there is none
+abbrev pub opening_line : Option ℕ → List ℕ
+opening_line None = []
+opening_line (Some boot) = boot_line boot
 
 -- the block of an entry behind the first
 abbrev pub later_block : Entry → List ℕ

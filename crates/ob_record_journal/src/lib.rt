@@ -3,9 +3,13 @@
 #![tactic(auto)]
 
 mod blocks;
+mod closed;
 mod laws;
+mod saying;
 #[cfg(test)]
 mod tests;
 
 pub use blocks::Blocks;
+pub use closed::write_closed;
 pub use laws::record_at_rest;
+pub use saying::{Said, SayingFault, read_said};
