@@ -15,7 +15,7 @@ use Rattle.ob_lasting.specs.LastingLaws.{LeavesSite, LeavesNext, RecordLasts, Re
 use Rattle.ob_lasting.proofs.Again.{done_again_further}
 
 module _ (m : Site) where
-  acted_time : (w : World m) (r : m.Request) (t : Target m.Text m.Input m.Part m.Fault) → (acted m w r t).0.time ≡ w.time
+  pub acted_time : (w : World m) (r : m.Request) (t : Target m.Text m.Input m.Part m.Fault) → (acted m w r t).0.time ≡ w.time
   acted_time w r Itself = refl
   acted_time w r Nowhere = refl
   acted_time w r NewWatch = elim (is_full m w) as (λ b. let done : World m × Reply m = cond b (w, Refused m.too_many_watches) (made m w, Told w.next first_lease m.whole) in done.0.time ≡ w.time) [ true ↦ refl | false ↦ refl ]
