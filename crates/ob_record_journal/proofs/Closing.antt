@@ -1,8 +1,8 @@
 -- Entries that are written as a journal appends them.
-use Rattle.std.proofs.Common.{◌≡◌, ℕ, suc, ◌+◌, ◌<◌, ◌≤◌, ◌^◌, true, List, [], ◌∷◌, ◌++◌, length, drop, Option, Some, None, refl, sym, ap, ◌∙◌, subst, arith, ap₂, ◌-◌, take, drop-cons, drop_at, length-append, add-one, append-nil}
+use Rattle.std.proofs.Common.{◌≡◌, ℕ, suc, ◌+◌, ◌<◌, ◌≤◌, ◌^◌, List, [], ◌∷◌, ◌++◌, length, drop, Option, Some, None, refl, sym, ap, ◌∙◌, subst, arith, ap₂, ◌-◌, take, drop-cons, drop_at, length-append, add-one, append-nil}
 use Rattle.std.proofs.lemmas.List.{take_at}
 use Rattle.std.specs.Prelude.{get_or}
-use Rattle.ob_object.specs.Object.{Objects, node, Object, in_row, listed, in_row-listed}
+use Rattle.ob_object.specs.Object.{Object, in_row, listed, in_row-listed}
 use Rattle.ob_encode.specs.Canonical.{canonical_text}
 use Rattle.ob_grammar.specs.Carried.{IsCarried, IsTextIfThere}
 use Rattle.ob_documents.specs.Held.{IsHeld, IsShallow}
@@ -25,7 +25,7 @@ pub next_shallow : (level : ℕ) (os kids : List Object) (i : ℕ) (o : Object) 
     → (IsShallow level (in_row (drop i os)) → IsShallow level (in_row os)) → IsShallow level (in_row (drop (i + 1) os)) → IsShallow level (in_row os)
 next_shallow level os kids i o h is low kids_are inner all rest =
     let inside : IsShallow (suc level) o.inner =
-        subst (λ (n : ℕ). IsShallow n o.inner) (add-one level) (subst (IsShallow (level + 1)) (ap in_row kids_are ∙ in_row-listed o.inner) inner) in
+    subst (λ (n : ℕ). IsShallow n o.inner) (add-one level) (subst (IsShallow (level + 1)) (ap in_row kids_are ∙ in_row-listed o.inner) inner) in
     all (subst (λ (l : List Object). IsShallow level (in_row l)) (sym (cut os i o h is)) (low, inside, rest))
 
 pub shallow_body : (o : Object) (kids : List Object) (text : List ℕ) → ((ns : Option (List ℕ)) (o : Object) → IsTextIfThere ns → IsHeld o → IsShallow 1 o.inner → IsCarried ns o)

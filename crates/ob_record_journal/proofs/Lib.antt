@@ -1,3 +1,3 @@
 mod Texts
-pub mod Said
+pub mod Telling
 pub mod Closing

@@ -21,7 +21,7 @@ SaysNoRun file = (boot : ℕ) (entries : List Entry) → SaysRun file boot entri
 -- the record of the run that the file says, or none where it says no entry
 abbrev pub IsSaid : List ℕ → Option (List ℕ) → Type 0
 IsSaid file None = Says IsBlock file []
-IsSaid file (Some record) = (run : Recorded) × Records record run × SaysRun file run.boot run.entries × (run.entries ≢ [])
+IsSaid file (Some text) = (run : Recorded) × Records text run × SaysRun file run.boot run.entries × (run.entries ≢ [])
 
 -- why no run was read of a file
 abbrev pub Unsaid : List ℕ → SayingFault → Type 0

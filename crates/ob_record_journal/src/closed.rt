@@ -65,7 +65,12 @@ fn copy_body(body: &Option<Obj>) -> Result<Option<Obj>, AllocError>
 }
 
 /// The text of the entry of a request, and of its reply's bytes, at a moment.
-fn entry_text(alloc: Global, moment: Moment, request: &Request, reply: &[u8]) -> Result<Vec<u8>, AllocError>
+fn entry_text(
+    alloc: Global,
+    moment: Moment,
+    request: &Request,
+    reply: &[u8],
+) -> Result<Vec<u8>, AllocError>
     ensures { IfOk result (λ text. text.items ≡ runs.entry_text (record { moment = moment; request = request.now; reply = told.Reply reply.now })) }
 {
     let target = request.target.copy()?;

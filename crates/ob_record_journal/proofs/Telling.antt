@@ -1,15 +1,18 @@
 -- What a file says, read as the record of a run.
-use Rattle.std.proofs.Common.{◌≡◌, ◌≢◌, inl, inr, ⊎_elim, le_refl, ℕ, ◌<◌, ◌≤◌, List, [], ◌∷◌, ◌++◌, length, take, drop, Some, refl, sym, ◌∙◌, ap, ap₂, subst, arith, length-append, take-append-drop, length-take}
+use Rattle.std.proofs.Common.{◌≡◌, ◌≢◌, inl, inr, ⊎_elim, le_refl, ℕ, ◌≤◌, List, [], ◌∷◌, ◌++◌, length, take, drop, Some, refl, sym, ◌∙◌, ap, subst, arith, length-append, take-append-drop, length-take}
+use Rattle.std.specs.Prelude.{Result, Ok, Err, IfErr}
 use Rattle.std.specs.List.{AllByRecursion}
 use Rattle.std.proofs.lemmas.List.{append_cancel_right}
 use Rattle.ob_journal.specs.Device.{Elapses, LeavesOnly}
 use Rattle.ob_journal.specs.Journal.{first_line, blocks, front, Stands, Says, IsFront, IsUnmade, OneMeaning}
 use Rattle.ob_record.specs.Blocks.{IsBlock}
 use Rattle.ob_record.specs.Broken.{BreaksAt, OneRun, SpelledIsUnbroken}
-use Rattle.ob_record.specs.Runs.{Recorded, Records, IsRun}
+use Rattle.ob_record.specs.Runs.{Recorded, Records}
 use Rattle.ob_record.specs.declared.run.Entry.{Entry}
 use Rattle.ob_record_journal.specs.Runs.{run_blocks, RecordAtRest}
-use Rattle.ob_record_journal.specs.Saying.{SaysRun, SaysNoRun, IsSaid}
+use Rattle.ob_record_journal.specs.Saying.{SaysRun, SaysNoRun, IsSaid, Unsaid, UnsaidBy}
+use Rattle.ob_record_journal.specs.declared.saying.SayingFault.{SayingFault}
+use Rattle.ob_record_journal.specs.declared.saying.SayingFault.TheVariants as faults
 
 no_blocks : (es : List (List ℕ)) → length (front es) ≤ 13 → es ≡ []
 no_blocks [] short = refl
@@ -71,3 +74,14 @@ read_leaves may_leave moment left_since old new only crash time = record {
   each = λ c left. ⊎_elim (only c) (crash c) (time.nothing_else (moment old) c (le_refl (moment old)) left);
   before = λ t c le left. ⊎_elim (λ was. inl was) (λ now. inr (crash c now)) (time.nothing_else t c le left);
 }
+
+-- why no run was read of its bytes is why none was read of a file
+pub unsaid_of : {A : Type 0} (r : Result A SayingFault) (file : List ℕ) → IfErr r (UnsaidBy file) → IfErr r (Unsaid file)
+unsaid_of (Ok x) file why = tt
+unsaid_of (Err (faults.Record place)) file why = why
+unsaid_of (Err faults.Failed) file why = tt
+unsaid_of (Err faults.Memory) file why = tt
+
+-- bytes that are read never fail
+pub never_failed : {A : Type 0} (r : Result A SayingFault) (file : List ℕ) → IfErr r (UnsaidBy file) → r ≡ Err faults.Failed → ⊥
+never_failed {A} r file why is = subst (λ (x : Result A SayingFault). IfErr x (UnsaidBy file)) is why
