@@ -78,11 +78,7 @@ impl<'a> Sources<'a> {
     pub(crate) fn len(&self) -> usize
         ensures { result ≡ length (places_of self.now) }
     {
-        if self.any {
-            self.words.len() + 1
-        } else {
-            0
-        }
+        if self.any { self.words.len() + 1 } else { 0 }
     }
 
     /// The source at a place, if one is there.
