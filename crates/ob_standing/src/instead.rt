@@ -5,8 +5,8 @@ ghost use Rattle.ob_standing.specs.Standings.{is_of, items_of};
 
 use ob_object::Words;
 
-/// Words that are looked up in place of those of an object with children, where these are several: few of many tell something
-/// that none before them does.
+/// Words that are looked up in place of those of an object, where these are several: few of many tell something that none before
+/// them does.
 #[derive(Drop)]
 pub struct Instead {
     /// In place of the object's own `is`, for what its children override.

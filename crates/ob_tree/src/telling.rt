@@ -1,5 +1,5 @@
 //! Words that are told for those which the objects of a tree name and give, found by one walk from the root down.
-ghost use Rattle.std.specs.Prelude.{◌≡◌, ◌<◌, length, Some, Option, IfOk, OnOk};
+ghost use Rattle.std.specs.Prelude.{◌≡◌, ◌<◌, length, Some, IfOk, OnOk};
 ghost use Rattle.std.specs.Ordering.{nat_cmp};
 ghost use Rattle.std.specs.BTreeMap.{get};
 ghost use Rattle.ob_object.specs.Object.{Object};

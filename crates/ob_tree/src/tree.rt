@@ -305,9 +305,8 @@ impl Tree {
         uncounted_standing::<Brand>(Lore { library, told }, leaves, spots, at, Blank::new(1))
     }
 
-    /// Words that stand for those of the objects with children, by the numbers of these: for the own `is`, and for those that a
-    /// list or feed gives, its own or inherited. Where there are several, those alone that tell something. An error only for want
-    /// of memory.
+    /// Words that stand for those of the objects, by the numbers of these: for an own `is` of many, and for several that a list or
+    /// feed with children gives, its own or inherited: those of them alone that tell something. An error only for want of memory.
     pub fn telling(
         &self,
         alloc: Global,
