@@ -11,9 +11,9 @@ use Rattle.ob_object.specs.contracts.head.Slot as slot
 use Rattle.ob_object.proofs.head.Head.TheSendSync as head
 use Rattle.ob_object.proofs.object.Obj.TheLaws.TheKnot as object
 use Rattle.ob_alarms.proofs.board.Alarms.TheSendSync as board
-use Rattle.ob_object.proofs.words.Words.TheSendSync as words
 use Rattle.ob_contracts.proofs.library.Defaults.TheSendSync as defaults
 use Rattle.ob_contracts.specs.contracts.library.Library as library
+use Rattle.ob_standing.proofs.instead.Instead.TheSendSync as instead
 use Rattle.ob_tree.specs.contracts.tree.Tree as tree
 use Rattle.ob_ground.specs.contracts.told.Told as told
 use Rattle.ob_ground.specs.contracts.told.Told.TheInside as told_inside
@@ -63,7 +63,7 @@ slot_send =
     let parts : VariantsHave IsSend (slot.enum).parts = (tt, (tt, ((value_send, tt), tt))) in
     variants_send slot.enum parts
 
--- the library and the tree, with what the lists are told
+-- the library and the tree, with the words that are told
 library_send : IsSend (library.the_field).row
 library_send = search (sendable, heap.crosses, maps.crosses, sets.crosses, text.the_send, head.the_send, object.send-Obj, defaults.the_field_send) depth 24
 
@@ -74,7 +74,7 @@ told_parts_send : IsSend told_inside.the_row
 told_parts_send =
     let parts : FieldsHave IsSend (told_inside.the_type).parts = (
       as_row_send library.the_field library_send,
-      (search (sendable, maps.crosses, words.the_send) depth 24, tt),
+      (search (sendable, maps.crosses, instead.the_send) depth 24, tt),
     ) in
     declared_send told_inside.the_type parts
 
