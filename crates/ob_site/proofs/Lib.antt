@@ -8,6 +8,7 @@ pub mod Ended
 pub mod Acted
 pub mod Told
 pub mod Renumbered
+pub mod Restarted
 pub mod Sound
 pub mod Stepped
 pub mod Keeping

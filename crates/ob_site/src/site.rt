@@ -1,6 +1,7 @@
 //! A site.
 ghost use Rattle.std.specs.Prelude.{◌≡◌, ℕ, ◌+◌, ◌<◌, ◌≤◌, IfOk, OnOk, OnErr, option_copied};
 ghost use Rattle.ob_watching.specs.Asked.{OneWatch, PollChanges};
+ghost use Rattle.ob_watching.specs.Watches.{last_number};
 ghost use Rattle.ob_site_rules.specs.Locating.{locate};
 ghost use Rattle.ob_site_rules.specs.Sites.{site, step};
 ghost use Rattle.ob_site_watched.specs.Polls.{object_entries, steps_for};
@@ -58,7 +59,7 @@ impl Drop for Site {
 
 impl Site {
     ghost use Rattle.ob_site.specs.Between.{IsOpened};
-    ghost use Rattle.ob_site.specs.Views.{opened};
+    ghost use Rattle.ob_site.specs.Views.{opened, without_watches};
     ghost use Rattle.ob_site_laws.specs.SiteLaws.{IsSoundSite};
 
     /// A site of a state that a document of at most 32 levels opened, without watches; the first will have number 1.
@@ -165,6 +166,21 @@ impl Site {
         ensures { result ≡ self.now.world.time }
     {
         self.state.time()
+    }
+
+    /// The number that the next watch is given.
+    pub fn next_number(&self) -> u64
+        ensures { result ≡ self.now.world.next }
+    {
+        self.watches.next_number()
+    }
+
+    /// Drops all watches, as a restart does; numbers below this one count as given.
+    pub fn restart(&mut self, below: u64)
+        requires { below ≤ last_number + 1 }
+        ensures { self.new ≡ without_watches self.old below }
+    {
+        self.watches.restart(below);
     }
 
     /// Every site is sound: numbers of watches rise, no watch has an href twice, and each history is

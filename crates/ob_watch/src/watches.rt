@@ -1,5 +1,5 @@
 //! The watches of a site.
-ghost use Rattle.std.specs.Prelude.{◌≡◌, ◌++◌, [], ◌∷◌, cond, count_by, OnOk, is_some, not, None, IfOk, nat_eq, length, option_map};
+ghost use Rattle.std.specs.Prelude.{◌≡◌, ◌++◌, [], ◌∷◌, cond, count_by, OnOk, is_some, not, None, IfOk, nat_eq, length, max, option_map};
 ghost use Rattle.std.specs.List.{IsDistinct, list_any};
 ghost use Rattle.std.specs.Option.{option_copied};
 ghost use Rattle.indexmap.specs.IndexMap.{IsUnique};
@@ -253,6 +253,14 @@ impl Watches {
         ensures deleted { self.new ≡ holding (replace number None self.old.watches) self.old }
     {
         self.map.shift_remove(&number).is_some()
+    }
+
+    /// Drops all watches, as a restart does; numbers below this one count as given.
+    pub fn restart(&mut self, below: u64)
+        ensures { self.new ≡ record { watches = []; next = max self.old.next below } }
+    {
+        self.map = IndexMap::new(self.alloc);
+        self.next = self.next.max(below);
     }
 
     /// Drops the watches whose lease has run out at this moment.
