@@ -1,5 +1,5 @@
 -- A dialogue that is served comes to its end.
-use Rattle.std.proofs.Common.{◌≡◌, ◌≢◌, ◌⊎◌, ℕ, ◌-◌, Bool, true, false, List, [], ◌∷◌, ◌++◌, Option, Some, None, Ok, Err, refl, sym, ap, subst, ◌∙◌, append-nil, inl, inr}
+use Rattle.std.proofs.Common.{◌≡◌, ◌≢◌, ◌⊎◌, ℕ, ◌-◌, Bool, true, List, [], ◌∷◌, ◌++◌, Option, Some, None, Ok, Err, refl, sym, ap, subst, ◌∙◌, append-nil, inl, inr}
 use Rattle.std.specs.Prelude.{IsSome}
 use Rattle.ob_io.specs.Dials.{Dial, Visit}
 use Rattle.ob_io.specs.Faults.{Rose}
@@ -14,16 +14,17 @@ use Rattle.ob_http.specs.Stream.{End, resting, faulted}
 use Rattle.ob_http.proofs.RepliesLemmas.{reply_framing}
 use Rattle.ob_http.proofs.StreamLemmas.{framed_unique, end_stays}
 use Rattle.ob_dialogue.specs.Plans.{Program}
-use Rattle.ob_dialogue.specs.Stages.{Stage, Lobby, Service, Make, Subject, Adding, Acking, Polling, Mending, Deleting, Over}
+use Rattle.ob_dialogue.specs.Stages.{Lobby, Service, Make, Subject, Adding, Acking, Polling, Mending, Deleting, Over}
 use Rattle.ob_dialogue.specs.Taking.{taken}
 use Rattle.ob_dialogue.specs.Turns.{Reached, on_links, after, IsAsking, AreAnswers, polls}
-use Rattle.ob_dialogue.specs.Links.{AreReplies, HasNext, Came, EndsAt, IsLink, IsLast, IsMended, HasNoLink, AreLinks, Outside, outside, TalksFrom}
+use Rattle.ob_dialogue.specs.Links.{AreReplies, Came, EndsAt, IsLink, IsMended, AreLinks, outside, TalksFrom}
 use Rattle.ob_dialogue.specs.Completes.{LeadOn, AreServed, Completes, DialoguesComplete}
 use Rattle.ob_dialogue.specs.declared.ending.Peer.{Peer}
 use Rattle.ob_dialogue.specs.declared.ending.Peer.TheVariants as peer
 use Rattle.ob_dialogue.specs.declared.ending.Ending.{Ending}
 use Rattle.ob_dialogue.specs.declared.ending.Ending.TheVariants as ending
-use Rattle.ob_dialogue.proofs.LegLemmas.{never, after_none}
+use Rattle.ob_asking.proofs.WireLemmas.{never}
+use Rattle.ob_dialogue.proofs.LegLemmas.{after_none}
 
 -- ---- lists
 

@@ -5,12 +5,13 @@ use Rattle.ob_io.specs.Links.{Inlet, Takes, Takes-none, Takes-then}
 use Rattle.ob_io.specs.Told.{Gains, IsFront, Gains-none, Gains-then}
 use Rattle.ob_object.specs.Object.{Object}
 use Rattle.ob_http.specs.Reply.{Response}
-use Rattle.ob_http.specs.Replies.{Replied, AreFirstReplies, AreTaken}
+use Rattle.ob_http.specs.Replies.{AreFirstReplies, AreTaken}
 use Rattle.ob_watching.specs.WatchOuts.{Text}
-use Rattle.ob_client.specs.Sessions.{Answers, Asks, Reads, Fails}
+use Rattle.ob_client.specs.Sessions.{Answers, Asks, Reads}
 use Rattle.ob_client.specs.declared.call_fault.CallFault.{CallFault}
 use Rattle.ob_client.specs.declared.call_fault.CallFault.TheVariants as fault
 use Rattle.ob_asking.specs.Wires.{text_of}
+use Rattle.ob_asking.proofs.WireLemmas.{never, front_along, front_behind, first_of_taken, first_more, whole_sent}
 use Rattle.ob_dialogue.specs.Plans.{Program, Request}
 use Rattle.ob_dialogue.specs.Stages.{Stage, Over, Lobby, Service, Make, Subject, Adding, Acking, Polling, Mending, Deleting, request_at}
 use Rattle.ob_dialogue.specs.Taking.{taken}
@@ -21,22 +22,10 @@ use Rattle.ob_dialogue.specs.declared.ending.Peer.TheVariants as peer
 use Rattle.ob_dialogue.specs.declared.ending.Ending.{Ending}
 use Rattle.ob_dialogue.specs.declared.ending.Ending.TheVariants as ending
 
-pub never : {A : Type 0} → false ≡ true → A
-never e = absurd (let f : false ≡ true = e in cc)
-
 -- ---- fronts
 
 pub none_front : {A : Type 0} (xs : List A) → IsFront [] xs
 none_front xs = (xs, refl)
-
-pub same_front : {A : Type 0} (xs : List A) → IsFront xs xs
-same_front xs = ([], sym (append-nil xs))
-
-pub front_along : {A : Type 0} (xs ys zs : List A) → IsFront xs ys → IsFront xs (ys ++ zs)
-front_along xs ys zs (rest, e) = (rest ++ zs, ap (λ l. l ++ zs) e ∙ append_assoc xs rest zs)
-
-pub front_behind : {A : Type 0} (xs ys zs : List A) → IsFront ys zs → IsFront (xs ++ ys) (xs ++ zs)
-front_behind xs ys zs (rest, e) = (rest, ap (λ l. xs ++ l) e ∙ sym (append_assoc xs ys rest))
 
 -- ---- what is asked and printed
 
@@ -54,15 +43,6 @@ after_none p (Err e) = refl
 
 pub texts_asked : (host : Text) (r : Option Request) (q : Request) (qs : List Request) → r ≡ Some q → texts host (with_request r qs) ≡ text_of host q ++ texts host qs
 texts_asked host r q qs is = ap (λ x. texts host (with_request x qs)) is
-
--- ---- replies of a stream
-
-pub first_of_taken : (stream : List ℕ) (rs : List Response) (kept : List ℕ) → AreTaken stream rs kept → AreFirstReplies stream rs
-first_of_taken stream rs kept (place, t) = λ more all end f. let b = t.back more all end f in (b.0, b.1)
-
-pub first_more : (stream more : List ℕ) (rs : List Response) → AreFirstReplies stream rs → AreFirstReplies (stream ++ more) rs
-first_more stream more rs first = λ rest all end f.
-    first (more ++ rest) all end (subst (λ (bytes : List ℕ). Replied bytes all end) (append_assoc stream more rest) f)
 
 -- ---- endings
 
@@ -197,9 +177,6 @@ leg_fault p host mends s q h i f pause is asks reads quiet ends goes = record {
   goes = goes;
   at_end = λ e. reads.ended (only_ended f (sym ends ∙ e));
 }
-
-whole_sent : {T : Type 0} (sent request : List ℕ) (x : T) → ((sent ≡ request) ⊎ (Fails {T = T} (Ok x) fault.Link ⊎ Fails {T = T} (Ok x) fault.Memory)) → sent ≡ request
-whole_sent sent request x h = elim h [ inl e ↦ e | inr n ↦ elim n [ inl f ↦ absurd f | inr f ↦ absurd f ] ]
 
 -- a call gave an object, and more was had behind it
 came_more : (stream first more : List ℕ) (before : List Response) (kept : List ℕ) (o : Object) (os : List Object) (e : Ending)

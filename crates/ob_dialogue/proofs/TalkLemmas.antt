@@ -2,7 +2,6 @@
 use Rattle.std.proofs.Common.{◌≡◌, ◌≢◌, ◌⊎◌, ℕ, zero, suc, ◌+◌, ◌-◌, ◌<◌, Bool, true, false, List, [], ◌∷◌, ◌++◌, map, length, Option, Some, None, Ok, Err, refl, sym, ap, subst, ◌∙◌, append-nil, inl, inr, arith, nat_lt, length-append}
 use Rattle.std.proofs.lemmas.Bool.Decides.{nat_tests}
 use Rattle.std.specs.Prelude.{IsSome, IfSome}
-use Rattle.std.specs.Io.KnownBytes.{IsAtEnd}
 use Rattle.ob_io.specs.Dials.{Dial, Visit, IsVisit}
 use Rattle.ob_io.specs.Faults.{Rose}
 use Rattle.ob_io.specs.Links.{IsFresh}
@@ -12,9 +11,10 @@ use Rattle.ob_http.specs.Replies.{AreTaken}
 use Rattle.ob_dialogue.specs.Plans.{Program, host_of, port_in, host_field}
 use Rattle.ob_dialogue.specs.Stages.{Stage}
 use Rattle.ob_dialogue.specs.Turns.{Reached, Turn, Reply, Broken, in_front, on_links, asked, shown, after, polls, resumed, lines}
-use Rattle.ob_dialogue.specs.Links.{texts, Came, EndsAt, is_printed, IsLink, AreLinks, AreOf, counted, dialled, Outside, outside, TalksFrom}
+use Rattle.ob_dialogue.specs.Links.{texts, Came, is_printed, IsLink, AreLinks, AreOf, counted, dialled, Outside, outside, TalksFrom}
 use Rattle.ob_dialogue.specs.Legs.{Pause, Ended, Failed, Cut, ending_of, Goes, Had, Leg, HasOne, Visits}
-use Rattle.ob_dialogue.proofs.LegLemmas.{never, none_front, front_behind, shown_none}
+use Rattle.ob_asking.proofs.WireLemmas.{never, front_behind, at_end_left}
+use Rattle.ob_dialogue.proofs.LegLemmas.{none_front, shown_none}
 use Rattle.ob_dialogue.specs.declared.ending.Peer.TheVariants as peer
 use Rattle.ob_dialogue.specs.declared.ending.Ending.{Ending}
 use Rattle.ob_dialogue.specs.declared.ending.Ending.TheVariants as ending
@@ -27,10 +27,6 @@ told_all None (Some ys) more xs none gained is = absurd gained
 told_all (Some us) (Some ys) more xs none gained is =
     let same : xs ≡ ys = cc in
     same ∙ gained ∙ ap (λ l. l ++ more) none
-
-at_end_left : (left : Option (List ℕ)) (xs : List ℕ) → IsAtEnd left → left ≡ Some xs → xs ≡ []
-at_end_left None xs h is = absurd (let e : None ≡ Some xs = is in cc)
-at_end_left (Some ys) xs h is = let same : xs ≡ ys = cc in same ∙ h
 
 pub rose_some : (old new n : ℕ) → old ≡ 0 → Rose old new → n ≡ new → n ≢ 0
 rose_some old new n none rose is = λ e. omega (arith, none, rose, is, e)

@@ -3,12 +3,10 @@ use Rattle.std.specs.Prelude.{◌≡◌, ◌≢◌, ◌⊎◌, ℕ, ◌+◌, ◌
 use Rattle.ob_io.specs.Dials.{Dial, Visit}
 use Rattle.ob_io.specs.Told.{Gains, IsFront}
 use Rattle.ob_object.specs.Object.{Object}
-use Rattle.ob_xml.specs.Judged.{fault, Judged}
 use Rattle.ob_http.specs.Reply.{Response}
-use Rattle.ob_http.specs.Replies.{Replied, AreFirstReplies}
-use Rattle.ob_http.specs.Stream.{resting, faulted}
 -- the texts of requests, and the objects of replies
 pub use Rattle.ob_asking.specs.Wires.{texts, AreReplies}
+use Rattle.ob_asking.specs.Wires.{ComesWith, ComesRefused, GoesWrong, EndsThere, Comes}
 use Rattle.ob_dialogue.specs.Plans.{Program, host_of, port_in, host_field}
 use Rattle.ob_dialogue.specs.Stages.{Over}
 use Rattle.ob_dialogue.specs.Turns.{Reached, Turn, on_links, asked, after, IsAsking, AreAnswers, polls, resumed, lines}
@@ -20,21 +18,15 @@ use Rattle.ob_dialogue.specs.declared.ending.Ending.TheVariants as ending
 
 -- why no object comes behind these replies of the bytes, where the ending says so
 abbrev pub HasNext : List ℕ → List Response → Ending → Type 0
-HasNext bytes rs (ending.Peer (peer.Status n)) =
-    (r : Response) × AreFirstReplies bytes (rs ++ r ∷ []) × (r.status ≡ n) × (n ≢ 200)
-HasNext bytes rs (ending.Peer (peer.Document f)) =
-    (r : Response) × AreFirstReplies bytes (rs ++ r ∷ []) × (r.status ≡ 200) × Judged r.body true (fault f.at f.why)
-HasNext bytes rs (ending.Peer (peer.Frame f)) = (at : ℕ) × Replied bytes rs (faulted f at)
-HasNext bytes rs (ending.Peer peer.Ended) = (rest : List ℕ) × Replied bytes rs (resting rest)
+HasNext bytes rs (ending.Peer (peer.Status n)) = ComesWith bytes rs n
+HasNext bytes rs (ending.Peer (peer.Document f)) = ComesRefused bytes rs f
+HasNext bytes rs (ending.Peer (peer.Frame f)) = GoesWrong bytes rs f
+HasNext bytes rs (ending.Peer peer.Ended) = EndsThere bytes rs
 HasNext bytes rs _ = Unit {0}
 
--- The objects are those of the bytes' first replies, behind these that were taken before, and the ending is told by what
--- follows them.
-pub record Came (bytes : List ℕ) (before : List Response) (replies : List Object) (e : Ending) : Type 0 where
-  pub rs : List Response
-  pub are : AreReplies rs replies
-  pub first : AreFirstReplies bytes (before ++ rs)
-  pub next : HasNext bytes (before ++ rs) e
+-- the objects are those of the bytes' first replies, behind these that were taken before, and the ending is told by what follows
+abbrev pub Came : List ℕ → List Response → List Object → Ending → Type 0
+Came bytes before replies e = Comes bytes before replies (λ b rs. HasNext b rs e)
 
 -- ---- one link
 

@@ -1,5 +1,5 @@
 -- Rounds one behind the other, and the replies to requests.
-use Rattle.std.proofs.Common.{◌≡◌, ◌⊎◌, ℕ, zero, suc, ◌+◌, ◌-◌, ◌<◌, List, [], ◌∷◌, ◌++◌, Option, Some, None, Result, Ok, Err, refl, sym, ap, subst, ◌∙◌, append_assoc, append-nil, add-one, inl, inr, arith}
+use Rattle.std.proofs.Common.{◌≡◌, ℕ, zero, suc, ◌+◌, ◌-◌, ◌<◌, List, [], ◌∷◌, ◌++◌, Option, Some, None, Result, Ok, Err, refl, sym, ap, subst, ◌∙◌, append_assoc, append-nil, add-one, inl, inr, arith}
 use Rattle.std.specs.Prelude.{IsSome, IsErr, IfOk, unwrap_or, is_some}
 use Rattle.std.specs.declared.alloc.AllocError.{AllocError}
 use Rattle.ob_io.specs.Dials.{Dial, Visit}
@@ -10,13 +10,13 @@ use Rattle.ob_asking.specs.Places.{Place, Request, place_at}
 use Rattle.ob_super.specs.declared.upstream.Live.{Live}
 use Rattle.ob_super.specs.declared.upstream.Followed.{Followed}
 use Rattle.ob_super.specs.Upstreams.{Upstream}
-use Rattle.ob_super.specs.Turns.{Standing, Down, Up, held_of}
+use Rattle.ob_super.specs.Turns.{Standing, Down, Up}
 use Rattle.ob_super.specs.Trees.{View, Entry, shown_in, shown_at, view_of, views_of, entry_at}
-use Rattle.ob_super.specs.Rounds.{Rounds, Stops, Part, PutsHere, Sends, SendsIf, SendsTo, Puts, not_supported}
-use Rattle.ob_super.specs.Supervised.{no_such_object, refused_at, RepliesBy, Replies, Lacking, RepliesTo, ManyRounds, StopsAmong}
+use Rattle.ob_super.specs.Rounds.{Rounds, Stops, PutsHere, Sends, SendsIf, Puts, not_supported}
+use Rattle.ob_super.specs.Supervised.{no_such_object, refused_at, RepliesTo, ManyRounds, StopsAmong}
 use Rattle.ob_super.specs.Told as told
 use Rattle.ob_super.specs.Told.{Outside, Goes, Stands, StandAll, RoundsAll, PutsAll, ManyAll, RepliesOr, RepliesAll, AnswersAll}
-use Rattle.ob_super.proofs.WireLemmas.{never}
+use Rattle.ob_asking.proofs.WireLemmas.{never}
 use Rattle.ob_super.proofs.SuperLemmas.{told_before, part_less, goes_none, goes_then, held_stands}
 
 -- ---- what is told less

@@ -1,5 +1,5 @@
 -- A whole run, from the rounds before any request to the end.
-use Rattle.std.proofs.Common.{◌≡◌, ◌⊎◌, ℕ, zero, suc, List, [], ◌∷◌, ◌++◌, map, Option, Some, None, Result, Ok, Err, refl, sym, ap, subst, ◌∙◌, append_assoc, append-nil, inl, inr}
+use Rattle.std.proofs.Common.{◌≡◌, ℕ, zero, suc, List, [], ◌∷◌, ◌++◌, Option, Some, None, Result, Ok, Err, refl, sym, subst, ◌∙◌, append-nil, inl, inr}
 use Rattle.std.specs.Prelude.{IsSome}
 use Rattle.std.specs.List.{AllByRecursion}
 use Rattle.std.specs.declared.alloc.AllocError.{AllocError}
@@ -15,11 +15,11 @@ use Rattle.ob_super.specs.Upstreams.{Upstream}
 use Rattle.ob_super.specs.Calls.{Call, stage_of}
 use Rattle.ob_super.specs.Turns.{Standing, Down, Up, after}
 use Rattle.ob_super.specs.Trees.{Entry, entry_at}
-use Rattle.ob_super.specs.Rounds.{Rounds, Stops, Lacks, BackForMemory, PutsHere, Sends, SendsIf, SendsTo, Puts, Ends}
-use Rattle.ob_super.specs.Supervised.{RepliesBy, LacksReply, Replies, Lacking, Asked, RepliesTo, Supervises, ManyRounds, StopsAmong, all_down, Supervised, StoppedEarly}
+use Rattle.ob_super.specs.Rounds.{Stops, Lacks, BackForMemory, PutsHere, Sends, SendsIf, SendsTo, Puts, Ends}
+use Rattle.ob_super.specs.Supervised.{RepliesBy, LacksReply, Asked, RepliesTo, Supervises, StopsAmong, all_down}
 use Rattle.ob_super.specs.Told as told
 use Rattle.ob_super.specs.Told.{Outside, Goes, Stands, StandAll, EndsAll, ManyAll, AnswersAll, SupervisesAll, RunsAll, StopsAll}
-use Rattle.ob_super.proofs.SuperLemmas.{told_before, comes_less, breaks_next_less, back_less, part_less, goes_none, goes_then}
+use Rattle.ob_super.proofs.SuperLemmas.{told_before, breaks_next_less, back_less, part_less, goes_none, goes_then}
 use Rattle.ob_super.proofs.AnswerLemmas.{rounds_less, many_less}
 
 -- ---- what is told less
@@ -31,7 +31,7 @@ module _ (T U : Type 0) (less : U → T) where
 
   lacks_less : (u : Upstream) (old : Standing) (ds : List Dial) (vs : List Visit) → Lacks T u old ds vs → Lacks U u old ds vs
   lacks_less u old ds vs l =
-      record { turns = l.turns; dials_are = l.dials_are; none = back_less T U less u old l.turns [] l.none; back = for_memory_less u (after u old l.turns) vs l.back }
+      record { turns = l.turns; are = l.are; dials_are = l.dials_are; none = back_less T U less u old l.turns [] l.none; back = for_memory_less u (after u old l.turns) vs l.back }
 
   stops_less : (us : List Upstream) (olds news : List Standing) (ds : List Dial) (vs : List Visit) → Stops T us olds news ds vs → Stops U us olds news ds vs
   stops_less [] olds news ds vs s = s

@@ -1,18 +1,15 @@
 -- What a config tells, and the first part that offends.
-use Rattle.std.proofs.Common.{◌≡◌, ℕ, zero, suc, ◌+◌, ◌<◌, ◌≤◌, Bool, true, false, ◌||◌, List, [], ◌∷◌, ◌++◌, map, length, take, drop, get_or, Option, Some, None, refl, ap, ap₂, sym, subst, ◌∙◌, arith, Bor}
+use Rattle.std.proofs.Common.{◌≡◌, ℕ, zero, suc, ◌+◌, ◌≤◌, Bool, true, false, ◌||◌, List, [], ◌∷◌, ◌++◌, map, length, take, Option, Some, None, refl, ap, ap₂, sym, subst, ◌∙◌, arith, Bor}
 use Rattle.std.specs.Prelude.{cond, is_some, option_map, option_and_then, Result, min}
 use Rattle.std.specs.declared.result.Result.TheVariants.{Ok, Err}
 use Rattle.std.specs.List.{list_any}
-use Rattle.std.specs.Str.{bytes_eq}
 use Rattle.std.proofs.lemmas.List.{map-append}
 use Rattle.ob_object.specs.Object.{Object}
 use Rattle.ob_watching.specs.WatchOuts.{Text}
-use Rattle.ob_parts.specs.Numbered.{Part, plus, numbered_from, inside}
-use Rattle.ob_parts.specs.Offences.{unless, each}
-use Rattle.ob_object.specs.Object.{parts}
+use Rattle.ob_parts.specs.Numbered.{Part}
+use Rattle.ob_parts.specs.Offences.{unless}
 use Rattle.ob_parts.specs.Least.{earlier, least}
 use Rattle.ob_parts.proofs.Earliest.{least_append, least_none}
-use Rattle.ob_parts.proofs.Walk.{taken, walk_more, walk_end}
 use Rattle.ob_super.specs.declared.config_fault.ConfigFault.{ConfigFault}
 use Rattle.ob_super.specs.declared.config_fault.ConfigFault.TheVariants.{Shape, Memory}
 use Rattle.ob_super.specs.declared.upstream.Upstream as code

@@ -1,5 +1,5 @@
 -- The names of the upstreams that a config tells differ, as those of its parts do.
-use Rattle.std.proofs.Common.{◌≡◌, ℕ, Bool, true, false, ◌||◌, cond, List, [], ◌∷◌, map, find, Option, Some, None, refl, ap, ap₂, sym, ◌∙◌}
+use Rattle.std.proofs.Common.{◌≡◌, ℕ, Bool, true, false, ◌||◌, cond, List, [], ◌∷◌, map, Option, Some, None, refl, ap, ap₂, sym, ◌∙◌}
 use Rattle.std.specs.Prelude.{bytes_eq, is_some, option_and_then, option_map, IfOk}
 use Rattle.ob_object.specs.Object.{Object}
 use Rattle.ob_object.specs.WellFormed.{has_name, named, is_taken, NamesDiffer}

@@ -7,13 +7,12 @@ use Rattle.ob_watching.specs.WatchOuts.{Text}
 use Rattle.ob_super.specs.declared.upstream.Upstream.{Upstream}
 use Rattle.ob_super.specs.declared.upstream.Followed.{Followed}
 use Rattle.ob_super.specs.Upstreams as spec
-use Rattle.ob_super.specs.Upstreams.{IsConfig, IsFirstOffence, configured, offences}
+use Rattle.ob_super.specs.Upstreams.{IsConfig, configured, offences}
 use Rattle.ob_super.specs.Configs.{Judges}
 use Rattle.ob_super.specs.declared.config_fault.ConfigFault.{ConfigFault}
 use Rattle.ob_super.specs.declared.config_fault.ConfigFault.TheVariants.{Shape, Memory}
-use Rattle.ob_super.specs.declared.state.Super.{Super}
 use Rattle.ob_parts.proofs.Earliest.{least_some}
-use Rattle.std.specs.declared.result.Result.TheVariants.{Ok, Err}
+use Rattle.std.specs.declared.result.Result.TheVariants.{Err}
 use Rattle.ob_super.specs.Names.{are_apart, names}
 use Rattle.ob_super.specs.Told.{upstream, upstreams, AreDown, down, Configures}
 

@@ -1,4 +1,3 @@
-pub mod WireLemmas
 pub mod SaidLemmas
 pub mod NeedLemmas
 pub mod OpenLemmas

@@ -7,7 +7,6 @@ use Rattle.ob_io.specs.Faults.{Rose}
 use Rattle.ob_io.specs.Links.{inlet, IsFresh}
 use Rattle.ob_io.specs.Told.{Gains, Gains-none}
 use Rattle.ob_object.specs.Object.{Object}
-use Rattle.ob_http.specs.Replies.{AreTaken}
 use Rattle.ob_http.proofs.RepliesLemmas.{start}
 use Rattle.ob_watching.specs.WatchOuts.{Text}
 use Rattle.ob_asking.specs.Places.{Request, host_of, port_in}
@@ -23,7 +22,7 @@ use Rattle.ob_super.specs.Links.{HasSaid, IsBroken, is_fault, is_break}
 use Rattle.ob_super.specs.Rounds.{host, dial}
 use Rattle.ob_super.specs.Asking.{Answered, Broke, Brings, in_round, Opens, is_miss}
 use Rattle.ob_super.specs.Told.{Outside, Goes, Parts, Stands, IsLive, Follows, SendsOn, wire_of, polling, IsDown}
-use Rattle.ob_super.proofs.WireLemmas.{never}
+use Rattle.ob_asking.proofs.WireLemmas.{never}
 use Rattle.ob_super.proofs.SaidLemmas.{unasked}
 use Rattle.ob_super.proofs.OpenLemmas.{spoken_last}
 use Rattle.ob_super.proofs.TurnLemmas.{stage_on, stage_more, reached_more, spoken_app, with_reply}
@@ -164,7 +163,7 @@ module _ {L : Type 0} (left taken held : L → Option (List ℕ)) where
         dial u false ∷ [],
         v ∷ [],
         goes,
-        lacks_opening Told u k.0 k.1 (v ∷ []) k.3 (
+        lacks_opening Told u k.0 k.1 (v ∷ []) k.3 k.2 (
           v,
           refl,
           λ told. subst (λ (f : Fault). IsBroken (host u) (said_in u (in_round k.0)) (request_at u k.1) f v) m

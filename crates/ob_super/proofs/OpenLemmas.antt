@@ -1,5 +1,5 @@
 -- A watch is opened, call by call.
-use Rattle.std.proofs.Common.{◌≡◌, ◌⊎◌, ℕ, Bool, true, false, List, [], ◌∷◌, ◌++◌, Option, Some, None, Result, Ok, Err, refl, sym, ap, subst, ◌∙◌, append_assoc, append-nil, inl, inr}
+use Rattle.std.proofs.Common.{◌≡◌, Bool, true, false, List, [], ◌∷◌, ◌++◌, Option, Some, None, Result, Ok, Err, refl, sym, ap, subst, ◌∙◌, append_assoc, append-nil, inl, inr}
 use Rattle.std.specs.Prelude.{cond, option_map, codes}
 use Rattle.std.specs.Option.{option_map_or}
 use Rattle.ob_object.specs.Object.{Object}
@@ -16,7 +16,7 @@ use Rattle.ob_super.specs.Calls.{Stage, Lobby, Service, Make, Adding, Said, said
 use Rattle.ob_super.specs.Turns.{is_polling}
 use Rattle.ob_super.specs.Links.{HasSaid, HasBroken}
 use Rattle.ob_super.specs.Rounds.{host}
-use Rattle.ob_super.specs.Asking.{Answered, Broke, Brings, unless_err, Passes, in_round, Says, SaysAndBreaks, Opens, is_miss}
+use Rattle.ob_super.specs.Asking.{Answered, Broke, Brings, unless_err, Passes, in_round, Opens}
 
 pub unless_err_map : {A B : Type 0} (f : A → B) (b : Bool) (x : Option A) → option_map f (cond b None x) ≡ cond b None (option_map f x)
 unless_err_map f true x = refl

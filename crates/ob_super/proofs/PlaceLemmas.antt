@@ -1,5 +1,5 @@
 -- Paths, and the entries that stand under them.
-use Rattle.std.proofs.Common.{◌≡◌, ℕ, ◌+◌, ◌<◌, ◌≤◌, Bool, true, false, cond, ◌&&◌, List, [], ◌∷◌, ◌++◌, length, take, drop, get_or, Option, Some, None, refl, sym, ap, subst, ◌∙◌, append_assoc, append-nil, true≢false, add-one, drop-cons, take-append-drop, Bor, ne_eqb, arith}
+use Rattle.std.proofs.Common.{◌≡◌, ℕ, ◌+◌, ◌<◌, ◌≤◌, Bool, true, false, cond, ◌&&◌, List, [], ◌∷◌, ◌++◌, length, take, drop, get_or, Option, Some, None, refl, sym, ap, ◌∙◌, append_assoc, append-nil, true≢false, add-one, drop-cons, take-append-drop, Bor, ne_eqb, arith}
 use Rattle.std.specs.Prelude.{bytes_eq, codes, decimal, find, is_some, slice_get, option_map, MatchOption, ◌==◌}
 use lib.Seq.{take-append_seam}
 use Rattle.std.proofs.lemmas.List.{at_drop_all}

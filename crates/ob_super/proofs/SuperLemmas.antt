@@ -1,5 +1,5 @@
 -- Calls over several upstreams, one upstream after the other.
-use Rattle.std.proofs.Common.{◌≡◌, ◌⊎◌, ℕ, zero, suc, ◌+◌, Bool, true, false, List, [], ◌∷◌, ◌++◌, map, length, Option, Some, None, Result, Ok, Err, refl, sym, ap, subst, ◌∙◌, append_assoc, append-nil, inl, inr, arith}
+use Rattle.std.proofs.Common.{◌≡◌, ℕ, suc, ◌+◌, List, [], ◌∷◌, ◌++◌, length, Option, Some, None, Result, Ok, Err, refl, sym, ap, subst, ◌∙◌, inl, inr}
 use Rattle.std.specs.Prelude.{IsSome, IsErr, IfOk, IfSome, slice_get}
 use Rattle.std.specs.declared.alloc.AllocError.{AllocError}
 use Rattle.ob_io.specs.Dials.{Dial, Visit}
@@ -20,7 +20,7 @@ use Rattle.ob_super.specs.Links.{IsBack, IsBroken}
 use Rattle.ob_super.specs.Rounds.{host, ComesBack, BreaksAt, BreaksNext, BackIfDown, AreBackAt, AreBack, Part, Rounded, PutsHere, Puts, Sends, Ends, upstream_down, not_supported}
 use Rattle.ob_super.specs.Told as told
 use Rattle.ob_super.specs.Told.{Outside, Goes, Stands, Follows, StandAll, RoundsAll, SendsOn, PutsTo, HasSent, MayPut, PutsOne, PutsAll, EndsAll, HasEntry}
-use Rattle.ob_super.proofs.WireLemmas.{never}
+use Rattle.ob_asking.proofs.WireLemmas.{never}
 use Rattle.ob_super.proofs.SaidLemmas.{unasked}
 use Rattle.ob_super.proofs.PartLemmas.{said_back, broken_back}
 

@@ -7,7 +7,7 @@ use Rattle.std.proofs.lemmas.List.{take_more, take_all, map-append, at_drop_all}
 use Rattle.std.proofs.lemmas.List.Folds.{find-append}
 use Rattle.std.proofs.lemmas.Option.{slice_get-get_or}
 use Rattle.ob_object.specs.declared.head.Head.{Head}
-use Rattle.ob_object.specs.Object.{Objects, none, node, Object, listed, in_row, children, listed-in_row, in_row-listed}
+use Rattle.ob_object.specs.Object.{Objects, node, Object, listed, in_row, children, listed-in_row, in_row-listed}
 use Rattle.ob_object.specs.WellFormed.{has_name, named, is_taken, NamesDiffer, with_child}
 use Rattle.ob_contracts.proofs.Distinct.{free_at}
 use Rattle.ob_watching.specs.WatchOuts.{Text, Held, without_name}

@@ -1,5 +1,5 @@
 -- What contracts see of a supervisor in hand.
-use Rattle.std.specs.Prelude.{◌≡◌, ◌⊎◌, ◌<◌, ℕ, length, false, true, List, [], ◌∷◌, ◌++◌, map, codes, min, Vec, IsSome, Option, Some, None, option_map, option_and_then, unwrap_or, slice_get, Result}
+use Rattle.std.specs.Prelude.{◌≡◌, ◌⊎◌, ◌<◌, ℕ, length, false, true, List, [], ◌∷◌, ◌++◌, map, codes, IsSome, Option, Some, None, option_map, option_and_then, unwrap_or, slice_get, Result}
 use Rattle.std.specs.declared.result.Result.TheVariants.{Ok, Err}
 use Rattle.ob_io.specs.Links.{inlet}
 use Rattle.ob_asking.specs.Wires.{Wire, wire}

@@ -1,5 +1,5 @@
 -- The tree that a supervisor shows, and its places.
-use Rattle.std.specs.Prelude.{ℕ, ◌+◌, Bool, true, false, cond, bytes_eq, codes, decimal, find, List, [], ◌∷◌, ◌++◌, map, Option, Some, None, option_map}
+use Rattle.std.specs.Prelude.{ℕ, ◌+◌, Bool, true, false, bytes_eq, codes, decimal, find, List, [], ◌∷◌, ◌++◌, map, Option, Some, None, option_map}
 use Rattle.std.specs.List.{flat_map}
 use Rattle.std.specs.Option.{option_map_or}
 use Rattle.ob_object.specs.declared.kind.Kind.TheVariants as kind

@@ -1,7 +1,7 @@
 -- What a supervisor follows, as its config tells it, and the parts of a config that offend against its form. A part that is there
 -- and is wrong offends itself; where one that is needed is missing, the object round it does. Children of other names, and
 -- attributes that no rule names, are passed over.
-use Rattle.std.specs.Prelude.{◌≡◌, ℕ, Bool, false, cond, not, ◌&&◌, ◌||◌, nat_le, bytes_eq, codes, List, [], ◌∷◌, ◌++◌, length, map, Option, Some, None, is_some, option_map, option_and_then}
+use Rattle.std.specs.Prelude.{◌≡◌, ℕ, Bool, false, cond, ◌&&◌, ◌||◌, nat_le, bytes_eq, codes, List, [], ◌∷◌, ◌++◌, length, map, Option, Some, None, is_some, option_map, option_and_then}
 use Rattle.std.specs.List.{list_all, list_any}
 use Rattle.url.specs.Parts.{Parts}
 use Rattle.url.specs.Parser.{parse_url}

@@ -1,4 +1,4 @@
-use Rattle.std.proofs.Common.{◌≡◌, Some, ap, sym, ◌∙◌}
+use Rattle.std.proofs.Common.{ap, sym, ◌∙◌}
 use Rattle.std.specs.Prelude.{codes, is_some, option_map}
 use Rattle.ob_asking.specs.Told as dialogue
 use Rattle.ob_parts.specs.Views.{part_of}

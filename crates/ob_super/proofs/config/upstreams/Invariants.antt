@@ -1,4 +1,4 @@
-use Rattle.std.proofs.Common.{◌≡◌, [], map, take, drop, None}
+use Rattle.std.proofs.Common.{◌≡◌, map, take, drop, None}
 use Rattle.ob_parts.specs.Least.{earlier, least}
 use Rattle.ob_parts.specs.Numbered.{numbered_from}
 use Rattle.ob_parts.specs.Offences.{each}

@@ -1,8 +1,6 @@
-use Rattle.std.proofs.Common.{refl, sym, ap, subst, ◌∙◌, false, true, Ok, Err}
+use Rattle.std.proofs.Common.{refl, sym, ap, subst, ◌∙◌, false, true}
 use Rattle.std.specs.Prelude.{unwrap_or}
 use Rattle.ob_io.specs.Links.{IsFresh}
-use Rattle.ob_super.specs.declared.upstream.Live.{Live}
-use Rattle.ob_super.specs.Links.{HasSaid}
 use Rattle.ob_super.specs.Rounds.{host}
 use Rattle.ob_super.specs.Told as told
 use Rattle.ob_super.proofs.PartLemmas.{fresh_said}

@@ -1,5 +1,4 @@
 use Rattle.std.proofs.Common.{refl, sym, ◌∙◌}
-use Rattle.ob_super.specs.Told as told
 use Rattle.ob_super.proofs.TreeLemmas.{over_here, over_past, over_none}
 use Rattle.ob_super.proofs.supervisor.shown_over.Goals as goal
 

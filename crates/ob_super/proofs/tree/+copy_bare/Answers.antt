@@ -1,5 +1,5 @@
 use Rattle.std.proofs.Common.{◌≡◌, ◌<◌, ◌≤◌, ℕ, length, get_or, List, subst}
-use Rattle.ob_object.specs.Object.{Object, parts, children}
+use Rattle.ob_object.specs.Object.{Object, parts}
 use Rattle.ob_object.specs.WellFormed.{NamesDiffer}
 use Rattle.ob_contracts.proofs.At.{fewer_parts}
 use Rattle.ob_contracts.proofs.Bare.{child_here}

@@ -1,4 +1,4 @@
-use Rattle.std.proofs.Common.{◌≡◌, ◌<◌, ◌≤◌, ◌+◌, length, sym, ap, subst, ◌∙◌, arith}
+use Rattle.std.proofs.Common.{◌<◌, ◌≤◌, ◌+◌, length, sym, subst, ◌∙◌, arith}
 use Rattle.ob_object.specs.Object.{Object}
 use Rattle.ob_super.specs.Told as told
 use Rattle.ob_super.proofs.TreeLemmas.{IsPut, put_none, put_some, put_all}

@@ -1,7 +1,6 @@
 use Rattle.std.specs.Option.{option_copied}
 use Rattle.ob_super.specs.Told as told
 use Rattle.ob_super.proofs.AnswerLemmas.{answers}
-use Rattle.ob_super.proofs.ChainLemmas.{runs}
 use Rattle.ob_super.proofs.state.Super.answer.Goals as goal
 
 pub returns-clause-answers : goal.returns-clause-answers

@@ -1,8 +1,7 @@
-use Rattle.std.proofs.Common.{◌≡◌, Option, List, false, sym, subst, ◌∙◌}
+use Rattle.std.proofs.Common.{◌≡◌, Option, false, sym, subst, ◌∙◌}
 use Rattle.std.specs.Prelude.{IfOk, bytes_eq}
 use Rattle.ob_client.proofs.TableLemmas.{bytes_eq_sym}
 use Rattle.ob_object.specs.Object.{Object}
-use Rattle.ob_super.specs.declared.upstream.Followed.{Followed}
 use Rattle.ob_super.specs.Trees.{root_path}
 use Rattle.ob_super.specs.Told as told
 use Rattle.ob_super.proofs.TreeLemmas.{below_shown}
