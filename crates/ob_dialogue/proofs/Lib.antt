@@ -5,3 +5,4 @@ pub mod TakingLemmas
 pub mod TurnLemmas
 pub mod DriverLemmas
 pub mod CompleteLemmas
+pub mod StageLemmas

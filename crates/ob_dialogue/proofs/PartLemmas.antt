@@ -1,5 +1,5 @@
 -- Lines, one after the other.
-use Rattle.std.proofs.Common.{◌≡◌, ℕ, zero, suc, ◌+◌, ◌<◌, true, false, cond, List, [], ◌∷◌, ◌++◌, length, take, get_or, Some, None, refl, sym, ap, ◌∙◌, append_assoc, append-nil, add-one}
+use Rattle.std.proofs.Common.{◌≡◌, ℕ, zero, suc, ◌+◌, ◌<◌, true, false, cond, List, [], ◌∷◌, ◌++◌, length, take, get_or, Some, None, refl, sym, ap, ◌∙◌, append_assoc, append-nil, add-one, arith}
 use Rattle.std.specs.Prelude.{slice_get, option_map}
 use Rattle.std.specs.List.{filter}
 use Rattle.std.proofs.lemmas.List.{take_more}
@@ -21,12 +21,11 @@ items_next (x ∷ hs) (suc i) o h = append_assoc (line (shown x)) (items_text (t
 pub items_more : (hs : List Held) (i : ℕ) (o : Object) → Some o ≡ option_map shown (slice_get hs i) → items_text (take i hs) ++ line o ≡ items_text (take (i + 1) hs)
 items_more hs i o h = items_next hs i o h ∙ ap (λ (n : ℕ). items_text (take n hs)) (sym (add-one i))
 
--- no line more
-pub items_all : (hs : List Held) (i : ℕ) → None ≡ option_map shown (slice_get hs i) → items_text (take i hs) ≡ items_text hs
-items_all [] zero h = refl
-items_all [] (suc i) h = refl
-items_all (x ∷ hs) zero h = absurd (let e : None ≡ Some (shown x) = h in cc)
-items_all (x ∷ hs) (suc i) h = ap (λ (t : List ℕ). line (shown x) ++ t) (items_all hs i h)
+-- there is a line at each place
+pub items_there : (hs : List Held) (i : ℕ) → i < length hs → None ≡ option_map shown (slice_get hs i) → ⊥
+items_there [] i lt h = omega (arith, lt)
+items_there (x ∷ hs) zero lt h = let e : None ≡ Some (shown x) = h in cc
+items_there (x ∷ hs) (suc i) lt h = items_there hs i (omega arith) h
 
 abbrev none_of : List Object
 none_of = []

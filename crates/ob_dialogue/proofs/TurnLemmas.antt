@@ -1,17 +1,18 @@
 -- A request, its reply and what it gives.
-use Rattle.std.proofs.Common.{◌≡◌, ℕ, Bool, List, [], Option, None, Result, Ok, Err, refl, sym, subst, ◌∙◌, inl, inr}
+use Rattle.std.proofs.Common.{◌≡◌, ℕ, Bool, List, [], Option, Some, None, Result, Ok, Err, refl, sym, subst, ◌∙◌, inl, inr}
 use Rattle.ob_io.specs.Told.{Gains, IsFront, Sends, Gains-none}
 use Rattle.ob_object.specs.Object.{Object}
 use Rattle.ob_watching.specs.WatchOuts.{Text}
 use Rattle.ob_client.specs.declared.call_fault.CallFault.{CallFault}
 use Rattle.ob_client.specs.declared.call_fault.CallFault.TheVariants as faults
 use Rattle.ob_io.specs.declared.traits.Failed.{Failed}
-use Rattle.ob_dialogue.specs.Plans.{Program}
+use Rattle.std.specs.Prelude.{IsSome}
+use Rattle.ob_dialogue.specs.Plans.{Program, Request}
 use Rattle.ob_dialogue.specs.Stages.{Stage, request_at}
 use Rattle.ob_dialogue.specs.Taking.{Taken, taken}
 use Rattle.ob_dialogue.specs.Legs.{Pause, Ended, ending_of, ended_by, Goes, Had, had, Leg}
 use Rattle.ob_dialogue.specs.Exchanges.{Wire, Called, Faulted}
-use Rattle.ob_dialogue.specs.Told.{Gives, Prints, Printed, CutOff, Reaches, Turns, stage}
+use Rattle.ob_dialogue.specs.Told.{Gives, Prints, Printed, CutOff, Reaches, Turns, GoesOn, stage}
 use Rattle.ob_dialogue.proofs.LegLemmas.{none_front, leg_memory, leg_done, leg_err, leg_shape, leg_fault, leg_more, leg_cut}
 use Rattle.ob_dialogue.specs.declared.ending.Peer.{Peer}
 use Rattle.ob_dialogue.specs.declared.ending.Peer.TheVariants as peer
@@ -20,6 +21,10 @@ use Rattle.ob_dialogue.specs.declared.ending.Ending.TheVariants as ending
 use Rattle.ob_dialogue.specs.declared.link.Pause.TheVariants as pauses
 use Rattle.ob_dialogue.specs.declared.link.Turned.{Turned}
 use Rattle.ob_dialogue.specs.declared.link.Turned.TheVariants as turns
+
+asks_some : (asked : Option Request) (r : Request) → asked ≡ Some r → IsSome asked
+asks_some None r is = absurd (let e : None ≡ Some r = is in cc)
+asks_some (Some q) r is = refl
 
 -- with a sink that tells this
 abbrev pub at_sink : Wire → Option (List ℕ) → Had
@@ -60,6 +65,11 @@ turn_reply p host mends s w w' pr pr' o (turns.Paused (pauses.Ended ending.Done)
 turn_reply p host mends s w w' pr pr' o (turns.Paused (pauses.Ended ending.Link)) call gives = absurd gives
 turn_reply p host mends s w w' pr pr' o (turns.Paused (pauses.Failed t)) call gives = absurd gives
 turn_reply p host mends s w w' pr pr' o (turns.Paused (pauses.Cut t)) call gives = absurd gives
+
+-- a stage that comes next is one to which the reply leads
+pub turn_onward : (p : Program) (host : Text) (s : Stage) (w w' : Wire) (pr pr' : Option (List ℕ)) (o : Object) (result : Turned) → Called host s w w' o → Gives pr pr' p s o result → GoesOn p s result
+turn_onward p host s w w' pr pr' o (turns.Next t) call gives = (asks_some (request_at s) call.request call.is, (o, gives.is))
+turn_onward p host s w w' pr pr' o (turns.Paused q) call gives = tt
 
 -- ---- what is printed
 

@@ -1,5 +1,5 @@
 -- A request and its reply.
-use Rattle.std.specs.Prelude.{◌≡◌, Some, None, Ok, Err}
+use Rattle.std.specs.Prelude.{◌≡◌, ◌≢◌, Some, None, Ok, Err}
 use Rattle.ob_object.specs.Object.{Object}
 use Rattle.ob_watching.specs.WatchOuts.{Text}
 use Rattle.ob_client.specs.Sessions.{Answers, Asks, Reads}
@@ -39,3 +39,8 @@ Replied _ = ⊥
 abbrev pub FailedByLink : Exchange → Type 0
 FailedByLink (exchange.Fault f) = f ≡ fault.Link
 FailedByLink _ = ⊥
+
+-- the session wasn't dead
+abbrev pub WasAlive : Exchange → Type 0
+WasAlive (exchange.Fault f) = f ≢ fault.Dead
+WasAlive _ = Unit {0}

@@ -66,7 +66,7 @@ pub record Leg (p : Program) (host : Text) (mends : Bool) (at : Reached) (old ne
   pub goes : Goes mends (after p at replies) pause
   pub at_end : ending_of pause ≡ ending.Peer peer.Ended → IsAtEnd new.inlet.left
 
--- how a dialogue would end that a fault of a call breaks
+-- how a dialogue would end that a fault of a call breaks; a session that is dead isn't called
 abbrev pub ended_by : CallFault → Ending
 ended_by fault.Link = ending.Link
 ended_by fault.Ended = ending.Peer peer.Ended

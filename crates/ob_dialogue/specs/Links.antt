@@ -1,5 +1,5 @@
 -- What a dialogue does to its links and to what it prints on, and how it ends.
-use Rattle.std.specs.Prelude.{◌≡◌, ◌≢◌, ◌⊎◌, ℕ, ◌+◌, ◌-◌, ◌<◌, Bool, true, false, cond, List, [], ◌∷◌, ◌++◌, length, Option, IsSome, Ok, Err}
+use Rattle.std.specs.Prelude.{◌≡◌, ◌≢◌, ◌⊎◌, ℕ, ◌+◌, ◌-◌, ◌<◌, Bool, true, false, cond, List, [], ◌∷◌, length, Option, IsSome, Ok, Err}
 use Rattle.ob_io.specs.Dials.{Dial, Visit}
 use Rattle.ob_io.specs.Told.{Gains, IsFront}
 use Rattle.ob_object.specs.Object.{Object}

@@ -1,5 +1,5 @@
 -- What contracts see of a dialogue in hand.
-use Rattle.std.specs.Prelude.{◌≡◌, ℕ, ◌+◌, ◌<◌, ◌^◌, Bool, true, false, List, Vec, Option, Some, None, option_map, unwrap_or, Result}
+use Rattle.std.specs.Prelude.{◌≡◌, ℕ, ◌+◌, ◌<◌, ◌^◌, Bool, true, false, List, Vec, IsSome, Option, Some, None, option_map, unwrap_or, Result}
 use Rattle.std.specs.declared.result.Result.TheVariants.{Ok, Err}
 use Rattle.std.specs.declared.alloc.AllocError.{AllocError}
 use Rattle.ob_values.specs.declared.verb.Verb.TheVariants.{Post}
@@ -164,6 +164,11 @@ abbrev pub Turns : plans.Program → Text → Bool → stages.Stage → legs.Had
 Turns p host mends s old new (turns.Next t) =
     (end : legs.Had) (q : legs.Pause) → legs.Leg p host mends (Ok (stage t)) new end q → legs.Leg p host mends (Ok s) old end q
 Turns p host mends s old new (turns.Paused q) = legs.Leg p host mends (Ok s) old new (pause q)
+
+-- a stage that comes next is one to which a reply leads
+abbrev pub GoesOn : plans.Program → stages.Stage → Turned → Type 0
+GoesOn p s (turns.Next t) = IsSome (stages.request_at s) × ((o : Object) × ((taking.taken p s o).next ≡ Ok (stage t)))
+GoesOn p s (turns.Paused q) = Unit {0}
 
 abbrev pub TurnedIsLive : Turned → Type 0
 TurnedIsLive (turns.Next s) = IsLive s

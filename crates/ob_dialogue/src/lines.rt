@@ -46,13 +46,13 @@ fn items(alloc: Global, mirror: &Mirror) -> Result<Vec<u8>, AllocError>
     ensures { IfOk result (λ text. text.items ≡ items_text mirror.now.held) }
 {
     let mut out = Vec::new(alloc);
-    for place in 0..u64::MAX {
+    for place in 0..mirror.len() {
         match mirror.at(place) {
             Some(object) => line(&mut out, object)?,
-            None => return Ok(out),
+            None => unreachable!(),
         }
     }
-    Err(AllocError)
+    Ok(out)
 }
 
 // The entries of a WatchOut.

@@ -1,9 +1,10 @@
 //! A dialogue on one link.
-ghost use Rattle.std.specs.Prelude.{◌≡◌, ◌⊎◌, ◌≤◌, Ok, false};
+ghost use Rattle.std.specs.Prelude.{◌≡◌, ◌≢◌, ◌⊎◌, ◌≤◌, Ok, false};
 ghost use Rattle.ob_io.specs.Faults.{Rose};
 ghost use Rattle.ob_io.specs.Links.{inlet};
+ghost use Rattle.ob_client.specs.declared.call_fault.CallFault.TheVariants as calls;
 ghost use Rattle.ob_dialogue.specs.Legs.{Goes, Leg, had, ending_of, ended_by};
-ghost use Rattle.ob_dialogue.specs.Exchanges.{Exchanges, Replied, FailedByLink, wire};
+ghost use Rattle.ob_dialogue.specs.Exchanges.{Exchanges, Replied, FailedByLink, WasAlive, wire};
 ghost use Rattle.ob_dialogue.specs.Told as told;
 
 use crate::ending::{Ending, Peer};
@@ -51,7 +52,8 @@ pub(crate) enum Turned {
 
 // What a fault of a call makes of a stage.
 fn broken(stage: Stage, fault: CallFault, mends: bool) -> Pause
-    requires { told.IsLive stage }
+    requires live { told.IsLive stage }
+    requires alive { fault ≢ calls.Dead }
     ensures ends { ending_of (told.pause result) ≡ ended_by fault }
     ensures goes { Goes mends (Ok (told.stage stage)) (told.pause result) }
     ensures live { told.PauseIsLive result }
@@ -75,7 +77,7 @@ fn broken(stage: Stage, fault: CallFault, mends: bool) -> Pause
         CallFault::PeerStatus { number } => Pause::Ended(Ending::Peer(Peer::Status(number))),
         CallFault::PeerDocument(refused) => Pause::Ended(Ending::Peer(Peer::Document(refused))),
         CallFault::PeerFrame(fault) => Pause::Ended(Ending::Peer(Peer::Frame(fault))),
-        CallFault::Dead => Pause::Ended(Ending::Memory),
+        CallFault::Dead => unreachable!(),
         CallFault::Memory => Pause::Ended(Ending::Memory),
     }
 }
@@ -93,6 +95,7 @@ fn ask<L: Link>(alloc: Global, stage: &Stage, session: &mut Session<L>) -> Excha
         × (L.write_faults session.old.link ≤ L.write_faults session.new.link) }
     ensures link { FailedByLink result → Rose (L.read_faults session.old.link) (L.read_faults session.new.link)
         ⊎ Rose (L.write_faults session.old.link) (L.write_faults session.new.link) }
+    ensures lives { WasAlive result }
 {
     let Ok(asked) = request_at(alloc, stage) else {
         return Exchange::Memory;
@@ -183,6 +186,7 @@ fn turn<L: Link, K: Sink>(
     ensures link { told.TurnsByLink result → Rose (L.read_faults session.old.link) (L.read_faults session.new.link)
         ⊎ Rose (L.write_faults session.old.link) (L.write_faults session.new.link) }
     ensures sink { told.TurnsBySink result → Rose (K.faults sink.old) (K.faults sink.new) }
+    ensures onward { told.GoesOn (told.program plan.now) (told.stage stage) result }
 {
     match ask(alloc, &stage, session) {
         Exchange::Over => Turned::Paused(Pause::Ended(Ending::Done)),
@@ -192,7 +196,7 @@ fn turn<L: Link, K: Sink>(
     }
 }
 
-/// The dialogue from a stage on, on one link.
+/// The dialogue from a stage on, on one link. It ends: each reply leads nearer to the end of the polls.
 pub(crate) fn on_link<L: Link, K: Sink>(
     alloc: Global,
     plan: &Plan,
@@ -214,11 +218,10 @@ pub(crate) fn on_link<L: Link, K: Sink>(
     ensures sink { told.IsSinkFault result → Rose (K.faults sink.old) (K.faults sink.new) }
 {
     let mut stage = stage;
-    'turns: for _turn in 0..u64::MAX {
+    'turns: loop {
         match turn(alloc, plan, stage, session, sink, mends) {
             Turned::Next(next) => stage = next,
             Turned::Paused(pause) => return pause,
         }
     }
-    Pause::Ended(Ending::Memory)
 }

@@ -1,5 +1,8 @@
-use Rattle.ob_dialogue.proofs.LegLemmas.{leg_memory}
+use Rattle.ob_dialogue.specs.Told as told
+use Rattle.ob_dialogue.proofs.StageLemmas.{taken_near}
 use Rattle.ob_dialogue.proofs.link.on_link.Goals as goal
 
-pub returns-clause-leg : goal.returns-clause-leg
-returns-clause-leg g c = c.turns.invariant.goes _ _ (leg_memory _ _ _ _ _)
+pub turns-smaller : goal.turns-smaller
+turns-smaller g c =
+    let on = c.in-Next.ensures.onward in
+    taken_near (told.program c.args.plan.now) (told.stage c.turns.stage) on.1.0 (told.stage c.in-Next.next) on.0 on.1.1

@@ -2,6 +2,7 @@ use Rattle.std.proofs.Common.{◌≡◌, ◌≤◌, false, Ok}
 use Rattle.ob_io.specs.Links.{inlet}
 use Rattle.ob_dialogue.specs.Legs.{Had, had, Leg, Pause}
 use Rattle.ob_dialogue.specs.Told as told
+use Rattle.ob_dialogue.proofs.StageLemmas.{stages_left}
 use Rattle.ob_dialogue.proofs.link.on_link.Given as goal
 
 abbrev pub invariant-turns : goal.invariant-turns
@@ -17,3 +18,6 @@ invariant-turns g l = record {
   writes : g.L.Link.write_faults l.fn.session.link ≤ g.L.Link.write_faults l.session.link;
   sinks : g.K.Sink.faults l.fn.sink ≤ g.K.Sink.faults l.sink;
 }
+
+abbrev pub decreases-turns : goal.decreases-turns
+decreases-turns g l = stages_left (told.program l.plan) (told.stage l.stage)

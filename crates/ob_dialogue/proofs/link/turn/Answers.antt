@@ -1,5 +1,5 @@
 use Rattle.ob_dialogue.specs.Told as told
-use Rattle.ob_dialogue.proofs.TurnLemmas.{turn_over, turn_memory, turn_fault, turn_reply}
+use Rattle.ob_dialogue.proofs.TurnLemmas.{turn_over, turn_memory, turn_fault, turn_reply, turn_onward}
 use Rattle.ob_dialogue.proofs.link.turn.Goals as goal
 
 pub returns-in-Over-clause-turns : goal.returns-in-Over-clause-turns
@@ -19,4 +19,9 @@ returns-in-Fault-clause-turns g c =
 pub returns-in-Reply-clause-turns : goal.returns-in-Reply-clause-turns
 returns-in-Reply-clause-turns g c =
     turn_reply (told.program c.args.plan.now) c.args.session.now.host c.args.mends (told.stage c.args.stage) _ _ (g.K.Sink.held c.args.sink.now) (g.K.Sink.held c.give.new.sink) c.in-Reply.reply c.give.result
+    c.in-Reply.ensures.exchanges c.give.ensures.gives
+
+pub returns-in-Reply-clause-onward : goal.returns-in-Reply-clause-onward
+returns-in-Reply-clause-onward g c =
+    turn_onward (told.program c.args.plan.now) c.args.session.now.host (told.stage c.args.stage) _ _ (g.K.Sink.held c.args.sink.now) (g.K.Sink.held c.give.new.sink) c.in-Reply.reply c.give.result
     c.in-Reply.ensures.exchanges c.give.ensures.gives
