@@ -12,7 +12,10 @@ use Rattle.ob_parts.specs.Offences.{said}
 use Rattle.std.specs.Prelude.{codes}
 use Rattle.ob_super.specs.declared.upstream.Upstream as code
 use Rattle.ob_super.specs.Upstreams.{Upstream, is_name, name_in, lobby_in, hrefs_in, upstream_in, with_hrefs}
-use Rattle.ob_super.specs.Configs.{upstream, unless_any}
+use Rattle.std.specs.declared.result.Result.{Result}
+use Rattle.std.specs.declared.result.Result.TheVariants.{Ok, Err}
+use Rattle.ob_super.specs.declared.config_fault.ConfigFault.{ConfigFault}
+use Rattle.ob_super.specs.Configs.{upstream, unless_any, both, first_of}
 use Rattle.ob_super.specs.Names.{are_apart}
 use Rattle.ob_super.proofs.ConfigLemmas.{told_of}
 
@@ -35,6 +38,29 @@ own_name : (k : Bool) (a : Option Text) (n : Text) → cond k (option_and_then (
 own_name false a n e = absurd (let f : None ≡ Some n = e in cc)
 own_name true None n e = e
 own_name true (Some t) n e = kept t n (is_name t) e
+
+-- it is a name of the form that an upstream has
+form_by : (k : Bool) (a : Option Text) (n : Text) → cond k (option_and_then (λ (t : Text). cond (is_name t) (Some t) None) a) None ≡ Some n → is_name n ≡ true
+form_by false a n e = absurd (let f : None ≡ Some n = e in cc)
+form_by true None n e = absurd (let f : None ≡ Some n = e in cc)
+form_by true (Some t) n e = by_test (is_name t) refl e
+  where
+    by_test : (b : Bool) → is_name t ≡ b → cond b (Some t) None ≡ Some n → is_name n ≡ true
+    by_test true is same = ap is_name (let back : n ≡ t = cc in back) ∙ is
+    by_test false is same = absurd (let f : None ≡ Some n = same in cc)
+
+pub named_so : (o : Object) (n : Text) → name_in o ≡ Some n → is_name n ≡ true
+named_so o n e = form_by (is_of_kind kind.Obj o) o.head.name n e
+
+-- where both are there, the first is
+pub both_first : {A B : Type 0} (x : Result A ConfigFault) (y : Result B ConfigFault) (a : A) (b : B) → both x y ≡ Ok (a, b) → x ≡ Ok a
+both_first (Ok p) (Ok q) a b e = ok_first p q a b e
+  where
+    ok_first : {A B : Type 0} (p : A) (q : B) (a : A) (b : B) → Ok {E = ConfigFault} (p, q) ≡ Ok (a, b) → Ok {E = ConfigFault} p ≡ Ok a
+    ok_first p q a b e = let same : p ≡ a = cc in ap (λ x. Ok x) same
+both_first (Ok p) (Err g) a b e = absurd (let f : Err g ≡ Ok (a, b) = e in cc)
+both_first (Err f) (Ok q) a b e = absurd (let g : Err f ≡ Ok (a, b) = e in cc)
+both_first (Err f) (Err g) a b e = absurd (let h : Err (first_of f g) ≡ Ok (a, b) = e in cc)
 
 -- an upstream has the name of its object
 named_as : (o : Object) (u : Upstream) → upstream_in o ≡ Some u → o.head.name ≡ Some u.name

@@ -1,5 +1,5 @@
 -- Names that differ, and the lists of upstreams in the tree.
-use Rattle.std.proofs.Common.{◌≡◌, ℕ, ◌<◌, Bool, true, false, cond, List, [], ◌∷◌, map, length, take, get_or, Option, Some, None, refl, sym, ap, subst, ◌∙◌, true≢false}
+use Rattle.std.proofs.Common.{◌≡◌, ℕ, ◌<◌, Bool, true, false, cond, List, [], ◌∷◌, map, length, take, get_or, Option, Some, None, refl, sym, ap, ap₂, subst, ◌∙◌, true≢false, ◌&&◌, leb, arith}
 use Rattle.std.specs.Prelude.{◌||◌, bytes_eq, find, is_some, option_map, slice_get, Vec}
 use Rattle.std.specs.Vec.{with_items}
 use Rattle.std.proofs.lemmas.List.{take-map, length-map, with_items_is}
@@ -11,7 +11,10 @@ use Rattle.ob_client.proofs.TableLemmas.{bytes_eq_sym}
 use Rattle.ob_watching.specs.Tables.{is_among}
 use Rattle.ob_watching.specs.WatchOuts.{Text}
 use Rattle.ob_super.specs.declared.upstream.Followed.{Followed}
-use Rattle.ob_super.specs.Upstreams.{Upstream}
+use Rattle.std.specs.List.{list_all}
+use Rattle.std.proofs.lemmas.Bool.{leb-true, le-leb}
+use Rattle.ob_object.specs.Fits.{fits_name}
+use Rattle.ob_super.specs.Upstreams.{Upstream, is_name, is_letter}
 use Rattle.ob_super.specs.Trees.{View, subtree}
 use Rattle.ob_super.specs.Names.{are_apart, names}
 use Rattle.ob_super.specs.Told.{upstreams, upstream, view, views}
@@ -74,3 +77,17 @@ module _ {L : Type 0} where
       subst (λ (fs : List (Followed L)). are_apart (names fs) ≡ true)
       (sym (with_items_is v new (sym (length-map new (λ (f : Followed L). upstream f.upstream)) ∙ ap length same ∙ length-map v.items (λ (f : Followed L). upstream f.upstream) ∙ len)))
       (apart_still v.items new same apart)
+
+-- ---- a name of the form that an upstream has fits an object
+
+both_true : (a b : Bool) → (a && b) ≡ true → (a ≡ true) × (b ≡ true)
+both_true true true e = (refl, refl)
+both_true true false e = absurd (let f : false ≡ true = e in cc)
+both_true false b e = absurd (let f : false ≡ true = e in cc)
+
+pub name_fits : (t : Text) → is_name t ≡ true → fits_name (Some t) ≡ true
+name_fits t e =
+    let n = length t in
+    let size : leb 1 n && leb n 32 ≡ true = (both_true (leb 1 n && leb n 32) (list_all is_letter t) e).0 in
+    let ends = both_true (leb 1 n) (leb n 32) size in
+    ap₂ (λ a b. a && b) ends.0 (le-leb n 255 (omega (arith, leb-true n 32 ends.1)))

@@ -10,23 +10,13 @@ use std::alloc::{AllocError, Global};
 /// The path of the tree.
 pub(crate) const ROOT: &str = "/obix/";
 
-/// These words as a text.
-pub(crate) fn text_of(alloc: Global, words: &str) -> Result<Text, AllocError>
-    ensures { IfOk result (λ text. text ≡ words.now) }
-{
-    match Text::from_utf8(alloc, words.as_bytes()) {
-        Ok(text) => Ok(text),
-        Err(_) => Err(AllocError),
-    }
-}
-
 /// The path of the list of an upstream of this name.
 pub(crate) fn list_path(alloc: Global, name: &Text) -> Result<Text, AllocError>
     ensures { IfOk result (λ path. path ≡ list_at name.now) }
 {
     let text = name.as_str();
     let path = format!(in alloc; "/obix/{text}/")?;
-    text_of(alloc, path.as_str())
+    Text::from_string(path)
 }
 
 /// The path of the object of an upstream's href at a place.
@@ -35,7 +25,7 @@ pub(crate) fn object_path(alloc: Global, name: &Text, place: usize) -> Result<Te
 {
     let text = name.as_str();
     let path = format!(in alloc; "/obix/{text}/{place}")?;
-    text_of(alloc, path.as_str())
+    Text::from_string(path)
 }
 
 // What follows a front of a text.

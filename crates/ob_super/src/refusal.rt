@@ -1,45 +1,40 @@
 //! The errs that a supervisor itself replies.
-ghost use Rattle.std.specs.Prelude.{◌≡◌, [], ◌∷◌, Some, IfOk};
+ghost use Rattle.std.specs.Prelude.{◌≡◌, [], ◌∷◌, true, Some, IfOk, IsTrue};
+ghost use Rattle.ob_values.specs.XmlText.{is_printable};
 ghost use Rattle.ob_object.specs.Object.{none};
+ghost use Rattle.ob_object.specs.Words.{is_word};
 ghost use Rattle.ob_super.specs.Rounds.{plain_err, not_supported};
 ghost use Rattle.ob_super.specs.Supervised.{no_such_object};
 
-use crate::place::text_of;
-use ob_object::{Facets, Head, Kind, Obj, Words};
+use ob_asking::one_word;
+use ob_object::{Facets, Head, Kind, Obj};
+use ob_values::Text;
 use std::alloc::{AllocError, Global};
 
 /// An err with these words.
 pub(crate) fn err(alloc: Global, words: &str) -> Result<Obj, AllocError>
+    requires { IsTrue (is_printable words.now) }
     ensures { IfOk result (λ o. o ≡ plain_err words.now) }
 {
     let mut facets = Facets::none();
-    facets.display = Some(text_of(alloc, words)?);
+    facets.display = Some(Text::from_ascii(alloc, words)?);
     let mut head = Head::empty(Kind::Err);
     head.facets = facets;
     Ok(Obj::from_head(alloc, head))
 }
 
-// The words of one contract.
-fn one_word(alloc: Global, contract: &str) -> Result<Words, AllocError>
-    ensures { IfOk result (λ ws. ws ≡ contract.now ∷ []) }
-{
-    let mut words = Words::new(alloc);
-    let word = text_of(alloc, contract)?;
-    match words.push(word) {
-        Ok(()) => Ok(words),
-        Err(_) => Err(AllocError),
-    }
-}
-
 // An err of a contract.
 fn err_of(alloc: Global, contract: &str, words: &str) -> Result<Obj, AllocError>
+    requires named { IsTrue (is_printable contract.now) }
+    requires word { is_word contract.now ≡ true }
+    requires told { IsTrue (is_printable words.now) }
     ensures { IfOk result (λ o. o ≡ record { head = record (plain_err words.now).head { is = Some (contract.now ∷ []) }; inner = none }) }
 {
     let contracts = one_word(alloc, contract)?;
     let mut made = err(alloc, words)?;
     match made.put_is(Some(contracts)) {
         Ok(()) => Ok(made),
-        Err(_) => Err(AllocError),
+        Err(_contracts) => unreachable!(),
     }
 }
 

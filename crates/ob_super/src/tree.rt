@@ -35,7 +35,7 @@ pub(crate) fn placed(alloc: Global, object: &Obj, path: Text) -> Result<Obj, All
     made.put_href(Some(path));
     match made.put_name(None) {
         Ok(()) => Ok(made),
-        Err(_) => Err(AllocError),
+        Err(_name) => unreachable!(),
     }
 }
 
@@ -109,7 +109,7 @@ fn named_subtree<L>(alloc: Global, followed: &Followed<L>) -> Result<Obj, AllocE
     let name = followed.upstream.name.copy()?;
     match list.put_name(Some(name)) {
         Ok(()) => Ok(list),
-        Err(_) => Err(AllocError),
+        Err(_name) => unreachable!(),
     }
 }
 

@@ -1,5 +1,6 @@
 //! What is followed.
-ghost use Rattle.std.specs.Prelude.{◌≡◌, false};
+ghost use Rattle.std.specs.Prelude.{◌≡◌, true, false};
+ghost use Rattle.ob_super.specs.Upstreams.{is_name};
 
 use crate::asking::Watch;
 use ob_asking::Place;
@@ -11,6 +12,7 @@ pub(crate) struct Upstream {
     pub(crate) name: Text,
     pub(crate) lobby: Place,
     pub(crate) hrefs: Vec<Text>,
+    ghost named: { is_name name ≡ true },
 }
 
 impl Drop for Upstream {
