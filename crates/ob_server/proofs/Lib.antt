@@ -10,3 +10,4 @@ pub mod TogetherLemmas
 pub mod BackLemmas
 pub mod PortLemmas
 pub mod EndLemmas
+pub mod FramingLemmas

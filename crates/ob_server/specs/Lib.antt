@@ -4,6 +4,7 @@ pub mod Exchange
 pub mod Answered
 pub mod Passes
 pub mod Complete
+pub mod Framings
 pub mod Next
 pub mod Alone
 pub mod Answering
