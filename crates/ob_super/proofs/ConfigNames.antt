@@ -52,12 +52,13 @@ form_by true (Some t) n e = by_test (is_name t) refl e
 pub named_so : (o : Object) (n : Text) → name_in o ≡ Some n → is_name n ≡ true
 named_so o n e = form_by (is_of_kind kind.Obj o) o.head.name n e
 
+abbrev first_or : {A B : Type 0} → A → Result (A × B) ConfigFault → A
+first_or a (Ok p) = p.0
+first_or a (Err f) = a
+
 -- where both are there, the first is
 pub both_first : {A B : Type 0} (x : Result A ConfigFault) (y : Result B ConfigFault) (a : A) (b : B) → both x y ≡ Ok (a, b) → x ≡ Ok a
-both_first (Ok p) (Ok q) a b e = ok_first p q a b e
-  where
-    ok_first : {A B : Type 0} (p : A) (q : B) (a : A) (b : B) → Ok {E = ConfigFault} (p, q) ≡ Ok (a, b) → Ok {E = ConfigFault} p ≡ Ok a
-    ok_first p q a b e = let same : p ≡ a = cc in ap (λ x. Ok x) same
+both_first (Ok p) (Ok q) a b e = ap (λ r. Ok (first_or p r)) e
 both_first (Ok p) (Err g) a b e = absurd (let f : Err g ≡ Ok (a, b) = e in cc)
 both_first (Err f) (Ok q) a b e = absurd (let g : Err f ≡ Ok (a, b) = e in cc)
 both_first (Err f) (Err g) a b e = absurd (let h : Err (first_of f g) ≡ Ok (a, b) = e in cc)

@@ -1,10 +1,14 @@
 -- Paths, and the entries that stand under them.
-use Rattle.std.proofs.Common.{◌≡◌, ℕ, ◌+◌, ◌<◌, ◌≤◌, Bool, true, false, cond, ◌&&◌, List, [], ◌∷◌, ◌++◌, length, take, drop, get_or, Option, Some, None, refl, sym, ap, ◌∙◌, append_assoc, append-nil, true≢false, add-one, drop-cons, take-append-drop, Bor, ne_eqb, arith}
+use Rattle.std.proofs.Common.{◌≡◌, ℕ, ◌+◌, ◌%◌, ◌/◌, ◌^◌, ◌<◌, ◌≤◌, Bool, true, false, cond, ◌&&◌, List, [], ◌∷◌, ◌++◌, length, take, drop, get_or, Option, Some, None, refl, sym, ap, ap₂, ◌∙◌, append_assoc, append-nil, true≢false, add-one, drop-cons, take-append-drop, Bor, ne_eqb, arith}
 use Rattle.std.specs.Prelude.{bytes_eq, codes, decimal, find, is_some, slice_get, option_map, MatchOption, ◌==◌}
 use lib.Seq.{take-append_seam}
 use Rattle.std.proofs.lemmas.List.{at_drop_all}
 use Rattle.std.proofs.lemmas.Option.{slice_get-get_or}
 use Rattle.std.proofs.lemmas.Slice.Eq.{bytes_eq-Decides}
+use Rattle.std.proofs.lemmas.Fmt.{decimal_by_steps}
+use Rattle.std.proofs.lemmas.List.Folds.{list_all-append}
+use Rattle.std.proofs.lemmas.Bool.Decides.{nat_tests}
+use Rattle.ob_values.specs.XmlText.{is_printable}
 use Rattle.ob_watching.specs.WatchOuts.{Text, Held}
 use Rattle.ob_client.specs.Mirrors.{found}
 use Rattle.ob_super.specs.Upstreams.{Upstream}
@@ -35,6 +39,14 @@ strips front text (Some x) h =
     ∙ ap (λ (y : Text). front ++ y) (sym h.1)
 
 -- ---- paths
+
+digit_printable : (n : ℕ) → n < 10 → is_printable ((48 + n) ∷ []) ≡ true
+digit_printable n lt = grind (arith, nat_tests)
+
+pub decimal_printable : (n : ℕ) → n < 2 ^ 64 → is_printable (decimal n) ≡ true
+decimal_printable n lt =
+    decimal_by_steps (λ n ds. is_printable ds ≡ true) digit_printable
+    (λ n ds le h. let m : n % 10 < 10 = omega arith in list_all-append _ ds ((48 + n % 10) ∷ []) ∙ ap₂ (λ a b. a && b) h (digit_printable (n % 10) m)) n lt
 
 pub behind_object : (name : Text) (i : ℕ) → object_at name i ≡ list_at name ++ decimal i
 behind_object name i =

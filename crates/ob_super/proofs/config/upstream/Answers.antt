@@ -1,13 +1,14 @@
-use Rattle.std.proofs.Common.{◌≡◌, ◌++◌, [], Some, sym, ◌∙◌}
+use Rattle.std.proofs.Common.{rules, ◌≡◌, ◌++◌, [], true, Some, sym, subst, ◌∙◌}
 use Rattle.std.specs.Prelude.{codes, is_some}
 use Rattle.ob_asking.specs.Told as dialogue
 use Rattle.ob_parts.specs.Numbered.{inside_child}
 use Rattle.ob_parts.specs.Offences.{unless, needs, said, each}
 use Rattle.ob_parts.specs.Views.{part_of}
 use Rattle.ob_super.specs.declared.upstream.Upstream as code
-use Rattle.ob_super.specs.Configs.{upstream}
-use Rattle.ob_super.specs.Upstreams.{is_list, name_in, lobby_in, hrefs_in, href_offences, upstream_in}
+use Rattle.ob_super.specs.Configs.{Judges, upstream}
+use Rattle.ob_super.specs.Upstreams.{is_name, is_list, name_in, lobby_in, hrefs_in, href_offences, upstream_in}
 use Rattle.ob_super.proofs.ConfigLemmas.{refused}
+use Rattle.ob_super.proofs.ConfigNames.{both_first, named_so}
 use Rattle.ob_super.proofs.config.upstream.Goals as goal
 
 pub returns-in-Err : goal.returns-in-Err
@@ -19,3 +20,10 @@ returns-in-Err c =
     (λ (u : code.Upstream). upstream_in p.object ≡ Some (upstream u))
     c.name.result c.lobby.result c.hrefs.result c.both-reached.result c.in-Err.fault
     c.name.ensures c.lobby.ensures c.hrefs.ensures c.both-reached.ensures (sym c.both.ensures ∙ c.in-Err.is)
+
+pub invariant_of-result : goal.invariant_of-result
+invariant_of-result c =
+    let p = part_of c.args.part in
+    let first = both_first c.name.result c.both-reached.result c.in-Ok.name (c.in-Ok.lobby, c.in-Ok.hrefs) (sym c.both.ensures ∙ c.in-Ok.is) in
+    let form : is_name c.in-Ok.name ≡ true = named_so p.object c.in-Ok.name (subst (Judges (unless (is_some (name_in p.object)) p) (λ n. name_in p.object ≡ Some n)) first c.name.ensures).1 in
+    search (rules, form)
