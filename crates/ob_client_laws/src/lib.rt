@@ -7,6 +7,7 @@
 
 ghost use Rattle.ob_client_laws.specs.Counting.{CountsStay, OpensCounted};
 ghost use Rattle.ob_client_laws.specs.Hearing.{MirrorRefusesNone, MirrorsHold, MirrorsHoldAll};
+ghost use Rattle.ob_client_laws.specs.Storing.{OpenedStoresFew, StoredStays};
 
 use ob_opened as opened;
 use ob_site_laws::{sound_stays, watch_replay, watch_replay_whole};
@@ -22,6 +23,19 @@ pub fn opens_counted()
 {
     opened::opens_counted();
     opened::opens_consistent();
+}
+
+/// No more than 1,000,000 records and alarm events stay stored, whatever is asked of the site: a history with a capacity
+/// counts for that.
+pub fn stored_stays()
+    ensures { StoredStays }
+{}
+
+/// In every site that a document opens, and whatever is asked of it, they are no more.
+pub fn opened_stores_few()
+    ensures { OpenedStoresFew }
+{
+    opened::opens_ordered();
 }
 
 /// A mirror that heard the replies on a watch, from its make on or from any pollRefresh on, takes the next WatchOut on it,
