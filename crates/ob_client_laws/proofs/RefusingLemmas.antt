@@ -300,7 +300,7 @@ module _ (n : ℕ) (law : ClientsHold n) (stays : Stays) (small : n < 2 ^ 64) (s
   world_at es = watches.after (of_plan st.plan) st.world es
 
   sound_at : (es : List site.Call) → IsSound (of_plan st.plan) (world_at es)
-  sound_at es = let there = stays st sound es in subst IsSoundSite there.0 there.1
+  sound_at es = let there = stays st sound es in (subst IsSoundSite there.0 there.1).of_watches
 
   counted_at : (es : List site.Call) → AreCounted (world_at es).site
   counted_at es = subst (λ (s : SiteState). AreCounted s.world.site) (stays st sound es).0 (counts_stay st counted es)

@@ -20,7 +20,10 @@ bare_site k t below le is = record {
     marks = tt;
     counted = tt;
   };
-  sound = record { numbers = omega arith; next = omega (arith, le, is.sound.next); texts = tt; rolled = is.sound.rolled };
+  sound = record {
+    of_watches = record { numbers = omega arith; next = omega (arith, le, is.sound.of_watches.next); texts = tt; rolled = is.sound.of_watches.rolled };
+    of_alarms = is.sound.of_alarms;
+  };
 }
 
 pub restarted_site : (k : Kept) (t u : Table) (below : ℕ) → below ≤ last_number + 1 → u ≡ record { watches = []; next = max t.next below } → IsSite k t → IsSite k u

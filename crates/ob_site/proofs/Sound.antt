@@ -7,6 +7,7 @@ use Rattle.ob_machine.specs.declared.call.Answer.TheVariants.{Done}
 use Rattle.ob_marks_laws.proofs.Stamping.{stamps_are_past}
 use Rattle.ob_opened.proofs.Opened.{opens_consistent}
 use Rattle.ob_site_laws.specs.SiteLaws.{IsSoundSite}
+use Rattle.ob_site_laws.proofs.EventsTold.{nothing_told}
 use Rattle.ob_site_laws.proofs.SiteHistories.{stays}
 use Rattle.ob_site_open.specs.Opens.{just_opened}
 use Rattle.ob_site_rules.specs.declared.request.Request.{Request}
@@ -28,11 +29,12 @@ sound_step old new r moment o sound is =
 opened_site : (k : Kept) → (o : IsOpened k) → IsSoundFor o.opens.site.plan o.opens.site.world.site → roll o.opens.site.world.site ≡ o.opens.site.world.site → IsSite (just_opened o.opens.site) no_watches
 opened_site k o sound rolled =
     let st : SiteState = o.opens.site in
-    let s : State = st.world.site in record {
+    let s : State = st.world.site in
+    let owed = opens_consistent o.root o.boot st o.well_formed sound.consistent.counted o.opens.opens in record {
       since = refl;
       before = refl;
       kept = record {
-        made = (opens_consistent o.root o.boot st o.well_formed sound.consistent.counted o.opens.opens).library;
+        made = owed.library;
         points = λ p among. (sound.consistent.points p among, λ node is. opens_points o.root o.boot st o.opens.opens p node among is);
         shallow = opened_shallow o.root o.boot st o.opens.opens o.shallow;
         long = long_same (parts s.tree) 0;
@@ -41,7 +43,7 @@ opened_site k o sound rolled =
         marks = tt;
         counted = tt;
       };
-      sound = record { numbers = omega arith; next = omega arith; texts = tt; rolled = rolled };
+      sound = record { of_watches = record { numbers = omega arith; next = omega arith; texts = tt; rolled = rolled }; of_alarms = nothing_told st.plan s owed.alarms owed.events };
     }
 
 pub fresh_site : (k : Kept) (t : Table) → IsOpened k → IsSoundFor k.plan k.now → roll k.before ≡ k.before → t ≡ no_watches → IsSite k t

@@ -59,7 +59,7 @@ module _ (k n : Kept) (t u : Table) (r : Request) (moment : ℕ) (o : Object) wh
 -- a step has begun
 pub begun_so : (k l : Kept) (t : Table) (moment : ℕ) → IsSite k t → k.steps < 2 ^ 64 - 1 → l ≡ at_moment k moment → IsBegun l t
 begun_so k l t moment site room is =
-    subst (λ (x : Kept). IsBegun x t) (sym is) (record { before = site.before; rolled = site.sound.rolled; kept = site.kept; room = room })
+    subst (λ (x : Kept). IsBegun x t) (sym is) (record { before = site.before; rolled = site.sound.of_watches.rolled; kept = site.kept; room = room })
 
 -- and was answered
 abbrev IsAnsweredAs : Kept → Kept → Table → Table → Request → Object → Type 0

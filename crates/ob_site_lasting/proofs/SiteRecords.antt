@@ -51,7 +51,7 @@ read_makes_none plan target body (Some p) = go (bytes_eq p (make_path plan))
 read_leaves : (st : SiteState) → IsSoundSite st → (target : List ℕ) (body : Option Object) (moment : ℕ) → LeavesAll st (acts st (record { verb = Get; target = target; body = body }) moment).0
 read_leaves st sound target body moment = record {
   plan = refl;
-  site = leaves_site (of_plan st.plan) st.world sound (record { verb = Get; target = target; body = body }) moment
+  site = leaves_site (of_plan st.plan) st.world sound.of_watches (record { verb = Get; target = target; body = body }) moment
       (λ _. read_itself locate st.plan (numbers_of (begun (of_plan st.plan) st.world moment).watches) (begun (of_plan st.plan) st.world moment).time st.world.site target body);
   next = leaves_next (of_plan st.plan) st.world (record { verb = Get; target = target; body = body }) moment (read_makes_none st.plan target body (locate st.plan.base target));
 }
@@ -64,7 +64,7 @@ reads_leave_all st sound r is moment =
 pub watches_leave_all : WatchesLeaveAll
 watches_leave_all st sound n e on = record {
   plan = refl;
-  site = leaves_site (of_plan st.plan) st.world sound e.request e.moment (λ is. absurd (cc (on.1, is)));
+  site = leaves_site (of_plan st.plan) st.world sound.of_watches e.request e.moment (λ is. absurd (cc (on.1, is)));
   next = leaves_next (of_plan st.plan) st.world e.request e.moment (λ is. cc (on.1, is));
 }
 

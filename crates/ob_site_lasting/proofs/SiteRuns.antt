@@ -1,5 +1,5 @@
 -- The laws of watches of the whole site, over restarts.
-use Rattle.std.proofs.Common.{◌≡◌, ℕ, ◌^◌, ◌<◌, ◌≤◌, List, [], ◌∷◌, ◌++◌, None, refl, sym, ap, subst, le_refl, le_trans, inl, inr}
+use Rattle.std.proofs.Common.{◌≡◌, ℕ, ◌^◌, ◌<◌, ◌≤◌, List, [], ◌∷◌, ◌++◌, None, refl, sym, ap, subst, subst₂, le_refl, le_trans, inl, inr}
 use Rattle.std.specs.List.{AllByRecursion}
 use Rattle.ob_machine.specs.History.{entry, left_by, after, IsAnswer, IsLegal}
 use Rattle.ob_machine.specs.declared.call.Answer.{Answer}
@@ -11,9 +11,9 @@ use Rattle.ob_watching.specs.Watches.{World, act, IsSound}
 use Rattle.ob_watching.specs.Laws.{IsMake, WasMade}
 use Rattle.ob_site_rules.specs.declared.request.Request.{Request}
 use Rattle.ob_site_rules.specs.Locating.{locate}
-use Rattle.ob_site_rules.specs.State.{Plan}
+use Rattle.ob_site_rules.specs.State.{Plan, State, board}
 use Rattle.ob_site_rules.specs.Sites.{SiteState}
-use Rattle.ob_site_laws.specs.SiteLaws.{acts, of_plan, Call, IsSoundSite}
+use Rattle.ob_site_laws.specs.SiteLaws.{acts, of_plan, Call, TellsEvents, IsSoundSite}
 use Rattle.ob_site_laws.proofs.Lawful.{lawful}
 use Rattle.ob_site_laws.proofs.SiteHistories.{stays, gone_for_good}
 use Rattle.ob_seen_laws.specs.Seen.{KeepsWatches}
@@ -31,7 +31,10 @@ sound_acts st r moment h = (stays st h (entry 0 r moment (Done (acts st r moment
 
 -- the site's own restarts
 sound_restarted : (old new : SiteState) → IsSiteRestartOf old new → IsSoundSite old → IsSoundSite new
-sound_restarted old new h sound = subst (λ (plan : Plan). IsSound (of_plan plan) new.world) (sym h.plan) (sound_restart (of_plan old.plan) old.world new.world h.world sound)
+sound_restarted old new h sound = record {
+  of_watches = subst (λ (plan : Plan). IsSound (of_plan plan) new.world) (sym h.plan) (sound_restart (of_plan old.plan) old.world new.world h.world sound.of_watches);
+  of_alarms = subst₂ (λ (plan : Plan) (s : State). TellsEvents (board plan s)) (sym h.plan) (sym h.world.site) sound.of_alarms;
+}
 
 pub restarts_keep_numbers : KeepsNumbers IsSiteRestartOf
 restarts_keep_numbers = record { sound = sound_restarted; watches = λ old new h. h.world.watches; next = λ old new h. h.world.next }
@@ -55,10 +58,10 @@ module _ (n : ℕ) (small : n < 2 ^ 64) where
   below_after : (st : SiteState) (es : List Call) → IsBelow st → IsBelow (after acts st es)
   below_after = kept_after acts IsSiteRestartOf IsBelow IsBelow below_acts (λ st h. h) (λ old new is h. le_trans h is.world.next)
 
-  made_by : (plan : Plan) (w : World (of_plan plan)) (e : Call) → IsSound (of_plan plan) w → IsAnswer acts (whole plan w) e.request e.moment e.answer → IsMake (of_plan plan) n e → IsBelow (left_by acts (whole plan w) e.request e.moment e.answer)
+  made_by : (plan : Plan) (w : World (of_plan plan)) (e : Call) → IsSoundSite (whole plan w) → IsAnswer acts (whole plan w) e.request e.moment e.answer → IsMake (of_plan plan) n e → IsBelow (left_by acts (whole plan w) e.request e.moment e.answer)
   made_by plan w e sound is make =
       subst (λ (a : Answer Object). IsBelow (left_by acts (whole plan w) e.request e.moment a)) (sym make.answer)
-      (made_next (of_plan plan) (lawful locate plan) n small w e.request e.moment make.lease sound make.target
+      (made_next (of_plan plan) (lawful locate plan) n small w e.request e.moment make.lease sound.of_watches make.target
       (subst (λ (a : Answer Object). IsAnswer acts (whole plan w) e.request e.moment a) make.answer is))
 
   -- by any answer the plan stays
@@ -66,7 +69,7 @@ module _ (n : ℕ) (small : n < 2 ^ 64) where
   left_so plan w e (Done reply) = refl
   left_so plan w e NoMemory = refl
 
-  sound_left : (plan : Plan) (w : World (of_plan plan)) (e : Call) (a : Answer Object) → IsSound (of_plan plan) w → IsSound (of_plan plan) (left_by (act (of_plan plan)) w e.request e.moment a)
+  sound_left : (plan : Plan) (w : World (of_plan plan)) (e : Call) (a : Answer Object) → IsSoundSite (whole plan w) → IsSoundSite (whole plan (left_by (act (of_plan plan)) w e.request e.moment a))
   sound_left plan w e (Done reply) h = sound_acts (whole plan w) e.request e.moment h
   sound_left plan w e NoMemory h = h
 
@@ -74,7 +77,7 @@ module _ (n : ℕ) (small : n < 2 ^ 64) where
   next_left plan w e (Done reply) = act_next (of_plan plan) w e.request e.moment
   next_left plan w e NoMemory = le_refl w.next
 
-  made_after : (plan : Plan) (start w : World (of_plan plan)) (es : List Call) → IsSound (of_plan plan) w → start.next ≤ w.next → IsLegal acts (whole plan w) es → WasMade (of_plan plan) start n es → IsBelow (after acts (whole plan w) es)
+  made_after : (plan : Plan) (start w : World (of_plan plan)) (es : List Call) → IsSoundSite (whole plan w) → start.next ≤ w.next → IsLegal acts (whole plan w) es → WasMade (of_plan plan) start n es → IsBelow (after acts (whole plan w) es)
   made_after plan start w [] sound le legal is = le_trans is le
   made_after plan start w (e ∷ es) sound le legal (inl make) = below_after (left_by acts (whole plan w) e.request e.moment e.answer) es (made_by plan w e sound legal.0.answer make)
   made_after plan start w (e ∷ es) sound le legal (inr is) =

@@ -76,13 +76,14 @@ first_stay b u k (suc n) le =
     ap₂ (λ (l : List Object) (o : Option Object). l ++ unwrap_or o empty_object ∷ []) (first_stay b u k n (omega (arith, le))) (event_stays b u k n (omega (arith, le)))
 
 -- the events with one more behind them
+pub next_event : (b u : Board) → IsNext b u → event_objects u ≡ event_objects b ++ event_object u (length b.events) ∷ []
+next_event b u k =
+    let len : length u.events ≡ suc (length b.events) = omega (arith, ap length k.events, length_more b.events k.event) in
+    ap (first_events u) len
+    ∙ ap (λ (l : List Object). l ++ event_object u (length b.events) ∷ []) (first_stay b u k (length b.events) (omega arith))
+
 pub next_events : (b u : Board) → IsNext b u → (more : List Object) × (event_objects u ≡ event_objects b ++ more)
-next_events b u k =
-    let len : length u.events ≡ suc (length b.events) = omega (arith, ap length k.events, length_more b.events k.event) in (
-      event_object u (length b.events) ∷ [],
-      ap (first_events u) len
-          ∙ ap (λ (l : List Object). l ++ event_object u (length b.events) ∷ []) (first_stay b u k (length b.events) (omega arith)),
-    )
+next_events b u k = (event_object u (length b.events) ∷ [], next_event b u k)
 
 -- a board with the alarms and events of another
 abbrev pub taken : Board → Board → Board
@@ -119,7 +120,7 @@ returned b rule number now h =
           ap (λ o. let a : Alarm = record x { normal = o } in a) (none_is x.normal in_alarm));
     }
 
-given_false : (needs b : Bool) → cond needs (Some b) None ≡ Some false → b ≡ false
+pub given_false : (needs b : Bool) → cond needs (Some b) None ≡ Some false → b ≡ false
 given_false true b h = cc
 given_false false b h = absurd cc
 

@@ -25,21 +25,23 @@ use Rattle.ob_site_rules.specs.Posts.{kept_in, records_of, user_in, or_nil, acke
 use Rattle.ob_site_rules.specs.Actions.{is_post, put_at, act_at, is_left_out, item_at, item_on, item_request, act_item, act_all, batch_or, batch, act_on, act_located}
 use Rattle.ob_site_rules.specs.Watched.{events_at, gone_in, gone_at}
 use Rattle.ob_site_rules.specs.Sites.{site}
-use Rattle.ob_site_laws.specs.SiteLaws.{capacity_in}
+use Rattle.ob_site_laws.specs.SiteLaws.{capacity_in, TellsEvents}
 use Rattle.ob_site_laws.proofs.Boards.{taken, on_value_grows, on_ack_grows}
+use Rattle.ob_site_laws.proofs.EventsTold.{on_value_told, on_ack_told}
 
 abbrev Logs : Type 0
 Logs = List (Path × Log)
 
--- each log and the alarm events have at most more at the end, and no log counts more as gone
+-- each log and the alarm events have at most more at the end, no log counts more as gone, and the alarms go on telling their events
 pub record IsGrown (plan : Plan) (s u : State) : Type 0 where
   pub logs : (h : Path) → (more : List Record) × (records_of u h ≡ records_of s h ++ more)
   pub gone : (h : Path) → gone_in (at h u.logs) ≡ gone_in (at h s.logs)
   pub capacity : (h : Path) → capacity_in (at h u.logs) ≡ capacity_in (at h s.logs)
   pub events : (more : List Object) × (event_objects (board plan u) ≡ event_objects (board plan s) ++ more)
+  pub told : TellsEvents (board plan s) → TellsEvents (board plan u)
 
 same : (plan : Plan) (s : State) → IsGrown plan s s
-same plan s = record { logs = λ h. ([], sym (append-nil (records_of s h))); gone = λ h. refl; capacity = λ h. refl; events = ([], sym (append-nil (event_objects (board plan s)))) }
+same plan s = record { logs = λ h. ([], sym (append-nil (records_of s h))); gone = λ h. refl; capacity = λ h. refl; events = ([], sym (append-nil (event_objects (board plan s)))); told = λ h. h }
 
 on : (plan : Plan) (s u v : State) → IsGrown plan s u → IsGrown plan u v → IsGrown plan s v
 on plan s u v a b = record {
@@ -47,6 +49,7 @@ on plan s u v a b = record {
   gone = λ h. b.gone h ∙ a.gone h;
   capacity = λ h. b.capacity h ∙ a.capacity h;
   events = (a.events.0 ++ b.events.0, b.events.1 ∙ ap (λ l. l ++ b.events.0) a.events.1 ∙ append_assoc (event_objects (board plan s)) a.events.0 b.events.0);
+  told = λ h. b.told (a.told h);
 }
 
 abbrev picked : Bool → Path × Log → Option (Path × Log) → Option Log
@@ -105,12 +108,17 @@ value_grows : (plan : Plan) (b : Board) (rule : Option ℕ) (slot : Slot) (now :
 value_grows plan b None slot now = ([], sym (append-nil (event_objects b)))
 value_grows plan b (Some rule) slot now = on_value_grows b rule (number_in slot) now
 
+value_told : (b : Board) (rule : Option ℕ) (slot : Slot) (now : ℕ) → TellsEvents b → TellsEvents (taken b (board_by rule b slot now))
+value_told b None slot now h = h
+value_told b (Some rule) slot now h = on_value_told b rule (number_in slot) now h
+
 write_grows : (plan : Plan) (now : ℕ) (p : Path) (k : Kind) (slot : Slot) (s : State) → IsGrown plan s (write plan now p k slot s)
 write_grows plan now p k slot s = record {
   logs = λ h. kept_grown _ (λ l. one_more (records_from plan p l.0) _ l.1) h s.logs;
   gone = λ h. gone_stays _ (λ l. none_gone (records_from plan p l.0) _ l.1) h s.logs;
   capacity = λ h. capacity_stays _ (λ l. same_capacity (records_from plan p l.0) _ l.1) h s.logs;
   events = value_grows plan (board plan s) (rule_of plan p) slot now;
+  told = value_told (board plan s) (rule_of plan p) slot now;
 }
 
 written_grows : (plan : Plan) (now : ℕ) (p : Path) (o : Object) (slot : Slot) (s : State) → IsGrown plan s (written plan now p o slot s)
@@ -126,6 +134,7 @@ ack_grows plan number user now s = record {
   gone = λ h. refl;
   capacity = λ h. refl;
   events = on_ack_grows (board plan s) number user now;
+  told = on_ack_told (board plan s) number user now;
 }
 
 unless_grows : (plan : Plan) (fault : Option Fault) (s : State) (done : State × Object) → IsGrown plan s done.0 → IsGrown plan s (unless fault s done).0

@@ -1,5 +1,6 @@
 pub mod Same
 pub mod Boards
+pub mod EventsTold
 pub mod Growth
 pub mod Rolling
 pub mod Nameless
@@ -7,5 +8,8 @@ pub mod Heard
 pub mod Told
 pub mod Plain
 pub mod Lawful
+pub mod Timed
+pub mod AllSince
 pub mod Endless
 pub mod SiteHistories
+pub mod SinceRows

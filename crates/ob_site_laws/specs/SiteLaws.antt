@@ -1,21 +1,26 @@
 -- The laws of the watches of the whole site, over every legal history from any sound state.
-use Rattle.std.specs.Prelude.{◌≡◌, ◌≢◌, ℕ, ◌^◌, ◌<◌, List, [], ◌∷◌, ◌++◌, Option, Some, None}
+use Rattle.std.specs.Prelude.{◌≡◌, ◌≢◌, ℕ, ◌+◌, ◌^◌, ◌<◌, List, [], ◌∷◌, ◌++◌, length, reverse, Option, Some, None}
 use Rattle.std.specs.List.{AllByRecursion}
 use Rattle.ob_machine.specs.History.{left_by, after, IsLegal}
 use Rattle.ob_machine.specs.declared.call.Entry.{Entry}
 use Rattle.ob_object.specs.Object.{Object}
+use Rattle.ob_history.specs.declared.records.Filter.{Filter}
+use Rattle.ob_alarms.specs.Changes.{State as Board}
+use Rattle.ob_alarms.specs.Soundness.{AreTold, AtMostOne}
+use Rattle.ob_watching.specs.Asked.{Lists}
 use Rattle.ob_watching.specs.Sites.{Site}
 use Rattle.ob_watching.specs.Tables.{lookup}
-use Rattle.ob_watching.specs.Watches.{Object as ObjectItem, Feed as FeedItem, Tracked, Item, Reading, Watch, reading, IsSound}
+use Rattle.ob_watching.specs.Watches.{Object as ObjectItem, Feed as FeedItem, Tracked, Item, Content, Reading, Watch, count, reading, IsSound}
 use Rattle.ob_watching.specs.Clients.{calls, replay, watched}
-use Rattle.ob_watching.specs.Laws.{Begins, Ends, Holds, WasMade, IsMake, IsOn, IsNotFound, standing_after}
+use Rattle.ob_watching.specs.Laws.{Begins, Ends, Holds, WasMade, IsMake, IsOn, IsNotFound, whole_at, standing_after}
 use Rattle.ob_watching.specs.Laws as watches
 use Rattle.ob_site_rules.specs.declared.request.Request.{Request}
 use Rattle.ob_site_rules.specs.Locating.{locate}
-use Rattle.ob_site_rules.specs.Build.{Path}
-use Rattle.ob_site_rules.specs.State.{Plan, Log, State, at}
+use Rattle.ob_site_rules.specs.Build.{Text, Path}
+use Rattle.ob_site_rules.specs.State.{Plan, Log, State, at, board}
 use Rattle.ob_site_rules.specs.Places.{Place, FeedOf, event_places}
 use Rattle.ob_site_rules.specs.Sites.{SiteState, site, step}
+use Rattle.ob_site_rules.specs.Watched.{feed_there}
 
 -- what a request at a moment leaves of the whole site, and the reply
 abbrev pub acts : SiteState → Request → ℕ → SiteState × Object
@@ -29,9 +34,18 @@ of_plan plan = site locate plan
 abbrev pub Call : Type 0
 Call = Entry Request Object
 
--- numbers of watches rise and stay below the next one, no watch has an href twice, each history is within its capacity
-abbrev pub IsSoundSite : SiteState → Type 0
-IsSoundSite st = IsSound (of_plan st.plan) st.world
+-- The alarms tell their events: each event shows in the alarms as it left them; each alarm is of a rule that is there, and no
+-- rule has two alarms in alarm.
+pub record TellsEvents (b : Board) : Type 0 where
+  pub of_rules : AllByRecursion (λ a. a.rule < length b.rules) b.alarms
+  pub told : AreTold (length b.rules) (reverse b.events) b.alarms
+  pub one : AtMostOne (length b.rules) b.alarms
+
+-- Numbers of watches rise and stay below the next one, no watch has an href twice, each history is within its capacity; and the
+-- alarms tell their events.
+pub record IsSoundSite (st : SiteState) : Type 0 where
+  pub of_watches : IsSound (of_plan st.plan) st.world
+  pub of_alarms : TellsEvents (board st.plan st.world.site)
 
 -- a state that a legal history leads to is sound, of the same plan, and is what the watches' step leaves
 abbrev pub Stays : Type 0
@@ -104,3 +118,40 @@ ClientsHoldEach n = n < 2 ^ 64 → (start : SiteState) → IsSoundSite start →
     let end = watches.after (of_plan start.plan) (after acts start before).world part in
     (v : Watch (of_plan start.plan)) → lookup n end.watches ≡ Some v →
     EachAsWatched start.plan start.world.site end.site v.items (replay (of_plan start.plan) (calls (of_plan start.plan) n part))
+
+-- A filter without a bound has neither a start nor an end. Its limit says nothing: a feed that is asked for with one is refused.
+abbrev pub HasNoBound : Filter → Type 0
+HasNoBound f = (f.start ≡ None) × (f.end ≡ None)
+
+-- The events that are held of a feed and those that were missed are together as many as it has had since then, when it was given
+-- whole.
+pub record HoldsAllSince (plan : Plan) (now then : State) (path : Path) (c : Content (of_plan plan)) : Type 0 where
+  pub held : List Object
+  pub missed : ℕ
+  pub content : c ≡ Lists (feed_there plan path) missed held
+  pub number : length held + missed + (of_plan plan).gone then path ≡ count (of_plan plan) now path
+
+-- so it is of each feed that is watched through a filter without a bound
+abbrev pub HoldsAllOf : (plan : Plan) → (now then : State) → Path → Tracked (of_plan plan) → Content (of_plan plan) → Type 0
+HoldsAllOf plan now then path (ObjectItem changed) c = Unit {0}
+HoldsAllOf plan now then path (FeedItem bounds given) c = HasNoBound bounds → HoldsAllSince plan now then path c
+
+-- of each item of a watch, `when` being the site as it was when an href was last given whole
+abbrev pub EachHoldsAll : (plan : Plan) → (now : State) → (when : Text → State) → List (Item (of_plan plan)) → List (Reading (of_plan plan)) → Type 0
+EachHoldsAll plan now when [] [] = Unit {0}
+EachHoldsAll plan now when [] (r ∷ rs) = ⊥
+EachHoldsAll plan now when (item ∷ items) [] = ⊥
+EachHoldsAll plan now when (item ∷ items) (r ∷ rs) =
+    HoldsAllOf plan now (when item.text) item.path item.tracked r.content × EachHoldsAll plan now when items rs
+
+-- Of a feed through a filter without a bound, of a history's records or of alarms, the events that a client holds and those that
+-- it was told to have missed are together as many as there were since an add or a pollRefresh last gave the feed whole.
+abbrev pub ClientsHoldAllSince : ℕ → Type 0
+ClientsHoldAllSince n = n < 2 ^ 64 → (start : SiteState) → IsSoundSite start →
+    (before part : List Call) → IsLegal acts start (before ++ part) →
+    Begins (of_plan start.plan) n part → Ends (of_plan start.plan) n part →
+    let began = (after acts start before).world in
+    let end = watches.after (of_plan start.plan) began part in
+    (v : Watch (of_plan start.plan)) → lookup n end.watches ≡ Some v →
+    EachHoldsAll start.plan end.site (whole_at (of_plan start.plan) n began part (λ _. began.site)) v.items
+    (replay (of_plan start.plan) (calls (of_plan start.plan) n part))

@@ -6,7 +6,8 @@
 //! ask for is proved in `proofs/Lawful.antt`.
 #![tactic(auto)]
 
-ghost use Rattle.ob_site_laws.specs.SiteLaws.{ClientsHold, ClientsHoldAll, ClientsHoldEach, GoneForGood, OthersStay, Stays};
+ghost use Rattle.ob_site_laws.specs.SinceRows.{NoneWithoutItsAlarm, OneIsLacking, PassesNone};
+ghost use Rattle.ob_site_laws.specs.SiteLaws.{ClientsHold, ClientsHoldAll, ClientsHoldAllSince, ClientsHoldEach, GoneForGood, OthersStay, Stays};
 
 /// After each answered poll a client that has replayed the replies on the watch, from its make on or from
 /// any pollRefresh on, holds what is watched: the same hrefs in the same order, each object as it is shown
@@ -28,6 +29,21 @@ pub fn watch_replay_whole(watch: u64)
 /// held, after each answered poll, as a pollRefresh would give it, whatever other feeds of the watch have lost.
 pub fn watch_replay_each(watch: u64)
     ensures { ClientsHoldEach watch }
+{}
+
+/// Of each feed of the watch, of a history or of alarms, whose filter has neither a start nor an end: the events that the
+/// client holds after each answered poll and those that it was told to have missed are together as many as the feed has
+/// had since an add or a pollRefresh last gave it whole.
+pub fn watch_replay_since(watch: u64)
+    ensures { ClientsHoldAllSince watch }
+{}
+
+/// Worked rows: of two events of the alarms since, who holds one and has missed none doesn't hold the feed; an event of an
+/// alarm that isn't there is told by no alarms, and no filter passes it.
+pub fn since_rows()
+    ensures one_is_lacking { OneIsLacking }
+    ensures none_without_its_alarm { NoneWithoutItsAlarm }
+    ensures passes_none { PassesNone }
 {}
 
 /// A watch that was deleted or has lapsed never comes back, its number isn't given again, and each later
