@@ -76,11 +76,10 @@ impl Mirrors {
     }
 
     fn tell_held(&self, alloc: Global, told: &mut String) -> Result<(), AllocError> {
-        for place in 0..u64::MAX {
-            let Some(object) = self.mirror.at(place) else {
-                return Ok(());
-            };
-            tell_object(alloc, object, told)?;
+        for place in 0..self.mirror.len() {
+            if let Some(object) = self.mirror.at(place) {
+                tell_object(alloc, object, told)?;
+            }
         }
         Ok(())
     }
