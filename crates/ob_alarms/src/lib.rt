@@ -18,3 +18,13 @@ mod within;
 pub use alarm::{Ack, Alarm, Event, Turn, What};
 pub use board::{AckResult, Alarms, Turned};
 pub use rule::{Num, Rule};
+
+/// Alarms may go to another thread, and several may read them.
+pub fn crosses_threads() {
+    is_send::<Alarms>();
+    is_sync::<Alarms>();
+}
+
+fn is_send<T: Send>() {}
+
+fn is_sync<T: Sync>() {}

@@ -14,3 +14,13 @@ mod slices;
 pub use log::Log;
 pub use reading::read_filter;
 pub use records::{Filter, Record};
+
+/// Logs may go to another thread, and several may read them.
+pub fn crosses_threads() {
+    is_send::<Log>();
+    is_sync::<Log>();
+}
+
+fn is_send<T: Send>() {}
+
+fn is_sync<T: Sync>() {}

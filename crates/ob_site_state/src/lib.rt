@@ -16,3 +16,10 @@ pub use change::Change;
 pub use contents::Contents;
 pub use ending::end_step;
 pub use state::State;
+
+/// The state of a site may go to another thread.
+pub fn crosses_threads() {
+    is_send::<State>();
+}
+
+fn is_send<T: Send>() {}

@@ -23,3 +23,13 @@ pub use laws::{depths_are_levels, last_touches_stamp};
 pub use node::NodeId;
 pub use paths::node_path;
 pub use tree::Tree;
+
+/// A tree may go to another thread, and several may read it.
+pub fn crosses_threads() {
+    is_send::<Tree>();
+    is_sync::<Tree>();
+}
+
+fn is_send<T: Send>() {}
+
+fn is_sync<T: Sync>() {}
