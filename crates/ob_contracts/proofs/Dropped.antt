@@ -8,7 +8,7 @@ use Rattle.ob_object.specs.declared.kind.Kind.{Kind}
 use Rattle.ob_object.specs.Kinds.{is_ref, same_kind, has_of, has_input, has_output}
 use Rattle.ob_object.specs.Object.{Object, Objects, none, node, listed, in_row, children}
 use Rattle.ob_object.specs.WellFormed.{named, is_taken, has_name}
-use Rattle.ob_contracts.specs.Telling.{TellTheSame, Gave, IsTold, Same, named_by, StandFor, StandIn}
+use Rattle.ob_contracts.specs.Telling.{TellTheSame, Gave, IsHeadTold, IsTold, Same, named_by, StandFor, StandIn}
 use Rattle.ob_contracts.specs.Inherit.{Contracts, Words, words_in, contract_of, present, or_else, only_if, given, first_given, overridden, is_new, missing, bare, sources, implied_by, inherited_head, row_results, result_of}
 use Rattle.ob_contracts.specs.HandedDown.{MayGive}
 use Rattle.ob_contracts.specs.Shown.{shown_result, own_child_of, view_sources}
@@ -59,7 +59,7 @@ module _ {A : Type 0} (f : Object → Option A) where
   told_itself P s has =
       ap is_some (first-append P (s ∷ []) ∙ ap (or_else (first_given f P)) (or_none (f s))) ∙ or_some (first_given f P) (f s) has
 
-head_dropped : (h : Head) (P : List Object) (s : Object) (R : List Object) → IsTold P s → inherited_head h (P ++ s ∷ R) ≡ inherited_head h (P ++ R)
+pub head_dropped : (h : Head) (P : List Object) (s : Object) (R : List Object) → IsHeadTold P s → inherited_head h (P ++ s ∷ R) ≡ inherited_head h (P ++ R)
 head_dropped h P s R t =
     rw (
       first_dropped (λ o. only_if (has_of h.kind) o.head.of) P s R (t.of h.kind),
@@ -174,7 +174,7 @@ same_trans a b c p q = record { head = λ h. p.head h ∙ q.head h; over = λ n.
 -- a source that tells nothing new is left out
 pub same_dropped : (P : List Object) (s : Object) (R : List Object) → IsTold P s → Same (P ++ R) (P ++ s ∷ R)
 same_dropped P s R t = record {
-  head = λ h. sym (head_dropped h P s R t);
+  head = λ h. sym (head_dropped h P s R t.head);
   over = λ n. sym (over_dropped n P s R t);
   missing = λ there. sym (missing_dropped there P s R (λ n has. or_true (is_some (named n there)) (is_some (overridden (Some n) P)) (t.names n has)));
 }
@@ -210,7 +210,7 @@ own_child_told v w c lib own may over stands =
     let shows : shown_result w ≡ cond v.as_it_stands (bare c) (result_of v.library.now c (option_copied w.implied) o) = shown_is w ∙ cc in
     shows ∙ ap (cond v.as_it_stands (bare c)) (may c o)
 
-present-append : (xs ys : List (Option Object)) → present (xs ++ ys) ≡ present xs ++ present ys
+pub present-append : (xs ys : List (Option Object)) → present (xs ++ ys) ≡ present xs ++ present ys
 present-append [] ys = refl
 present-append (None ∷ xs) ys = present-append xs ys
 present-append (Some x ∷ xs) ys = ap (λ l. x ∷ l) (present-append xs ys)
@@ -278,41 +278,45 @@ stand_told lib ts ws w c is told e = λ R.
 -- what is told stays told where more sources come
 pub told_still : (P X : List Object) (s : Object) → IsTold P s → IsTold (P ++ X) s
 told_still P X s t = record {
-  of = λ k. told_more (λ o. only_if (has_of k) o.head.of) P X s (t.of k);
-  input = λ k. told_more (λ o. only_if (has_input k) o.head.input) P X s (t.input k);
-  output = λ k. told_more (λ o. only_if (has_output k) o.head.output) P X s (t.output k);
-  slot = λ k. told_more (λ o. only_if (same_kind o.head.kind k) (given o.head.slot)) P X s (t.slot k);
-  display = told_more (λ o. o.head.facets.display) P X s t.display;
-  display_name = told_more (λ o. o.head.facets.display_name) P X s t.display_name;
-  icon = told_more (λ o. o.head.facets.icon) P X s t.icon;
-  min = λ k. told_more (λ o. only_if (same_kind o.head.kind k) o.head.facets.min) P X s (t.min k);
-  max = λ k. told_more (λ o. only_if (same_kind o.head.kind k) o.head.facets.max) P X s (t.max k);
-  precision = told_more (λ o. o.head.facets.precision) P X s t.precision;
-  range = told_more (λ o. o.head.facets.range) P X s t.range;
-  status = told_more (λ o. o.head.facets.status) P X s t.status;
-  tz = told_more (λ o. o.head.facets.tz) P X s t.tz;
-  unit = told_more (λ o. o.head.facets.unit) P X s t.unit;
-  writable = told_more (λ o. o.head.facets.writable) P X s t.writable;
+  head = record {
+    of = λ k. told_more (λ o. only_if (has_of k) o.head.of) P X s (t.head.of k);
+    input = λ k. told_more (λ o. only_if (has_input k) o.head.input) P X s (t.head.input k);
+    output = λ k. told_more (λ o. only_if (has_output k) o.head.output) P X s (t.head.output k);
+    slot = λ k. told_more (λ o. only_if (same_kind o.head.kind k) (given o.head.slot)) P X s (t.head.slot k);
+    display = told_more (λ o. o.head.facets.display) P X s t.head.display;
+    display_name = told_more (λ o. o.head.facets.display_name) P X s t.head.display_name;
+    icon = told_more (λ o. o.head.facets.icon) P X s t.head.icon;
+    min = λ k. told_more (λ o. only_if (same_kind o.head.kind k) o.head.facets.min) P X s (t.head.min k);
+    max = λ k. told_more (λ o. only_if (same_kind o.head.kind k) o.head.facets.max) P X s (t.head.max k);
+    precision = told_more (λ o. o.head.facets.precision) P X s t.head.precision;
+    range = told_more (λ o. o.head.facets.range) P X s t.head.range;
+    status = told_more (λ o. o.head.facets.status) P X s t.head.status;
+    tz = told_more (λ o. o.head.facets.tz) P X s t.head.tz;
+    unit = told_more (λ o. o.head.facets.unit) P X s t.head.unit;
+    writable = told_more (λ o. o.head.facets.writable) P X s t.head.writable;
+  };
   names = λ n. told_more (λ o. named n (children o)) P X s (t.names n);
 }
 
 -- and a source tells all that it tells
 pub told_by_itself : (P : List Object) (s : Object) → IsTold (P ++ s ∷ []) s
 told_by_itself P s = record {
-  of = λ k. told_itself (λ o. only_if (has_of k) o.head.of) P s;
-  input = λ k. told_itself (λ o. only_if (has_input k) o.head.input) P s;
-  output = λ k. told_itself (λ o. only_if (has_output k) o.head.output) P s;
-  slot = λ k. told_itself (λ o. only_if (same_kind o.head.kind k) (given o.head.slot)) P s;
-  display = told_itself (λ o. o.head.facets.display) P s;
-  display_name = told_itself (λ o. o.head.facets.display_name) P s;
-  icon = told_itself (λ o. o.head.facets.icon) P s;
-  min = λ k. told_itself (λ o. only_if (same_kind o.head.kind k) o.head.facets.min) P s;
-  max = λ k. told_itself (λ o. only_if (same_kind o.head.kind k) o.head.facets.max) P s;
-  precision = told_itself (λ o. o.head.facets.precision) P s;
-  range = told_itself (λ o. o.head.facets.range) P s;
-  status = told_itself (λ o. o.head.facets.status) P s;
-  tz = told_itself (λ o. o.head.facets.tz) P s;
-  unit = told_itself (λ o. o.head.facets.unit) P s;
-  writable = told_itself (λ o. o.head.facets.writable) P s;
+  head = record {
+    of = λ k. told_itself (λ o. only_if (has_of k) o.head.of) P s;
+    input = λ k. told_itself (λ o. only_if (has_input k) o.head.input) P s;
+    output = λ k. told_itself (λ o. only_if (has_output k) o.head.output) P s;
+    slot = λ k. told_itself (λ o. only_if (same_kind o.head.kind k) (given o.head.slot)) P s;
+    display = told_itself (λ o. o.head.facets.display) P s;
+    display_name = told_itself (λ o. o.head.facets.display_name) P s;
+    icon = told_itself (λ o. o.head.facets.icon) P s;
+    min = λ k. told_itself (λ o. only_if (same_kind o.head.kind k) o.head.facets.min) P s;
+    max = λ k. told_itself (λ o. only_if (same_kind o.head.kind k) o.head.facets.max) P s;
+    precision = told_itself (λ o. o.head.facets.precision) P s;
+    range = told_itself (λ o. o.head.facets.range) P s;
+    status = told_itself (λ o. o.head.facets.status) P s;
+    tz = told_itself (λ o. o.head.facets.tz) P s;
+    unit = told_itself (λ o. o.head.facets.unit) P s;
+    writable = told_itself (λ o. o.head.facets.writable) P s;
+  };
   names = λ n. told_itself (λ o. named n (children o)) P s;
 }

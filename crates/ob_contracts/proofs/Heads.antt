@@ -15,7 +15,7 @@ use Rattle.std.proofs.lemmas.List.Folds.{list_any-append}
 use denote.Ref.{Bor}
 use Rattle.ob_object.specs.Kinds.{has_of, has_input, has_output}
 use Rattle.ob_contracts.specs.Inherit.{Contracts, Words, contract_of, present, only_if, given, first_given, overridden, or_else}
-use Rattle.ob_contracts.specs.Telling.{Knows, IsPut, IsTold, IsTelling, StandFor, Same, named_by, tells_part, Gave}
+use Rattle.ob_contracts.specs.Telling.{Knows, IsPut, IsHeadTold, IsTold, IsTelling, StandFor, Same, named_by, tells_part, Gave}
 use Rattle.ob_contracts.specs.declared.fewer.Known.{Known}
 use Rattle.ob_contracts.specs.declared.reading.Part.TheVariants as part
 use Rattle.ob_contracts.proofs.Dropped.{some_more, told_itself, told_still, told_by_itself, same_refl, stand_none, stand_told, stand_kept, named_by-append}
@@ -25,7 +25,7 @@ use Rattle.ob_object.specs.Kinds.{same_kind}
 use Rattle.ob_object.specs.Object.{Object, children}
 use Rattle.ob_object.specs.WellFormed.{named, is_taken, has_name}
 use Rattle.ob_contracts.specs.Found.{lent}
-use Rattle.ob_contracts.specs.Shown.{has_part}
+use Rattle.ob_contracts.specs.Parts.{has_part}
 use Rattle.ob_contracts.specs.Telling.{has_one, has_text, ArePut}
 use Rattle.ob_contracts.specs.declared.reading.Part.{Part}
 use Rattle.ob_contracts.proofs.Missing.{drop_all, taken-append}
@@ -178,8 +178,8 @@ module _ (P H : List Object) (s : Object) (knows : (k : Kind) (p : Part) → has
       (ap (λ (j : Kind). same_kind j k) (one_kind x.head.kind s.head.kind (and_first (same_kind x.head.kind s.head.kind) (has_part p x) t)) ∙ q.0)
       (sym (same x) ∙ and_second (same_kind x.head.kind s.head.kind) (has_part p x) t)) (one_of p e (same s ∙ q.1))
 
-  told_from : tells_part H s ≡ false → ((n : List ℕ) → is_taken (Some n) (children s) ≡ true → is_some (overridden (Some n) P) ≡ true) → IsTold P s
-  told_from e names =
+  pub head_told : tells_part H s ≡ false → IsHeadTold P s
+  head_told e =
       let t : Part → Bool = λ p. has_part p s && not (has_one H s.head.kind p) in
       let a0 = neither (t part.Of) _ e in
       let a1 = neither (t part.Input) _ a0.1 in
@@ -212,8 +212,10 @@ module _ (P H : List Object) (s : Object) (knows : (k : Kind) (p : Part) → has
         tz = plain (λ o. o.head.facets.tz) part.Tz (λ x. refl) b2.0;
         unit = plain (λ o. o.head.facets.unit) part.Unit (λ x. refl) b3.0;
         writable = plain (λ o. o.head.facets.writable) part.Writable (λ x. refl) b4.0;
-        names = λ n has. names n has;
       }
+
+  told_from : tells_part H s ≡ false → ((n : List ℕ) → is_taken (Some n) (children s) ≡ true → is_some (overridden (Some n) P) ≡ true) → IsTold P s
+  told_from e names = record { head = head_told e; names = λ n has. names n has }
 
 module _ (old new : Known) (s : Object) (P : List Object) (k : Knows old P) where
   -- where it tells something, it stands with the others

@@ -19,4 +19,5 @@ pub mod Bare
 pub mod Dropped
 pub mod Heads
 pub mod Naming
+pub mod Taught
 pub mod UpTo

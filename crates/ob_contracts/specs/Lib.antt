@@ -1,6 +1,7 @@
 pub mod Inherit
 pub mod Sound
 pub mod Index
+pub mod Parts
 pub mod Shown
 pub mod Places
 pub mod Adding
@@ -11,4 +12,5 @@ pub mod Named
 pub mod Standard
 pub mod Table
 pub mod Telling
+pub mod Tellers
 pub mod Rows

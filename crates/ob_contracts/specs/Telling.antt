@@ -12,7 +12,7 @@ use Rattle.ob_object.specs.Object.{Object, children}
 use Rattle.ob_object.specs.WellFormed.{named, is_taken}
 use Rattle.ob_contracts.specs.Found.{lent}
 use Rattle.ob_contracts.specs.Inherit.{Contracts, Words, contract_of, words_in, present, or_else, only_if, given, first_given, overridden, missing, inherited_head, result_of}
-use Rattle.ob_contracts.specs.Shown.{has_part}
+use Rattle.ob_contracts.specs.Parts.{has_part}
 use Rattle.ob_contracts.specs.declared.fewer.Known.{Known}
 use Rattle.ob_contracts.specs.declared.reading.Part.{Part}
 use Rattle.ob_contracts.specs.declared.reading.Part.TheVariants as part
@@ -25,8 +25,8 @@ TellTheSame lib told words = (o : Object) (over : Option Object) → result_of l
 abbrev pub Gave : {A : Type 0} → (Object → Option A) → List Object → Object → Type 0
 Gave f P s = is_some (f s) ≡ true → is_some (first_given f P) ≡ true
 
--- a source tells nothing that none of these does
-pub record IsTold (P : List Object) (s : Object) : Type 0 where
+-- a source tells nothing of a head that none of these does
+pub record IsHeadTold (P : List Object) (s : Object) : Type 0 where
   pub of : (k : Kind) → Gave (λ o. only_if (has_of k) o.head.of) P s
   pub input : (k : Kind) → Gave (λ o. only_if (has_input k) o.head.input) P s
   pub output : (k : Kind) → Gave (λ o. only_if (has_output k) o.head.output) P s
@@ -42,6 +42,10 @@ pub record IsTold (P : List Object) (s : Object) : Type 0 where
   pub tz : Gave (λ o. o.head.facets.tz) P s
   pub unit : Gave (λ o. o.head.facets.unit) P s
   pub writable : Gave (λ o. o.head.facets.writable) P s
+
+-- and nothing at all
+pub record IsTold (P : List Object) (s : Object) : Type 0 where
+  pub head : IsHeadTold P s
   pub names : (n : List ℕ) → Gave (λ o. named n (children o)) P s
 
 -- the parts of a head that may be taken from a source

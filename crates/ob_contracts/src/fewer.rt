@@ -101,7 +101,7 @@ fn put_names<'a>(known: &mut BTreeSet<&'a str>, source: &'a Obj) -> Result<bool,
 }
 
 /// Puts a source last, if it has a part of a head that none of these of its kind has, and tells whether it has.
-fn put_head<'a>(heads: &mut Vec<&'a Obj>, source: &'a Obj) -> Result<bool, AllocError>
+pub(crate) fn put_head<'a>(heads: &mut Vec<&'a Obj>, source: &'a Obj) -> Result<bool, AllocError>
     ensures { IfOk result (λ new. (new ≡ tells_part (lent heads.old.items) source.now) × (lent heads.new.items ≡ lent heads.old.items ++ cond new (source.now ∷ []) [])) }
 {
     if tells_part(heads.as_slice(), source) {
@@ -121,7 +121,7 @@ fn put_source<'a>(known: &mut Known<'a>, source: &'a Obj) -> Result<bool, AllocE
 }
 
 /// Puts a copy of a word last.
-fn put_word(words: &mut Words, word: &Text) -> Result<(), AllocError>
+pub(crate) fn put_word(words: &mut Words, word: &Text) -> Result<(), AllocError>
     requires { IsTrue (is_word word.now) }
     ensures { OnOk result (words.new ≡ words.old ++ word.now ∷ []) }
 {

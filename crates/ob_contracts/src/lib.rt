@@ -21,6 +21,7 @@ mod lookup;
 mod named;
 mod reading;
 mod standard;
+mod tellers;
 
 pub use adding::LibFault;
 pub use build::{effective, view};
@@ -28,6 +29,7 @@ pub use fewer::{telling, told_by};
 pub use library::Library;
 pub use lookup::Sources;
 pub use reading::View;
+pub use tellers::{Tellers, tell};
 
 /// Worked rows of the inheritance rules, computed on the definition.
 pub fn worked_rows()

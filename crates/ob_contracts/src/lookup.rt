@@ -1,25 +1,32 @@
 //! What an object may inherit from: the contracts of some words, and then the child that it overrides.
-ghost use Rattle.std.specs.Prelude.{◌≡◌, ◌<◌, List, ℕ, length, find, [], IfOk, Some};
+ghost use Rattle.std.specs.Prelude.{◌≡◌, ◌<◌, List, Option, ℕ, length, find, cond, [], ◌∷◌, IfOk, Some, None};
 ghost use Rattle.std.specs.Option.{option_copied};
+ghost use Rattle.ob_object.specs.declared.head.Head.{Head};
+ghost use Rattle.ob_object.specs.Kinds.{is_ref};
 ghost use Rattle.ob_contracts.specs.Found.{found};
-ghost use Rattle.ob_contracts.specs.Inherit.{words_in, overridden, implied_by, inherited_head};
-ghost use Rattle.ob_contracts.specs.Shown.{gives, holder_in, source_in};
-ghost use Rattle.ob_contracts.specs.Places.{places_by, places_of, sources_of};
+ghost use Rattle.ob_contracts.specs.Inherit.{words_in, or_else, overridden, implied_by, inherited_head, present};
+ghost use Rattle.ob_contracts.specs.Parts.{gives};
+ghost use Rattle.ob_contracts.specs.Shown.{holder_in, source_in};
+ghost use Rattle.ob_contracts.specs.Places.{places_by, places_of, sources_by, sources_of, child_in, overridden_in};
+ghost use Rattle.ob_contracts.specs.Tellers.{TellsIn, heads_in, told_child};
 
 use crate::inherited::put_first;
 use crate::library::Library;
 use crate::reading::{Part, gives, has_part};
+use crate::tellers::Tellers;
 use ob_object::{Obj, Words};
 use ob_values::Text;
 use std::alloc::{AllocError, Global};
 use std::collections::BTreeMap;
 
-/// What an object may inherit from, lent: the contracts of some words, and then the child that it overrides.
+/// What an object may inherit from, lent: the contracts of some words, and then the child that it overrides. Where words are
+/// told in place of these, it has those for heads, and finds a child by its name.
 #[derive(Clone, Copy)]
 pub struct Sources<'a> {
     pub(crate) library: &'a Library,
     pub(crate) own: &'a Obj,
     pub(crate) words: &'a [Text],
+    pub(crate) told: Option<&'a Tellers>,
     pub(crate) over: Option<&'a Obj>,
     // A ref has none, nor has a child that was inherited.
     pub(crate) any: bool,
@@ -47,6 +54,7 @@ impl<'a> Sources<'a> {
     ) -> Sources<'a>
         ensures own { result.own.now ≡ own.now }
         ensures places { places_of result ≡ places_by library.now own.now.head.kind (words_in (option_copied words.entry)) (option_copied over.entry) }
+        ensures untold { result.told ≡ None }
     {
         if own.kind().is_ref() {
             return Sources::none(library, own);
@@ -55,8 +63,57 @@ impl<'a> Sources<'a> {
             library,
             own,
             words: slice_of(words),
+            told: None,
             over,
             any: true,
+        }
+    }
+
+    /// The same by what is told in place of the words.
+    fn told_by(
+        library: &'a Library,
+        own: &'a Obj,
+        told: &'a Tellers,
+        over: Option<&'a Obj>,
+    ) -> Sources<'a>
+        ensures own { result.own.now ≡ own.now }
+        ensures places { places_of result ≡ places_by library.now own.now.head.kind told.now.heads (option_copied over.entry) }
+        ensures child { (n : List ℕ) → child_in result n ≡ cond (is_ref own.now.head.kind) None
+            (or_else (told_child library.now told.now n) (overridden (Some n) (present (option_copied over.entry ∷ [])))) }
+    {
+        if own.kind().is_ref() {
+            return Sources::none(library, own);
+        }
+        Sources {
+            library,
+            own,
+            words: told.heads().as_slice(),
+            told: Some(told),
+            over,
+            any: true,
+        }
+    }
+
+    /// The same, where words may be told in place of those that name the contracts: what a head inherits, and the child that one
+    /// of a name overrides, are those by all of the words.
+    pub fn by(
+        library: &'a Library,
+        own: &'a Obj,
+        told: Option<&'a Tellers>,
+        words: Option<&'a Words>,
+        over: Option<&'a Obj>,
+    ) -> Sources<'a>
+        requires { TellsIn library.now (option_copied told) (option_copied words) }
+        ensures own { result.own.now ≡ own.now }
+        ensures places { places_of result ≡ places_by library.now own.now.head.kind (heads_in (option_copied told.entry) (option_copied words.entry)) (option_copied over.entry) }
+        ensures head { (h : Head) → inherited_head h (sources_of result)
+            ≡ inherited_head h (sources_by library.now own.now.head.kind (words_in (option_copied words.entry)) (option_copied over.entry)) }
+        ensures over { (n : Option (List ℕ)) → overridden_in result n
+            ≡ overridden n (sources_by library.now own.now.head.kind (words_in (option_copied words.entry)) (option_copied over.entry)) }
+    {
+        match told {
+            Some(told) => Sources::told_by(library, own, told, over),
+            None => Sources::new(library, own, words, over),
         }
     }
 
@@ -64,11 +121,13 @@ impl<'a> Sources<'a> {
     pub(crate) fn none(library: &'a Library, own: &'a Obj) -> Sources<'a>
         ensures own { result.own.now ≡ own.now }
         ensures places { places_of result ≡ [] }
+        ensures untold { result.told ≡ None }
     {
         Sources {
             library,
             own,
             words: &[],
+            told: None,
             over: None,
             any: false,
         }
@@ -133,8 +192,8 @@ impl<'a> Sources<'a> {
         }
     }
 
-    /// The child of a name in the first that has one.
-    pub(crate) fn child(&self, name: &str) -> Option<&'a Obj>
+    /// The child of a name in the first that has one, looked for one by one.
+    fn first_child(&self, name: &str) -> Option<&'a Obj>
         ensures { option_copied result ≡ overridden (Some name.now) (sources_of self.now) }
     {
         match self.first(&Part::Child(name)) {
@@ -143,9 +202,39 @@ impl<'a> Sources<'a> {
         }
     }
 
+    /// The child of a name in the child that the object overrides.
+    fn over_child(&self, name: &str) -> Option<&'a Obj>
+        ensures { option_copied result ≡ overridden (Some name.now) (present (option_copied self.now.over ∷ [])) }
+    {
+        match self.over {
+            Some(over) => over.child(name),
+            None => None,
+        }
+    }
+
+    /// The child of a name by what is told.
+    fn told_child(&self, told: &Tellers, name: &str) -> Option<&'a Obj>
+        ensures { option_copied result ≡ or_else (told_child self.now.library.now told.now name.now) (overridden (Some name.now) (present (option_copied self.now.over ∷ []))) }
+    {
+        match told.child(self.library, name) {
+            Some(child) => Some(child),
+            None => self.over_child(name),
+        }
+    }
+
+    /// The child of a name in the first that has one.
+    pub(crate) fn child(&self, name: &str) -> Option<&'a Obj>
+        ensures { option_copied result ≡ child_in self.now name.now }
+    {
+        match self.told {
+            Some(told) => self.told_child(told, name),
+            None => self.first_child(name),
+        }
+    }
+
     /// The child that an own child of a name overrides.
     pub fn overridden(&self, name: Option<&Text>) -> Option<&'a Obj>
-        ensures { option_copied result ≡ overridden (option_copied name.entry) (sources_of self.now) }
+        ensures { option_copied result ≡ overridden_in self.now (option_copied name.entry) }
     {
         match name {
             Some(name) => self.child(name.as_str()),
@@ -153,8 +242,8 @@ impl<'a> Sources<'a> {
         }
     }
 
-    /// Their children, the first of each name: those that the object's own children may override. An error only for want of
-    /// memory.
+    /// Their children, the first of each name: those that the object's own children may override. Of sources by what is told
+    /// (`by`) it gives those of the contracts that tell heads alone. An error only for want of memory.
     pub fn children(&self, alloc: Global) -> Result<BTreeMap<&'a str, &'a Obj>, AllocError>
         ensures { IfOk result (λ names. (n : List ℕ) → found names n ≡ overridden (Some n) (sources_of self.now)) }
     {

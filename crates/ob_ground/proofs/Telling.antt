@@ -1,5 +1,5 @@
 -- Words that are told stay so where an object is given another slot.
-use Rattle.std.proofs.Common.{◌≡◌, ℕ, zero, suc, ◌-◌, Bool, true, false, cond, List, [], ◌∷◌, ◌++◌, map, Option, Some, None, refl, sym, ap, ◌∙◌, subst}
+use Rattle.std.proofs.Common.{◌≡◌, ℕ, zero, suc, ◌-◌, Bool, true, false, cond, List, [], ◌∷◌, ◌++◌, map, Option, Some, None, refl, sym, ap, ap₂, ◌∙◌, subst}
 use Rattle.std.specs.Prelude.{nat_lt, slice_get, option_map, option_and_then}
 use Rattle.std.proofs.lemmas.List.{map-append}
 use Rattle.std.proofs.lemmas.Option.{slice_get-map}
@@ -12,15 +12,15 @@ use Rattle.ob_object.specs.declared.head.Slot.{Slot}
 use Rattle.ob_object.specs.declared.head.Slot.TheVariants.{Absent}
 use Rattle.ob_object.specs.Object.{Objects, none, node, Object, count}
 use Rattle.ob_contracts.specs.Inherit.{Contracts}
-use Rattle.ob_contracts.specs.Telling.{StandIn}
+use Rattle.ob_contracts.specs.Tellers.{TellsIn}
 use Rattle.ob_standing.specs.declared.instead.Instead.{Instead}
-use Rattle.ob_standing.specs.Contexts.{Context, HandedDown, handed_down, under}
+use Rattle.ob_standing.specs.Contexts.{Context, HandedDown, handed_down, under, comes_to}
 use Rattle.ob_standing.specs.Standings.{MayStand, is_of, items_of}
 use Rattle.ob_tree.specs.Laid.{heads, heads_of, head_at, leaf, changed_in, changed}
-use Rattle.ob_tree.specs.Shown.{at_top, handed, handed_in, handed_at, standing_at, row}
+use Rattle.ob_tree.specs.Shown.{at_top, effective_in, handed, handed_in, handed_at, standing_at}
 use Rattle.ob_tree.specs.Told.{IsToldAt, AreToldBy, words_for}
 use Rattle.ob_tree.proofs.Changing.{count-changed_in}
-use Rattle.ob_ground.specs.Grounds.{Taught, AreTold, words_at, inside_at}
+use Rattle.ob_ground.specs.Grounds.{Taught, AreTold, alone_at, words_at, inside_at}
 
 -- what an object says of itself but for its slot: all that it hands down is told by that
 abbrev rest_of : Head → Head
@@ -39,8 +39,8 @@ kept_at lib m o told c h (Some g) there e stands t =
     stands ∙ ap (λ (x : Head). Some (under (handed_at lib m o) x.name)) same ∙ sym (ap (option_map (λ (x : Head). under (handed_at lib m o) x.name)) there) in
     let may = t c g here there in
     record {
-      is = subst (λ (x : Head). StandIn c.library (is_of told) x.is) (sym same) may.is;
-      items = subst (λ (x : Head). StandIn c.library (items_of told) (handed_down c x).implied) (sym same) may.items;
+      is = subst (λ (x : Head). TellsIn c.library (is_of told) x.is) (sym same) may.is;
+      items = subst (λ (x : Head). TellsIn c.library (items_of told) (handed_down c x).implied) (sym same) may.items;
     }
 
 kept_by : (lib : Contracts) (told : ℕ → Option Instead) (o p : Object) → ((m : ℕ) → option_map rest_of (head_at m p) ≡ option_map rest_of (head_at m o)) → ((m : ℕ) → handed_at lib m p ≡ handed_at lib m o)
@@ -143,3 +143,17 @@ stands_inside lib o r s n h name stands there is =
     ap (λ (x : Context). Some x) is
     ∙ ap (option_map (λ (c : Context). under (handed_down c h) name)) stands
     ∙ ap (option_and_then (λ (x : Head). option_map (λ (c : Context). under (handed_down c x) name) (standing_at lib n o))) (sym there)
+
+-- and what it comes to there without its children
+pub stands_alone : (lib : Contracts) (o own : Object) (r : Context) (n : ℕ) → Some r ≡ standing_at lib n o → Some own ≡ option_map leaf (head_at n o) → Some (comes_to r own) ≡ alone_at lib n o
+stands_alone lib o own r n stands there = by (head_at n o) stands there
+  where
+    takes : HandedDown
+    takes = handed_at lib n o
+
+    by : (h : Option Head) → Some r ≡ option_map (λ h. under takes h.name) h → Some own ≡ option_map leaf h → Some (comes_to r own) ≡ option_map (effective_in takes) (option_map leaf h)
+    by None s e = absurd cc
+    by (Some h) s e =
+        let at : r ≡ under takes h.name = cc in
+        let is : own ≡ leaf h = cc in
+        ap₂ (λ (c : Context) (x : Object). Some (comes_to c x)) at is

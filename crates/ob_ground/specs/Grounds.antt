@@ -5,11 +5,12 @@ use Rattle.std.specs.Ordering.{nat_cmp}
 use Rattle.std.specs.BTreeMap.{is_at}
 use Rattle.std.specs.Map.{lookup}
 use Rattle.ob_object.specs.Object.{Object}
-use Rattle.ob_contracts.specs.Inherit.{Contracts, Words}
+use Rattle.ob_contracts.specs.Inherit.{Contracts}
+use Rattle.ob_contracts.specs.Tellers.{Telling, telling_code}
 use Rattle.ob_standing.specs.declared.instead.Instead.{Instead}
 use Rattle.ob_standing.specs.Contexts.{Context, handed_down, under}
-use Rattle.ob_tree.specs.Laid.{head_at}
-use Rattle.ob_tree.specs.Shown.{standing_at}
+use Rattle.ob_tree.specs.Laid.{head_at, leaf}
+use Rattle.ob_tree.specs.Shown.{effective_in, handed_at, standing_at}
 use Rattle.ob_tree.specs.Told.{AreToldBy}
 use Rattle.ob_tree.specs.Trees.{Stamped}
 
@@ -35,14 +36,15 @@ AreTold root t = AreToldBy t.library root (words_at t)
 abbrev pub inside_at : Contracts → ℕ → Option (List ℕ) → Object → Option Context
 inside_at lib n name o = option_and_then (λ h. option_map (λ c. under (handed_down c h) name) (standing_at lib n o)) (head_at n o)
 
+-- what the object of a number comes to where it stands, but for its own children
+abbrev pub alone_at : Contracts → ℕ → Object → Option Object
+alone_at lib n o = option_map (effective_in (handed_at lib n o)) (option_map leaf (head_at n o))
+
 abbrev pub grounded_code : Coded Contracts → Coded Stamped → Coded Grounded
 grounded_code library tree = code_by (Contracts × Stamped) (coded× library tree) (λ g. (g.library, g.tree)) (λ p. record { library = p.0; tree = p.1 }) (λ _. refl)
 
-abbrev pub words_code : Coded (Option Words)
-words_code = coded_option (coded_list (coded_list coded_ℕ))
-
 abbrev pub instead_code : Coded Instead
-instead_code = code_by (Option Words × Option Words) (coded× words_code words_code) (λ i. (i.is, i.items)) (λ p. record { is = p.0; items = p.1 }) (λ _. refl)
+instead_code = code_by (Option Telling × Option Telling) (coded× (coded_option telling_code) (coded_option telling_code)) (λ i. (i.is, i.items)) (λ p. record { is = p.0; items = p.1 }) (λ _. refl)
 
 abbrev pub told_code : Coded (List (ℕ × Instead))
 told_code = coded_list (coded× coded_ℕ instead_code)

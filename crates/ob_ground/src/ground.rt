@@ -8,11 +8,12 @@ ghost use Rattle.ob_tree.specs.Depths.{depth_at};
 ghost use Rattle.ob_tree.specs.Laid.{head_at, changed};
 ghost use Rattle.ob_tree.specs.Shown.{standing_at};
 ghost use Rattle.ob_tree.specs.Stamps.{touched};
+ghost use Rattle.ob_contracts.specs.Shown.{shown};
 ghost use Rattle.ob_standing.specs.Standings.{context};
-ghost use Rattle.ob_ground.specs.Grounds.{AreTold, inside_at};
+ghost use Rattle.ob_ground.specs.Grounds.{AreTold, alone_at, inside_at};
 
 use crate::told::Told;
-use ob_contracts::Library;
+use ob_contracts::{Library, View};
 use ob_object::Slot;
 use ob_standing::Standing;
 use ob_steps::Steps;
@@ -132,6 +133,16 @@ impl Ground {
         ensures { Some (context result) ≡ standing_at self.now.library id.number self.now.tree.root }
     {
         self.told.standing(&self.tree, id)
+    }
+
+    /// What an object shows where it stands, but for its own children, lent: its contracts are looked up by the words that are
+    /// told for it.
+    pub fn view(&self, id: NodeId) -> View<'_>
+        requires { id.number < parts self.now.tree.root }
+        ensures { Some (shown result) ≡ alone_at self.now.library id.number self.now.tree.root }
+    {
+        let standing = self.standing(id);
+        standing.view_told(self.tree.own(id), self.told.words_for(id))
     }
 
     /// Where a child of a name stands, or would stand, in an object.

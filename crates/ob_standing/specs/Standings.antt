@@ -3,8 +3,8 @@ use Rattle.std.specs.Prelude.{◌≡◌, ℕ, List, Option, Some, None}
 use Rattle.std.specs.Option.{option_copied}
 use Rattle.ob_contracts.specs.Found.{found}
 use Rattle.ob_object.specs.declared.head.Head.{Head}
-use Rattle.ob_contracts.specs.Inherit.{Words, overridden}
-use Rattle.ob_contracts.specs.Telling.{StandIn}
+use Rattle.ob_contracts.specs.Inherit.{overridden}
+use Rattle.ob_contracts.specs.Tellers.{Telling, TellsIn}
 use Rattle.ob_standing.specs.declared.handed.Handed.{Handed}
 use Rattle.ob_standing.specs.declared.instead.Instead.{Instead}
 use Rattle.ob_standing.specs.declared.standing.Standing.{Standing}
@@ -19,16 +19,16 @@ pub record Hands (r : HandedDown) (h : Handed) : Type 0 where
   pub implied : option_copied h.implied ≡ r.implied
   pub over : (n : List ℕ) → found h.over n ≡ overridden (Some n) r.sources
 
--- words in place of an object's own `is`, and in place of those that it gives to its children
-abbrev pub is_of : Option Instead → Option Words
+-- what is told in place of an object's own `is`, and in place of the words that it gives to its children
+abbrev pub is_of : Option Instead → Option Telling
 is_of None = None
 is_of (Some i) = i.is
 
-abbrev pub items_of : Option Instead → Option Words
+abbrev pub items_of : Option Instead → Option Telling
 items_of None = None
 items_of (Some i) = i.items
 
--- where such are told for an object of this head in this context, they stand for what they are looked up in place of
+-- where something is told for an object of this head in this context, it may be looked up in place of these
 pub record MayStand (c : Context) (h : Head) (i : Option Instead) : Type 0 where
-  pub is : StandIn c.library (is_of i) h.is
-  pub items : StandIn c.library (items_of i) (handed_down c h).implied
+  pub is : TellsIn c.library (is_of i) h.is
+  pub items : TellsIn c.library (items_of i) (handed_down c h).implied

@@ -4,22 +4,22 @@ ghost use Rattle.std.specs.Option.{option_copied};
 ghost use Rattle.ob_object.specs.Object.{Object};
 ghost use Rattle.ob_contracts.specs.Found.{found};
 ghost use Rattle.ob_contracts.specs.Inherit.{overridden};
-ghost use Rattle.ob_contracts.specs.Telling.{StandIn};
+ghost use Rattle.ob_contracts.specs.Tellers.{TellsIn};
 
 use crate::standing::Standing;
-use ob_contracts::Library;
+use ob_contracts::{Library, Tellers};
 use ob_object::{Obj, Words};
 use ob_values::Text;
 use std::collections::BTreeMap;
 
-/// What an object hands down to its own children: the words for those that have none, where these are several words that
-/// stand for them, and the children of its sources, which its own may override.
+/// What an object hands down to its own children: the words for those that have none, where these are several what is
+/// told in their place, and the children of its sources, which its own may override.
 pub struct Handed<'a> {
     pub(crate) library: &'a Library,
     pub(crate) implied: Option<&'a Words>,
-    pub(crate) told: Option<Words>,
+    pub(crate) told: Option<Tellers>,
     pub(crate) over: BTreeMap<&'a str, &'a Obj>,
-    ghost stand: { StandIn library.now told (option_copied implied) },
+    ghost stand: { TellsIn library.now told (option_copied implied) },
 }
 
 impl<'a> Drop for Handed<'a> {
@@ -69,9 +69,9 @@ impl<'a> Handed<'a> {
         }
     }
 
-    /// The words that stand for those that it gives, where these are several.
-    pub fn into_told(self) -> Option<Words>
-        ensures { (r : HandedDown) → Hands r self.entry → StandIn r.library result r.implied }
+    /// What is told in place of the words that it gives, where these are several.
+    pub fn into_told(self) -> Option<Tellers>
+        ensures { (r : HandedDown) → Hands r self.entry → TellsIn r.library result r.implied }
     {
         let Handed {
             library: _,

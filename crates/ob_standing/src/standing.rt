@@ -1,10 +1,10 @@
 //! Where an object stands.
 ghost use Rattle.std.specs.Option.{option_copied};
-ghost use Rattle.ob_contracts.specs.Telling.{StandIn};
+ghost use Rattle.ob_contracts.specs.Tellers.{TellsIn};
 
 use crate::handed::Handed;
 use crate::instead::{Instead, is_of, items_of};
-use ob_contracts::{Library, Sources, View, effective, telling, view};
+use ob_contracts::{Library, Sources, Tellers, View, effective, tell};
 use ob_object::{Obj, Words};
 use ob_steps::Steps;
 use ob_values::Text;
@@ -12,24 +12,25 @@ use std::alloc::{AllocError, Global};
 use std::sync::ledger::Ledger;
 
 /// Where an object stands: the library, the words that its list or feed gives to it, and the child that it
-/// overrides. Where words are told that stand for those of the list, they are looked up in their place.
+/// overrides. Where something is told in place of the words of the list, it is looked up in their place.
 #[derive(Clone, Copy)]
 pub struct Standing<'a> {
     pub library: &'a Library,
     pub implied: Option<&'a Words>,
-    pub(crate) told: Option<&'a Words>,
+    pub(crate) told: Option<&'a Tellers>,
     pub over: Option<&'a Obj>,
-    ghost stand: { StandIn library.now (option_copied told) (option_copied implied) },
+    ghost stand: { TellsIn library.now (option_copied told) (option_copied implied) },
 }
 
 impl<'a> Standing<'a> {
-    ghost use Rattle.std.specs.Prelude.{◌≡◌, ◌+◌, ◌-◌, ◌^◌, min, IfOk, OnErr};
+    ghost use Rattle.std.specs.Prelude.{◌≡◌, ◌+◌, ◌-◌, ◌^◌, ℕ, List, Option, cond, is_some, min, IfOk, OnErr};
     ghost use Rattle.std.specs.Option.{option_copied};
     ghost use Rattle.ob_object.specs.Object.{parts};
-    ghost use Rattle.ob_contracts.specs.Inherit.{or_else, words_in};
-    ghost use Rattle.ob_contracts.specs.Places.{sources_of};
+    ghost use Rattle.ob_object.specs.declared.head.Head.{Head};
+    ghost use Rattle.ob_contracts.specs.Inherit.{inherited_head, or_else, overridden, words_in};
+    ghost use Rattle.ob_contracts.specs.Places.{overridden_in, sources_of};
     ghost use Rattle.ob_contracts.specs.Shown.{shown};
-    ghost use Rattle.ob_contracts.specs.Telling.{Same, StandFor, StandIn};
+    ghost use Rattle.ob_contracts.specs.Telling.{Same, StandFor};
     ghost use Rattle.ob_standing.specs.Contexts.{at_root, sources_in, handed_down, under, comes_to};
     ghost use Rattle.ob_standing.specs.Standings.{context, Hands, MayStand};
 
@@ -45,41 +46,66 @@ impl<'a> Standing<'a> {
         }
     }
 
-    /// The words that are looked up for those of its list or feed.
+    /// The words that are looked up for those of its list or feed, where all that they tell is asked.
     fn words(&self) -> Option<&'a Words>
         ensures { StandFor self.now.library.now (words_in (option_copied result)) (words_in (option_copied self.now.implied)) }
     {
         match self.told {
-            Some(told) => Some(told),
+            Some(told) => Some(told.all()),
             None => self.implied,
         }
     }
 
-    /// The words that name the contracts of an object that stands there, where some may be told that stand for its own.
-    fn words_of(&self, own: &'a Obj, is: Option<&'a Words>) -> Option<&'a Words>
-        requires { StandIn self.now.library.now (option_copied is) own.now.head.is }
-        ensures { StandFor self.now.library.now (words_in (option_copied result)) (words_in (or_else own.now.head.is (option_copied self.now.implied))) }
+    /// The words that name the contracts of an object that stands there.
+    fn words_of(&self, own: &'a Obj) -> Option<&'a Words>
+        ensures { option_copied result ≡ or_else own.now.head.is (option_copied self.now.implied) }
     {
         match own.is() {
-            Some(words) => match is {
-                Some(told) => Some(told),
-                None => Some(words),
-            },
-            None => self.words(),
+            Some(words) => Some(words),
+            None => self.implied,
+        }
+    }
+
+    /// What is told in place of these, where something may be told in place of the object's own.
+    fn told_of(&self, own: &Obj, is: Option<&'a Tellers>) -> Option<&'a Tellers>
+        ensures { option_copied result ≡ cond (is_some own.now.head.is) (option_copied is.entry) (option_copied self.now.told) }
+    {
+        if own.is().is_some() { is } else { self.told }
+    }
+
+    /// The words that are looked up for these, where all that they tell is asked.
+    fn all_words(&self, own: &'a Obj, is: Option<&'a Tellers>) -> Option<&'a Words>
+        requires { TellsIn self.now.library.now (option_copied is) own.now.head.is }
+        ensures { StandFor self.now.library.now (words_in (option_copied result)) (words_in (or_else own.now.head.is (option_copied self.now.implied))) }
+    {
+        match self.told_of(own, is) {
+            Some(told) => Some(told.all()),
+            None => self.words_of(own),
         }
     }
 
     /// What an object that stands there may inherit from, told by its own attributes.
-    fn sources(&self, own: &'a Obj, is: Option<&'a Words>) -> Sources<'a>
-        requires { StandIn self.now.library.now (option_copied is) own.now.head.is }
+    fn sources(&self, own: &'a Obj, is: Option<&'a Tellers>) -> Sources<'a>
+        requires { TellsIn self.now.library.now (option_copied is) own.now.head.is }
         ensures own { result.own.now ≡ own.now }
         ensures same { Same (sources_of result) (sources_in (context self.now) own.now.head) }
     {
-        Sources::new(self.library, own, self.words_of(own, is), self.over)
+        Sources::new(self.library, own, self.all_words(own, is), self.over)
     }
 
-    /// Where an own child of a name stands, of an object that stands there, told by its own attributes. Words may be told that
-    /// stand for the object's own, and for those that it gives to its children.
+    /// What is looked up of it for the object's head, and for a child of a name.
+    fn looked_up(&self, own: &'a Obj, is: Option<&'a Tellers>) -> Sources<'a>
+        requires { TellsIn self.now.library.now (option_copied is) own.now.head.is }
+        ensures own { result.own.now ≡ own.now }
+        ensures head { (h : Head) → inherited_head h (sources_of result) ≡ inherited_head h (sources_in (context self.now) own.now.head) }
+        ensures over { (n : Option (List ℕ)) → overridden_in result n ≡ overridden n (sources_in (context self.now) own.now.head) }
+    {
+        let told = self.told_of(own, is);
+        Sources::by(self.library, own, told, self.words_of(own), self.over)
+    }
+
+    /// Where an own child of a name stands, of an object that stands there, told by its own attributes. Something may be
+    /// told in place of the object's own words, and of those that it gives to its children.
     pub fn inside_told(
         &self,
         own: &'a Obj,
@@ -89,7 +115,7 @@ impl<'a> Standing<'a> {
         requires { MayStand (context self.now) own.now.head (option_copied told) }
         ensures { context result ≡ under (handed_down (context self.now) own.now.head) (option_copied name.entry) }
     {
-        let sources = self.sources(own, is_of(told));
+        let sources = self.looked_up(own, is_of(told));
         Standing {
             library: self.library,
             implied: sources.implied_by(),
@@ -99,20 +125,21 @@ impl<'a> Standing<'a> {
     }
 
     /// What an object that stands there, told by its own attributes, hands down to its own children: its sources are
-    /// looked up once for all of these, by words that stand for its own where such are told. An error only for want of memory.
+    /// looked up once for all of these, by what is told in place of its own words where something is. An error only for want of
+    /// memory.
     pub fn hand_down(
         &self,
         alloc: Global,
         own: &'a Obj,
-        is: Option<&'a Words>,
+        is: Option<&'a Tellers>,
     ) -> Result<Handed<'a>, AllocError>
-        requires { StandIn self.now.library.now (option_copied is) own.now.head.is }
+        requires { TellsIn self.now.library.now (option_copied is) own.now.head.is }
         ensures { IfOk result (Hands (handed_down (context self.now) own.now.head)) }
     {
         let sources = self.sources(own, is);
         let implied = sources.implied_by();
         let over = sources.children(alloc)?;
-        let told = telling(alloc, self.library, implied)?;
+        let told = tell(alloc, self.library, implied)?;
         Ok(Handed {
             library: self.library,
             implied,
@@ -125,7 +152,16 @@ impl<'a> Standing<'a> {
     pub fn view(&self, object: &'a Obj) -> View<'a>
         ensures { shown result ≡ comes_to (context self.now) object.now }
     {
-        view(self.library, object, self.words(), self.over)
+        self.view_told(object, None)
+    }
+
+    /// The same, where something may be told in place of the object's own words, and of those that it gives to its children.
+    pub fn view_told(&self, object: &'a Obj, told: Option<&'a Instead>) -> View<'a>
+        requires { MayStand (context self.now) object.now.head (option_copied told) }
+        ensures { shown result ≡ comes_to (context self.now) object.now }
+    {
+        let told = self.told_of(object, is_of(told));
+        View::with_told(self.library, object, told, self.implied, self.over)
     }
 
     /// What an object that stands there comes to. An error only for want of memory.

@@ -1,5 +1,5 @@
 -- Words that stand for those of an object, and for those that it gives to its children.
-use Rattle.std.proofs.Common.{◌≡◌, ℕ, Bool, true, false, cond, List, [], Option, Some, None, refl, sym, ◌∙◌, subst}
+use Rattle.std.proofs.Common.{◌≡◌, ℕ, Bool, true, false, cond, [], Option, Some, None, refl, sym, ◌∙◌, subst}
 use Rattle.std.proofs.lemmas.Bool.{eqb-true}
 use Rattle.std.specs.Cmp.{unsigned_ties}
 use Rattle.std.specs.Ordering.{nat_cmp}
@@ -8,10 +8,10 @@ use Rattle.std.specs.Map.{lookup}
 use Rattle.ob_object.specs.declared.head.Head.{Head}
 use Rattle.ob_object.specs.Object.{Object}
 use Rattle.ob_contracts.specs.Inherit.{Contracts}
-use Rattle.ob_contracts.proofs.Dropped.{stand_in_none}
 use Rattle.ob_standing.specs.declared.instead.Instead.{Instead}
-use Rattle.ob_standing.specs.Contexts.{Context, handed_down}
+use Rattle.ob_standing.specs.Contexts.{Context}
 use Rattle.ob_standing.specs.Standings.{MayStand}
+use Rattle.ob_standing.proofs.Walking.{may_stand_none}
 use Rattle.ob_tree.specs.Laid.{head_at}
 use Rattle.ob_tree.specs.Shown.{standing_at}
 use Rattle.ob_tree.specs.Told.{IsToldAt, AreToldBy, words_for}
@@ -19,7 +19,7 @@ use Rattle.ob_tree.proofs.Wholes.{one_standing}
 
 -- no words stand for any
 none_told_at : (lib : Contracts) (o : Object) (n : ℕ) → IsToldAt lib o n None
-none_told_at lib o n = λ c h stands there. record { is = stand_in_none c.library h.is; items = stand_in_none c.library (handed_down c h).implied }
+none_told_at lib o n = λ c h stands there. may_stand_none c h
 
 -- where none are lent, none are told
 pub none_told : (lib : Contracts) (o : Object) → AreToldBy lib o (words_for None)

@@ -4,17 +4,18 @@ ghost use Rattle.std.specs.Ordering.{nat_cmp};
 ghost use Rattle.std.specs.BTreeMap.{get};
 ghost use Rattle.ob_object.specs.Object.{Object};
 ghost use Rattle.ob_contracts.specs.Inherit.{Contracts};
-ghost use Rattle.ob_contracts.specs.Telling.{StandIn};
-ghost use Rattle.ob_standing.specs.Standings.{context};
+ghost use Rattle.ob_contracts.specs.Tellers.{TellsIn};
+ghost use Rattle.ob_standing.specs.Contexts.{HandedDown};
+ghost use Rattle.ob_standing.specs.Standings.{Hands, context};
 ghost use Rattle.ob_tree.specs.Laid.{object_of, said};
 ghost use Rattle.ob_tree.specs.Shown.{standing_at, AreLaid};
 ghost use Rattle.ob_tree.specs.Told.{IsToldAt, AreToldBy};
 
 use crate::shown::{leaf_in, spot_in};
 use crate::spot::Spot;
-use ob_contracts::{Library, telling};
-use ob_object::{Obj, Words};
-use ob_standing::{Instead, Standing};
+use ob_contracts::{Library, Tellers, tell};
+use ob_object::Obj;
+use ob_standing::{Handed, Instead, Standing};
 use std::alloc::{AllocError, Global};
 use std::collections::BTreeMap;
 
@@ -44,15 +45,31 @@ fn has_long_is(own: &Obj) -> bool {
     }
 }
 
-/// Words that stand for the own `is` of an object, where that is long; a short one is looked up word by word.
-fn told_is(alloc: Global, library: &Library, own: &Obj) -> Result<Option<Words>, AllocError>
-    ensures { IfOk result (λ told. StandIn library.now told own.now.head.is) }
+/// What is told in place of the own `is` of an object, where that is long; a short one is looked up word by word.
+fn told_is(alloc: Global, library: &Library, own: &Obj) -> Result<Option<Tellers>, AllocError>
+    ensures { IfOk result (λ told. TellsIn library.now told own.now.head.is) }
 {
     if has_long_is(own) {
-        telling(alloc, library, own.is())
+        tell(alloc, library, own.is())
     } else {
         Ok(None)
     }
+}
+
+/// Whether one of some children takes the words that the object round it gives, where that is told of those before this one.
+fn takes(before: bool, child: &Obj) -> bool {
+    before || (child.is().is_none() && !child.kind().is_ref())
+}
+
+/// What is told in place of the words that an object gives to its children, where one of them takes these: it shows, or has
+/// itself, a child of each name that is kept.
+fn told_items(handed: Handed<'_>, taken: bool) -> Option<Tellers>
+    ensures { (r : HandedDown) → Hands r handed.entry → TellsIn r.library result r.implied }
+{
+    if taken {
+        return handed.into_told();
+    }
+    None
 }
 
 /// Puts the words for the object of a number, which stands so, and for all in it: its sources are looked up once for all
@@ -85,13 +102,15 @@ pub(crate) fn put_told<'a>(
     }
     let handed = standing.hand_down(alloc, own, told.as_ref())?;
     let mut next = at + 1;
+    let mut taken = false;
     for place in 0..spot.len {
         let child = leaf_in(arena.leaves, next);
+        taken = takes(taken, child);
         let inside = handed.inside(child.name());
         put_told(alloc, words, arena, next, inside)?;
         let behind = spot_in(arena.spots, next);
         next = behind.end;
     }
-    let items = handed.into_told();
+    let items = told_items(handed, taken);
     put_words(words, at, Instead { is: told, items })
 }

@@ -1,7 +1,7 @@
 use Rattle.std.proofs.Common.{◌≡◌, not, ◌&&◌, drop}
 use Rattle.std.specs.List.{list_any}
 use Rattle.ob_contracts.specs.Found.{lent}
-use Rattle.ob_contracts.specs.Shown.{has_part}
+use Rattle.ob_contracts.specs.Parts.{has_part}
 use Rattle.ob_contracts.specs.Telling.{has_one, head_parts}
 use Rattle.ob_contracts.proofs.fewer.tells_part.Given as goal
 

@@ -5,9 +5,9 @@ use Rattle.std.specs.Ordering.{nat_cmp}
 use Rattle.std.specs.BTreeMap.{get}
 use Rattle.ob_object.specs.declared.head.Head.{Head}
 use Rattle.ob_object.specs.Object.{parts}
-use Rattle.ob_contracts.specs.Inherit.{Contracts, Words}
-use Rattle.ob_contracts.specs.Telling.{StandIn}
-use Rattle.ob_contracts.proofs.Dropped.{stand_in_none}
+use Rattle.ob_contracts.specs.Inherit.{Contracts}
+use Rattle.ob_contracts.specs.Tellers.{Telling, TellsIn}
+use Rattle.ob_contracts.proofs.Taught.{tells_none}
 use Rattle.ob_standing.specs.Contexts.{Context, handed_down, under}
 use Rattle.ob_standing.specs.Standings.{context, MayStand}
 use Rattle.ob_tree.specs.Laid.{object_of, said, head_at}
@@ -35,7 +35,7 @@ returns-then-spot-eq0 t c =
     let h = c.leaf_in-own.result.now.head in
     let r = context c.args.standing in
     let there : head_at at o ≡ Some h = ap (λ (l : List Head). slice_get l at) (sym c.requires.laid.heads_are) ∙ said_read os at c.leaf_in-own.result.now c.leaf_in-own.ensures in
-    let may : MayStand r h (Some (record { is = c.in_ok-told.told; items = None })) = record { is = c.in_ok-told.ensures; items = stand_in_none r.library (handed_down r h).implied } in
+    let may : MayStand r h (Some (record { is = c.in_ok-told.told; items = None })) = record { is = c.in_ok-told.ensures; items = tells_none r.library (handed_down r h).implied } in
     on_ok_weaker c.put_words.result (λ puts told. puts r.library o (told_at r.library o at r h _ c.requires.stands there may) told) c.put_words.ensures
 
 pub loop-place-init : goal.loop-place-init
@@ -56,7 +56,7 @@ leaf_in-child-requires t c =
 pub hand_down-requires : goal.hand_down-requires
 hand_down-requires t c =
     let lib = c.args.standing.library.now in
-    subst (λ (x : Option Words). StandIn lib x c.leaf_in-own.result.now.head.is) (sym c.as_ref.ensures.value) c.in_ok-told.ensures
+    subst (λ (x : Option Telling). TellsIn lib x c.leaf_in-own.result.now.head.is) (sym c.as_ref.ensures.value) c.in_ok-told.ensures
 
 pub put_told-requires : goal.put_told-requires
 put_told-requires t c =
@@ -112,6 +112,6 @@ returns t c =
     let h = c.leaf_in-own.result.now.head in
     let r = context c.args.standing in
     let there : head_at at o ≡ Some h = ap (λ (l : List Head). slice_get l at) (sym c.requires.laid.heads_are) ∙ said_read os at c.leaf_in-own.result.now c.leaf_in-own.ensures in
-    let may : MayStand r h (Some (record { is = c.in_ok-told.told; items = c.into_told-items.result })) =
-    record { is = c.in_ok-told.ensures; items = c.into_told-items.ensures (handed_down r h) c.in_ok-handed.ensures } in
+    let may : MayStand r h (Some (record { is = c.in_ok-told.told; items = c.told_items-items.result })) =
+    record { is = c.in_ok-told.ensures; items = c.told_items-items.ensures (handed_down r h) c.in_ok-handed.ensures } in
     on_ok_weaker c.put_words-2.result (λ puts told. puts r.library o (told_at r.library o at r h _ c.requires.stands there may) (c.loop-place.invariant.told told)) c.put_words-2.ensures

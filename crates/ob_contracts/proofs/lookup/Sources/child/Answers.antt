@@ -1,13 +1,17 @@
-use Rattle.std.proofs.Common.{◌∙◌}
-use Rattle.ob_object.specs.Object.{children}
-use Rattle.ob_object.specs.WellFormed.{named}
-use Rattle.ob_contracts.specs.Places.{sources_of}
-use Rattle.ob_contracts.proofs.Giving.{given_by, not_given}
+use Rattle.std.proofs.Common.{Option, sym, ap, ◌∙◌}
+use Rattle.std.specs.Option.{option_copied}
+use Rattle.ob_contracts.specs.Places.{named_in, sources_of}
+use Rattle.ob_contracts.specs.Tellers.{Telling}
 use Rattle.ob_contracts.proofs.lookup.Sources.child.Goals as goal
 
 pub returns-in-Some : goal.returns-in-Some
 returns-in-Some c =
-    c.child.ensures ∙ given_by (λ s. named c.args.name.now (children s)) (sources_of c.args.self.now) c.in-Some.source.now c.in-Some.ensures
+    let s = c.args.self.now in
+    c.told_child.ensures
+    ∙ sym (ap (λ (t : Option Telling). named_in s.library.now t (sources_of s) (option_copied s.over) c.args.name.now) (ap option_copied c.in-Some.is))
 
 pub returns-in-None : goal.returns-in-None
-returns-in-None c = not_given (λ s. named c.args.name.now (children s)) (sources_of c.args.self.now) c.in-None.ensures
+returns-in-None c =
+    let s = c.args.self.now in
+    c.first_child.ensures
+    ∙ sym (ap (λ (t : Option Telling). named_in s.library.now t (sources_of s) (option_copied s.over) c.args.name.now) (ap option_copied c.in-None.is))

@@ -1,7 +1,7 @@
 use Rattle.std.proofs.Common.{◌≡◌, ◌<◌, length, Some, subst, sym, ◌∙◌, arith}
 use Rattle.std.specs.Prelude.{find}
 use Rattle.ob_object.specs.declared.kind.Kind.{Kind}
-use Rattle.ob_contracts.specs.Shown.{gives}
+use Rattle.ob_contracts.specs.Parts.{gives}
 use Rattle.ob_contracts.specs.Places.{places_of, sources_of}
 use Rattle.ob_contracts.proofs.Giving.{find_here, find_later, find_past}
 use Rattle.ob_contracts.proofs.lookup.Sources.first.Goals as goal

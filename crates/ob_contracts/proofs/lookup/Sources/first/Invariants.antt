@@ -1,7 +1,7 @@
 use Rattle.std.proofs.Common.{◌≡◌, drop}
 use Rattle.std.specs.Prelude.{find}
 use Rattle.ob_contracts.specs.Inherit.{present}
-use Rattle.ob_contracts.specs.Shown.{gives}
+use Rattle.ob_contracts.specs.Parts.{gives}
 use Rattle.ob_contracts.specs.Places.{places_of, sources_of}
 use Rattle.ob_contracts.proofs.lookup.Sources.first.Given as goal
 

@@ -1,4 +1,3 @@
-use Rattle.std.proofs.Common.{sym, ap, ◌∙◌}
 use Rattle.std.specs.Option.{option_copied}
 use Rattle.ob_standing.specs.Standings.{context}
 use Rattle.ob_standing.proofs.Walking.{looked_up}
@@ -6,4 +5,4 @@ use Rattle.ob_standing.proofs.standing.Standing.sources.Goals as goal
 
 pub returns-clause-same : goal.returns-clause-same
 returns-clause-same c =
-    looked_up (context c.args.self.now) c.args.own.now.head (option_copied c.words_of.result) c.new.result c.new.ensures.places c.words_of.ensures
+    looked_up (context c.args.self.now) c.args.own.now.head (option_copied c.all_words.result) c.new.result c.new.ensures.places c.all_words.ensures
