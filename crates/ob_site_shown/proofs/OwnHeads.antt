@@ -4,17 +4,18 @@ use Rattle.std.specs.Prelude.{option_and_then}
 use Rattle.ob_object.specs.declared.head.Head.{Head}
 use Rattle.ob_object.specs.declared.kind.Kind.{Kind}
 use Rattle.ob_object.specs.Object.{Object}
-use Rattle.ob_contracts.specs.Inherit.{result_of}
+use Rattle.ob_contracts.specs.Inherit.{Contracts, result_of}
+use Rattle.ob_ground.specs.Grounds.{alone_at}
 use Rattle.ob_site_rules.specs.Build.{Path, leaf}
 use Rattle.ob_site_rules.specs.State.{Plan, State}
-use Rattle.ob_site_rules.specs.Shown.{dressed, node_path, rule_of, shown, with_status, with_status_at, with_status_by}
+use Rattle.ob_site_rules.specs.Shown.{dressed, node_path, rule_of, shown, with_status_at, with_status_by}
 use Rattle.ob_standing.specs.Contexts.{Context, comes_to, under}
 use Rattle.ob_shown_laws.specs.Alike.{row}
 use Rattle.ob_shown_laws.specs.Changed.{PathsDiffer, head_in}
 use Rattle.ob_shown_laws.specs.Own.{dressed_own}
 use Rattle.ob_tree.specs.Laid.{head_at, leaf as leaf_of, paths}
 use Rattle.ob_tree.specs.Paths.{place_of}
-use Rattle.ob_tree.specs.Shown.{handed_at, standing_at}
+use Rattle.ob_tree.specs.Shown.{effective_in, handed_at, standing_at}
 use Rattle.ob_tree_bridges.proofs.Owned.{own_trees_tell, part_there}
 use Rattle.ob_site_shown.specs.Targets.{target, target_head}
 
@@ -25,6 +26,28 @@ leaf_there (Some h) o e = ap (λ (x : Object). Some x.head) (sym (some_same e))
   where
     some_same : {a b : Object} → Some a ≡ Some b → a ≡ b
     some_same f = cc
+
+-- an object that is lent without its children stands in a place
+abbrev pub place_there : Contracts → ℕ → Object → Object → Context
+place_there lib n o own = under (handed_at lib n o) own.head.name
+
+pub stands_there : (lib : Contracts) (n : ℕ) (o own : Object) → Some own ≡ option_map leaf_of (head_at n o) → Some (place_there lib n o own) ≡ standing_at lib n o
+stands_there lib n o own lent = sym (ap (option_map (λ (h : Head). under (handed_at lib n o) h.name)) (leaf_there (head_at n o) own lent))
+
+-- and what is seen of it alone is what it comes to there
+pub seen_there : (lib : Contracts) (n : ℕ) (o own seen : Object) → Some own ≡ option_map leaf_of (head_at n o) → Some seen ≡ alone_at lib n o → seen ≡ comes_to (place_there lib n o own) own
+seen_there lib n o own seen lent sees = some_same (sees ∙ sym (ap (option_map (effective_in (handed_at lib n o))) lent))
+  where
+    some_same : {a b : Object} → Some a ≡ Some b → a ≡ b
+    some_same f = cc
+
+-- where something is seen of it, it says something of itself
+pub lent_there : (lib : Contracts) (n : ℕ) (o seen : Object) → Some seen ≡ alone_at lib n o → (own : Object) × (Some own ≡ option_map leaf_of (head_at n o))
+lent_there lib n o seen sees = by (head_at n o) sees
+  where
+    by : (h : Option Head) → Some seen ≡ option_map (effective_in (handed_at lib n o)) (option_map leaf_of h) → (own : Object) × (Some own ≡ option_map leaf_of h)
+    by None e = absurd cc
+    by (Some h) e = (leaf_of h, refl)
 
 -- what an object comes to has the head that its own comes to
 comes_head : (c : Context) (o : Object) → (comes_to c o).head ≡ head_in c o.head
@@ -59,21 +82,20 @@ own_shows plan s p n c own differ here stands lent =
     )
 
 -- so what is asked of it is told
-pub own_shows_target : (plan : Plan) (s : State) (p : Path) (n : ℕ) (c : Context) (own seen made : Object) (h : Head) → PathsDiffer (row (dressed plan s)) → Some n ≡ place_of p (paths s.tree)
-    → Some c ≡ standing_at s.library n s.tree → Some own ≡ option_map leaf_of (head_at n s.tree)
-    → seen ≡ comes_to c own → h ≡ target_head seen.head → made ≡ leaf h → option_map target (shown plan s p) ≡ Some made
-own_shows_target plan s p n c own seen made h differ here stands lent sees asks makes =
-    let w = own_shows plan s p n c own differ here stands lent in
+pub own_shows_target : (plan : Plan) (s : State) (p : Path) (n : ℕ) (seen made : Object) (h : Head) → PathsDiffer (row (dressed plan s)) → Some n ≡ place_of p (paths s.tree)
+    → Some seen ≡ alone_at s.library n s.tree → h ≡ target_head seen.head → made ≡ leaf h → option_map target (shown plan s p) ≡ Some made
+own_shows_target plan s p n seen made h differ here sees asks makes =
+    let it = lent_there s.library n s.tree seen sees in
+    let own : Object = it.0 in
+    let w = own_shows plan s p n (place_there s.library n s.tree own) own differ here (stands_there s.library n s.tree own it.1) it.1 in
     ap (option_map target) w.1.0
-    ∙ ap (λ (o : Object). Some o) (w.1.1 ∙ sym (makes ∙ ap leaf asks ∙ ap target sees))
+    ∙ ap (λ (o : Object). Some o) (w.1.1 ∙ sym (makes ∙ ap leaf asks ∙ ap target (seen_there s.library n s.tree own seen it.1 sees)))
 
 -- and its kind
 pub own_shows_kind : (plan : Plan) (s : State) (p : Path) (n : ℕ) (own : Object) (kind : Kind) → PathsDiffer (row (dressed plan s)) → Some n ≡ place_of p (paths s.tree)
     → Some own ≡ option_map leaf_of (head_at n s.tree) → kind ≡ own.head.kind → option_map (λ (o : Object). o.head.kind) (shown plan s p) ≡ Some kind
 own_shows_kind plan s p n own kind differ here lent is =
-    let c : Context = under (handed_at s.library n s.tree) own.head.name in
-    let stands : Some c ≡ standing_at s.library n s.tree =
-    sym (ap (option_map (λ (h : Head). under (handed_at s.library n s.tree) h.name)) (leaf_there (head_at n s.tree) own lent)) in
-    let w = own_shows plan s p n c own differ here stands lent in
+    let c : Context = place_there s.library n s.tree own in
+    let w = own_shows plan s p n c own differ here (stands_there s.library n s.tree own lent) lent in
     ap (option_map (λ (o : Object). o.head.kind)) w.1.0
     ∙ ap (λ (k : Kind). Some k) (ap (λ (o : Object). o.head.kind) w.1.1 ∙ ap (λ (h : Head). h.kind) (comes_head c own) ∙ sym is)

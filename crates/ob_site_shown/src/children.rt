@@ -32,11 +32,10 @@ pub fn shows_child(
 {
     let tree = contents.ground.tree();
     let own = tree.own(node);
-    let standing = contents.ground.standing(node);
     if tree.child(node, name.as_str()).is_some() {
         return Ok(true);
     }
-    if standing.view(own).child(name.as_str()).is_some() {
+    if contents.ground.view(node).child(name.as_str()).is_some() {
         return Ok(true);
     }
     let derived = derived(alloc, plan, contents, node_path(own.head()))?;

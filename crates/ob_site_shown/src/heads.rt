@@ -81,8 +81,7 @@ pub fn own_target(
     let Some(node) = tree.get(path) else {
         return Ok(None);
     };
-    let standing = contents.ground.standing(node);
-    let head = target_head(&standing.view(tree.own(node)))?;
+    let head = target_head(&contents.ground.view(node))?;
     match Obj::with_head(alloc, head) {
         Ok(target) => Ok(Some(target)),
         Err(_head) => Ok(None),

@@ -7,11 +7,11 @@ use Rattle.ob_replies.specs.Plans.{plan as plan_of}
 use Rattle.ob_site_rules.specs.Shown.{derived, node_path}
 use Rattle.ob_site_state.specs.Contents.{state_in}
 use Rattle.ob_standing.specs.Contexts.{comes_to}
-use Rattle.ob_standing.specs.Standings.{context}
 use Rattle.ob_tree.specs.Children.{child_at}
 use Rattle.ob_tree.specs.Laid.{head_at, leaf}
 use Rattle.ob_tree.specs.Trees.{Stamped}
 use Rattle.ob_tree.specs.declared.node.NodeId.{NodeId}
+use Rattle.ob_site_shown.proofs.OwnHeads.{place_there, stands_there, seen_there}
 use Rattle.ob_site_shown.proofs.ChildNames.{by_own, by_role, by_source, shows_names, told}
 use Rattle.ob_site_shown.proofs.children.shows_child.Goals as goal
 
@@ -21,12 +21,13 @@ returns-then-is_some c =
     let s = state_in c.args.contents.now in
     let k = c.args.node.number in
     let n = c.args.name.now in
-    let at = context c.standing-standing.result in
     let own = c.own-own.result.now in
+    let lent : Some own ≡ option_map leaf (head_at k s.tree) = c.own-own.ensures ∙ ap (λ (t : Stamped). option_map leaf (head_at k t.root)) c.tree-tree.ensures in
+    let at = place_there s.library k s.tree own in
     let there : is_some (child_at k n s.tree) ≡ c.is_some.result =
     told (λ (id : NodeId). id.number) c.child.result (λ (m : List ℕ). child_at k m s.tree) c.as_str.result.now n c.is_some.result c.as_str.ensures.value
     (c.child.ensures.child ∙ ap (λ (t : Stamped). child_at k c.as_str.result.now t.root) c.tree-tree.ensures) c.is_some.ensures in
-    shows_names plan s k at own (comes_to at own) n c.standing-standing.ensures (c.own-own.ensures ∙ ap (λ (t : Stamped). option_map leaf (head_at k t.root)) c.tree-tree.ensures) refl
+    shows_names plan s k at own (comes_to at own) n (stands_there s.library k s.tree own lent) lent refl
     ∙ ap (λ (b : Bool). Some b) (by_own (is_some (child_at k n s.tree)) (is_some (named n (derived plan s (node_path own.head)))) (is_some (named n (children (comes_to at own)))) (there ∙ c.if-is_some.true))
 
 pub returns-then-is_some-2 : goal.returns-then-is_some-2
@@ -35,12 +36,13 @@ returns-then-is_some-2 c =
     let s = state_in c.args.contents.now in
     let k = c.args.node.number in
     let n = c.args.name.now in
-    let at = context c.standing-standing.result in
     let own = c.own-own.result.now in
+    let lent : Some own ≡ option_map leaf (head_at k s.tree) = c.own-own.ensures ∙ ap (λ (t : Stamped). option_map leaf (head_at k t.root)) c.tree-tree.ensures in
+    let at = place_there s.library k s.tree own in
     let seen = shown_by c.view.result in
     let inherited : is_some (named n (children seen)) ≡ c.is_some-2.result =
     told shown_by c.child-2.result (λ (m : List ℕ). named m (children seen)) c.as_str-2.result.now n c.is_some-2.result c.as_str-2.ensures.value c.child-2.ensures c.is_some-2.ensures in
-    shows_names plan s k at own seen n c.standing-standing.ensures (c.own-own.ensures ∙ ap (λ (t : Stamped). option_map leaf (head_at k t.root)) c.tree-tree.ensures) c.view.ensures
+    shows_names plan s k at own seen n (stands_there s.library k s.tree own lent) lent (seen_there s.library k s.tree own seen lent c.view.ensures)
     ∙ ap (λ (b : Bool). Some b) (by_source (is_some (child_at k n s.tree)) (is_some (named n (derived plan s (node_path own.head)))) (is_some (named n (children seen))) (inherited ∙ c.if-is_some-2.true))
 
 pub returns : goal.returns
@@ -49,8 +51,9 @@ returns c =
     let s = state_in c.args.contents.now in
     let k = c.args.node.number in
     let n = c.args.name.now in
-    let at = context c.standing-standing.result in
     let own = c.own-own.result.now in
+    let lent : Some own ≡ option_map leaf (head_at k s.tree) = c.own-own.ensures ∙ ap (λ (t : Stamped). option_map leaf (head_at k t.root)) c.tree-tree.ensures in
+    let at = place_there s.library k s.tree own in
     let seen = shown_by c.view.result in
     let roles = derived plan s (node_path own.head) in
     let there : is_some (child_at k n s.tree) ≡ c.is_some.result =
@@ -62,7 +65,7 @@ returns c =
     let derives : is_some (named n roles) ≡ c.is_some-3.result =
     sym (ap (λ (os : List Object). is_some (named n os)) made)
     ∙ told (λ (o : Bor Object). o.now) c.find_named.result (λ (m : List ℕ). named m c.deref.result.now) c.as_str-3.result.now n c.is_some-3.result c.as_str-3.ensures.value c.find_named.ensures c.is_some-3.ensures in
-    shows_names plan s k at own seen n c.standing-standing.ensures (c.own-own.ensures ∙ ap (λ (t : Stamped). option_map leaf (head_at k t.root)) c.tree-tree.ensures) c.view.ensures
+    shows_names plan s k at own seen n (stands_there s.library k s.tree own lent) lent (seen_there s.library k s.tree own seen lent c.view.ensures)
     ∙ ap (λ (b : Bool). Some b)
     (by_role (is_some (child_at k n s.tree)) (is_some (named n roles)) (is_some (named n (children seen))) (there ∙ c.if-is_some.false) (inherited ∙ c.if-is_some-2.false)
     ∙ derives)

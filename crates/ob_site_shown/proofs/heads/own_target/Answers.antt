@@ -1,9 +1,8 @@
-use Rattle.std.proofs.Common.{option_map, ap, ◌∙◌}
+use Rattle.std.proofs.Common.{ap, ◌∙◌}
 use Rattle.ob_contracts.specs.Shown.{shown as shown_by}
 use Rattle.ob_replies.specs.Plans.{plan as plan_of}
-use Rattle.ob_standing.specs.Standings.{context}
 use Rattle.ob_site_state.specs.Contents.{state_in}
-use Rattle.ob_tree.specs.Laid.{head_at, leaf, paths}
+use Rattle.ob_tree.specs.Laid.{paths}
 use Rattle.ob_tree.specs.Paths.{place_of}
 use Rattle.ob_tree.specs.Trees.{Stamped}
 use Rattle.ob_site_shown.proofs.OwnHeads.{own_shows_target}
@@ -11,6 +10,6 @@ use Rattle.ob_site_shown.proofs.heads.own_target.Goals as goal
 
 pub returns-in-Ok : goal.returns-in-Ok
 returns-in-Ok c =
-    own_shows_target (plan_of c.args.plan.now) (state_in c.args.contents.now) c.args.path.now c.in-Some.node.number (context c.standing-standing.result) c.own.result.now (shown_by c.view.result) c.in-Ok.target
-    c.in_ok-head.head c.requires.paths_differ (c.in-Some.ensures.place ∙ ap (λ (t : Stamped). place_of c.args.path.now (paths t.root)) c.tree-tree.ensures) c.standing-standing.ensures
-    (c.own.ensures ∙ ap (λ (t : Stamped). option_map leaf (head_at c.in-Some.node.number t.root)) c.tree-tree.ensures) c.view.ensures c.in_ok-head.ensures c.in-Ok.ensures.1
+    own_shows_target (plan_of c.args.plan.now) (state_in c.args.contents.now) c.args.path.now c.in-Some.node.number (shown_by c.view.result) c.in-Ok.target
+    c.in_ok-head.head c.requires.paths_differ (c.in-Some.ensures.place ∙ ap (λ (t : Stamped). place_of c.args.path.now (paths t.root)) c.tree-tree.ensures)
+    c.view.ensures c.in_ok-head.ensures c.in-Ok.ensures.1
