@@ -51,6 +51,16 @@ def words(name, count):
     return " ".join([name] * count)
 
 
+def several(name, count):
+    """So many words, no two alike."""
+    return " ".join(f"{name}{k}" for k in range(count))
+
+
+def named(count):
+    """So many contracts, each with a child of another name."""
+    return each(count, lambda k: f'<obj href="c{k}"><int name="x{k}"/></obj>')
+
+
 def points(count):
     return site("", each(count, lambda k: f'<int href="p{k}" val="0" writable="true" is="obix:WritablePoint"/>'))
 
@@ -181,6 +191,11 @@ STREAMS = {
     "writes to n items of n words": (2_000, lambda n: (site("", f'<list of="{words("a", n)}">' + each(n, lambda k: f'<int href="i{k}" val="1" writable="true"/>') + "</list>"), batches(n, lambda k: item("Write", f"/obix/i{k}", '<int name="in" val="2"/>')))),
     "n/40 of them behind a default": (20_000, lambda n: (site('<obj href="d"><int name="v" href="d/v" val="0" writable="true"/></obj>', f'<list of="{words("a", n)}">' + each(n // 40, lambda k: f'<int href="i{k}" val="1" writable="true"/>') + "</list>"), batches(n // 40, lambda k: item("Write", f"/obix/i{k}" if k else "/obix/d/v", '<int name="in" val="2"/>')))),
     "reads of n children, an is of n": (8_000, lambda n: (site("", f'<obj is="{words("a", n)}">' + each(n, lambda k: f'<int name="i{k}" href="i{k}" val="1"/>') + "</obj>"), batches(n, lambda k: item("Read", f"/obix/i{k}")))),
+    "refused writes to a node of n words": (4_000, lambda n: (site("", f'<int href="i" val="1" is="{words("a", n)}"/>'), batches(n, lambda k: item("Write", "/obix/i", '<int name="in" val="2"/>')))),
+    "refused writes, n contracts of names": (2_000, lambda n: (site(named(n), f'<int href="i" val="1" is="{several("c", n)}"/>'), batches(n, lambda k: item("Write", "/obix/i", '<int name="in" val="2"/>')))),
+    "reads of n children under n such": (2_000, lambda n: (site(named(n), f'<obj is="{several("c", n)}">' + each(n, lambda k: f'<int name="i{k}" href="i{k}" val="1"/>') + "</obj>"), batches(n, lambda k: item("Read", f"/obix/i{k}")))),
+    "reads of n children of such an item": (2_000, lambda n: (site(named(n), f'<list of="{several("c", n)}"><obj>' + each(n, lambda k: f'<int name="i{k}" href="i{k}" val="1"/>') + "</obj></list>"), batches(n, lambda k: item("Read", f"/obix/i{k}")))),
+    "an enum's range of n words": (4_000, lambda n: (site("", f'<enum href="e" range="r" val="a" writable="true"/><obj href="r" is="{words("a", n)}"/>'), batches(n, lambda k: item("Write", "/obix/e", '<enum name="in" val="b"/>')))),
     "n reads of a query, an is of n": (8_000, lambda n: (site("", f'<int href="p" val="0"/><obj href="h" is="obix:History {words("a", n)}"><ref name="source" href="p"/></obj>'), batches(n, lambda k: item("Read", "/obix/h/query")))),
     "a write to a default, n below 28": (10_000, lambda n: (site('<obj href="c"><int name="v" href="c/v" val="0" writable="true"/></obj>', each(28, lambda k: f'<obj href="r{k}">') + '<obj is="c"/>' * n + "</obj>" * 28), request("PUT", "/obix/c/v", '<int val="1"/>'))),
     "dots in an item's href": (100_000, lambda n: (None, batches(1, lambda k: item("Read", "a/" * n + "../" * n + "n")))),
