@@ -1,7 +1,9 @@
 //! Where devices are opened by name.
-ghost use Rattle.std.specs.Prelude.{◌≡◌, ℕ, ◌≤◌, IfOk};
+ghost use Rattle.std.specs.Prelude.{◌≡◌, ℕ, ◌≤◌, List, [], ◌∷◌, Option, true, false, IfOk, MatchResult};
 ghost use Rattle.ob_io.specs.Faults.{Rose};
+ghost use Rattle.ob_io.specs.Told.{Gains};
 ghost use Rattle.ob_journal.specs.Device.{Only, HasDeviceCause};
+ghost use Rattle.ob_journal.specs.Opened.{Opened};
 
 use crate::{Device, DeviceFault};
 use std::alloc::Global;
@@ -13,16 +15,27 @@ pub trait Devices {
     /// How often a device could not be opened, or came back that had failed.
     ghost faults: { Self → ℕ };
 
+    /// The devices that it has opened, as they were then, where they are told.
+    ghost given: { Self → Option (List (Opened Self.D)) };
+
+    /// The devices that came back, where they are told.
+    ghost returned: { Self → Option (List Self.D) };
+
     /// The device of a name, which is made where there is none. It has not failed.
     fn open(&mut self, alloc: Global, name: &str) -> Result<Self::D, DeviceFault>
         // What a read gives is what is on the disk.
         ensures durable { IfOk result (λ device. Self.D.is_told → Only (Self.D.seen device) (Self.D.may_leave device)) }
         ensures fresh { IfOk result (λ device. Self.D.faults device ≡ 0) }
+        ensures given { MatchResult result
+            (λ device. Gains (given self.old) (record { name = name.now; device = device } ∷ []) (given self.new))
+            (λ _. given self.new ≡ given self.old) }
+        ensures apart { returned self.new ≡ returned self.old }
         ensures cause { HasDeviceCause (faults self.old) (faults self.new) result };
 
-    /// Takes a device back. The count rises where the device's isn't 0.
-    fn back(&mut self, device: Self::D)
-        ensures whole { Self.D.faults device ≡ 0 → faults self.new ≡ faults self.old }
-        ensures later { faults self.old ≤ faults self.new }
-        ensures broken { ¬ (Self.D.faults device ≡ 0) → Rose (faults self.old) (faults self.new) };
+    /// Takes a device back, and tells whether it had failed: then the count rises.
+    fn back(&mut self, device: Self::D) -> bool
+        ensures returned { Gains (returned self.old) (device ∷ []) (returned self.new) }
+        ensures apart { given self.new ≡ given self.old }
+        ensures whole { result ≡ false → (Self.D.faults device ≡ 0) × (faults self.new ≡ faults self.old) }
+        ensures broken { result ≡ true → ¬ (Self.D.faults device ≡ 0) × Rose (faults self.old) (faults self.new) };
 }

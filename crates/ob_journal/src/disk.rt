@@ -1,5 +1,5 @@
 //! Files of the disk, over std. They count each error and tell nothing.
-ghost use Rattle.std.specs.Prelude.{◌≡◌, ◌≤◌, [], IfOk};
+ghost use Rattle.std.specs.Prelude.{◌≡◌, ◌≤◌, [], None, IfOk};
 ghost use Rattle.ob_io.specs.Faults.{Rose};
 ghost use Rattle.ob_journal.specs.Device.{HasDeviceCause};
 
@@ -163,15 +163,21 @@ impl<'a, R: Disk<File = File>> Devices for DiskDevices<'a, R> {
 
     ghost faults = { λ s. s.faults };
 
+    ghost given = { λ s. None };
+
+    ghost returned = { λ s. None };
+
     fn open(&mut self, alloc: Global, name: &str) -> Result<DiskFile, DeviceFault> {
         let opened = open_settled(alloc, self.disk, name);
         let file = counted(&mut self.faults, opened)?;
         Ok(DiskFile::new(file))
     }
 
-    fn back(&mut self, device: DiskFile) {
-        if device.faults > 0 {
-            self.faults = self.faults.saturating_add(1);
+    fn back(&mut self, device: DiskFile) -> bool {
+        if device.faults == 0 {
+            return false;
         }
+        self.faults = self.faults.saturating_add(1);
+        true
     }
 }
