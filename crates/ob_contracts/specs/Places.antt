@@ -8,7 +8,8 @@ use Rattle.ob_contracts.specs.Inherit.{Contracts, Words, contract_of, or_else, o
 use Rattle.ob_contracts.specs.Tellers.{Telling, told_child}
 use Rattle.ob_contracts.specs.declared.lookup.Sources.{Sources}
 
--- for an object of a kind: what these words stand for, where they name a contract, and then the child that it overrides
+-- for an object of a kind: the contract of each of these words, where it names one, and then the child that it overrides; a ref has
+-- none
 abbrev pub places_by : Contracts → Kind → Words → Option Object → List (Option Object)
 places_by lib k ws over = cond (is_ref k) [] (map (contract_of lib) ws ++ over ∷ [])
 

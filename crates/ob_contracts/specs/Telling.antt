@@ -94,7 +94,7 @@ named_by lib ws = present (map (contract_of lib) ws)
 abbrev pub StandFor : Contracts → Words → Words → Type 0
 StandFor lib ts ws = (R : List Object) → Same (named_by lib ts ++ R) (named_by lib ws ++ R)
 
--- some words, where they are told, stand for those that a list gives
+-- some words, where they are told, stand for others: for those that a list gives its items, or for an object's own `is`
 abbrev pub StandIn : Contracts → Option Words → Option Words → Type 0
 StandIn lib told words = StandFor lib (words_in (or_else told words)) (words_in words)
 
