@@ -7,7 +7,7 @@ ghost use Rattle.ob_contracts.specs.Found.{found};
 ghost use Rattle.ob_contracts.specs.Inherit.{words_in, or_else, overridden, implied_by, inherited_head, present};
 ghost use Rattle.ob_contracts.specs.Parts.{gives};
 ghost use Rattle.ob_contracts.specs.Shown.{holder_in, source_in};
-ghost use Rattle.ob_contracts.specs.Places.{places_by, places_of, sources_by, sources_of, child_in, overridden_in};
+ghost use Rattle.ob_contracts.specs.Places.{places_by, places_of, sources_by, sources_of, child_in, named_in, overridden_in};
 ghost use Rattle.ob_contracts.specs.Tellers.{TellsIn, heads_in, told_child};
 
 use crate::inherited::put_first;
@@ -43,6 +43,33 @@ fn slice_of<'a>(words: Option<&'a Words>) -> &'a [Text]
 }
 
 impl<'a> Sources<'a> {
+    /// The sources by words, and by what is told for the names of children. A ref has none.
+    fn of(
+        library: &'a Library,
+        own: &'a Obj,
+        words: &'a [Text],
+        told: Option<&'a Tellers>,
+        over: Option<&'a Obj>,
+    ) -> Sources<'a>
+        ensures own { result.own.now ≡ own.now }
+        ensures places { places_of result ≡ places_by library.now own.now.head.kind words.now (option_copied over.entry) }
+        ensures told { result.told ≡ cond (is_ref own.now.head.kind) None told.entry }
+        ensures child { (n : List ℕ) → child_in result n ≡ cond (is_ref own.now.head.kind) None
+            (named_in library.now (option_copied told.entry) (sources_by library.now own.now.head.kind words.now (option_copied over.entry)) (option_copied over.entry) n) }
+    {
+        if own.kind().is_ref() {
+            return Sources::none(library, own);
+        }
+        Sources {
+            library,
+            own,
+            words,
+            told,
+            over,
+            any: true,
+        }
+    }
+
     /// The sources of an object whose contracts these words name, and which overrides that child. A ref has none.
     ///
     /// Source: oBIX 1.1, chapter 7 (Contracts).
@@ -56,17 +83,7 @@ impl<'a> Sources<'a> {
         ensures places { places_of result ≡ places_by library.now own.now.head.kind (words_in (option_copied words.entry)) (option_copied over.entry) }
         ensures untold { result.told ≡ None }
     {
-        if own.kind().is_ref() {
-            return Sources::none(library, own);
-        }
-        Sources {
-            library,
-            own,
-            words: slice_of(words),
-            told: None,
-            over,
-            any: true,
-        }
+        Sources::of(library, own, slice_of(words), None, over)
     }
 
     /// The same by what is told in place of the words.
@@ -81,17 +98,7 @@ impl<'a> Sources<'a> {
         ensures child { (n : List ℕ) → child_in result n ≡ cond (is_ref own.now.head.kind) None
             (or_else (told_child library.now told.now n) (overridden (Some n) (present (option_copied over.entry ∷ [])))) }
     {
-        if own.kind().is_ref() {
-            return Sources::none(library, own);
-        }
-        Sources {
-            library,
-            own,
-            words: told.heads().as_slice(),
-            told: Some(told),
-            over,
-            any: true,
-        }
+        Sources::of(library, own, told.heads().as_slice(), Some(told), over)
     }
 
     /// The same, where words may be told in place of those that name the contracts: what a head inherits, and the child that one
