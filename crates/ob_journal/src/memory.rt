@@ -1,6 +1,6 @@
 //! A file in memory that may be cut off at any byte: after so many bytes and calls a write is torn there, and each later call
 //! fails. It keeps each past content, so that contracts can speak of all that a crash might have left.
-ghost use Rattle.std.specs.Prelude.{◌≡◌, ◌⊎◌, ◌≤◌, ⊤, [], ◌∷◌, ◌++◌, length, drop, IfOk, OnOk, OnErr};
+ghost use Rattle.std.specs.Prelude.{◌≡◌, ◌↔◌, ◌⊎◌, true, ◌≤◌, ⊤, [], ◌∷◌, ◌++◌, length, drop, IfOk, OnOk, OnErr};
 ghost use Rattle.std.proofs.Common.{inl};
 ghost use Rattle.ob_io.specs.Faults.{Rose};
 ghost use Rattle.ob_journal.specs.Device.{Holds};
@@ -46,6 +46,13 @@ impl MemDevice {
         ensures { result.now ≡ device_bytes self.now }
     {
         &self.bytes
+    }
+
+    /// Whether a call has failed.
+    pub fn has_failed(&self) -> bool
+        ensures { (result ≡ true) ↔ ¬ (self.now.faults ≡ 0) }
+    {
+        self.faults > 0
     }
 
     /// How many bytes may still be written, until it is cut off.
