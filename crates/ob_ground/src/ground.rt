@@ -1,9 +1,11 @@
 //! The library and the tree of a site.
-ghost use Rattle.std.specs.Prelude.{◌≡◌, ◌<◌, ◌+◌, ◌-◌, ◌^◌, replicate, Some, IsTrue, IfOk, option_map};
+ghost use Rattle.std.specs.Prelude.{◌≡◌, ◌<◌, ◌+◌, ◌-◌, ◌^◌, replicate, Some, IsTrue, IfOk, IfSome, option_map};
 ghost use Rattle.std.specs.Option.{option_copied};
+ghost use Rattle.std.specs.BTreeMap.{get_by_text};
 ghost use Rattle.ob_object.specs.declared.head.Head.{Head};
 ghost use Rattle.ob_object.specs.Fits.{fits_slot};
 ghost use Rattle.ob_object.specs.Object.{parts};
+ghost use Rattle.ob_tree.specs.Children.{child_at};
 ghost use Rattle.ob_tree.specs.Depths.{depth_at};
 ghost use Rattle.ob_tree.specs.Laid.{head_at, changed};
 ghost use Rattle.ob_tree.specs.Shown.{standing_at};
@@ -20,27 +22,48 @@ use ob_steps::Steps;
 use ob_tree::{NodeId, Tree};
 use ob_values::Text;
 use std::alloc::{AllocError, Global};
+use std::collections::BTreeMap;
 use std::marker::Model;
 use std::sync::ledger::Ledger;
+
+/// The object whose number is told for a name.
+fn number_of(numbers: &BTreeMap<String, usize>, name: &str) -> Option<NodeId>
+    ensures { option_map (λ id. id.number) result ≡ get_by_text numbers.now name.now }
+{
+    match numbers.get(name) {
+        Some(number) => Some(NodeId {
+            number: *number as u64,
+        }),
+        None => None,
+    }
+}
 
 /// The library and the tree of a site.
 pub struct Ground {
     told: Told,
     tree: Tree,
+    // Those of the children of objects that have many, by their names.
+    numbers: BTreeMap<u64, BTreeMap<String, usize>>,
 }
 
 impl Drop for Ground {
     // By one call for each part, so that to drop it is one call to whoever may have to.
     fn drop(self) {
-        let Ground { told, tree } = self;
+        let Ground {
+            told,
+            tree,
+            numbers,
+        } = self;
         drop(told);
         drop(tree);
+        drop(numbers);
     }
 }
 
 impl Model for Ground {
     ghost use Rattle.ob_contracts.specs.contracts.library.Library.{the_row as library_row};
     ghost use Rattle.ob_tree.specs.contracts.tree.Tree.{the_row as tree_row};
+    ghost use Rattle.ob_tree.specs.Children.{AreNumbered};
     ghost use Rattle.ob_ground.specs.Grounds.{Grounded, grounded_code, AreTold};
 
     ghost Value = { Grounded };
@@ -49,7 +72,7 @@ impl Model for Ground {
 
     ghost view = { λ a. record { library = a.told.library; tree = a.tree } };
 
-    ghost invariant = { λ a. AreTold a.tree.root a.told };
+    ghost invariant = { λ a. AreTold a.tree.root a.told × AreNumbered a.tree.root a.numbers };
 }
 
 impl Ground {
@@ -58,7 +81,12 @@ impl Ground {
         ensures { IfOk result (λ made. made ≡ record { library = library; tree = tree }) }
     {
         let told = Told::of(alloc, library, &tree)?;
-        Ok(Ground { told, tree })
+        let numbers = tree.numbers(alloc)?;
+        Ok(Ground {
+            told,
+            tree,
+            numbers,
+        })
     }
 
     /// The library.
@@ -133,6 +161,18 @@ impl Ground {
         ensures { Some (context result) ≡ standing_at self.now.library id.number self.now.tree.root }
     {
         self.told.standing(&self.tree, id)
+    }
+
+    /// The child of a name that an object has itself: looked up where it has more than eight, else looked for one by one.
+    pub fn child(&self, id: NodeId, name: &str) -> Option<NodeId>
+        requires { id.number < parts self.now.tree.root }
+        ensures child { option_map (λ id. id.number) result ≡ child_at id.number name.now self.now.tree.root }
+        ensures within { IfSome result (λ child. child.number < parts self.now.tree.root) }
+    {
+        match self.numbers.get(&id.number) {
+            Some(numbers) => number_of(numbers, name),
+            None => self.tree.child(id, name),
+        }
     }
 
     /// What an object shows where it stands, but for its own children, lent: its contracts are looked up by the words that are

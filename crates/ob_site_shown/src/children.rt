@@ -32,7 +32,7 @@ pub fn shows_child(
 {
     let tree = contents.ground.tree();
     let own = tree.own(node);
-    if tree.child(node, name.as_str()).is_some() {
+    if contents.ground.child(node, name.as_str()).is_some() {
         return Ok(true);
     }
     if contents.ground.view(node).child(name.as_str()).is_some() {

@@ -11,6 +11,7 @@ pub mod Parts
 pub mod Growing
 pub mod Wholes
 pub mod Named
+pub mod Numbered
 pub mod Within
 pub mod Lasting
 pub mod Collecting

@@ -24,7 +24,7 @@ pub record Seeks (p : Object) (n k : ℕ) (name : List ℕ) (next : ℕ) : Type 
 pub seeking : (p : Object) (n : ℕ) (name : List ℕ) → Seeks p n 0 name (n + 1)
 seeking p n name = record { number = omega arith; left = ap (named_from (n + 1) name) (in_row-listed p.inner) }
 
-rest_cons : (r : Objects) (k : ℕ) (x : Object) → slice_get (listed r) k ≡ Some x → rest k r ≡ node x.head x.inner (rest (suc k) r)
+pub rest_cons : (r : Objects) (k : ℕ) (x : Object) → slice_get (listed r) k ≡ Some x → rest k r ≡ node x.head x.inner (rest (suc k) r)
 rest_cons none k x e = absurd cc
 rest_cons (node h i r) zero x e = let same : object h i ≡ x = cc in ap (λ (y : Object). node y.head y.inner (in_row (listed r))) same
 rest_cons (node h i r) (suc k) x e = rest_cons r k x e

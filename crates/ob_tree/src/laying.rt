@@ -58,14 +58,14 @@ pub(crate) fn lay_spots(
 }
 
 /// Whether a node has that path.
-fn is_known(places: &BTreeMap<String, usize>, path: &Text) -> bool
+pub(crate) fn is_known(places: &BTreeMap<String, usize>, path: &Text) -> bool
     ensures { result ≡ is_some (get_by_text places.now path.now) }
 {
     places.get(path.as_str()).is_some()
 }
 
 /// Puts where the node of a path stands.
-fn put_place(
+pub(crate) fn put_place(
     alloc: Global,
     places: &mut BTreeMap<String, usize>,
     path: &Text,

@@ -11,6 +11,7 @@ mod fault;
 mod laws;
 mod laying;
 mod node;
+mod numbering;
 mod paths;
 mod shown;
 mod spot;

@@ -9,7 +9,7 @@ ghost use Rattle.ob_object.specs.Object.{parts};
 ghost use Rattle.ob_tree.specs.Paths.{node_path, place_of, first_twice};
 ghost use Rattle.ob_tree.specs.Laid.{head_at, leaf, parent_at, paths, changed};
 ghost use Rattle.ob_tree.specs.Stamps.{touched};
-ghost use Rattle.ob_tree.specs.Children.{child_at, place_at};
+ghost use Rattle.ob_tree.specs.Children.{AreNumbered, child_at, place_at};
 ghost use Rattle.ob_tree.specs.Depths.{depth_at};
 ghost use Rattle.ob_tree.specs.Shown.{part_at, shown_at, standing_at};
 ghost use Rattle.ob_standing.specs.Standings.{context};
@@ -20,6 +20,7 @@ use crate::children::child_of;
 use crate::fault::TreeFault;
 use crate::laying::{lay_leaves, lay_spots, places_of};
 use crate::node::NodeId;
+use crate::numbering::all_numbers;
 use crate::paths::node_path;
 use crate::shown::{Lore, grown, standing_of, uncounted_standing};
 use crate::spot::Spot;
@@ -189,6 +190,19 @@ impl Tree {
             }),
             None => None,
         }
+    }
+
+    /// The numbers of the children of each object that has more than eight, by their names, and by its own number. An error only
+    /// for want of memory.
+    pub fn numbers(
+        &self,
+        alloc: Global,
+    ) -> Result<BTreeMap<u64, BTreeMap<String, usize>>, AllocError>
+        ensures { IfOk result (AreNumbered self.now.root) }
+    {
+        let leaves = self.leaves.as_slice();
+        let spots = self.spots.as_slice();
+        all_numbers(alloc, leaves, spots)
     }
 
     /// The number of an object among those of another, in document order, that one being 0. None where it is

@@ -26,7 +26,7 @@ returns-then-is_some c =
     let at = place_there s.library k s.tree own in
     let there : is_some (child_at k n s.tree) ≡ c.is_some.result =
     told (λ (id : NodeId). id.number) c.child.result (λ (m : List ℕ). child_at k m s.tree) c.as_str.result.now n c.is_some.result c.as_str.ensures.value
-    (c.child.ensures.child ∙ ap (λ (t : Stamped). child_at k c.as_str.result.now t.root) c.tree-tree.ensures) c.is_some.ensures in
+    c.child.ensures.child c.is_some.ensures in
     shows_names plan s k at own (comes_to at own) n (stands_there s.library k s.tree own lent) lent refl
     ∙ ap (λ (b : Bool). Some b) (by_own (is_some (child_at k n s.tree)) (is_some (named n (derived plan s (node_path own.head)))) (is_some (named n (children (comes_to at own)))) (there ∙ c.if-is_some.true))
 
@@ -58,7 +58,7 @@ returns c =
     let roles = derived plan s (node_path own.head) in
     let there : is_some (child_at k n s.tree) ≡ c.is_some.result =
     told (λ (id : NodeId). id.number) c.child.result (λ (m : List ℕ). child_at k m s.tree) c.as_str.result.now n c.is_some.result c.as_str.ensures.value
-    (c.child.ensures.child ∙ ap (λ (t : Stamped). child_at k c.as_str.result.now t.root) c.tree-tree.ensures) c.is_some.ensures in
+    c.child.ensures.child c.is_some.ensures in
     let inherited : is_some (named n (children seen)) ≡ c.is_some-2.result =
     told shown_by c.child-2.result (λ (m : List ℕ). named m (children seen)) c.as_str-2.result.now n c.is_some-2.result c.as_str-2.ensures.value c.child-2.ensures c.is_some-2.ensures in
     let made : c.deref.result.now ≡ roles = c.deref.ensures.value ∙ c.in_ok-derived.ensures ∙ ap (derived plan s) (c.node_path.ensures ∙ ap node_path c.head.ensures.value) in

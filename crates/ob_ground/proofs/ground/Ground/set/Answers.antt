@@ -1,16 +1,21 @@
-use Rattle.std.proofs.Common.{sym, ap, ◌∙◌, subst}
+use Rattle.std.proofs.Common.{refl, sym, ap, ◌∙◌, subst}
 use Rattle.ob_object.specs.declared.head.Head.{Head}
 use Rattle.ob_object.specs.Object.{Object}
+use Rattle.ob_tree.specs.Children.{AreNumbered}
 use Rattle.ob_tree.specs.Laid.{changed}
 use Rattle.ob_tree.specs.Trees.{Stamped}
 use Rattle.ob_ground.specs.Grounds.{Grounded, AreTold}
+use Rattle.ob_tree.proofs.Numbered.{numbered_changed}
 use Rattle.ob_ground.proofs.Telling.{told_set}
 use Rattle.ob_ground.proofs.ground.Ground.set.Goals as goal
 
 pub invariant_of-self : goal.invariant_of-self
 invariant_of-self c =
     let t = c.self.inside in
-    subst (λ (o : Object). AreTold o t.told) (sym (ap (λ (s : Stamped). s.root) c.set.ensures.new)) (told_set c.args.slot c.args.id.number t.tree.root t.told c.self.invariant)
+    let slot = c.args.slot in
+    let n = c.args.id.number in
+    subst (λ (o : Object). AreTold o t.told × AreNumbered o t.numbers) (sym (ap (λ (s : Stamped). s.root) c.set.ensures.new))
+    (told_set slot n t.tree.root t.told c.self.invariant.0, numbered_changed (λ h. record h { slot = slot }) (λ h. refl) t.tree.root n t.numbers c.self.invariant.1)
 
 pub returns-clause-new : goal.returns-clause-new
 returns-clause-new c =

@@ -13,7 +13,7 @@ view_told-requires c =
     let n = c.args.id.number in
     let r = context c.standing-standing.result in
     let stands : Some r ≡ standing_at t.told.library n t.tree.root = c.standing-standing.ensures ∙ ap (λ (g : Grounded). standing_at g.library n g.tree.root) (sym c.self.view_is) in
-    told_inside t.told t.tree.root r n c.own.result.now.head (option_copied c.words_for.result) c.self.invariant stands (own_head n t.tree.root c.own.result.now c.own.ensures) c.words_for.ensures
+    told_inside t.told t.tree.root r n c.own.result.now.head (option_copied c.words_for.result) c.self.invariant.0 stands (own_head n t.tree.root c.own.result.now c.own.ensures) c.words_for.ensures
 
 pub returns : goal.returns
 returns c =
