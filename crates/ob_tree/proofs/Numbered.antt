@@ -1,5 +1,5 @@
 -- The numbers of children by their names.
-use Rattle.std.proofs.Common.{◌≡◌, ℕ, zero, suc, ◌+◌, ◌-◌, ◌<◌, ◌≤◌, Bool, true, false, cond, List, [], drop, Option, Some, None, refl, sym, ap, ◌∙◌, subst, arith}
+use Rattle.std.proofs.Common.{◌≡◌, ℕ, zero, suc, ◌+◌, ◌-◌, ◌<◌, ◌≤◌, Bool, true, false, cond, List, [], Option, Some, None, refl, sym, ap, ◌∙◌, subst, arith}
 use Rattle.std.specs.Prelude.{slice_get, option_and_then, nat_lt, String, string_bytes}
 use Rattle.std.specs.Ordering.{nat_cmp}
 use Rattle.std.specs.Cmp.{unsigned_ties}
@@ -14,7 +14,7 @@ use Rattle.ob_object.specs.WellFormed.{has_name, IsWellFormed}
 use Rattle.ob_contracts.specs.Inherit.{or_else}
 use Rattle.ob_tree.specs.declared.spot.Spot.{Spot}
 use Rattle.ob_tree.specs.Laid.{object, spots_of, width, changed_in, changed, head_at}
-use Rattle.ob_tree.specs.Shown.{part_in, part_at, row}
+use Rattle.ob_tree.specs.Shown.{part_in, part_at}
 use Rattle.ob_tree.specs.Children.{AreNumbered, named_from, child_at}
 use Rattle.ob_tree.proofs.Changing.{count-changed_in}
 use Rattle.ob_tree.proofs.Growing.{first, Grows, grows, grows_for, next_of, read_spot}

@@ -1,4 +1,4 @@
-use Rattle.std.proofs.Common.{◌≡◌, arith}
+use Rattle.std.proofs.Common.{arith}
 use Rattle.ob_tree.specs.Laid.{object_of, said}
 use Rattle.ob_tree.proofs.Standing.{count_spots}
 use Rattle.ob_tree.proofs.Leaves.{count_leaves}
