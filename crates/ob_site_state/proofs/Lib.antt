@@ -14,3 +14,4 @@ pub mod Recording
 pub mod Aligned
 pub mod Stepping
 pub mod Again
+pub mod Crossing
