@@ -1,8 +1,9 @@
 -- Entries of one path, where other paths have none.
-use Rattle.std.proofs.Common.{◌≡◌, Bool, true, false, ◌||◌, cond, List, [], ◌∷◌, ◌++◌, map, Option, Some, None, option_map, refl, sym, ap, ◌∙◌, subst, ◌⊎◌, inl, inr}
-use Rattle.std.specs.Prelude.{codes, ℕ, ◌+◌, is_some}
+use Rattle.std.proofs.Common.{◌≡◌, Bool, true, false, true≢false, length, ◌||◌, cond, List, [], ◌∷◌, ◌++◌, map, Option, Some, None, option_map, refl, sym, ap, ◌∙◌, subst, ◌⊎◌, inl, inr, arith}
+use Rattle.std.specs.Prelude.{codes, ℕ, ◌+◌, ◌≤◌, is_some}
 use Rattle.std.specs.List.{flat_map}
 use Rattle.std.specs.Str.{bytes_eq}
+use Rattle.std.proofs.lemmas.List.{length-append}
 use Rattle.std.proofs.lemmas.Slice.Eq.{bytes_eq-Decides}
 use Rattle.ob_alarms.specs.Lists.{first_place}
 use Rattle.ob_contracts.specs.Inherit.{or_else}
@@ -12,7 +13,8 @@ use Rattle.ob_site_rules.specs.Paths.{below}
 use Rattle.ob_site_rules.specs.Places.{Place}
 use Rattle.ob_plain_state.specs.Parts.{point_parts, history_parts}
 use Rattle.ob_plain_state.proofs.Placed.{at-append}
-use Rattle.ob_site_roles.specs.Roles.{stands_at}
+use Rattle.ob_site_roles.specs.Roles.{is_at, stands_at}
+use Rattle.ob_site_roles.proofs.Placed.{some_first}
 use Rattle.ob_site_shown.specs.Parents.{has_slash, IsParent}
 use Rattle.ob_site_shown.proofs.Slashes.{at_parent, no_parent}
 use Rattle.ob_site_places.proofs.Fronts.{point_off, history_off}
@@ -69,6 +71,59 @@ only_at f p a qs there off = go (at p (f a)) refl
     go : (o : Option Place) → at p (f a) ≡ o → at p (flat_map f qs) ≡ o
     go None e = none_at f p qs (λ q i. by q (bytes_eq q a) refl i e)
     go (Some x) e = found_at f p a x qs there e off
+
+-- Where two have entries and no others, those of the one that comes first are found first.
+two_at : (f : Path → Entries) (p a b : Path) (qs : List Path) (m n : ℕ) → first_place (is_at a) qs ≡ Some m → first_place (is_at b) qs ≡ Some n → m ≤ n → bytes_eq a b ≡ false
+    → ((q : Path) → bytes_eq q a ≡ false → bytes_eq q b ≡ false → at p (f q) ≡ None) → at p (flat_map f qs) ≡ or_else (at p (f a)) (at p (f b))
+two_at f p a b [] m n is_m is_n le apart off = absurd cc
+two_at f p a b (q ∷ qs) m n is_m is_n le apart off =
+    at-append p (f q) (flat_map f qs)
+    ∙ go (λ i k is_i is_k least. two_at f p a b qs i k is_i is_k least apart off) (bytes_eq q a) (bytes_eq q b) refl refl (first_place (is_at a) qs) (first_place (is_at b) qs) refl refl is_m is_n
+  where
+    rest : Option Place
+    rest = at p (flat_map f qs)
+
+    both : Option Place
+    both = or_else (at p (f a)) (at p (f b))
+
+    one : (r : Path) (s : Bool) → bytes_eq r a ≡ s → bytes_eq r b ≡ false → at p (f a) ≡ None → at p (f r) ≡ None
+    one r true s other e = ap (λ (u : Path). at p (f u)) (is_same r a s) ∙ e
+    one r false s other e = off r s other
+
+    here : (o : Option Place) (k : ℕ) → at p (f a) ≡ o → first_place (is_at b) qs ≡ Some k → or_else (at p (f a)) rest ≡ both
+    here (Some x) k e later = ap (λ (o : Option Place). or_else o rest) e ∙ sym (ap (λ (o : Option Place). or_else o (at p (f b))) e)
+    here None k e later =
+        ap (λ (o : Option Place). or_else (at p (f a)) o)
+        (only_at f p b qs (sym (some_first (is_at b) qs) ∙ ap is_some later) (λ r i other. one r (bytes_eq r a) refl other e))
+
+    found_here : (o : Option ℕ) → option_map (λ k. k + 1) o ≡ Some n → (k : ℕ) × (o ≡ Some k) × (k + 1 ≡ n)
+    found_here None e = absurd cc
+    found_here (Some k) e = (k, refl, some_is e)
+      where
+        some_is : {x y : ℕ} → Some x ≡ Some y → x ≡ y
+        some_is e = cc
+
+    go : ((i k : ℕ) → first_place (is_at a) qs ≡ Some i → first_place (is_at b) qs ≡ Some k → i ≤ k → rest ≡ both) → (s t : Bool) → bytes_eq q a ≡ s → bytes_eq q b ≡ t → (u v : Option ℕ) → first_place (is_at a) qs ≡ u → first_place (is_at b) qs ≡ v
+        → cond s (Some 0) (option_map (λ k. k + 1) u) ≡ Some m → cond t (Some 0) (option_map (λ k. k + 1) v) ≡ Some n → or_else (at p (f q)) rest ≡ both
+    go again true true s t u v is_u is_v e g =
+        let same : bytes_eq a b ≡ true = ap (λ (r : Path). bytes_eq r b) (sym (is_same q a s)) ∙ t in
+        absurd cc
+    go again true false s t u v is_u is_v e g =
+        let (k, is_k, more) = found_here v g in
+        ap (λ (r : Path). or_else (at p (f r)) rest) (is_same q a s) ∙ here (at p (f a)) k refl (is_v ∙ is_k)
+    go again false true s t None v is_u is_v e g = absurd cc
+    go again false true s t (Some k) v is_u is_v e g = absurd (omega (arith, le, some_is e, some_is g))
+      where
+        some_is : {x y : ℕ} → Some x ≡ Some y → x ≡ y
+        some_is e = cc
+    go again false false s t None v is_u is_v e g = absurd cc
+    go again false false s t (Some i) v is_u is_v e g =
+        let (k, is_k, more) = found_here v g in
+        ap (λ (o : Option Place). or_else o rest) (off q s t)
+        ∙ again i k is_u (is_v ∙ is_k) (omega (arith, le, more, some_is e))
+      where
+        some_is : {x y : ℕ} → Some x ≡ Some y → x ≡ y
+        some_is e = cc
 
 -- one that is among some isn't one that isn't
 differ : (q a : Path) (qs : List Path) → is_among q qs ≡ true → is_among a qs ≡ false → bytes_eq q a ≡ false
@@ -136,6 +191,37 @@ pub neither_point : (p front slashed : Path) (qs : List Path) → IsParent p (So
     → None ≡ at p (flat_map point_parts qs)
 neither_point p front slashed qs is e a b = sym (neither_at point_parts p front qs (points_at p front is) a (ap (λ (q : Path). is_among q qs) (sym e) ∙ b))
 
+-- a path and the one with a slash behind it
+apart_slashed : (q : Path) → bytes_eq q (q ++ 47 ∷ []) ≡ false
+apart_slashed q = go (bytes_eq q (q ++ 47 ∷ [])) refl
+  where
+    longer : (r : Path) → r ≡ r ++ 47 ∷ [] → ⊥
+    longer r e = absurd (omega (arith, ap length e, length-append r (47 ∷ [])))
+
+    go : (b : Bool) → bytes_eq q (q ++ 47 ∷ []) ≡ b → b ≡ false
+    go true e = absurd (longer q (is_same q (q ++ 47 ∷ []) e))
+    go false e = refl
+
+apart_plain : (q : Path) → bytes_eq (q ++ 47 ∷ []) q ≡ false
+apart_plain q = go (bytes_eq (q ++ 47 ∷ []) q) refl
+  where
+    go : (b : Bool) → bytes_eq (q ++ 47 ∷ []) q ≡ b → b ≡ false
+    go true e =
+        let same : bytes_eq q (q ++ 47 ∷ []) ≡ true = ap (bytes_eq q) (is_same (q ++ 47 ∷ []) q e) ∙ bytes_itself q in
+        absurd (true≢false (sym same ∙ apart_slashed q))
+    go false e = refl
+
+-- where both are there, the one that comes first is looked at first
+pub both_plain_first : (f : Path → Entries) (p front slashed : Path) (qs : List Path) (m n : ℕ) → AreAtParent f p front → slashed ≡ front ++ 47 ∷ [] → Some m ≡ first_place (is_at front) qs → Some n ≡ first_place (is_at slashed) qs
+    → m ≤ n → or_else (at p (f front)) (at p (f slashed)) ≡ at p (flat_map f qs)
+both_plain_first f p front slashed qs m n off e is_m is_n le =
+    sym (two_at f p front slashed qs m n (sym is_m) (sym is_n) le (ap (bytes_eq front) e ∙ apart_slashed front) (λ q a b. off q a (ap (bytes_eq q) (sym e) ∙ b)))
+
+pub both_slashed_first : (f : Path → Entries) (p front slashed : Path) (qs : List Path) (m n : ℕ) → AreAtParent f p front → slashed ≡ front ++ 47 ∷ [] → Some m ≡ first_place (is_at front) qs → Some n ≡ first_place (is_at slashed) qs
+    → n ≤ m → or_else (at p (f slashed)) (at p (f front)) ≡ at p (flat_map f qs)
+both_slashed_first f p front slashed qs m n off e is_m is_n le =
+    sym (two_at f p slashed front qs n m (sym is_n) (sym is_m) le (ap (λ (r : Path). bytes_eq r front) e ∙ apart_plain front) (λ q a b. off q b (ap (bytes_eq q) (sym e) ∙ a)))
+
 pub no_points : (p : Path) (qs : List Path) → IsParent p None → at p (flat_map point_parts qs) ≡ None
 no_points p qs none = none_at point_parts p qs (λ q i. point_off p q (never_below p q (codes "writePoint") none))
 
@@ -167,6 +253,11 @@ paths_of hs = map (λ h. h.0) hs
 
 is_there : (q : Path) (hs : List (Path × Option Path)) (b : Bool) → is_some (first_place (stands_at q) hs) ≡ b → is_among q (paths_of hs) ≡ b
 is_there q hs b e = sym (has_history q hs) ∙ e
+
+-- and the place is the same
+pub first_of_paths : (p : Path) (hs : List (Path × Option Path)) → first_place (is_at p) (map (λ h. h.0) hs) ≡ first_place (stands_at p) hs
+first_of_paths p [] = refl
+first_of_paths p (h ∷ hs) = ap (λ (o : Option ℕ). cond (bytes_eq h.0 p) (Some 0) (option_map (λ n. n + 1) o)) (first_of_paths p hs)
 
 pub slashed_history : (p front slashed : Path) (hs : List (Path × Option Path)) (r : Option Place) → IsParent p (Some front) → slashed ≡ front ++ 47 ∷ []
     → is_some (first_place (stands_at front) hs) ≡ false → is_some (first_place (stands_at slashed) hs) ≡ true → r ≡ at p (history_parts slashed) → r ≡ at p (flat_map (λ h. history_parts h.0) hs)

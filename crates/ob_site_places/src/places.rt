@@ -56,21 +56,23 @@ fn one_point(alloc: Global, point: &Text, path: &Text) -> Result<Option<Place>, 
     Ok(None)
 }
 
-/// The op of the first writable point of the plan that has it at the path.
-fn first_point(alloc: Global, plan: &Plan, path: &Text) -> Result<Option<Place>, AllocError>
-    ensures { IfOk result (λ place. option_map place_of place ≡ at path.now (point_places (plan_of plan.now))) }
+/// The op of the first of two points that has it at the path.
+fn point_of_two(
+    alloc: Global,
+    first: &Text,
+    second: &Text,
+    path: &Text,
+) -> Result<Option<Place>, AllocError>
+    ensures { IfOk result (λ place. option_map place_of place ≡ or_else (at path.now (point_parts first.now)) (at path.now (point_parts second.now))) }
 {
-    for point in &plan.points {
-        let found = one_point(alloc, point, path)?;
-        if found.is_some() {
-            return Ok(found);
-        }
+    match one_point(alloc, first, path)? {
+        Some(place) => Ok(Some(place)),
+        None => one_point(alloc, second, path),
     }
-    Ok(None)
 }
 
 /// The op of a writable point whose path is what stands in front of the path's last slash, or that with a slash behind it.
-/// Where both are points, the first one of the plan counts.
+/// Where both are points, the first one of the plan that has it counts.
 fn point_in(
     alloc: Global,
     plan: &Plan,
@@ -83,18 +85,20 @@ fn point_in(
     ensures { IfOk result (λ place. option_map place_of place ≡ at path.now (point_places (plan_of plan.now))) }
 {
     let slashed = parent.followed_by(alloc, "/")?;
-    let is_plain = contents.roles.is_point(parent);
-    let is_slashed = contents.roles.is_point(&slashed);
-    if is_slashed {
-        if is_plain {
-            return first_point(alloc, plan, path);
+    let plain_at = contents.roles.point_at(parent);
+    let Some(slashed_at) = contents.roles.point_at(&slashed) else {
+        if plain_at.is_some() {
+            return one_point(alloc, parent, path);
         }
+        return Ok(None);
+    };
+    let Some(plain_at) = plain_at else {
         return one_point(alloc, &slashed, path);
+    };
+    if plain_at < slashed_at {
+        return point_of_two(alloc, parent, &slashed, path);
     }
-    if is_plain {
-        return one_point(alloc, parent, path);
-    }
-    Ok(None)
+    point_of_two(alloc, &slashed, parent, path)
 }
 
 /// The op of a writable point, by look-ups.
@@ -134,21 +138,23 @@ fn one_history(alloc: Global, history: &Text, path: &Text) -> Result<Option<Plac
     Ok(None)
 }
 
-/// The op or the feed of the first history of the plan that has one at the path.
-fn first_history(alloc: Global, plan: &Plan, path: &Text) -> Result<Option<Place>, AllocError>
-    ensures { IfOk result (λ place. option_map place_of place ≡ at path.now (history_places (plan_of plan.now))) }
+/// The op or the feed of the first of two histories that has one at the path.
+fn history_of_two(
+    alloc: Global,
+    first: &Text,
+    second: &Text,
+    path: &Text,
+) -> Result<Option<Place>, AllocError>
+    ensures { IfOk result (λ place. option_map place_of place ≡ or_else (at path.now (history_parts first.now)) (at path.now (history_parts second.now))) }
 {
-    for history in &plan.histories {
-        let found = one_history(alloc, &history.0, path)?;
-        if found.is_some() {
-            return Ok(found);
-        }
+    match one_history(alloc, first, path)? {
+        Some(place) => Ok(Some(place)),
+        None => one_history(alloc, second, path),
     }
-    Ok(None)
 }
 
 /// The op or the feed of a history whose path is what stands in front of the path's last slash, or that with a slash behind
-/// it. Where both are histories, the first one of the plan counts.
+/// it. Where both are histories, the first one of the plan that has one counts.
 fn history_in(
     alloc: Global,
     plan: &Plan,
@@ -161,18 +167,20 @@ fn history_in(
     ensures { IfOk result (λ place. option_map place_of place ≡ at path.now (history_places (plan_of plan.now))) }
 {
     let slashed = parent.followed_by(alloc, "/")?;
-    let is_plain = contents.roles.history_at(parent).is_some();
-    let is_slashed = contents.roles.history_at(&slashed).is_some();
-    if is_slashed {
-        if is_plain {
-            return first_history(alloc, plan, path);
+    let plain_at = contents.roles.history_at(parent);
+    let Some(slashed_at) = contents.roles.history_at(&slashed) else {
+        if plain_at.is_some() {
+            return one_history(alloc, parent, path);
         }
+        return Ok(None);
+    };
+    let Some(plain_at) = plain_at else {
         return one_history(alloc, &slashed, path);
+    };
+    if plain_at < slashed_at {
+        return history_of_two(alloc, parent, &slashed, path);
     }
-    if is_plain {
-        return one_history(alloc, parent, path);
-    }
-    Ok(None)
+    history_of_two(alloc, &slashed, parent, path)
 }
 
 /// The op or the feed of a history, by look-ups.

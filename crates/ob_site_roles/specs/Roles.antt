@@ -1,10 +1,10 @@
 -- What is found of a plan by a path.
-use Rattle.std.specs.Prelude.{◌≡◌, ℕ, ◌+◌, Bool, cond, List, [], ◌∷◌, map, drop, Vec, String, Option, Some, None, is_some, option_map}
+use Rattle.std.specs.Prelude.{◌≡◌, ℕ, ◌+◌, Bool, cond, List, [], ◌∷◌, map, drop, Vec, String, Option, Some, None, option_map}
 use Rattle.std.specs.Str.{bytes_eq}
 use Rattle.std.specs.BTreeMap.{BTreeMap, get_by_text}
 use Rattle.ob_alarms.specs.Lists.{first_place}
 use Rattle.ob_site_rules.specs.Build.{Path}
-use Rattle.ob_site_rules.specs.State.{PointRule, Plan, is_among, is_path}
+use Rattle.ob_site_rules.specs.State.{PointRule, Plan, is_path}
 use Rattle.ob_site_rules.specs.Shown.{rule_of}
 use Rattle.ob_site_roles.specs.declared.roles.Roles.{Roles}
 
@@ -19,6 +19,9 @@ all_places f (x ∷ xs) = let later : List ℕ = map (λ n. n + 1) (all_places f
 
 abbrev pub has_source : Path → PointRule → Bool
 has_source p r = bytes_eq r.source p
+
+abbrev pub is_at : Path → Path → Bool
+is_at p q = bytes_eq q p
 
 abbrev pub stands_at : Path → Path × Option Path → Bool
 stands_at p h = bytes_eq h.0 p
@@ -43,6 +46,6 @@ places_at m p = kept_places (get_by_text m p)
 -- to the histories that record the node there.
 pub record AreRoles (r : Roles) (plan : Plan) : Type 0 where
   pub rules : (p : Path) → get_by_text r.rules p ≡ rule_of plan p
-  pub points : (p : Path) → is_some (get_by_text r.points p) ≡ is_among p plan.points
+  pub points : (p : Path) → get_by_text r.points p ≡ first_place (is_at p) plan.points
   pub histories : (p : Path) → get_by_text r.histories p ≡ first_place (stands_at p) plan.histories
   pub recorders : (p : Path) → places_at r.recorders p ≡ recorders_of plan p

@@ -5,7 +5,7 @@ ghost use Rattle.std.specs.BTreeMap.{get_by_text};
 ghost use Rattle.ob_alarms.specs.Lists.{first_place};
 ghost use Rattle.ob_replies.specs.Plans.{point_rule};
 ghost use Rattle.ob_site_rules.specs.Build.{Path};
-ghost use Rattle.ob_site_roles.specs.Roles.{has_source, stands_at};
+ghost use Rattle.ob_site_roles.specs.Roles.{has_source, is_at, stands_at};
 
 use ob_replies::PointRule;
 use ob_values::Text;
@@ -54,7 +54,7 @@ pub(crate) fn paths_by_path(
     alloc: Global,
     paths: &[Text],
 ) -> Result<BTreeMap<String, usize>, AllocError>
-    ensures { IfOk result (λ places. (p : Path) → get_by_text places p ≡ first_place (λ q. bytes_eq q p) paths.now) }
+    ensures { IfOk result (λ places. (p : Path) → get_by_text places p ≡ first_place (is_at p) paths.now) }
 {
     let mut places = BTreeMap::new(alloc);
     let count = paths.len();

@@ -4,7 +4,7 @@ ghost use Rattle.ob_alarms.specs.Lists.{first_place};
 ghost use Rattle.ob_replies.specs.Plans.{plan as plan_of};
 ghost use Rattle.ob_site_rules.specs.State.{Plan as SitePlan, is_among};
 ghost use Rattle.ob_site_rules.specs.Shown.{rule_of};
-ghost use Rattle.ob_site_roles.specs.Roles.{stands_at, recorders_of, AreRoles};
+ghost use Rattle.ob_site_roles.specs.Roles.{is_at, stands_at, recorders_of, AreRoles};
 
 use crate::places::{histories_by_path, leads, paths_by_path, rules_by_source};
 use crate::recorders::{places_at, recorders_by_source};
@@ -60,6 +60,13 @@ impl Roles {
         ensures { (plan : SitePlan) → AreRoles self.now plan → result ≡ rule_of plan path.now }
     {
         self.rules.get(path.as_str()).copied()
+    }
+
+    /// The place of the writable point at a path, if there is one.
+    pub fn point_at(&self, path: &Text) -> Option<usize>
+        ensures { (plan : SitePlan) → AreRoles self.now plan → result ≡ first_place (is_at path.now) plan.points }
+    {
+        self.points.get(path.as_str()).copied()
     }
 
     /// Whether there is a writable point at a path.

@@ -2,6 +2,7 @@ use Rattle.std.proofs.Common.{◌-◌, length, refl}
 use Rattle.std.specs.Str.{bytes_eq}
 use Rattle.std.specs.BTreeMap.{get_by_text}
 use Rattle.ob_site_rules.specs.Build.{Path}
+use Rattle.ob_site_roles.specs.Roles.{is_at}
 use Rattle.ob_site_roles.proofs.Placed.{placed_next}
 use Rattle.ob_site_roles.proofs.places.paths_by_path.Goals as goal
 
@@ -10,5 +11,5 @@ loop-done-preserved c = λ p.
     let xs = c.args.paths.now in
     let place = length xs - 1 - c.loop-done.done in
     let x = c.index-paths-place.result in
-    placed_next (λ (q : Path). bytes_eq q p) xs (length xs) c.loop-done.done place x (bytes_eq x p) (get_by_text c.loop-done.places p) (get_by_text c.put_place.new.places p) refl refl c.loop-done-test.true c.index-paths-place.is
+    placed_next (is_at p) xs (length xs) c.loop-done.done place x (bytes_eq x p) (get_by_text c.loop-done.places p) (get_by_text c.put_place.new.places p) refl refl c.loop-done-test.true c.index-paths-place.is
     refl (c.in_ok-put_place.ensures p) (c.loop-done.invariant p)
