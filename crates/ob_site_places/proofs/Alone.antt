@@ -1,5 +1,5 @@
 -- Entries of one path, where other paths have none.
-use Rattle.std.proofs.Common.{◌≡◌, Bool, true, false, true≢false, length, ◌||◌, cond, List, [], ◌∷◌, ◌++◌, map, Option, Some, None, option_map, refl, sym, ap, ◌∙◌, subst, ◌⊎◌, inl, inr, arith}
+use Rattle.std.proofs.Common.{◌≡◌, Bool, true, false, true≢false, length, ◌||◌, cond, List, [], ◌∷◌, ◌++◌, map, Option, Some, None, option_map, refl, sym, ap, ◌∙◌, ◌⊎◌, inl, inr, arith}
 use Rattle.std.specs.Prelude.{codes, ℕ, ◌+◌, ◌≤◌, is_some}
 use Rattle.std.specs.List.{flat_map}
 use Rattle.std.specs.Str.{bytes_eq}
@@ -176,6 +176,10 @@ never_below p q name none = go (bytes_eq (below q name) p) refl
 pub points_at : (p front : Path) → IsParent p (Some front) → AreAtParent point_parts p front
 points_at p front is q a b = point_off p q (not_below p q (codes "writePoint") front is refl a b)
 
+-- one is there where a place of one is found
+pub has_point : (q : Path) (qs : List Path) (b : Bool) → is_some (first_place (is_at q) qs) ≡ b → is_among q qs ≡ b
+has_point q qs b e = sym (some_first (is_at q) qs) ∙ e
+
 pub slashed_point : (p front slashed : Path) (qs : List Path) (r : Option Place) → IsParent p (Some front) → slashed ≡ front ++ 47 ∷ [] → is_among front qs ≡ false → is_among slashed qs ≡ true
     → r ≡ at p (point_parts slashed) → r ≡ at p (flat_map point_parts qs)
 slashed_point p front slashed qs r is e a b here =
@@ -278,4 +282,17 @@ pub neither_history : (p front slashed : Path) (hs : List (Path × Option Path))
     → is_some (first_place (stands_at front) hs) ≡ false → is_some (first_place (stands_at slashed) hs) ≡ false → None ≡ at p (flat_map (λ h. history_parts h.0) hs)
 neither_history p front slashed hs is e a b =
     sym (neither_at history_parts p front (paths_of hs) (histories_at p front is) (is_there front hs false a) (ap (λ (q : Path). is_among q (paths_of hs)) (sym e) ∙ is_there slashed hs false b))
+    ∙ ap (at p) (sym (by_paths hs))
+
+-- where both are there, the one that comes first is looked at first
+pub both_plain_history : (p front slashed : Path) (hs : List (Path × Option Path)) (m n : ℕ) → IsParent p (Some front) → slashed ≡ front ++ 47 ∷ [] → Some m ≡ first_place (stands_at front) hs
+    → Some n ≡ first_place (stands_at slashed) hs → m ≤ n → or_else (at p (history_parts front)) (at p (history_parts slashed)) ≡ at p (flat_map (λ h. history_parts h.0) hs)
+both_plain_history p front slashed hs m n is e is_m is_n le =
+    both_plain_first history_parts p front slashed (paths_of hs) m n (histories_at p front is) e (is_m ∙ sym (first_of_paths front hs)) (is_n ∙ sym (first_of_paths slashed hs)) le
+    ∙ ap (at p) (sym (by_paths hs))
+
+pub both_slashed_history : (p front slashed : Path) (hs : List (Path × Option Path)) (m n : ℕ) → IsParent p (Some front) → slashed ≡ front ++ 47 ∷ [] → Some m ≡ first_place (stands_at front) hs
+    → Some n ≡ first_place (stands_at slashed) hs → n ≤ m → or_else (at p (history_parts slashed)) (at p (history_parts front)) ≡ at p (flat_map (λ h. history_parts h.0) hs)
+both_slashed_history p front slashed hs m n is e is_m is_n le =
+    both_slashed_first history_parts p front slashed (paths_of hs) m n (histories_at p front is) e (is_m ∙ sym (first_of_paths front hs)) (is_n ∙ sym (first_of_paths slashed hs)) le
     ∙ ap (at p) (sym (by_paths hs))

@@ -2,6 +2,7 @@
 ghost use Rattle.std.specs.Prelude.{◌≡◌, ◌++◌, Some, option_map, option_copied, slice_get, IfOk};
 ghost use Rattle.ob_alarms.specs.States.{needs_ack};
 ghost use Rattle.ob_alarms.specs.Changes.{alarm_of};
+ghost use Rattle.ob_contracts.specs.Inherit.{or_else};
 ghost use Rattle.ob_replies.specs.Plans.{plan as plan_of};
 ghost use Rattle.ob_site_rules.specs.State.{at, numbered_from};
 ghost use Rattle.ob_site_rules.specs.Places.{fixed_places, point_places, history_places, subject_places, event_places, alarm_places, computed_places, place_at};
