@@ -88,6 +88,13 @@ def logged(count):
     )
 
 
+def full(count):
+    """A site with so many histories without a capacity of one point, of which none can take one more record."""
+    source = '<ref name="source" href="p"/>'
+    return site("", '<int href="p" val="0" writable="true"/><obj href="h" is="obix:History"><int name="capacity" val="1000000"/></obj>'
+        + each(count, lambda k: f'<obj href="h{k}" is="obix:History">{source}</obj>'))
+
+
 SITES = {
     "nodes": (20_000, points, 0),
     "a list of n words, n items": (60_000, listed, 0),
@@ -185,7 +192,7 @@ STREAMS = {
     "writePoints above it, n children": (4_000, lambda n: (parted("int", 'val="1" max="9" is="obix:WritablePoint" writable="true"', n), batches(100, lambda k: item("Invoke", "/obix/b/writePoint", '<obj name="in"><int name="value" val="10"/></obj>')))),
     "writes to an enum, a range of n": (4_000, lambda n: (parted("list", 'is="obix:Range"', n, '<enum href="e" val="c0" range="b" writable="true"/>'), batches(100, lambda k: item("Write", "/obix/e", f'<enum name="in" val="{"x" if k % 2 else "c0"}"/>')))),
     "hrefs without room, of 100 children": (4_200, lambda n: (parted("obj", "", 100), MAKE + asking("add", [f"//h{k}/obix/b" for k in range(n)]))),
-    "100 writes to a default, n contracts": (500, lambda n: (site('<obj href="d"><int name="v" href="d/v" val="0" writable="true"/></obj>' + each(n, lambda k: contract(f"c{k}", 1))), batches(100, lambda k: item("Write", "/obix/d/v", f'<int name="in" val="{k + 1}"/>')))),
+    "20 writes to a default, n contracts": (4_000, lambda n: (site('<obj href="d"><int name="v" href="d/v" val="0" writable="true"/></obj>' + each(n, lambda k: contract(f"c{k}", 1))), batches(20, lambda k: item("Write", "/obix/d/v", f'<int name="in" val="{k + 1}"/>')))),
     "100 reads in a list of n words": (2_000, lambda n: (site("", f'<list of="{words("a", n)}"><int href="i" val="1"/></list>'), batches(100, lambda k: item("Read", "/obix/i")))),
     "reads of n items, an inherited of": (8_000, lambda n: (site(f'<list href="c" of="{words("a", n)}"/>', '<list is="c">' + each(n, lambda k: f'<int href="i{k}" val="1"/>') + "</list>"), batches(n, lambda k: item("Read", f"/obix/i{k}")))),
     "writes to n items of n words": (2_000, lambda n: (site("", f'<list of="{words("a", n)}">' + each(n, lambda k: f'<int href="i{k}" val="1" writable="true"/>') + "</list>"), batches(n, lambda k: item("Write", f"/obix/i{k}", '<int name="in" val="2"/>')))),
@@ -202,6 +209,7 @@ STREAMS = {
     "dots in an item's href": (100_000, lambda n: (None, batches(1, lambda k: item("Read", "a/" * n + "../" * n + "n")))),
     "writes to logs": (50_000, lambda n: logged(n)),
     "acknowledgements": (10_000, lambda n: behind(logged(n), batches(n // 2, lambda k: item("Invoke", f"/obix/alarm/{k + 1}/ack")))),
+    "refused writes, n histories of a point": (10_000, lambda n: (full(n), batches(n, lambda k: item("Write", "/obix/p", f'<int name="in" val="{k + 1}"/>')))),
     "queries of logs that pass nothing": (20_000, lambda n: behind(logged(n), batches(100, lambda k: item("Invoke", ("/obix/h/query", "/obix/r/query", "/obix/a/query")[k % 3], LATE)))),
     "n turns, n/10 queries of no alarm": (40_000, lambda n: behind(logged(n), batches(n // 10, lambda k: item("Invoke", "/obix/a/query", NONE)))),
     "n turns, n/10 queries out of time": (40_000, lambda n: behind(logged(n), batches(n // 10, lambda k: item("Invoke", "/obix/a/query", LATE)))),

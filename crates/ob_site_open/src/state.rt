@@ -99,7 +99,7 @@ pub fn state_of(
         board,
         roles,
     };
-    Ok(State::new(alloc, plan, time, contents, capacities))
+    State::new(alloc, plan, time, contents, capacities)
 }
 
 /// The state that a document's root opens at a moment, or the first refusal in the order of `LoadFault`.

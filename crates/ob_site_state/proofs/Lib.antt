@@ -10,6 +10,7 @@ pub mod Noting
 pub mod Settling
 pub mod Rests
 pub mod Storing
+pub mod Growing
 pub mod Recording
 pub mod Aligned
 pub mod Stepping

@@ -1,5 +1,5 @@
 //! The state of a site in place.
-ghost use Rattle.std.specs.Prelude.{◌≡◌, ℕ, All, ◌-◌, List, Option, is_none, nat_lt, true, false, ◌<◌, ◌≤◌, ◌+◌, ◌^◌, [], None, max, map, option_map, length, replicate, slice_get, Some, IsTrue, IfOk, OnOk, OnErr};
+ghost use Rattle.std.specs.Prelude.{◌≡◌, ℕ, All, ◌-◌, List, Option, nat_lt, true, false, ◌<◌, ◌≤◌, ◌+◌, ◌^◌, [], None, max, map, option_map, length, replicate, slice_get, Some, IsTrue, IfOk, OnOk, OnErr};
 ghost use Rattle.ob_times.specs.Times.{moment_instant};
 ghost use Rattle.ob_object.specs.declared.head.Head.{Head};
 ghost use Rattle.ob_object.specs.Fits.{fits_slot};
@@ -25,12 +25,12 @@ ghost use Rattle.ob_site_state.specs.Changes.{with_log, is_library, rewound, Can
 ghost use Rattle.ob_site_state.specs.Stamping.{stamped_by};
 ghost use Rattle.ob_site_state.specs.Kept.{keys, log_of, LogsAreBy, IsSoundFor};
 ghost use Rattle.ob_site_state.specs.Contents.{state_in};
-ghost use Rattle.ob_site_state.specs.Tallies.{capacities_of};
+ghost use Rattle.ob_site_state.specs.Tallies.{capacities_of, growing_in};
 
 use crate::change::Change;
 use crate::contents::Contents;
 use crate::roles::{has_source, number_in};
-use crate::tally::Tally;
+use crate::tally::{Tally, count_at};
 use ob_alarms::{Alarms, Num};
 use ob_contracts::Library;
 use ob_history::{Log, Record};
@@ -124,14 +124,14 @@ fn later(first: Moment, second: Moment) -> Moment
 
 impl State {
     /// A state in which no step has changed anything yet; with how many records the history of each place keeps, if
-    /// not all.
+    /// not all. An error only for want of memory.
     pub fn new(
         alloc: Global,
         plan: Plan,
         time: Moment,
         contents: Contents,
         capacities: Vec<Option<u64>>,
-    ) -> State
+    ) -> Result<State, AllocError>
         requires root { contents.board.root ≡ plan.root }
         requires rules { contents.board.rules ≡ numbered_from 0 (plan_of plan).rules }
         requires histories { keys (state_in contents).logs ≡ map (λ h. h.0) (plan_of plan).histories }
@@ -143,10 +143,10 @@ impl State {
         requires sound { IsSoundFor (plan_of plan) (state_in contents) }
         requires roles { AreRoles contents.roles (plan_of plan) }
         requires capacities { capacities_of (state_in contents).logs ≡ capacities.items }
-        ensures { result ≡ record { plan = plan_of plan; time = time; now = state_in contents; since = time; before = state_in contents; stamps = contents.ground.tree.stamps; steps = contents.ground.tree.steps } }
+        ensures { IfOk result (λ state. state ≡ record { plan = plan_of plan; time = time; now = state_in contents; since = time; before = state_in contents; stamps = contents.ground.tree.stamps; steps = contents.ground.tree.steps }) }
     {
-        let tally = Tally::new(capacities, &contents.logs);
-        State {
+        let tally = Tally::new(alloc, plan.histories.as_slice(), capacities, &contents.logs)?;
+        Ok(State {
             alloc,
             plan,
             time,
@@ -154,7 +154,7 @@ impl State {
             since: time,
             found: Vec::new(alloc),
             tally,
-        }
+        })
     }
 
     /// What is fixed.
@@ -370,12 +370,11 @@ impl State {
         self.tally.capacities[place]
     }
 
-    /// Whether the history of a place keeps all its records.
-    pub fn keeps_all(&self, place: usize) -> bool
-        requires { place < length self.now.now.logs }
-        ensures { (l : Path × SiteLog) → slice_get self.now.now.logs place ≡ Some l → result ≡ is_none l.1.capacity }
+    /// How many of the histories of a node keep all their records: so many more a value of it stores.
+    pub fn growing(&self, source: &Text) -> u64
+        ensures { result ≡ growing_in source.now self.now.plan.histories (capacities_of self.now.now.logs) }
     {
-        self.tally.capacities[place].is_none()
+        count_at(&self.tally.growing, source)
     }
 
     /// Whether the history of a place records a node.

@@ -128,11 +128,6 @@ pub counts_more : (plan : Plan) (p : Path) (ls : List (Path × Log)) (place : �
 counts_more plan p ls place l none_out there records =
     below_most (events_ever l.1) (sym (ap (λ (b : Bool). b && nat_le 9_223_372_036_854_775_807 (events_ever l.1)) records) ∙ not_any (is_counted_out plan p) ls place l none_out there)
 
--- one at most
-pub few_if : (b : Bool) → cond {A = ℕ} b 1 0 ≤ 1
-few_if true = omega arith
-few_if false = omega arith
-
 pub full_over : (full out over : Bool) → full ≡ true → (full || out) ≡ over → full ≡ over
 full_over full out over is e = is ∙ sym (ap (λ (b : Bool). b || out) is) ∙ e
 

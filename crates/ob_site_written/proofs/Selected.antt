@@ -1,18 +1,17 @@
 -- The logs of a node's histories, by their places.
-use Rattle.std.proofs.Common.{◌≡◌, ℕ, suc, ◌+◌, ◌<◌, ◌≤◌, Bool, true, false, ◌&&◌, ◌||◌, cond, List, [], ◌∷◌, ◌++◌, length, map, take, drop, get_or, Option, Some, refl, sym, ap, ◌∙◌, subst, arith, add-one, append_assoc}
+use Rattle.std.proofs.Common.{◌≡◌, ℕ, suc, ◌+◌, ◌<◌, ◌≤◌, Bool, true, false, ◌&&◌, ◌||◌, cond, List, [], ◌∷◌, ◌++◌, length, map, drop, get_or, Option, Some, refl, ap, ◌∙◌, subst, arith, add-one}
 use Rattle.std.specs.Prelude.{slice_get, option_to_list, filter, is_none, nat_le}
 use Rattle.std.specs.List.{list_any}
-use Rattle.std.proofs.lemmas.List.{take_more, drop_more}
+use Rattle.std.proofs.lemmas.List.{drop_more}
 use Rattle.std.proofs.lemmas.Bool.Decides.{nat_tests}
-use Rattle.ob_alarms.specs.Lists.{count}
 use Rattle.ob_opened.specs.Laws.{Apart}
 use Rattle.ob_site_rules.specs.Build.{Path}
 use Rattle.ob_site_rules.specs.State.{Plan, Log}
 use Rattle.ob_site_rules.specs.Writes.{events_ever, records_from}
 use Rattle.ob_site_roles.specs.Roles.{all_places, is_of, recorders_of}
+use Rattle.ob_site_state.specs.Tallies.{capacities_of, growing_in}
 use Rattle.ob_site_state.proofs.Recording.{Beside, beside_histories, length-beside, recorder}
 use Rattle.ob_site_written.specs.Limits.{grows, growing, any_counted_out}
-use Rattle.ob_site_written.proofs.Counting.{few_if}
 
 -- the logs of some places
 abbrev pub logs_at : List ℕ → List (Path × Log) → List (Path × Log)
@@ -45,24 +44,6 @@ pub of_recorders : (plan : Plan) (source : Path) (ls : List (Path × Log)) → A
 of_recorders plan source ls apart keys =
     selected (is_of source) (λ l. records_from plan source l.0) plan.histories ls (length-beside plan ls keys) (beside_histories plan source ls apart keys)
 
-logs_at-append : (ps : List ℕ) (p : ℕ) (l : Path × Log) (ls : List (Path × Log)) → slice_get ls p ≡ Some l → logs_at (ps ++ p ∷ []) ls ≡ logs_at ps ls ++ l ∷ []
-logs_at-append [] p l ls e = ap (λ (o : Option (Path × Log)). option_to_list o ++ []) e
-logs_at-append (q ∷ ps) p l ls e =
-    ap (λ (ms : List (Path × Log)). option_to_list (slice_get ls q) ++ ms) (logs_at-append ps p l ls e)
-    ∙ sym (append_assoc (option_to_list (slice_get ls q)) (logs_at ps ls) (l ∷ []))
-
-counted_last : (k : Path × Log → Bool) (ls : List (Path × Log)) (l : Path × Log) → count k (ls ++ l ∷ []) ≡ count k ls + cond (k l) 1 0
-counted_last k [] l = omega arith
-counted_last k (m ∷ ls) l = omega (arith, counted_last k ls l)
-
--- how many of them pass a test, one place more
-pub counted_more : (k : Path × Log → Bool) (ps : List ℕ) (n d : ℕ) (ls : List (Path × Log)) (l : Path × Log) → n < length ps → slice_get ls (get_or ps n d) ≡ Some l
-    → count k (logs_at (take (n + 1) ps) ls) ≡ count k (logs_at (take n ps) ls) + cond (k l) 1 0
-counted_more k ps n d ls l lt e =
-    ap (λ (qs : List ℕ). count k (logs_at qs ls)) (take_more ps n d lt)
-    ∙ ap (count k) (logs_at-append (take n ps) (get_or ps n d) l ls e)
-    ∙ counted_last k (logs_at (take n ps) ls) l
-
 -- whether one of them passes, from a place on
 pub any_more : (k : Path × Log → Bool) (ps : List ℕ) (n d : ℕ) (ls : List (Path × Log)) (l : Path × Log) → n < length ps → slice_get ls (get_or ps n d) ≡ Some l
     → list_any k (logs_at (drop n ps) ls) ≡ (k l || list_any k (logs_at (drop (n + 1) ps) ls))
@@ -76,25 +57,19 @@ pub recorder_within : (plan : Plan) (source : Path) (ls : List (Path × Log)) (p
 recorder_within plan source ls ps n d apart keys same lt =
     (recorder plan source ls n (get_or ps n d) d apart keys (subst (λ (qs : List ℕ). n < length qs) same lt) (ap (λ (qs : List ℕ). get_or qs n d) same)).within
 
--- those that keep all their records, among those of the node
-growing_first : (b k : Bool) (l : Path × Log) (ls : List (Path × Log)) (n : ℕ) → is_none l.1.capacity ≡ k → count (λ m. is_none m.1.capacity) ls ≡ n
-    → count (λ m. is_none m.1.capacity) (cond b (l ∷ ls) ls) ≡ cond {A = ℕ} (b && k) 1 0 + n
-growing_first true k l ls n is e = omega (arith, e, ap (λ (c : Bool). cond {A = ℕ} c 1 0) is)
-growing_first false k l ls n is e = omega (arith, e)
-
-growing_of : (plan : Plan) (source : Path) (ls : List (Path × Log)) → count (λ l. is_none l.1.capacity) (filter (λ l. records_from plan source l.0) ls) ≡ growing plan source ls
-growing_of plan source [] = refl
-growing_of plan source (l ∷ ls) =
-    growing_first (records_from plan source l.0) (is_none l.1.capacity) l (filter (λ m. records_from plan source m.0) ls) (growing plan source ls) refl (growing_of plan source ls)
+-- those of the node that keep all their records, by the places of the histories
+growing_beside : (plan : Plan) (source : Path) (hs : List (Path × Option Path)) (ls : List (Path × Log)) → length hs ≡ length ls → Beside (is_of source) (λ l. records_from plan source l.0) hs ls
+    → growing_in source hs (capacities_of ls) ≡ growing plan source ls
+growing_beside plan source [] [] len beside = refl
+growing_beside plan source [] (l ∷ ls) len beside = absurd (omega (arith, len))
+growing_beside plan source (h ∷ hs) [] len beside = absurd (omega (arith, len))
+growing_beside plan source (h ∷ hs) (l ∷ ls) len beside =
+    ap (λ (b : Bool). cond {A = ℕ} (b && is_none l.1.capacity) 1 0 + growing_in source hs (capacities_of ls)) (beside 0 h l refl refl)
+    ∙ ap (λ (n : ℕ). cond {A = ℕ} (grows plan source l) 1 0 + n) (growing_beside plan source hs ls (omega (arith, len)) (λ i. beside (suc i)))
 
 pub growing_is : (plan : Plan) (source : Path) (ls : List (Path × Log)) → Apart (map (λ h. h.0) plan.histories) → map (λ l. l.0) ls ≡ map (λ h. h.0) plan.histories
-    → count (λ l. is_none l.1.capacity) (logs_at (recorders_of plan source) ls) ≡ growing plan source ls
-growing_is plan source ls apart keys =
-    ap (count (λ l. is_none l.1.capacity)) (of_recorders plan source ls apart keys) ∙ growing_of plan source ls
-
-pub growing_few : (plan : Plan) (source : Path) (ls : List (Path × Log)) → growing plan source ls ≤ length ls
-growing_few plan source [] = omega arith
-growing_few plan source (l ∷ ls) = omega (arith, growing_few plan source ls, few_if (grows plan source l))
+    → growing_in source plan.histories (capacities_of ls) ≡ growing plan source ls
+growing_is plan source ls apart keys = growing_beside plan source plan.histories ls (length-beside plan ls keys) (beside_histories plan source ls apart keys)
 
 -- a history has had as many events as can be counted
 abbrev pub is_full_log : Path × Log → Bool

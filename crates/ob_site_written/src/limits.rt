@@ -1,5 +1,5 @@
 //! Whether what a write or an acknowledgement stores would be too much.
-ghost use Rattle.std.specs.Prelude.{◌≡◌, ◌≤◌, cond, length, Option, List, ℕ, IfOk};
+ghost use Rattle.std.specs.Prelude.{◌≡◌, cond, Option, List, ℕ, IfOk};
 ghost use Rattle.ob_site_rules.specs.State.{numbered_from, board};
 ghost use Rattle.ob_site_rules.specs.Shown.{rule_of};
 ghost use Rattle.ob_site_rules.specs.Writes.{is_over, overfills};
@@ -22,16 +22,10 @@ fn one_if(is_so: bool) -> u64
 
 /// How many histories of a node keep all their records: so many more records a value of it stores.
 fn growing(state: &State, source: &Text) -> u64
-    ensures value { result ≡ growing state.now.plan source.now state.now.now.logs }
-    ensures few { result ≤ length state.now.now.logs }
+    ensures { result ≡ growing state.now.plan source.now state.now.now.logs }
 {
     state.is_sound();
-    let mut count: u64 = 0;
-    let recorders = state.recorders(source);
-    for place in recorders {
-        count += one_if(state.keeps_all(*place));
-    }
-    count
+    state.growing(source)
 }
 
 /// Whether a history of a node has had as many events as can be counted.

@@ -15,7 +15,7 @@ returns-then-is_full-clause-over c =
     let slot = c.args.slot.now in
     let is = c.in_ok-is_event.is_event in
     let same = c.in_ok-is_event.ensures.same in
-    let value : c.growing.result ≡ growing k.plan p k.now.logs = c.growing.ensures.value ∙ ap (λ (x : Kept). growing x.plan p x.now.logs) same in
+    let value : c.growing.result ≡ growing k.plan p k.now.logs = c.growing.ensures ∙ ap (λ (x : Kept). growing x.plan p x.now.logs) same in
     let sum : c.saturating_add-more.result ≡ min (growing k.plan p k.now.logs + cond {A = ℕ} is 1 0) (2 ^ 64 - 1) = omega (arith, c.saturating_add-more.ensures, value, c.one_if.ensures) in
     let room = c.is_full.ensures ∙ ap (λ (x : Kept). nat_lt 1_000_000 (stored x.now.logs (board x.plan x.now) + c.saturating_add-more.result)) same in
     full_over c.is_full.result (any_counted_out k.plan p k.now.logs) (is_over (recorded k.plan k.time p h.kind slot k.now.logs) (board_after k.plan k.now k.time p slot)) c.if-is_full.true
@@ -30,7 +30,7 @@ returns-else-is_full-clause-over c =
     let slot = c.args.slot.now in
     let is = c.in_ok-is_event.is_event in
     let same = c.in_ok-is_event.ensures.same in
-    let value : c.growing.result ≡ growing k.plan p k.now.logs = c.growing.ensures.value ∙ ap (λ (x : Kept). growing x.plan p x.now.logs) same in
+    let value : c.growing.result ≡ growing k.plan p k.now.logs = c.growing.ensures ∙ ap (λ (x : Kept). growing x.plan p x.now.logs) same in
     let sum : c.saturating_add-more.result ≡ min (growing k.plan p k.now.logs + cond {A = ℕ} is 1 0) (2 ^ 64 - 1) = omega (arith, c.saturating_add-more.ensures, value, c.one_if.ensures) in
     let room = c.is_full.ensures ∙ ap (λ (x : Kept). nat_lt 1_000_000 (stored x.now.logs (board x.plan x.now) + c.saturating_add-more.result)) same in
     let out : c.any_counted_out.result ≡ any_counted_out k.plan p k.now.logs = c.any_counted_out.ensures ∙ ap (λ (x : Kept). any_counted_out x.plan p x.now.logs) same in

@@ -9,5 +9,6 @@ invariant_of-self c =
     let a = c.self.inside in record {
       kept = begun (plan_of a.plan) a.time c.later-self-inside.result (state_in a.contents) a.contents.board a.since a.found.items c.self.invariant.kept (omega (arith, c.later-self-inside.ensures));
       tallied = c.self.invariant.tallied;
+      growing = c.self.invariant.growing;
       roles = c.self.invariant.roles;
     }

@@ -29,6 +29,7 @@ invariant_of-self c =
       tallied =
           subst (λ (l : List Change). IsTallied (record a.tally { total_before = a.tally.total }) t.logs (rewound l t).logs) (sym c.clear.ensures.items)
           (tallied_on a.tally s.logs (rewound a.found.items s).logs t.logs (ap (λ (x : State). x.logs) is) c.self.invariant.tallied);
+      growing = c.self.invariant.growing;
       roles = roles_stay (plan_of a.plan) a.contents c.settle.new.self rest.roles c.self.invariant.roles;
     }
 

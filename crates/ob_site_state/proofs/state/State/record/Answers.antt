@@ -11,6 +11,8 @@ use Rattle.ob_site_state.specs.declared.change.Change.TheVariants as change
 use Rattle.ob_site_state.specs.Changes.{with_log, rewound}
 use Rattle.ob_site_state.specs.Contents.{state_in}
 use Rattle.ob_site_state.specs.Kept.{Kept}
+use Rattle.ob_site_state.specs.declared.tally.Tally.{Tally}
+use Rattle.ob_site_state.specs.Tallies.{count_at, growing_in}
 use Rattle.ob_site_state.specs.States.{kept}
 use Rattle.ob_site_state.proofs.Places.{follows_at}
 use Rattle.ob_site_state.proofs.Noting.{got_there, record_noted, record_back, before_as, seen_as}
@@ -46,6 +48,7 @@ invariant_of-self-2 c =
           (before_as s t a.found.items items ch (record_back s t r c.args.place c.in_ok-len.len c.in_ok-len.ensures.len c.in_ok-len.ensures.ok)
           (c.push_reserved.ensures.items ∙ ap (λ (l : List Change). l ++ ch ∷ []) c.reserve.ensures.items)))
           c.self.invariant.tallied;
+      growing = subst (λ (x : Tally). (p : Path) → count_at x.growing p ≡ growing_in p (plan_of a.plan).histories x.capacities.items) (sym c.add.ensures) c.self.invariant.growing;
       roles = roles_stay (plan_of a.plan) a.contents c.record.new.self rest.roles c.self.invariant.roles;
     }
 

@@ -18,6 +18,7 @@ invariant_of-self c =
     let stays = c.renumber.ensures in record {
       kept = kept_same (plan_of a.plan) a.time s t a.contents.board c.renumber.new.self.board a.since a.found.items c.self.invariant.kept stays.root stays.rules stays.same;
       tallied = subst (λ (x : State). IsTallied a.tally x.logs (rewound a.found.items x).logs) (sym stays.same) c.self.invariant.tallied;
+      growing = c.self.invariant.growing;
       roles = roles_stay (plan_of a.plan) a.contents c.renumber.new.self stays.roles c.self.invariant.roles;
     }
 

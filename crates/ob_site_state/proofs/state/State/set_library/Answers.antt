@@ -29,6 +29,7 @@ invariant_of-self c =
       tallied =
           tallied_as a.tally s.logs (rewound a.found.items s).logs t.logs (rewound a.found.items t).logs refl
           (ap (λ (x : State). (rewound a.found.items x).logs) is ∙ ap (λ (x : State). x.logs) (rewound_again a.found.items c.args.library s noted)) c.self.invariant.tallied;
+      growing = c.self.invariant.growing;
       roles = c.self.invariant.roles;
     }
 
@@ -65,6 +66,7 @@ invariant_of-self-2 c =
           tallied_as a.tally s.logs (rewound a.found.items s).logs t.logs (rewound items t).logs refl
           (ap (λ (x : State). x.logs) (before_as s t a.found.items items ch (library_back s t c.replace-told.result c.args.library c.replace-told.ensures.old is) all))
           c.self.invariant.tallied;
+      growing = c.self.invariant.growing;
       roles = c.self.invariant.roles;
     }
 

@@ -40,6 +40,7 @@ invariant_of-self-2 c =
           (before_as s t a.found.items items ch (slot_back s t c.args.node c.set-old.result c.args.slot within c.set-old.ensures.old c.set-old.ensures.new)
           (c.push_reserved.ensures.items ∙ ap (λ (l : List Change). l ++ ch ∷ []) c.reserve.ensures.items)))
           c.self.invariant.tallied;
+      growing = c.self.invariant.growing;
       roles = roles_stay (plan_of a.plan) a.contents c.set-old.new.self rest.roles c.self.invariant.roles;
     }
 

@@ -43,6 +43,7 @@ invariant_of-self-then-is_event c =
           (ap (λ (x : State). x.logs)
           (before_as s t a.found.items items ch adds.1 (c.push_reserved.ensures.items ∙ ap (λ (l : List Change). l ++ ch ∷ []) c.reserve.ensures.items)))
           c.self.invariant.tallied;
+      growing = c.self.invariant.growing;
       roles = roles_stay (plan_of a.plan) a.contents c.take_value.new.self rest.roles c.self.invariant.roles;
     }
 

@@ -25,6 +25,7 @@ invariant_of-self c =
           subst (λ (l : List Change). IsTallied (record a.tally { total = a.tally.total_before }) t.logs (rewound l t).logs) (sym c.take_all_back.ensures.none)
           (tallied_back a.tally (state_in a.contents).logs (rewound a.found.items (state_in a.contents)).logs t.logs
           (ap (λ (x : State). x.logs) c.take_all_back.ensures.new) (capacities-rewound a.found.items (state_in a.contents)) c.self.invariant.tallied);
+      growing = c.self.invariant.growing;
       roles = roles_stay (plan_of a.plan) a.contents c.take_all_back.new.self rest.roles c.self.invariant.roles;
     }
 
