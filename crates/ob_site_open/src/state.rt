@@ -99,7 +99,8 @@ pub fn state_of(
         board,
         roles,
     };
-    State::new(alloc, plan, time, contents, capacities)
+    let state = State::new(alloc, plan, time, contents, capacities)?;
+    Ok(state)
 }
 
 /// The state that a document's root opens at a moment, or the first refusal in the order of `LoadFault`.
