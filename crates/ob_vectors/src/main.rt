@@ -6,6 +6,7 @@ mod alarms;
 mod bases;
 mod calendar;
 mod calls;
+mod configs;
 mod contracts;
 mod documents;
 mod filters;
@@ -17,6 +18,7 @@ mod outside;
 mod pieces;
 mod spelled;
 mod streams;
+mod supers;
 mod values;
 mod views;
 mod words;
@@ -25,6 +27,7 @@ use alarms::Boards;
 use bases::Bases;
 use calendar::{Calendars, Days};
 use calls::Calls;
+use configs::Configs;
 use contracts::Contracts;
 use documents::Documents;
 use filters::Filters;
@@ -38,6 +41,7 @@ use pieces::Pieces;
 use std::io;
 use std::rt::Files;
 use streams::{Heads, Limits, Streams};
+use supers::Supers;
 use values::Reading;
 
 fn run_values<R: Print + Files + AllocGlobal>(rt: &R) -> io::Result<()> {
@@ -92,6 +96,11 @@ fn run_contracts<R: Print + Files + AllocGlobal>(rt: &R) -> io::Result<()> {
     run(rt, "contracts.rows", &mut contracts)
 }
 
+fn run_supers<R: Print + Files + AllocGlobal>(rt: &R) -> io::Result<()> {
+    run(rt, "configs.rows", &mut Configs)?;
+    run(rt, "supers.rows", &mut Supers::new(rt.alloc()))
+}
+
 fn main(rt: HostRuntime) -> io::Result<()> {
     run_values(&rt)?;
     run_hrefs(&rt)?;
@@ -99,5 +108,6 @@ fn main(rt: HostRuntime) -> io::Result<()> {
     run_logs(&rt)?;
     run_calls(&rt)?;
     run_documents(&rt)?;
-    run_contracts(&rt)
+    run_contracts(&rt)?;
+    run_supers(&rt)
 }
