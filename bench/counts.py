@@ -97,7 +97,7 @@ def counted():
         "sessions and mirrors": rows_of("sessions", "mirrors"),
         "two clients": rows_of("polls"),
         "tests of threads": matches("crates/ob_vectors_threads/src/**/*.rt", r"^\s*#\[test\]"),
-        "tests of sockets": matches("crates/ob_sockets/src/**/*.rt", r"^\s*#\[test\]"),
+        "tests of what the system has": matches("crates/ob_system/src/**/*.rt", r"^\s*#\[test\]"),
         "hostile forms": hostile(),
         "tries of the front": front(),
     }

@@ -12,6 +12,7 @@ mod documents;
 mod filters;
 mod histories;
 mod hrefs;
+mod journals;
 mod messages;
 mod objects;
 mod outside;
@@ -33,6 +34,7 @@ use documents::Documents;
 use filters::Filters;
 use histories::Histories;
 use hrefs::Hrefs;
+use journals::Journals;
 use messages::{Messages, Replies};
 use ob_rows::run;
 use objects::Objects;
@@ -82,7 +84,8 @@ fn run_logs<R: Print + Files + AllocGlobal>(rt: &R) -> io::Result<()> {
 fn run_calls<R: Print + Files + AllocGlobal>(rt: &R) -> io::Result<()> {
     run(rt, "objects.rows", &mut Objects)?;
     run(rt, "calls.rows", &mut Calls)?;
-    run(rt, "outside.rows", &mut Outside)
+    run(rt, "outside.rows", &mut Outside)?;
+    run(rt, "journals.rows", &mut Journals)
 }
 
 fn run_documents<R: Print + Files + AllocGlobal>(rt: &R) -> io::Result<()> {

@@ -4,7 +4,7 @@
 
 use ob_io::{DiskFiles, Pair, Sink, StdSink, StdSource, SystemClock, write_all};
 use ob_program::{Exit, run};
-use ob_sockets::{TcpDialer, TcpPort};
+use ob_system::{TcpDialer, TcpPort};
 use std::alloc::Global;
 use std::env;
 use std::io::ErrorKind;

@@ -3,7 +3,7 @@ ghost use Rattle.std.specs.Prelude.{◌≡◌, ◌≤◌, [], None, IfOk};
 ghost use Rattle.ob_io.specs.Faults.{Rose};
 ghost use Rattle.ob_journal.specs.Device.{HasDeviceCause};
 
-use crate::{Device, DeviceFault, Devices};
+use ob_journal::{Device, DeviceFault, Devices};
 use std::alloc::Global;
 use std::fs::{File, TryLockError};
 use std::io;

@@ -1,10 +1,11 @@
-//! The outside over TCP: links, doors, a port and a dialer over std's sockets.
+//! The outside as the system has it: the files of journals, and over TCP links, doors, a port and a dialer.
 //!
-//! They count each error and tell nothing of what a peer sends or has. A call that is interrupted is tried again. A peer
-//! that is silent, or takes nothing, for too long is a fault of its link.
+//! They count each error and tell nothing of what a file holds, or of what a peer sends or has. A read or a write of a link
+//! that is interrupted is tried again. A peer that is silent, or takes nothing, for too long is a fault of its link.
 #![tactic(auto)]
 
 mod dialer;
+mod disk;
 mod door;
 mod host;
 mod link;
@@ -15,6 +16,7 @@ mod tests;
 mod wait_time;
 
 pub use dialer::TcpDialer;
+pub use disk::{DiskDevices, DiskFile};
 pub use door::TcpDoor;
 pub use link::TcpLink;
 pub use port::TcpPort;

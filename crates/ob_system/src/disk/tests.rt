@@ -1,13 +1,13 @@
 use super::{DiskDevices, DiskFile};
-use crate::{Device, DeviceFault, Devices, Extent, Journal, Sized, find, repair};
+use ob_journal::{Device, DeviceFault, Devices, Extent, Journal, Sized, find, repair};
 use std::fs;
 use std::fs::{File, OpenOptions};
 use std::os::unix::fs::PermissionsExt;
 use std::test::Fail;
 
-const FOLDER: &str = "ob_journal_disk_test";
+const FOLDER: &str = "ob_system_disk_test";
 
-const NAME: &str = "ob_journal_disk_test/run.record";
+const NAME: &str = "ob_system_disk_test/run.record";
 
 // A folder with no file in it.
 fn emptied(rt: &HostRuntime) -> Result<(), Fail> {
