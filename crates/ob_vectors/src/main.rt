@@ -8,18 +8,22 @@ mod calendar;
 mod calls;
 mod configs;
 mod contracts;
+mod counter;
 mod documents;
 mod filters;
 mod histories;
 mod hrefs;
 mod journals;
 mod messages;
+mod minutes;
+mod notes;
 mod objects;
 mod outside;
 mod pieces;
 mod spelled;
 mod streams;
 mod supers;
+mod turns;
 mod values;
 mod views;
 mod words;
@@ -44,6 +48,7 @@ use std::io;
 use std::rt::Files;
 use streams::{Heads, Limits, Streams};
 use supers::Supers;
+use turns::run_turns;
 use values::Reading;
 
 fn run_values<R: Print + Files + AllocGlobal>(rt: &R) -> io::Result<()> {
@@ -112,5 +117,6 @@ fn main(rt: HostRuntime) -> io::Result<()> {
     run_calls(&rt)?;
     run_documents(&rt)?;
     run_contracts(&rt)?;
-    run_supers(&rt)
+    run_supers(&rt)?;
+    run_turns(&rt, "turns.rows")
 }
