@@ -1,7 +1,9 @@
-//! The outside as the system has it: the files of journals, and over TCP links, doors, a port and a dialer.
+//! The outside as the system has it: streams, files and the clock, the files of journals, and over TCP links, doors, a port
+//! and a dialer.
 //!
-//! They count each error and tell nothing of what a file holds, or of what a peer sends or has. A read or a write of a link
-//! that is interrupted is tried again. A peer that is silent, or takes nothing, for too long is a fault of its link.
+//! They count each error. A source tells what std tells, which is nothing of a file, a socket or a terminal; all others tell
+//! nothing. A read or a write that is interrupted is tried again. A peer that is silent, or takes nothing, for too long is a
+//! fault of its link.
 #![tactic(auto)]
 
 mod dialer;
@@ -11,6 +13,7 @@ mod host;
 mod link;
 mod port;
 mod refusal;
+mod standard;
 #[cfg(test)]
 mod tests;
 mod wait_time;
@@ -20,13 +23,15 @@ pub use disk::{DiskDevices, DiskFile};
 pub use door::TcpDoor;
 pub use link::TcpLink;
 pub use port::TcpPort;
+pub use standard::{DiskFiles, StdSink, StdSource, SystemClock};
 
-/// Links, doors, ports and dialers may go to another thread.
+/// Links, doors, ports, dialers and clocks may go to another thread.
 pub fn crosses_threads<R: Sync + 'static>() {
     is_send::<TcpLink<'static, R>>();
     is_send::<TcpDoor<'static, R>>();
     is_send::<TcpPort<'static, R>>();
     is_send::<TcpDialer<'static, R>>();
+    is_send::<SystemClock<'static, R>>();
 }
 
 fn is_send<T: Send>() {}

@@ -2,8 +2,9 @@
 ghost use Rattle.std.specs.Prelude.{◌≡◌, IfOk, None};
 ghost use Rattle.std.specs.Io.{ReadsAtMost, WritesAtMost};
 
+use crate::standard::{read_some, write_some};
 use crate::wait_time::{READ_LOOK_S, WRITE_LOOK_S, WaitTime};
-use ob_io::{Failed, Link, read_some, write_some};
+use ob_io::{Failed, Link};
 use std::io;
 use std::io::{ErrorKind, Read, Write};
 use std::net::{Shutdown, TcpStream};

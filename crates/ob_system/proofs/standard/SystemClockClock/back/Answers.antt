@@ -1,6 +1,6 @@
 use Rattle.std.proofs.Common.{None}
 use Rattle.ob_io.proofs.TwinLemmas.{untold}
-use Rattle.ob_io.proofs.standard.SystemClockClock.back.Goals as goal
+use Rattle.ob_system.proofs.standard.SystemClockClock.back.Goals as goal
 
 pub returns-then-clock-gt0-clause-twin : goal.returns-then-clock-gt0-clause-twin
 returns-then-clock-gt0-clause-twin g c = untold None None c.args.clock.faults

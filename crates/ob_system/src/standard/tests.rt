@@ -1,5 +1,5 @@
 use super::{DiskFiles, StdSink, StdSource, SystemClock};
-use crate::{Clock, FileFault, Files, Sink, Source};
+use ob_io::{Clock, FileFault, Files, Sink, Source};
 use std::fs::OpenOptions;
 use std::io;
 use std::io::{ErrorKind, Read, Write};
