@@ -36,9 +36,9 @@ def rows(crates):
     return sum(int(it[1]) for _, line in lines_of(f"crates/{crates}/stdout") if (it := re.search(r": (\d+) rows$", line)))
 
 
-def rows_of(*tables):
-    """The rows of these tables of ob_vectors_runs."""
-    return sum(int(it[2]) for _, line in lines_of("crates/ob_vectors_runs/stdout")
+def rows_of(crates, *tables):
+    """The rows of these tables of these crates."""
+    return sum(int(it[2]) for _, line in lines_of(f"crates/{crates}/stdout")
                if (it := re.match(r"(\w+)\.rows: (\d+) rows$", line)) and it[1] in tables)
 
 
@@ -94,10 +94,12 @@ def counted():
         "altered replies": sum(int(it[1]) for _, line in lines_of("crates/ob_vectors*/data/audits.rows") if (it := re.search(r"illegal (\d+)$", line))),
         "whole runs": runs(("", "*", "!")),
         "runs with each call failing": runs(("*",)),
-        "sessions and mirrors": rows_of("sessions", "mirrors"),
-        "two clients": rows_of("polls"),
-        "tests of threads": matches("crates/ob_vectors_threads/src/**/*.rt", r"^\s*#\[test\]"),
-        "tests of sockets": matches("crates/ob_sockets/src/**/*.rt", r"^\s*#\[test\]"),
+        "sessions and mirrors": rows_of("ob_vectors_runs", "sessions", "mirrors"),
+        "two clients": rows_of("ob_vectors_runs", "polls"),
+        "rows of callers of one machine": rows_of("ob_vectors*", "turns", "desks", "served"),
+        "rows of a site of 55,013 parts": rows_of("ob_vectors*", "sizes"),
+        "whole runs of two workers": matches("crates/ob_vectors_runs/data/serve.rows", r"^\d+\S* serve .*waits "),
+        "tests of what the system has": matches("crates/ob_system/src/**/*.rt", r"^\s*#\[test\]"),
         "hostile forms": hostile(),
         "tries of the front": front(),
     }

@@ -6,19 +6,15 @@
 
 mod device;
 mod devices;
-mod disk;
 mod journal;
 mod laws;
 mod memory;
 mod opening;
 mod shape;
 mod sized;
-#[cfg(test)]
-mod tests;
 
 pub use device::{Device, DeviceFault};
 pub use devices::Devices;
-pub use disk::{DiskDevices, DiskFile};
 pub use journal::{AppendFault, Journal, MAX_BYTES};
 pub use laws::one_meaning;
 pub use memory::MemDevice;

@@ -6,17 +6,24 @@ mod alarms;
 mod bases;
 mod calendar;
 mod calls;
+mod configs;
 mod contracts;
+mod counter;
 mod documents;
 mod filters;
 mod histories;
 mod hrefs;
+mod journals;
 mod messages;
+mod minutes;
+mod notes;
 mod objects;
 mod outside;
 mod pieces;
 mod spelled;
 mod streams;
+mod supers;
+mod turns;
 mod values;
 mod views;
 mod words;
@@ -25,11 +32,13 @@ use alarms::Boards;
 use bases::Bases;
 use calendar::{Calendars, Days};
 use calls::Calls;
+use configs::Configs;
 use contracts::Contracts;
 use documents::Documents;
 use filters::Filters;
 use histories::Histories;
 use hrefs::Hrefs;
+use journals::Journals;
 use messages::{Messages, Replies};
 use ob_rows::run;
 use objects::Objects;
@@ -38,6 +47,8 @@ use pieces::Pieces;
 use std::io;
 use std::rt::Files;
 use streams::{Heads, Limits, Streams};
+use supers::Supers;
+use turns::run_turns;
 use values::Reading;
 
 fn run_values<R: Print + Files + AllocGlobal>(rt: &R) -> io::Result<()> {
@@ -78,7 +89,8 @@ fn run_logs<R: Print + Files + AllocGlobal>(rt: &R) -> io::Result<()> {
 fn run_calls<R: Print + Files + AllocGlobal>(rt: &R) -> io::Result<()> {
     run(rt, "objects.rows", &mut Objects)?;
     run(rt, "calls.rows", &mut Calls)?;
-    run(rt, "outside.rows", &mut Outside)
+    run(rt, "outside.rows", &mut Outside)?;
+    run(rt, "journals.rows", &mut Journals)
 }
 
 fn run_documents<R: Print + Files + AllocGlobal>(rt: &R) -> io::Result<()> {
@@ -92,6 +104,11 @@ fn run_contracts<R: Print + Files + AllocGlobal>(rt: &R) -> io::Result<()> {
     run(rt, "contracts.rows", &mut contracts)
 }
 
+fn run_supers<R: Print + Files + AllocGlobal>(rt: &R) -> io::Result<()> {
+    run(rt, "configs.rows", &mut Configs)?;
+    run(rt, "supers.rows", &mut Supers::new(rt.alloc()))
+}
+
 fn main(rt: HostRuntime) -> io::Result<()> {
     run_values(&rt)?;
     run_hrefs(&rt)?;
@@ -99,5 +116,7 @@ fn main(rt: HostRuntime) -> io::Result<()> {
     run_logs(&rt)?;
     run_calls(&rt)?;
     run_documents(&rt)?;
-    run_contracts(&rt)
+    run_contracts(&rt)?;
+    run_supers(&rt)?;
+    run_turns(&rt, "turns.rows")
 }

@@ -5,21 +5,30 @@ ghost use Rattle.ob_site_laws.specs.SiteLaws.{IsSoundSite};
 use crate::requests::{numbered, request, tell_reply};
 use crate::sites::open;
 use ob_rows::{Asked, Table, split_bar};
-use ob_site::Site;
+use ob_site::{Machine, Site};
 use ob_site_desk::{ask, open_desk};
+use ob_site_rules::Request;
 use ob_turn::{Answer, Desk, Pass};
 use ob_values::Moment;
 use std::alloc::{AllocError, Global};
 use std::sync::Wait;
 
-/// Rows of four requests, each with its moment and with `|` between them, on the site `nested` behind a desk.
+/// Rows of requests, each with its moment and with `|` between them, on the site `nested` behind a desk.
 ///
-/// The third one is asked under another pass than the others. The replies are told, and the site's time, which it has
-/// when the desk is closed.
+/// Four requests: the third one is asked under another pass than the others. The replies are told, and the site's time,
+/// which it has when the desk is closed. `joined`, and two requests: the second one is asked under a pass that the pass of the
+/// first was joined into, and once more of the closed desk's site. The replies are told.
 #[derive(Drop)]
 pub(crate) struct Desks<'a, R: Wait> {
     rt: &'a R,
     sites: &'a str,
+}
+
+// The moment and the request of a row, if it has both.
+fn timed(alloc: Global, row: &str) -> Option<(Moment, Request)> {
+    let (moment, row) = numbered(row)?;
+    let moment = Moment::new(moment)?;
+    Some((moment, request(alloc, row)?))
 }
 
 // Asks what a row asks under a pass, and tells the reply, with `|` behind it.
@@ -34,13 +43,7 @@ fn tell<R: Wait + AllocGlobal>(
     requires sound { IsSoundSite desk.now.opening }
     ensures { pass.new ≡ record pass.old { seen = pass.new.seen } }
 {
-    let Some((moment, row)) = numbered(row) else {
-        return told.push_str("no moment");
-    };
-    let Some(moment) = Moment::new(moment) else {
-        return told.push_str("no moment");
-    };
-    let Some(request) = request(rt.alloc(), row) else {
+    let Some((moment, request)) = timed(rt.alloc(), row) else {
         return told.push_str("no request");
     };
     match ask(rt, desk, pass, &request, moment) {
@@ -101,6 +104,45 @@ fn tell_all<R: Wait + AllocGlobal>(
     write!(told, "{time}")
 }
 
+// Asks what a row asks of a site, and tells the reply.
+fn tell_step(
+    alloc: Global,
+    site: &mut Site,
+    row: &str,
+    told: &mut String,
+) -> Result<(), AllocError> {
+    let Some((moment, request)) = timed(alloc, row) else {
+        return told.push_str("no request");
+    };
+    let reply = site.step(&request, moment)?;
+    tell_reply(alloc, &reply, None, told)
+}
+
+// Asks under a pass, then under another one into which it was joined, and then the closed desk's site; tells the replies.
+fn tell_joined<R: Wait + AllocGlobal>(
+    rt: &R,
+    site: Site,
+    rows: &str,
+    told: &mut String,
+) -> Result<(), AllocError> {
+    let (put, get) = split_bar(rows);
+    let (desk, mut first) = match open_desk(rt.alloc(), site) {
+        Ok(made) => made,
+        Err((site, memory)) => {
+            drop(site);
+            return Err(memory);
+        }
+    };
+    let mut second = first.split(&desk, 1);
+    let put_told = tell(rt, &desk, &mut first, put, told);
+    second.join(&desk, first);
+    let got_told = tell(rt, &desk, &mut second, get, told);
+    let mut site = desk.close(second);
+    put_told?;
+    got_told?;
+    tell_step(rt.alloc(), &mut site, get, told)
+}
+
 impl<'a, R: Wait> Desks<'a, R> {
     /// Desks of sites that have their documents in this file.
     pub(crate) fn new(rt: &'a R, sites: &'a str) -> Desks<'a, R> {
@@ -110,9 +152,12 @@ impl<'a, R: Wait> Desks<'a, R> {
 
 impl<R: Wait + AllocGlobal> Table for Desks<'_, R> {
     fn answer(&mut self, alloc: Global, asked: Asked, told: &mut String) -> Result<(), AllocError> {
-        match open(alloc, self.sites, "nested") {
-            Some(site) => tell_all(self.rt, site, asked.text, told),
-            None => told.push_str("no site"),
+        let Some(site) = open(alloc, self.sites, "nested") else {
+            return told.push_str("no site");
+        };
+        match asked.text.strip_prefix("joined ") {
+            Some(rows) => tell_joined(self.rt, site, rows, told),
+            None => tell_all(self.rt, site, asked.text, told),
         }
     }
 }

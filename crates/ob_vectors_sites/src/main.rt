@@ -13,7 +13,9 @@ mod loads;
 mod moments;
 mod records;
 mod requests;
+mod served;
 mod sites;
+mod sizes;
 
 use desks::Desks;
 use dialogues::Dialogues;
@@ -24,16 +26,21 @@ use loads::Loads;
 use ob_rows::run;
 use records::Records;
 use requests::Requests;
+use served::run_served;
+use sizes::Sizes;
 use std::rt::Files;
 use std::sync::Wait;
+use std::thread::Threads;
 use std::{fs, io};
 
-fn run_sites<R: Print + Files + AllocGlobal + Wait>(rt: &R) -> io::Result<()> {
+fn run_sites<R: Print + Files + AllocGlobal + Threads + Wait + Sync>(rt: &R) -> io::Result<()> {
     let lines = fs::read_to_string(rt, "sites.txt")?;
     run(rt, "requests.rows", &mut Requests::new(lines.as_str()))?;
     run(rt, "limits.rows", &mut Limits::new(lines.as_str()))?;
     run(rt, "kept.rows", &mut Kept::new(lines.as_str()))?;
     run(rt, "desks.rows", &mut Desks::new(rt, lines.as_str()))?;
+    run(rt, "sizes.rows", &mut Sizes::new())?;
+    run_served(rt, "served.rows", lines.as_str())?;
     run_connections(rt, lines.as_str())?;
     run_records(rt, lines.as_str())
 }

@@ -2,9 +2,9 @@
 //! network and the system's clock, and ends with its status.
 #![tactic(auto)]
 
-use ob_io::{DiskFiles, Pair, Sink, StdSink, StdSource, SystemClock, write_all};
+use ob_io::{Pair, Sink, write_all};
 use ob_program::{Exit, run};
-use ob_sockets::{TcpDialer, TcpPort};
+use ob_system::{DiskFiles, StdSink, StdSource, SystemClock, TcpDialer, TcpPort};
 use std::alloc::Global;
 use std::env;
 use std::io::ErrorKind;
