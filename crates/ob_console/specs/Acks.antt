@@ -72,6 +72,7 @@ standing written read read_faults write_faults host kept dead = record { written
 -- All that a session says of a call, whose request has this text for a host.
 pub record Calls (request : Text → List ℕ) (old new : Standing) (answer : Result Object CallFault) : Type 0 where
   pub died : old.dead ≡ true → (answer ≡ Err session.Dead) × (new ≡ old)
+  pub alive : Fails answer session.Dead → old.dead ≡ true
   pub asks : old.dead ≡ false → Asks old.written new.written (request old.host) answer
   pub reads : old.dead ≡ false → Reads Answers old.read new.read old.kept new.kept answer
   pub stands : old.dead ≡ false → (new.host ≡ old.host) × (new.dead ≡ is_last answer)
@@ -81,6 +82,10 @@ pub record Calls (request : Text → List ℕ) (old new : Standing) (answer : Re
 -- a Post of AckAlarmIn with this user
 abbrev pub ack_request : Text → Text → Text → List ℕ
 ack_request target user host = request_text Post target host (body_text (Some (ack_in user)))
+
+-- It was asked, and this is the session's answer; or there was no memory for what it is called with, and nothing was asked.
+abbrev pub CallsAck : Text → Text → Standing → Standing → Result Object CallFault → Type 0
+CallsAck target user old new answer = Calls (ack_request target user) old new answer ⊎ ((answer ≡ Err session.Memory) × (new ≡ old))
 
 -- the session's answer was its want of memory
 abbrev pub FindsNoMemory : Result Text AckFault → Text → Standing → Standing → Type 0

@@ -2,7 +2,7 @@
 ghost use Rattle.std.specs.Prelude.{◌≡◌, [], ◌∷◌, Ok, IfOk, codes};
 ghost use Rattle.std.specs.Option.{option_copied};
 ghost use Rattle.ob_object.specs.Object.{empty_head};
-ghost use Rattle.ob_console.specs.Acks.{op_of, leads_to, fault_of, FindsTarget, user_child, ack_in, Acknowledges, answer_as, standing};
+ghost use Rattle.ob_console.specs.Acks.{op_of, leads_to, fault_of, FindsTarget, user_child, ack_in, CallsAck, Acknowledges, answer_as, standing};
 ghost use Rattle.ob_console.specs.Told as told;
 ghost use Rattle.ob_io.specs.Links.{inlet};
 
@@ -100,8 +100,8 @@ fn one_word(alloc: Global) -> Result<Words, AllocError>
     }
 }
 
-/// What the op `ack` is called with: AckAlarmIn with this user.
-pub fn ack_in(alloc: Global, user: &Text) -> Result<Obj, AllocError>
+// What the op `ack` is called with: AckAlarmIn with this user.
+fn ack_in(alloc: Global, user: &Text) -> Result<Obj, AllocError>
     ensures { IfOk result (λ o. o ≡ ack_in user.now) }
 {
     let mut head = Head::empty(Kind::Obj);
@@ -125,22 +125,23 @@ fn answer_as(answer: Result<Obj, CallFault>) -> Result<Obj, AckFault>
     }
 }
 
-// Calls an op with AckAlarmIn of this user.
-fn call_ack<L: Link>(
+/// Calls the op `ack` at this path as this user, over the session, and gives the session's answer. Memory: nothing was
+/// asked, or the session found none and is dead.
+pub fn acknowledge_at<L: Link>(
     alloc: Global,
     session: &mut Session<L>,
     target: &Path,
     user: &Text,
-) -> Result<Obj, AckFault>
-    ensures { Acknowledges (Ok target.now) user.now
+) -> Result<Obj, CallFault>
+    ensures { CallsAck target.now user.now
         (standing (L.held session.old.link) (inlet (L.left session.old.link) (L.taken session.old.link)) (L.read_faults session.old.link) (L.write_faults session.old.link) session.old.host session.old.framer session.old.is_dead)
         (standing (L.held session.new.link) (inlet (L.left session.new.link) (L.taken session.new.link)) (L.read_faults session.new.link) (L.write_faults session.new.link) session.new.host session.new.framer session.new.is_dead)
         result }
 {
     let Ok(input) = ack_in(alloc, user) else {
-        return Err(AckFault::Memory);
+        return Err(CallFault::Memory);
     };
-    answer_as(session.call(Verb::Post, target, Some(&input)))
+    session.call(Verb::Post, target, Some(&input))
 }
 
 /// Acknowledges the alarm of this href as this user, over the session; `base` is the URL that the board's events were
@@ -161,7 +162,7 @@ pub fn acknowledge<L: Link>(
         result }
 {
     match ack_target(alloc, base, board, href.as_str()) {
-        Ok(target) => call_ack(alloc, session, &target, user),
+        Ok(target) => answer_as(acknowledge_at(alloc, session, &target, user)),
         Err(fault) => Err(fault),
     }
 }

@@ -2,6 +2,7 @@ pub mod LegLemmas
 pub mod TalkLemmas
 pub mod PartLemmas
 pub mod TakingLemmas
+pub mod ExchangeLemmas
 pub mod TurnLemmas
 pub mod DriverLemmas
 pub mod CompleteLemmas

@@ -5,7 +5,6 @@ use Rattle.std.proofs.lemmas.Bool.{ltb-true}
 use Rattle.ob_object.specs.Object.{Object}
 use Rattle.ob_watching.specs.Asked.{Add, PollChanges, PollRefresh}
 use Rattle.ob_client.specs.Entries.{is_err}
-use Rattle.ob_console.specs.Acks.{ack_in}
 use Rattle.ob_dialogue.specs.Plans.{Program, Watched, Hrefs, Alarms, Place, place_at, child_place}
 use Rattle.ob_dialogue.specs.Stages.{Ops, Watching, Stage, Lobby, Service, Make, Subject, Adding, Acking, Polling, Mending, Deleting, Over, request_at, ops_of, begun, told, polled, onward}
 use Rattle.ob_dialogue.specs.Printing.{body_text, add_heading, poll_heading, errs_text}
@@ -23,7 +22,7 @@ stages_left p (Service place) = p.polls + 7
 stages_left p (Make place) = p.polls + 6
 stages_left p (Subject ops place) = p.polls + 5
 stages_left p (Adding w) = unpolled p w + 4
-stages_left p (Acking w target body) = unpolled p w + 3
+stages_left p (Acking w target user) = unpolled p w + 3
 stages_left p (Polling w) = unpolled p w + 2
 stages_left p (Mending w) = unpolled p w + 2
 stages_left p (Deleting w) = 1
@@ -70,7 +69,7 @@ to_watch_near p (Some ops) = by_subject p.watched
 acked_near : (p : Program) (watched : Watched) (w : Watching) → IsNearer p (unpolled p w + 4) (acked p watched w)
 acked_near p (Hrefs hrefs) w = omega (arith, onward_near p w)
 acked_near p (Alarms subject None user) w = omega (arith, onward_near p w)
-acked_near p (Alarms subject (Some href) user) w = by_map p (unpolled p w + 4) (λ target. Acking w target (ack_in user)) (ack_target w href) (λ target. omega arith)
+acked_near p (Alarms subject (Some href) user) w = by_map p (unpolled p w + 4) (λ target. Acking w target user) (ack_target w href) (λ target. omega arith)
 
 printed_near : (p : Program) (n : ℕ) (heading more : List ℕ) (body : Option (List ℕ)) (next : Option Stage) (t : Stage) → IsNearer p n next → (printed heading more body next).next ≡ Ok t → stages_left p t < n
 printed_near p n heading more None next t near is = absurd (let e : Err peer.Shape ≡ Ok t = is in cc)
@@ -101,7 +100,7 @@ at_near p (Subject ops place) o t asks is =
     let feed : Option Place = child_place place.url o (codes "feed") in
     nearer p (p.polls + 5) (to_feed ops feed) t (by_map p (p.polls + 5) (λ x. Adding (begun ops (x.target ∷ []))) feed (λ x. omega arith)) is
 at_near p (Adding w) o t asks is = tested p (unpolled p w + 4) (has_entries o) (on_add p w o) t (add_near p w o t) is
-at_near p (Acking w target body) o t asks is = nearer p (unpolled p w + 3) (Some (onward p w)) t (onward_near p w) is
+at_near p (Acking w target user) o t asks is = nearer p (unpolled p w + 3) (Some (onward p w)) t (onward_near p w) is
 at_near p (Polling w) o t asks is = tested p (unpolled p w + 2) (follows_all w o) (on_poll p (polled w PollChanges o)) t (poll_near p w (polled w PollChanges o) t refl) is
 at_near p (Mending w) o t asks is = tested p (unpolled p w + 2) (has_entries o) (on_poll p (polled w PollRefresh o)) t (poll_near p w (polled w PollRefresh o) t refl) is
 at_near p (Deleting w) o t asks is = nearer p 1 (Some Over) t (omega arith) is

@@ -1,5 +1,5 @@
 -- A request and its reply.
-use Rattle.std.specs.Prelude.{◌≡◌, ◌≢◌, Some, None, Ok, Err}
+use Rattle.std.specs.Prelude.{◌≡◌, ◌≢◌, Some, None, Result, Ok, Err}
 use Rattle.ob_object.specs.Object.{Object}
 use Rattle.ob_watching.specs.WatchOuts.{Text}
 use Rattle.ob_client.specs.Sessions.{Answers, Asks, Reads}
@@ -11,6 +11,11 @@ use Rattle.ob_dialogue.specs.Plans.{Request}
 use Rattle.ob_dialogue.specs.Stages.{Stage, request_at}
 use Rattle.ob_dialogue.specs.declared.link.Exchange.{Exchange}
 use Rattle.ob_dialogue.specs.declared.link.Exchange.TheVariants as exchange
+
+-- what a call gave
+abbrev pub gave : Result Object CallFault → Exchange
+gave (Ok o) = exchange.Reply o
+gave (Err f) = exchange.Fault f
 
 -- this was asked, and so was it answered
 pub record Called (host : Text) (s : Stage) (old new : Wire) (reply : Object) : Type 0 where

@@ -5,6 +5,7 @@ use Rattle.ob_values.specs.declared.verb.Verb.TheVariants.{Post}
 use Rattle.ob_object.specs.Object.{Object}
 use Rattle.ob_watching.specs.WatchOuts.{Text, Held}
 use Rattle.ob_client.specs.Mirrors.{Asks, replied}
+use Rattle.ob_console.specs.Acks.{ack_in}
 use Rattle.ob_dialogue.specs.Plans.{Program, Place, Request, child_place}
 -- what is asked of a watch
 pub use Rattle.ob_asking.specs.Watches.{watch_in, get}
@@ -31,9 +32,9 @@ pub data Stage : Type 0 where
   Make : Place → Stage
   -- the alarm subject whose feed is to be added
   Subject : Ops → Place → Stage
-  -- the add; the acknowledgement of an alarm there, with this body
+  -- the add; the acknowledgement of an alarm there, as this user
   Adding : Watching → Stage
-  Acking : Watching → Text → Object → Stage
+  Acking : Watching → (target : Text) → (user : Text) → Stage
   -- a poll; a refresh in place of one that was broken
   Polling : Watching → Stage
   Mending : Watching → Stage
@@ -51,7 +52,7 @@ request_at (Service place) = Some (get place)
 request_at (Make place) = Some (post place None)
 request_at (Subject ops place) = Some (get place)
 request_at (Adding w) = Some (post w.ops.add (Some (watch_in w.asked)))
-request_at (Acking w target body) = Some (record { verb = Post; target = target; body = Some body })
+request_at (Acking w target user) = Some (record { verb = Post; target = target; body = Some (ack_in user) })
 request_at (Polling w) = Some (post w.ops.changes None)
 request_at (Mending w) = Some (post (unwrap_or w.ops.refresh w.ops.changes) None)
 request_at (Deleting w) = Some (post w.ops.delete None)

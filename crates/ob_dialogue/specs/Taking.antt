@@ -8,7 +8,7 @@ use Rattle.ob_watching.specs.Asked.{Add, PollChanges, PollRefresh}
 use Rattle.ob_watching.specs.WatchOuts.{Text}
 use Rattle.ob_client.specs.Entries.{is_err, entries_once}
 use Rattle.ob_client.specs.Mirrors.{all_follow}
-use Rattle.ob_console.specs.Acks.{op_of, leads_to, ack_in}
+use Rattle.ob_console.specs.Acks.{op_of, leads_to}
 use Rattle.ob_dialogue.specs.Plans.{Program, Watched, Hrefs, Alarms, Place, place_at, child_place}
 use Rattle.ob_dialogue.specs.Stages.{Ops, Watching, Stage, Lobby, Service, Make, Subject, Adding, Acking, Polling, Mending, Deleting, Over, ops_of, begun, told, polled, onward}
 use Rattle.ob_dialogue.specs.Printing.{body_text, board_in, add_heading, poll_heading, errs_text}
@@ -50,7 +50,7 @@ ack_target w href = option_and_then (λ board. where_led (leads_to w.ops.add.url
 abbrev pub acked : Program → Watched → Watching → Option Stage
 acked p (Hrefs hrefs) w = Some (onward p w)
 acked p (Alarms subject None user) w = Some (onward p w)
-acked p (Alarms subject (Some href) user) w = option_map (λ target. Acking w target (ack_in user)) (ack_target w href)
+acked p (Alarms subject (Some href) user) w = option_map (λ target. Acking w target user) (ack_target w href)
 
 -- under a heading what is held, and behind it the next stage
 abbrev pub printed : List ℕ → List ℕ → Option (List ℕ) → Option Stage → Taken
@@ -79,7 +79,7 @@ taken_at p (Service place) o = silent (option_map Make (child_place place.url o 
 taken_at p (Make place) o = silent (to_watch p.url p.watched (ops_of (nat_lt 0 p.retries) place.url o))
 taken_at p (Subject ops place) o = silent (to_feed ops (child_place place.url o (codes "feed")))
 taken_at p (Adding w) o = cond (has_entries o) (on_add p w o) (silent None)
-taken_at p (Acking w target body) o = silent (Some (onward p w))
+taken_at p (Acking w target user) o = silent (Some (onward p w))
 taken_at p (Polling w) o = cond (follows_all w o) (on_poll p (polled w PollChanges o)) (silent None)
 taken_at p (Mending w) o = cond (has_entries o) (on_poll p (polled w PollRefresh o)) (silent None)
 taken_at p (Deleting w) o = silent (Some Over)

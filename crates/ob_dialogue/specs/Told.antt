@@ -71,7 +71,7 @@ stage (at.Service p) = stages.Service (place p)
 stage (at.Make p) = stages.Make (place p)
 stage (at.Subject o p) = stages.Subject (ops o) (place p)
 stage (at.Add w) = stages.Adding (watching w)
-stage (at.Ack w target body) = stages.Acking (watching w) target body
+stage (at.Ack w target user) = stages.Acking (watching w) target user
 stage (at.Poll w) = stages.Polling (watching w)
 stage (at.Mend w) = stages.Mending (watching w)
 stage (at.Delete w) = stages.Deleting (watching w)
@@ -83,10 +83,15 @@ is_poll s = stages.is_poll (stage s)
 -- no reply was lost, but where that is to be mended; and a further poll can be counted
 abbrev pub IsLive : Stage → Type 0
 IsLive (at.Add w) = w.mirror.stale ≡ false
-IsLive (at.Ack w target body) = w.mirror.stale ≡ false
+IsLive (at.Ack w target user) = w.mirror.stale ≡ false
 IsLive (at.Poll w) = (w.mirror.stale ≡ false) × (w.polled + 1 < 2 ^ 64)
 IsLive (at.Mend w) = w.polled + 1 < 2 ^ 64
 IsLive _ = Unit {0}
+
+-- it is asked by a call of the session itself: an alarm is acknowledged by ob_console's
+abbrev pub IsCalled : Stage → Type 0
+IsCalled (at.Ack w target user) = ⊥
+IsCalled _ = Unit {0}
 
 abbrev pub OptionIsLive : Option Stage → Type 0
 OptionIsLive None = Unit {0}

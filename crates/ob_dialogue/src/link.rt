@@ -4,7 +4,7 @@ ghost use Rattle.ob_io.specs.Faults.{Rose};
 ghost use Rattle.ob_io.specs.Links.{inlet};
 ghost use Rattle.ob_client.specs.declared.call_fault.CallFault.TheVariants as calls;
 ghost use Rattle.ob_dialogue.specs.Legs.{Goes, Leg, had, ending_of, ended_by};
-ghost use Rattle.ob_dialogue.specs.Exchanges.{Exchanges, Replied, FailedByLink, WasAlive, wire};
+ghost use Rattle.ob_dialogue.specs.Exchanges.{Exchanges, Replied, FailedByLink, WasAlive, gave, wire};
 ghost use Rattle.ob_dialogue.specs.Told as told;
 
 use crate::ending::{Ending, Peer};
@@ -13,6 +13,7 @@ use crate::request::request_at;
 use crate::stage::{Stage, is_poll, mended};
 use crate::taking::{Outcome, taken};
 use ob_client::{CallFault, Session};
+use ob_console::acknowledge_at;
 use ob_io::{Link, Sink, write_all};
 use ob_object::Obj;
 use std::alloc::{AllocError, Global};
@@ -82,6 +83,16 @@ fn broken(stage: Stage, fault: CallFault, mends: bool) -> Pause
     }
 }
 
+// What a call gave.
+fn gave(answer: Result<Obj, CallFault>) -> Exchange
+    ensures { result ≡ gave answer }
+{
+    match answer {
+        Ok(reply) => Exchange::Reply(reply),
+        Err(fault) => Exchange::Fault(fault),
+    }
+}
+
 // Asks what comes next, and reads the reply.
 fn ask<L: Link>(alloc: Global, stage: &Stage, session: &mut Session<L>) -> Exchange
     requires { session.old.is_dead ≡ false }
@@ -97,16 +108,16 @@ fn ask<L: Link>(alloc: Global, stage: &Stage, session: &mut Session<L>) -> Excha
         ⊎ Rose (L.write_faults session.old.link) (L.write_faults session.new.link) }
     ensures lives { WasAlive result }
 {
+    if let Stage::Ack(_, target, user) = stage {
+        return gave(acknowledge_at(alloc, session, target, user));
+    }
     let Ok(asked) = request_at(alloc, stage) else {
         return Exchange::Memory;
     };
     let Some(request) = asked else {
         return Exchange::Over;
     };
-    match session.call(request.verb, &request.target, request.body.as_ref()) {
-        Ok(reply) => Exchange::Reply(reply),
-        Err(fault) => Exchange::Fault(fault),
-    }
+    gave(session.call(request.verb, &request.target, request.body.as_ref()))
 }
 
 // The dialogue goes on, or the other side ended it.

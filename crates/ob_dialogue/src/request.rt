@@ -48,16 +48,9 @@ fn add(alloc: Global, watching: &Watching) -> Result<Option<Request>, AllocError
     post(&watching.ops.add.target, Some(input))
 }
 
-// An alarm is acknowledged.
-fn acknowledge(target: &Text, body: &Obj) -> Result<Option<Request>, AllocError>
-    ensures { IfOk result (λ r. option_map told.request r ≡ Some (told.post target.now (Some body.now))) }
-{
-    let input = body.copy()?;
-    post(target, Some(input))
-}
-
-/// What is asked next; None at the end. An error only for want of memory.
+/// What is asked next by a call of the session; None at the end. An error only for want of memory.
 pub(crate) fn request_at(alloc: Global, stage: &Stage) -> Result<Option<Request>, AllocError>
+    requires { told.IsCalled stage.now }
     ensures { IfOk result (λ r. option_map told.request r ≡ request_at (told.stage stage.now)) }
 {
     match stage {
@@ -66,7 +59,7 @@ pub(crate) fn request_at(alloc: Global, stage: &Stage) -> Result<Option<Request>
         Stage::Make(place) => post(&place.target, None),
         Stage::Subject(_, place) => get(place),
         Stage::Add(watching) => add(alloc, watching),
-        Stage::Ack(_, target, body) => acknowledge(target, body),
+        Stage::Ack(_, _, _) => unreachable!(),
         Stage::Poll(watching) => post(&watching.ops.changes.target, None),
         Stage::Mend(watching) => post(watching.ops.mending(), None),
         Stage::Delete(watching) => post(&watching.ops.delete.target, None),

@@ -37,7 +37,8 @@ pub(crate) enum Stage {
     Make(Place),
     Subject(Ops, Place),
     Add(Watching),
-    Ack(Watching, Text, Obj),
+    /// The op `ack` of an alarm is called at this path, as this user.
+    Ack(Watching, Text, Text),
     Poll(Watching),
     Mend(Watching),
     Delete(Watching),

@@ -1,6 +1,5 @@
 //! What a reply gives.
 ghost use Rattle.std.specs.Prelude.{◌≡◌, ◌+◌, ◌<◌, ◌^◌, ◌++◌, IfOk, false, codes, option_map};
-ghost use Rattle.ob_console.specs.Acks.{ack_in};
 ghost use Rattle.ob_dialogue.specs.Plans.{child_place};
 ghost use Rattle.ob_dialogue.specs.Printing.{add_heading, body_text};
 ghost use Rattle.ob_dialogue.specs.Stages as stages;
@@ -14,7 +13,7 @@ use crate::plan::{Plan, Topic};
 use crate::stage::{Ops, Stage, Watching, begun, onward, ops_of};
 use ob_asking::{Place, child_place, place_at};
 use ob_client::MirrorFault;
-use ob_console::{AckFault, ack_in, ack_target};
+use ob_console::{AckFault, ack_target};
 use ob_object::{Kind, Obj};
 use ob_values::Text;
 use std::alloc::{AllocError, Global};
@@ -157,20 +156,19 @@ fn target_of(alloc: Global, watching: &Watching, href: &Text) -> Result<Option<T
 
 // The alarm is acknowledged there.
 fn to_ack(
-    alloc: Global,
     watching: Watching,
     target: Option<Text>,
     user: &Text,
 ) -> Result<Option<Stage>, AllocError>
     requires { watching.mirror.stale ≡ false }
-    ensures value { IfOk result (λ s. option_map told.stage s ≡ option_map (λ t. stages.Acking (told.watching watching) t (ack_in user.now)) target) }
+    ensures value { IfOk result (λ s. option_map told.stage s ≡ option_map (λ t. stages.Acking (told.watching watching) t user.now) target) }
     ensures live { IfOk result (λ s. told.OptionIsLive s) }
 {
     let Some(target) = target else {
         return Ok(None);
     };
-    let input = ack_in(alloc, user)?;
-    Ok(Some(Stage::Ack(watching, target, input)))
+    let user = user.copy()?;
+    Ok(Some(Stage::Ack(watching, target, user)))
 }
 
 // Behind the add: the acknowledgement of an alarm, if one is wanted.
@@ -189,7 +187,7 @@ fn acked(alloc: Global, plan: &Plan, watching: Watching) -> Result<Option<Stage>
             None => Ok(Some(onward(plan, watching))),
             Some(href) => {
                 let target = target_of(alloc, &watching, href)?;
-                to_ack(alloc, watching, target, user)
+                to_ack(watching, target, user)
             }
         },
     }
