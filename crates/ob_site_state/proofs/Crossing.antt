@@ -121,7 +121,7 @@ state_parts_send =
               search (sendable, moment.the_send) depth 24,
               (
                 search (sendable, heap.crosses, change_send) depth 24,
-                (search (sendable, heap.crosses) depth 24, tt),
+                (search (sendable, heap.crosses, maps.crosses) depth 24, tt),
               ),
             ),
           ),
