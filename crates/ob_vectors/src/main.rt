@@ -11,6 +11,7 @@ mod contracts;
 mod counter;
 mod documents;
 mod filters;
+mod firings;
 mod histories;
 mod hrefs;
 mod journals;
@@ -20,6 +21,7 @@ mod notes;
 mod objects;
 mod outside;
 mod pieces;
+mod schedules;
 mod spelled;
 mod streams;
 mod supers;
@@ -36,6 +38,7 @@ use configs::Configs;
 use contracts::Contracts;
 use documents::Documents;
 use filters::Filters;
+use firings::Firings;
 use histories::Histories;
 use hrefs::Hrefs;
 use journals::Journals;
@@ -44,6 +47,7 @@ use ob_rows::run;
 use objects::Objects;
 use outside::Outside;
 use pieces::Pieces;
+use schedules::ScheduleFiles;
 use std::io;
 use std::rt::Files;
 use streams::{Heads, Limits, Streams};
@@ -104,6 +108,11 @@ fn run_contracts<R: Print + Files + AllocGlobal>(rt: &R) -> io::Result<()> {
     run(rt, "contracts.rows", &mut contracts)
 }
 
+fn run_schedules<R: Print + Files + AllocGlobal>(rt: &R) -> io::Result<()> {
+    run(rt, "firings.rows", &mut Firings)?;
+    run(rt, "schedules.rows", &mut ScheduleFiles)
+}
+
 fn run_supers<R: Print + Files + AllocGlobal>(rt: &R) -> io::Result<()> {
     run(rt, "configs.rows", &mut Configs)?;
     run(rt, "supers.rows", &mut Supers::new(rt.alloc()))
@@ -117,6 +126,7 @@ fn main(rt: HostRuntime) -> io::Result<()> {
     run_calls(&rt)?;
     run_documents(&rt)?;
     run_contracts(&rt)?;
+    run_schedules(&rt)?;
     run_supers(&rt)?;
     run_turns(&rt, "turns.rows")
 }
