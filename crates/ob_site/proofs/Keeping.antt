@@ -28,7 +28,7 @@ use Rattle.ob_watch.specs.Flags.{flags_of}
 use Rattle.ob_watch.specs.Tables.{Table, has_no_place, lapsed_at, live}
 use Rattle.ob_watch.proofs.LawLemmas.{tables_agree}
 use Rattle.ob_site.specs.Between.{IsBegun}
-use Rattle.ob_site.specs.Keeping.{Stepping, stepping, Keeps, KeepsChange, KeepsMake, KeepsNext, KeepsNothing, KeepsPlace, KeepsRequest, MayKeep}
+use Rattle.ob_site.specs.Keeping.{Stepping, stepping, IsChange, Keeps, KeepsChange, KeepsMake, KeepsNext, KeepsNothing, KeepsPlace, KeepsRequest, MayKeep}
 use Rattle.ob_site.specs.Steps.{step_of}
 use Rattle.ob_site.specs.Views.{site_of}
 use Rattle.ob_site.proofs.Stepped.{at_moment}
@@ -97,23 +97,30 @@ module _ (k : Kept) (t : Table) (r : Request) where
       next = inl refl;
     }
 
-    request_so : (o : Object) → r.verb ≢ Get → o ≡ acted_on.1 → keeps a l r k.time t.next o → KeepsRequest below keeps a l (step_of k t r Itself)
-    request_so o verb e kept = record {
+    request_so : (o : Object) → r.verb ≢ Get → (step_of k t r Itself).left.site ≢ k.now → o ≡ acted_on.1 → keeps a l r k.time t.next o → KeepsRequest below keeps a l (step_of k t r Itself)
+    request_so o verb changed e kept = record {
       target = refl;
       verb = verb;
+      changed = changed;
       kept = subst (λ (x : Object). keeps a l r k.time t.next x) (e ∙ ap (λ (ns : List ℕ). (acts_on k ns r).1) (sym same_numbers)) kept;
     }
 
     -- the same of the state in the middle of the step
-    done_so : (m : Kept) (o : Object) → IsDone k m acted_on o → r.verb ≢ Get → keeps a l r m.time t.next o → KeepsRequest below keeps a l (step_of k t r Itself)
-    done_so m o done verb kept =
-        request_so o verb done.answer (subst (λ (time : ℕ). keeps a l r time t.next o) (ap (λ (x : Kept). x.time) done.after) kept)
+    done_so : (m : Kept) (o : Object) → IsBegun k t → IsDone k m acted_on o → IsChange m.before m.now r.verb → keeps a l r m.time t.next o → KeepsRequest below keeps a l (step_of k t r Itself)
+    done_so m o is done change kept =
+        request_so o change.0 (λ same. change.1 (
+        ap (λ (x : Kept). roll x.now) done.after
+        ∙ sym (ap (λ (ns : List ℕ). roll (acts_on k ns r).0) same_numbers)
+        ∙ same
+        ∙ sym is.before
+        ∙ sym (ap (λ (x : Kept). x.before) done.after)
+        )) done.answer (subst (λ (time : ℕ). keeps a l r time t.next o) (ap (λ (x : Kept). x.time) done.after) kept)
 
     pub change_so : (m : Kept) (o : Object) → IsBegun k t → IsDone k m acted_on o → KeepsChange below keeps a l m.before m.now r m.time t.next o → Keeps below keeps a l (step_of k t r Itself)
     change_so m o is done (inl (same, inl e)) =
         inl (unchanged_so is same (sym (ap (λ (x : Kept). x.now) done.after) ∙ e ∙ ap (λ (x : Kept). x.before) done.after ∙ is.before))
     change_so m o is done (inl (same, inr get)) = inl (unchanged_so is same (read_leaves k numbers r get))
-    change_so m o is done (inr (verb, kept)) = inr (inl (done_so m o done verb kept))
+    change_so m o is done (inr (change, kept)) = inr (inl (done_so m o is done change kept))
 
     -- ---- a request for a new watch
 
@@ -152,9 +159,9 @@ module _ (k : Kept) (t : Table) (r : Request) where
 
   module _ {K : Type 0} (below : K → ℕ) (may_keep keeps : K → K → Request → ℕ → ℕ → Object → Type 0) (a l : K) where
     -- the same where the step is not done
-    pub may_change_so : (m : Kept) (o : Object) → IsDone k m acted_on o → (l ≡ a) ⊎ ((r.verb ≢ Get) × may_keep a l r m.time t.next o) → MayKeep below may_keep keeps a l (step_of k t r Itself)
-    may_change_so m o done (inl same) = inl same
-    may_change_so m o done (inr (verb, kept)) = inr (inl (done_so below may_keep a l m o done verb kept))
+    pub may_change_so : (m : Kept) (o : Object) → IsBegun k t → IsDone k m acted_on o → (l ≡ a) ⊎ (IsChange m.before m.now r.verb × may_keep a l r m.time t.next o) → MayKeep below may_keep keeps a l (step_of k t r Itself)
+    may_change_so m o is done (inl same) = inl same
+    may_change_so m o is done (inr (change, kept)) = inr (inl (done_so below may_keep a l m o is done change kept))
 
     pub may_next_so : (l ≡ a) ⊎ KeepsNext below may_keep a l k.plan k.time t r → MayKeep below may_keep keeps a l (step_of k t r NewWatch)
     may_next_so (inl same) = inl same

@@ -3,6 +3,7 @@ pub mod Unchanged
 pub mod Known
 pub mod Asked
 pub mod Nodes
+pub mod Noted
 pub mod Marks
 pub mod Ended
 pub mod Acted

@@ -25,10 +25,10 @@ use Rattle.ob_watch.specs.declared.item.Tracked.TheVariants as tracked
 use Rattle.ob_site.specs.Ending.{NodesStay}
 use Rattle.ob_site.proofs.Levels.{levels_changed}
 
-equal_of : (a b : ℕ) → nat_eq a b ≡ true → a ≡ b
+pub equal_of : (a b : ℕ) → nat_eq a b ≡ true → a ≡ b
 equal_of a b e = grind (arith, nat_tests)
 
-differ_of : (a b : ℕ) → nat_eq a b ≡ false → a ≡ b → ⊥
+pub differ_of : (a b : ℕ) → nat_eq a b ≡ false → a ≡ b → ⊥
 differ_of a b e same = grind (arith, nat_tests)
 
 -- the object of a number can be watched, if there is one

@@ -1,5 +1,6 @@
 -- What is kept of a step, before anything of it counts: what the site's next life needs, and no more (this project's own).
-use Rattle.std.specs.Prelude.{◌≡◌, ◌≢◌, ◌⊎◌, ℕ, ◌+◌, ◌<◌, ◌≤◌, true, false}
+use Rattle.std.specs.Prelude.{◌≡◌, ◌≢◌, ◌⊎◌, ℕ, ◌+◌, ◌≤◌, true, false}
+use Rattle.ob_values.specs.declared.verb.Verb.{Verb}
 use Rattle.ob_values.specs.declared.verb.Verb.TheVariants.{Get}
 use Rattle.ob_object.specs.Object.{Object}
 use Rattle.ob_history.specs.declared.records.Filter.{Filter}
@@ -10,7 +11,7 @@ use Rattle.ob_site_rules.specs.Build.{Path, Text}
 use Rattle.ob_site_rules.specs.Computed.{watch_part_object}
 use Rattle.ob_site_rules.specs.Paths.{Whole}
 use Rattle.ob_site_rules.specs.Sites.{SiteState}
-use Rattle.ob_site_rules.specs.State.{Plan, State}
+use Rattle.ob_site_rules.specs.State.{Plan, State, roll}
 use Rattle.ob_site_rules.specs.Watched.{SiteTarget}
 use Rattle.ob_site_laws.specs.SiteLaws.{acts, of_plan}
 use Rattle.ob_watch.specs.Tables.{Table, has_no_place, lapsed_at}
@@ -39,6 +40,10 @@ stepping st r moment = record {
   reply = (acts st r moment).1;
 }
 
+-- The step of a request in which the site became `now` of `before` has changed it: what was set and set back is as it was.
+abbrev pub IsChange : (before now : State) → Verb → Type 0
+IsChange before now verb = (verb ≢ Get) × (roll now ≢ before)
+
 -- below k is the first number of a watch that can't have been given, by what k has kept; and keeps k l says that l has kept a
 -- request more than k, with the site's time at it, the number of the next watch after it, and the reply
 module _ {K : Type 0} (below : K → ℕ) (keeps : K → K → Request → ℕ → ℕ → Object → Type 0) where
@@ -46,10 +51,12 @@ module _ {K : Type 0} (below : K → ℕ) (keeps : K → K → Request → ℕ �
   abbrev pub HasKept : K → K → Stepping → Type 0
   HasKept k l s = keeps k l s.request s.left.time s.left.next s.reply
 
-  -- A request was kept: one for the site itself, and no read.
+  -- A request was kept: one for the site itself, and no read. The step changes the site, so that no refused write is kept, nor one
+  -- of an equal value.
   pub record KeepsRequest (k l : K) (s : Stepping) : Type 0 where
     pub target : s.target ≡ Itself
     pub verb : s.request.verb ≢ Get
+    pub changed : s.left.site ≢ s.site
     pub kept : HasKept k l s
 
   -- A make was kept. The step makes a watch, whose number can't have been given, by what was kept before.
@@ -73,7 +80,7 @@ module _ {K : Type 0} (below : K → ℕ) (keeps : K → K → Request → ℕ �
   -- where it is as it was or the request is a read; or else the request was kept.
   abbrev pub KeepsChange : K → K → (before now : State) → Request → (time next : ℕ) → Object → Type 0
   KeepsChange k l before now r time next reply =
-      ((l ≡ k) × ((now ≡ before) ⊎ (r.verb ≡ Get))) ⊎ ((r.verb ≢ Get) × keeps k l r time next reply)
+      ((l ≡ k) × ((now ≡ before) ⊎ (r.verb ≡ Get))) ⊎ (IsChange before now r.verb × keeps k l r time next reply)
 
   -- It was kept that a watch is about to be made, since there is a place for one, and its number can't have been given.
   pub record KeepsNext (k l : K) (plan : Plan) (now : ℕ) (t : Table) (r : Request) : Type 0 where

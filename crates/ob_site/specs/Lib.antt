@@ -1,6 +1,7 @@
 pub mod Codes
 pub mod Views
 pub mod Between
+pub mod Noted
 pub mod Keeping
 pub mod Steps
 pub mod Ending

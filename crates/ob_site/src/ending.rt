@@ -2,13 +2,14 @@
 ghost use Rattle.std.specs.Prelude.{◌≡◌, ◌≢◌, ◌⊎◌, All, ◌<◌, ◌-◌, ◌^◌, map, OnOk, OnErr, MatchBool};
 ghost use Rattle.ob_values.specs.declared.verb.Verb.TheVariants.{Get};
 ghost use Rattle.ob_object.specs.Object.{parts};
-ghost use Rattle.ob_given_laws.specs.Given.{TakesNoneAway};
+ghost use Rattle.ob_given_laws.specs.Given.{IsMade, TakesNoneAway};
 ghost use Rattle.ob_site_defaults.specs.Ended.{EndsAll};
 ghost use Rattle.ob_site_feeds.specs.News.{IsNews};
 ghost use Rattle.ob_site.specs.Between.{AreKept};
 ghost use Rattle.ob_site.specs.Ending.{IsEnded, NodesStay};
-ghost use Rattle.ob_site.specs.Keeping.{KeepsChange};
+ghost use Rattle.ob_site.specs.Keeping.{IsChange, KeepsChange};
 
+use crate::changed::has_changed;
 use crate::keeper::Keeper;
 use ob_object::Obj;
 use ob_site_defaults::stamped_nodes;
@@ -45,14 +46,26 @@ fn settle(state: &mut State, watches: &mut Watches, nodes: &[NodeId], news: &New
     state.commit();
 }
 
-/// Whether a request needs no keeping: it is a read, or the step has noted no change.
-fn is_left_out(state: &State, verb: Verb) -> bool
-    ensures { MatchBool result ((state.now.now ≡ state.now.before) ⊎ (verb ≡ Get)) (verb ≢ Get) }
+/// Whether a verb is that of a read.
+fn is_read(verb: Verb) -> bool
+    ensures { MatchBool result (verb ≡ Get) (verb ≢ Get) }
 {
     match verb {
         Verb::Get => true,
-        Verb::Put | Verb::Post => state.changes().is_empty(),
+        Verb::Put | Verb::Post => false,
     }
+}
+
+/// Whether a request needs no keeping: it is a read, or the step has not changed the site.
+fn is_left_out(state: &State, verb: Verb) -> bool
+    requires made_before { IsMade state.now.before }
+    requires made { IsMade state.now.now }
+    ensures { MatchBool result ((state.now.now ≡ state.now.before) ⊎ (verb ≡ Get)) (IsChange state.now.before state.now.now verb) }
+{
+    if is_read(verb) {
+        return true;
+    }
+    !has_changed(state)
 }
 
 /// Has a keeper keep a request that has changed the site, with the reply that it is about to have.
@@ -63,9 +76,11 @@ fn keep_change<K: Keeper>(
     request: &Request,
     reply: &Obj,
 ) -> Result<(), AllocError>
+    requires made_before { IsMade state.now.before }
+    requires made { IsMade state.now.now }
     requires ready { K.is_ready keeper.old }
     ensures done { OnOk result (KeepsChange K.below K.keeps keeper.old keeper.new state.now.before state.now.now request.now state.now.time watches.now.next reply.now) }
-    ensures err { OnErr result ((request.now.verb ≢ Get) × K.may_keep keeper.old keeper.new request.now state.now.time watches.now.next reply.now) }
+    ensures err { OnErr result (IsChange state.now.before state.now.now request.now.verb × K.may_keep keeper.old keeper.new request.now state.now.time watches.now.next reply.now) }
 {
     if is_left_out(state, request.verb) {
         return Ok(());
@@ -90,7 +105,7 @@ pub(crate) fn end_step<K: Keeper>(
     ensures state { OnErr result (state.new ≡ state.old) }
     ensures watches { OnErr result (watches.new ≡ watches.old) }
     ensures keeps { OnOk result (KeepsChange K.below K.keeps keeper.old keeper.new state.old.before state.old.now request.now state.old.time watches.old.next reply.now) }
-    ensures may_keep { OnErr result ((keeper.new ≡ keeper.old) ⊎ ((request.now.verb ≢ Get) × K.may_keep keeper.old keeper.new request.now state.old.time watches.old.next reply.now)) }
+    ensures may_keep { OnErr result ((keeper.new ≡ keeper.old) ⊎ (IsChange state.old.before state.old.now request.now.verb × K.may_keep keeper.old keeper.new request.now state.old.time watches.old.next reply.now)) }
 {
     nodes_stay(state);
     let nodes = stamped_nodes(state)?;

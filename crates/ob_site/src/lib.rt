@@ -5,6 +5,7 @@
 #![tactic(auto)]
 
 mod acting;
+mod changed;
 mod ending;
 mod keeper;
 mod laws;

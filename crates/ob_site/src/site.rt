@@ -128,7 +128,7 @@ impl Site {
     /// of the site needs. An error for want of memory, or from the keeper, leaves the site as it was.
     ///
     /// The keeper is asked once at most, before anything of the step counts: to keep a request for the site itself that has
-    /// noted a change, but no read; or a make that can be done, whose number can't have been given by what is kept. What isn't
+    /// changed it; or a make that can be done, whose number can't have been given by what is kept. What isn't
     /// kept leaves the site as it was. After it was asked, nothing but a make can fail, for want of memory: then it was kept, and
     /// no watch is made.
     pub fn step_kept<K: Keeper>(
