@@ -25,9 +25,11 @@ fn entry(word: &str, place: i64) -> Option<Entry> {
 
 fn entries(alloc: Global, said: &str) -> Result<Vec<Entry>, AllocError> {
     let mut entries = Vec::new(alloc);
+    let mut place = 0;
     for word in said.split_whitespace() {
-        if let Some(entry) = entry(word, entries.len() as i64) {
+        if let Some(entry) = entry(word, place) {
             entries.push(entry)?;
+            place = place.wrapping_add(1);
         }
     }
     Ok(entries)
