@@ -1,10 +1,10 @@
 -- Entries that are written as a journal appends them.
-use Rattle.std.proofs.Common.{◌≡◌, ℕ, suc, ◌+◌, ◌<◌, ◌≤◌, ◌^◌, List, [], ◌∷◌, ◌++◌, length, drop, Option, Some, None, refl, sym, ap, ◌∙◌, subst, arith, ap₂, ◌-◌, take, drop-cons, drop_at, length-append, add-one, append-nil}
+use Rattle.std.proofs.Common.{◌≡◌, ◌↔◌, ℕ, suc, ◌+◌, ◌<◌, ◌≤◌, ◌^◌, List, [], ◌∷◌, ◌++◌, length, drop, Option, Some, None, refl, sym, ap, ◌∙◌, subst, arith, ap₂, ◌-◌, take, drop-cons, drop_at, length-append, add-one, append-nil}
 use Rattle.std.proofs.lemmas.List.{take_at}
 use Rattle.std.specs.Prelude.{get_or}
-use Rattle.ob_object.specs.Object.{Object, in_row, listed, in_row-listed}
+use Rattle.ob_object.specs.Object.{Object, Objects, none, node, in_row, listed, in_row-listed}
 use Rattle.ob_encode.specs.Canonical.{canonical_text}
-use Rattle.ob_grammar.specs.Carried.{IsCarried, IsTextIfThere}
+use Rattle.ob_grammar.specs.Carried.{IsCarried, IsRowCarried, IsTextIfThere}
 use Rattle.ob_documents.specs.Held.{IsHeld, IsShallow}
 use Rattle.ob_site_rules.specs.declared.request.Request.{Request}
 use Rattle.ob_times.specs.Times.{IsMoment}
@@ -20,18 +20,42 @@ use Rattle.ob_record_journal.specs.Runs.{opening_line}
 cut : {A : Type 0} (xs : List A) (i : ℕ) (x : A) → i < length xs → x ≡ get_or xs i x → drop i xs ≡ x ∷ drop (i + 1) xs
 cut xs i x h is = drop-cons xs i x h ∙ ap (λ y. y ∷ drop (suc i) xs) (sym is) ∙ ap (λ (k : ℕ). x ∷ drop k xs) (sym (add-one i))
 
--- one object more is shallow
-pub next_shallow : (level : ℕ) (os kids : List Object) (i : ℕ) (o : Object) → i < length os → o ≡ get_or os i o → level < 32 → kids ≡ listed o.inner → IsShallow (level + 1) (in_row kids)
-    → (IsShallow level (in_row (drop i os)) → IsShallow level (in_row os)) → IsShallow level (in_row (drop (i + 1) os)) → IsShallow level (in_row os)
-next_shallow level os kids i o h is low kids_are inner all rest =
-    let inside : IsShallow (suc level) o.inner =
-    subst (λ (n : ℕ). IsShallow n o.inner) (add-one level) (subst (IsShallow (level + 1)) (ap in_row kids_are ∙ in_row-listed o.inner) inner) in
-    all (subst (λ (l : List Object). IsShallow level (in_row l)) (sym (cut os i o h is)) (low, inside, rest))
+module _ (level : ℕ) (os : List Object) (i : ℕ) (o : Object) (h : i < length os) (is : o ≡ get_or os i o) (all : IsShallow level (in_row (drop i os)) ↔ IsShallow level (in_row os)) where
+  -- one object where all are shallow
+  one_shallow : IsShallow level (in_row os) → (level < 32) × IsShallow (suc level) o.inner × IsShallow level (in_row (drop (i + 1) os))
+  one_shallow whole = subst (λ (l : List Object). IsShallow level (in_row l)) (cut os i o h is) (all.1 whole)
+
+  pub low_one : IsShallow level (in_row os) → level < 32
+  low_one whole = (one_shallow whole).0
+
+  module _ (kids : List Object) (kids_are : kids ≡ listed o.inner) where
+    -- what is in it, as its children tell it
+    inside_is : IsShallow (suc level) o.inner ≡ IsShallow (level + 1) (in_row kids)
+    inside_is = ap₂ IsShallow (sym (add-one level)) (sym (ap in_row kids_are ∙ in_row-listed o.inner))
+
+    pub kids_shallow : IsShallow level (in_row os) → IsShallow (level + 1) (in_row kids)
+    kids_shallow whole = subst (λ (T : Type 0). T) inside_is (one_shallow whole).1
+
+    -- one object more is shallow
+    pub next_shallow : level < 32 → IsShallow (level + 1) (in_row kids) → IsShallow level (in_row (drop (i + 1) os)) ↔ IsShallow level (in_row os)
+    next_shallow low inner = (
+      λ rest. all.0 (subst (λ (l : List Object). IsShallow level (in_row l)) (sym (cut os i o h is)) (low, subst (λ (T : Type 0). T) (sym inside_is) inner, rest)),
+      λ whole. (one_shallow whole).2,
+    )
+
+-- what a document carries is shallow
+carried_shallow : (level : ℕ) (os : Objects) → IsRowCarried level os → IsShallow level os
+carried_shallow level none row = tt
+carried_shallow level (node h below rest) row = (row.0, carried_shallow (suc level) below row.2, carried_shallow level rest row.3)
 
 pub shallow_body : (o : Object) (kids : List Object) (text : List ℕ) → ((ns : Option (List ℕ)) (o : Object) → IsTextIfThere ns → IsHeld o → IsShallow 1 o.inner → IsCarried ns o)
     → IsHeld o → kids ≡ listed o.inner → IsShallow 1 (in_row kids) → text ≡ canonical_text None o → length text ≤ 16_777_216 → IsBody (Some o)
 shallow_body o kids text carried held kids_are shallow is short =
     (carried None o tt held (subst (IsShallow 1) (ap in_row kids_are ∙ in_row-listed o.inner) shallow), subst (λ (l : List ℕ). length l ≤ 16_777_216) is short)
+
+-- a body of a record has shallow children
+pub body_shallow : (o : Object) (kids : List Object) → kids ≡ listed o.inner → IsBody (Some o) → IsShallow 1 (in_row kids)
+body_shallow o kids kids_are body = subst (IsShallow 1) (sym (ap in_row kids_are ∙ in_row-listed o.inner)) (carried_shallow 1 o.inner body.0.row)
 
 -- what stands before the last byte of an entry's text, and the line of the opening
 pub closed_is : (boot : Option ℕ) (e : Entry) (line text block : List ℕ) → line ≡ opening_line boot → text ≡ entry_text e → block ≡ (line ++ take (length text - 1) text) ++ 0 ∷ [] → block ≡ block_text boot (parts_of e) ++ 0 ∷ []

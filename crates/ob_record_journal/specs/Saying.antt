@@ -1,8 +1,9 @@
 -- What a file says of a run: as a journal its entries are the run's blocks.
-use Rattle.std.specs.Prelude.{◌≢◌, ℕ, ◌≤◌, List, [], Option, Some, None, Result, IsErrOf}
+use Rattle.std.specs.Prelude.{◌≡◌, ◌≢◌, ℕ, ◌≤◌, List, [], ◌∷◌, ◌++◌, Option, Some, None, Result, IsErrOf}
 use Rattle.ob_io.specs.Faults.{Rose}
-use Rattle.ob_journal.specs.Journal.{Says}
+use Rattle.ob_journal.specs.Journal.{front, Says}
 use Rattle.ob_record.specs.Blocks.{IsBlock}
+use Rattle.ob_record.specs.Broken.{BreaksAt}
 use Rattle.ob_record.specs.Runs.{Recorded, Records, IsRun}
 use Rattle.ob_record.specs.declared.run.Entry.{Entry}
 use Rattle.ob_record_journal.specs.declared.saying.SayingFault.{SayingFault}
@@ -34,6 +35,18 @@ abbrev pub UnsaidBy : List ℕ → SayingFault → Type 0
 UnsaidBy file (faults.Record place) = SaysNoRun file
 UnsaidBy file faults.Failed = ⊥
 UnsaidBy file faults.Memory = Unit {0}
+
+-- Where a file ceases to say a run: at its start, where it isn't a journal; or where its entries, with a line feed behind the
+-- last, cease to be the record of a run.
+pub data CeasesAt (file : List ℕ) (place : ℕ) : Type 0 where
+  at_start : place ≡ 0 → ((blocks : List (List ℕ)) → Says IsBlock file blocks → ⊥) → CeasesAt file place
+  in_blocks : (blocks : List (List ℕ)) → Says IsBlock file blocks → BreaksAt (front blocks ++ 10 ∷ []) place → CeasesAt file place
+
+-- the place that is told of a file
+abbrev pub HasPlace : List ℕ → SayingFault → Type 0
+HasPlace file (faults.Record place) = CeasesAt file place
+HasPlace file faults.Failed = Unit {0}
+HasPlace file faults.Memory = Unit {0}
 
 -- The count of faults hasn't fallen, and the device refused only where it rose.
 pub record HasSayingCause {T : Type 0} (before after : ℕ) (result : Result T SayingFault) : Type 0 where

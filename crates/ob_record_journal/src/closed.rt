@@ -1,5 +1,5 @@
 //! Entries as a journal appends them: blocks, each with a closed gate behind it.
-ghost use Rattle.std.specs.Prelude.{◌≡◌, ◌++◌, [], ◌∷◌, true, IfOk, IfSome};
+ghost use Rattle.std.specs.Prelude.{◌≡◌, ◌↔◌, ◌++◌, [], ◌∷◌, true, IfOk, IfNone, IfSome};
 ghost use Rattle.ob_object.specs.Object.{in_row};
 ghost use Rattle.ob_documents.specs.Held.{IsShallow};
 ghost use Rattle.ob_record.specs.Blocks.{block_text};
@@ -28,7 +28,7 @@ const BODY_LIMIT: usize = 16_777_216;
 
 /// Whether none of the objects, which stand in so many others, and none in them stands in 32.
 fn are_shallow(objects: &[Obj], level: u64) -> bool
-    ensures { result ≡ true → IsShallow level (in_row objects.now) }
+    ensures { result ≡ true ↔ IsShallow level (in_row objects.now) }
 {
     for object in objects {
         if level >= LEVELS || !are_shallow(object.children(), level + 1) {
@@ -40,7 +40,7 @@ fn are_shallow(objects: &[Obj], level: u64) -> bool
 
 /// Whether a record can have a body: it has at most 32 levels, and its canonical text at most 16,777,216 bytes.
 fn is_carried(alloc: Global, body: &Option<Obj>) -> Result<bool, AllocError>
-    ensures { IfOk result (λ yes. yes ≡ true → IsBody body.now) }
+    ensures { IfOk result (λ yes. yes ≡ true ↔ IsBody body.now) }
 {
     let Some(object) = body else {
         return Ok(true);
@@ -104,8 +104,8 @@ fn opening_text(alloc: Global, boot: Option<Moment>) -> Result<Vec<u8>, AllocErr
 /// The block of an entry with the byte 0 behind it, as a journal appends it; behind the line of the opening at a moment, where
 /// one is given.
 ///
-/// None where no record can have the entry: its body has more than 32 levels, or its canonical text more than 16,777,216 bytes.
-/// An error only for want of memory.
+/// None exactly where no record can have the entry: its body has more than 32 levels, or its canonical text more than
+/// 16,777,216 bytes. An error only for want of memory.
 pub fn write_closed(
     alloc: Global,
     boot: Option<Moment>,
@@ -114,6 +114,7 @@ pub fn write_closed(
     reply: &[u8],
 ) -> Result<Option<Vec<u8>>, AllocError>
     ensures entry { IfOk result (λ block. IfSome block (λ text. IsEntry (record { moment = moment; request = request.now; reply = told.Reply reply.now }))) }
+    ensures none { IfOk result (λ block. IfNone block (IsBody request.now.body → ⊥)) }
     ensures text { IfOk result (λ block. IfSome block (λ text. text.items ≡ block_text boot (parts_of (record { moment = moment; request = request.now; reply = told.Reply reply.now })) ++ 0 ∷ [])) }
 {
     moment.ms();

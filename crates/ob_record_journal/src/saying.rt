@@ -4,12 +4,12 @@ ghost use Rattle.ob_journal.specs.Device.{LeavesOnly};
 ghost use Rattle.ob_journal.specs.Journal.{Finds};
 ghost use Rattle.ob_journal.specs.declared.opening.Extent.TheVariants as extent;
 ghost use Rattle.ob_record.specs.Blocks.{IsBlock};
-ghost use Rattle.ob_record_journal.specs.Saying.{IsSaid, Unsaid, UnsaidBy, HasSayingCause};
+ghost use Rattle.ob_record_journal.specs.Saying.{IsSaid, Unsaid, UnsaidBy, HasPlace, HasSayingCause};
 
 use crate::blocks::Blocks;
 use crate::laws::record_at_rest;
 use ob_journal::{Device, DeviceFault, Extent, find, one_meaning};
-use ob_record::{RecordFault, Run, one_run, read_record, spelled_is_unbroken};
+use ob_record::{RecordFault, Run, read_record, spelled_is_unbroken};
 use std::alloc::{AllocError, AllocFailed, Global};
 use thiserror::Error;
 
@@ -19,8 +19,7 @@ const FIRST_LINE: usize = 13;
 /// Why no run was read of a device.
 #[derive(Clone, Copy, Debug, PartialEq, Eq, Drop, Error)]
 pub enum SayingFault {
-    /// The file says no run. The place is that of the first line or entry that no run has, in bytes from 0; or that of the
-    /// file's end, as far as it is blocks, where they are those of no run.
+    /// The file says no run. The place is that of the first line or entry that no run has, in bytes from 0.
     #[error("Record {place}")]
     Record { place: u64 },
     /// The device refused, and its count of faults rose.
@@ -65,10 +64,10 @@ fn run_to(alloc: Global, mut bytes: Vec<u8>, end: usize) -> Result<Option<Run>, 
     requires { Finds IsBlock bytes.items (Some (extent.Entries end)) }
     ensures said { IfOk result (IsSaid bytes.items) }
     ensures none { IfErr result (UnsaidBy bytes.items) }
+    ensures place { IfErr result (HasPlace bytes.items) }
 {
     one_meaning::<Blocks>();
     record_at_rest();
-    one_run();
     spelled_is_unbroken();
     if end == FIRST_LINE {
         return Ok(None);
@@ -76,12 +75,7 @@ fn run_to(alloc: Global, mut bytes: Vec<u8>, end: usize) -> Result<Option<Run>, 
     bytes.truncate(end);
     bytes.push(b'\n')?;
     match read_record(alloc, bytes) {
-        Ok(run) => {
-            if run.len() == 0 {
-                return Err(SayingFault::Record { place: end as u64 });
-            }
-            Ok(Some(run))
-        }
+        Ok(run) => Ok(Some(run)),
         Err(RecordFault::At { place }) => Err(SayingFault::Record { place }),
         Err(RecordFault::Memory) => Err(SayingFault::Memory),
     }
@@ -92,6 +86,7 @@ fn said_by(alloc: Global, bytes: Vec<u8>) -> Result<Said, SayingFault>
     ensures extent { IfOk result (λ said. Finds IsBlock bytes.items (Some said.extent)) }
     ensures said { IfOk result (λ said. IsSaid bytes.items said.run) }
     ensures none { IfErr result (UnsaidBy bytes.items) }
+    ensures place { IfErr result (HasPlace bytes.items) }
 {
     let Some(found) = find::<Blocks>(&bytes) else {
         return Err(SayingFault::Record { place: 0 });
@@ -105,11 +100,13 @@ fn said_by(alloc: Global, bytes: Vec<u8>) -> Result<Said, SayingFault>
 
 /// What the file of a device says of a run. The device is read, and not changed.
 ///
-/// `Record` comes exactly where the file says no run: it isn't the record of one, cut behind any of its entries.
+/// `Record` comes exactly where the file says no run: it isn't the record of one, cut behind any of its entries. Its place is
+/// that of the first line or entry that no run has.
 pub fn read_said<D: Device>(alloc: Global, device: &mut D) -> Result<Said, SayingFault>
     ensures extent { D.is_told → IfOk result (λ said. Finds IsBlock (D.seen device.old) (Some said.extent)) }
     ensures said { D.is_told → IfOk result (λ said. IsSaid (D.seen device.old) said.run) }
     ensures none { D.is_told → IfErr result (Unsaid (D.seen device.old)) }
+    ensures place { D.is_told → IfErr result (HasPlace (D.seen device.old)) }
     ensures seen { D.is_told → D.seen device.new ≡ D.seen device.old }
     ensures crash { D.is_told → (c : List ℕ) → D.may_leave device.new c → D.may_leave device.old c }
     ensures any_moment { D.is_told → LeavesOnly D.moment D.left_since device.old device.new (D.may_leave device.old) }

@@ -2,7 +2,7 @@ use Rattle.std.proofs.Common.{ℕ, List, Some, subst}
 use Rattle.std.specs.Prelude.{IfOk, IfErr}
 use Rattle.ob_journal.specs.Journal.{Finds}
 use Rattle.ob_record.specs.Blocks.{IsBlock}
-use Rattle.ob_record_journal.specs.Saying.{IsSaid, Unsaid}
+use Rattle.ob_record_journal.specs.Saying.{IsSaid, Unsaid, HasPlace}
 use Rattle.ob_record_journal.proofs.Telling.{never_failed, read_leaves, unsaid_of}
 use Rattle.ob_record_journal.proofs.saying.read_said.Goals as goal
 
@@ -17,6 +17,10 @@ returns-in-Ok-clause-said g c told =
 pub returns-in-Ok-clause-none : goal.returns-in-Ok-clause-none
 returns-in-Ok-clause-none g c told =
     subst (λ (f : List ℕ). IfErr c.said_by.result (Unsaid f)) (c.in-Ok.ensures.bytes told) (unsaid_of c.said_by.result _ c.said_by.ensures.none)
+
+pub returns-in-Ok-clause-place : goal.returns-in-Ok-clause-place
+returns-in-Ok-clause-place g c told =
+    subst (λ (f : List ℕ). IfErr c.said_by.result (HasPlace f)) (c.in-Ok.ensures.bytes told) c.said_by.ensures.place
 
 pub returns-in-Ok-clause-any_moment : goal.returns-in-Ok-clause-any_moment
 returns-in-Ok-clause-any_moment g c told =
