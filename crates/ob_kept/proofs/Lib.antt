@@ -1,0 +1,12 @@
+mod RepliesApart
+mod Redoing
+mod Steps
+mod KeptSteps
+mod Reopens
+mod Reading
+mod Restarts
+mod Appending
+mod Doing
+mod Boots
+mod Acting
+mod FrontLemmas

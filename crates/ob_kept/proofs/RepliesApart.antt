@@ -1,0 +1,42 @@
+-- The reply to a request that posts no list doesn't depend on which watches stand.
+use Rattle.std.proofs.Common.{◌≡◌, ℕ, Bool, true, false, cond, not, List, [], ◌∷◌, Option, Some, None, refl}
+use Rattle.std.specs.Prelude.{◌&&◌, nat_lt, length}
+use Rattle.url.specs.Parts.{Parts}
+use Rattle.ob_object.specs.Kinds.{same_kind}
+use Rattle.ob_object.specs.Object.{Object, children}
+use Rattle.ob_object.specs.declared.kind.Kind.TheVariants as kind
+use Rattle.ob_site_rules.specs.declared.request.Request.{Request}
+use Rattle.ob_site_rules.specs.Build.{Text, Path}
+use Rattle.ob_site_rules.specs.Faults.{Fault, OtherShape, TooManyBatchItems, first_fault}
+use Rattle.ob_site_rules.specs.State.{Plan, State}
+use Rattle.ob_site_rules.specs.Places.{Place, Batch, place_at}
+use Rattle.ob_site_rules.specs.Actions.{is_post, batch_or, batch, act_on, act_located, act_itself, act_at}
+use Rattle.ob_kept.specs.Redone.{is_list, is_batch}
+
+module _ (locate : Parts → Text → Option Path) (plan : Plan) (ns ks : List ℕ) (now : ℕ) where
+  -- what isn't a list is refused
+  refused_apart : (s : State) (body : Object) (rest : List (Bool × Fault)) (b : Bool) → b ≡ false
+      → (batch_or locate (first_fault ((not b, OtherShape) ∷ rest)) plan s ns now body).1 ≡ (batch_or locate (first_fault ((not b, OtherShape) ∷ rest)) plan s ks now body).1
+  refused_apart s body rest true e = absurd (cc e)
+  refused_apart s body rest false e = refl
+
+  reply_batch : (s : State) (body : Option Object) → is_list body ≡ false → (batch locate plan s ns now body).1 ≡ (batch locate plan s ks now body).1
+  reply_batch s None e = refl
+  reply_batch s (Some body) e = refused_apart s body ((nat_lt 1000 (length (children body)), TooManyBatchItems) ∷ []) (same_kind body.head.kind kind.List) e
+
+  reply_on : (s : State) (r : Request) (p : Path) (place : Option Place) → is_batch r ≡ false → (act_on locate plan s ns now r p place).1 ≡ (act_on locate plan s ks now r p place).1
+  reply_on s r p None e = refl
+  reply_on s r p (Some Batch) e = go (is_post r.verb) e
+    where
+      go : (b : Bool) → (b && is_list r.body) ≡ false → let with_ns : State × Object = cond b (batch locate plan s ns now r.body) (act_at plan s now p r.verb Batch r.body) in
+          let with_ks : State × Object = cond b (batch locate plan s ks now r.body) (act_at plan s now p r.verb Batch r.body) in with_ns.1 ≡ with_ks.1
+      go true e = reply_batch s r.body e
+      go false e = refl
+  reply_on s r p (Some place) e = refl
+
+  reply_located : (s : State) (r : Request) (p : Option Path) → is_batch r ≡ false → (act_located locate plan s ns now r p).1 ≡ (act_located locate plan s ks now r p).1
+  reply_located s r None e = refl
+  reply_located s r (Some p) e = reply_on s r p (place_at plan s p) e
+
+  pub reply_apart : (s : State) (r : Request) → is_batch r ≡ false → (act_itself locate plan s ns r now).1 ≡ (act_itself locate plan s ks r now).1
+  reply_apart s r e = reply_located s r (locate plan.base r.target) e

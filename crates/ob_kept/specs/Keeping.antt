@@ -1,0 +1,83 @@
+-- The machine behind the desk: the site, and what a crash at any moment may leave of it.
+use Rattle.std.specs.Prelude.{◌≡◌, ◌⊎◌, ℕ, ◌≤◌, Bool, true, false, List, [], ◌∷◌, ◌++◌, refl}
+use Rattle.std.specs.Coded.{Coded, code_by, coded×, coded_ℕ, coded_list}
+use Rattle.ob_journal.specs.Journal.{IsSettled}
+use Rattle.ob_object.specs.Object.{Object}
+use Rattle.ob_record.specs.Blocks.{IsBlock}
+use Rattle.ob_record.specs.Legal.{IsLegalRun, after_entries}
+use Rattle.ob_record.specs.Runs.{IsRun}
+use Rattle.ob_record.specs.declared.run.Entry.{Entry}
+use Rattle.ob_record_journal.specs.Runs.{run_blocks}
+use Rattle.ob_site.specs.Codes.{site_code}
+use Rattle.ob_site_rules.specs.declared.request.Request.{Request}
+use Rattle.ob_site_rules.specs.Sites.{SiteState}
+use Rattle.ob_site_laws.specs.SiteLaws.{acts}
+use Rattle.ob_site_lasting.specs.SiteLasting.{IsSiteRestartOf}
+use Rattle.ob_kept.specs.Redone.{redone}
+use Rattle.ob_kept.specs.Saying.{LeadsTo}
+
+-- A site that is kept: the moment of its record and what the site file opens then, the device's moment at which it was opened,
+-- the states that it has been in since, and the one that it is in now.
+pub record Keeping : Type 0 where
+  pub boot : ℕ
+  pub opening : SiteState
+  pub since : ℕ
+  pub past : List SiteState
+  pub now : SiteState
+
+-- each is stored as the tuple of its fields
+abbrev pub keeping_code : Coded Keeping
+keeping_code =
+    code_by (ℕ × (SiteState × (ℕ × (List SiteState × SiteState))))
+    (coded× coded_ℕ (coded× site_code (coded× coded_ℕ (coded× (coded_list site_code) site_code))))
+    (λ k. (k.boot, (k.opening, (k.since, (k.past, k.now))))) (λ t. record { boot = t.0; opening = t.1.0; since = t.1.1.0; past = t.1.1.1.0; now = t.1.1.1.1 }) (λ _. refl)
+
+-- what a request at a moment makes of it, and the reply: those of the site
+abbrev pub kept_act : Keeping → Request → ℕ → Keeping × Object
+kept_act k r moment = (
+  record { boot = k.boot; opening = k.opening; since = k.since; past = k.past ++ k.now ∷ []; now = (acts k.now r moment).0 },
+  (acts k.now r moment).1,
+)
+
+-- a file leads to a state in which the site may go on from this one
+abbrev pub LeavesOf : ℕ → SiteState → List ℕ → SiteState → Type 0
+LeavesOf boot opening file st = (led : SiteState) × LeadsTo boot opening file led × IsSiteRestartOf st led
+
+-- or from one of these
+abbrev pub LeavesOneOf : ℕ → SiteState → List ℕ → List SiteState → Type 0
+LeavesOneOf boot opening file [] = ⊥
+LeavesOneOf boot opening file (st ∷ sts) = LeavesOf boot opening file st ⊎ LeavesOneOf boot opening file sts
+
+-- or from this one after one request more, which was never answered
+abbrev pub LeavesMore : ℕ → SiteState → List ℕ → SiteState → Type 0
+LeavesMore boot opening file st = (r : Request) × (moment : ℕ) × LeavesOf boot opening file (acts st r moment).0
+
+-- Of a device seen, may_leave, moment and left_since say what its file is, and what a crash may leave.
+module _ {D : Type 0} (seen : D → List ℕ) (may_leave : D → List ℕ → Type 0) (moment : D → ℕ) (left_since : D → ℕ → List ℕ → Type 0) where
+  -- The file is at rest and says entries that lead from the opening to a state in which the site may go on from now. The number
+  -- of the next watch is there this one, and there is an entry or none.
+  pub record IsAtRestAt (boot : ℕ) (opening now : SiteState) (device : D) (end next : ℕ) (begun : Bool) : Type 0 where
+    pub entries : List Entry
+    pub valid : IsRun (record { boot = boot; entries = entries })
+    pub settled : IsSettled IsBlock seen may_leave (run_blocks boot entries) device end
+    pub legal : IsLegalRun redone opening entries
+    pub restart : IsSiteRestartOf now (after_entries redone opening entries)
+    pub next_is : (after_entries redone opening entries).world.next ≡ next
+    pub begun_is : (begun ≡ false) → entries ≡ []
+    pub some : (begun ≡ true) → (e : Entry) × (es : List Entry) × (entries ≡ e ∷ es)
+
+  -- What a device tells of the files that a crash since the opening might have left: each leads to where the site may go on from
+  -- one of the states that it has been in; or, where the device has failed, from one request more. And of those that one may leave
+  -- now, the same of the state that it is in.
+  pub record IsKept (k : Keeping) (device : D) (end next : ℕ) (begun failed : Bool) : Type 0 where
+    pub later : k.since ≤ moment device
+    pub crash : (c : List ℕ) → left_since device k.since c
+        → LeavesOneOf k.boot k.opening c (k.past ++ k.now ∷ []) ⊎ ((failed ≡ true) × LeavesMore k.boot k.opening c k.now)
+    pub file : (c : List ℕ) → may_leave device c → LeavesOf k.boot k.opening c k.now ⊎ ((failed ≡ true) × LeavesMore k.boot k.opening c k.now)
+    pub rest : failed ≡ false → IsAtRestAt k.boot k.opening k.now device end next begun
+
+  -- What the device is told to have left in the end: the files of a crash since the opening, and its own.
+  pub record IsLeft (k : Keeping) (device : D) : Type 0 where
+    pub crash : (c : List ℕ) → left_since device k.since c
+        → LeavesOneOf k.boot k.opening c (k.past ++ k.now ∷ []) ⊎ LeavesMore k.boot k.opening c k.now
+    pub file : (c : List ℕ) → may_leave device c → LeavesOf k.boot k.opening c k.now ⊎ LeavesMore k.boot k.opening c k.now

@@ -1,0 +1,40 @@
+//! Why a RECORD gives no site.
+use ob_load::LoadFault;
+use std::alloc::{AllocError, AllocFailed};
+
+/// Why a RECORD gives no site.
+#[derive(Drop)]
+pub enum ReopenFault {
+    /// The file says no run: the first line or entry that no run has begins at this place, in bytes.
+    Record { place: u64 },
+    /// The reply that the entry at this place keeps, from 0, isn't the site's: the site file is another.
+    Illegal { entry: u64 },
+    /// The site file opens no site.
+    Site(LoadFault),
+    /// The device refused, and its count of faults rose.
+    Device,
+    /// Want of memory.
+    Memory,
+}
+
+impl From<AllocError> for ReopenFault {
+    ghost use Rattle.std.specs.Prelude.{◌≡◌};
+    ghost use Rattle.ob_kept.specs.declared.fault.ReopenFault.TheVariants.{Memory};
+
+    ghost from_gives = { λ _ e. e ≡ Memory };
+
+    fn from(_: AllocError) -> ReopenFault {
+        ReopenFault::Memory
+    }
+}
+
+impl<T: Drop> From<AllocFailed<T>> for ReopenFault {
+    ghost use Rattle.std.specs.Prelude.{◌≡◌};
+    ghost use Rattle.ob_kept.specs.declared.fault.ReopenFault.TheVariants.{Memory};
+
+    ghost from_gives = { λ _ e. e ≡ Memory };
+
+    fn from(_: AllocFailed<T>) -> ReopenFault {
+        ReopenFault::Memory
+    }
+}

@@ -1,0 +1,114 @@
+//! A site that is kept.
+use crate::recorder::Recorder;
+use ob_journal::Device;
+use ob_object::Obj;
+use ob_site::{Machine, Site};
+use ob_site_rules::Request;
+use ob_times::Moment;
+use std::alloc::AllocError;
+use std::marker::Model;
+use std::snapshot::Snapshot;
+
+/// A site of which all that changes is in the file of a record, on the disk, before anyone is told.
+///
+/// Contracts see it as the site that it is, with what it has been since it was opened. Snapshots have no bytes, so the states that
+/// it has been in cost nothing.
+pub struct Kept<D: Device> {
+    pub(crate) site: Site,
+    pub(crate) recorder: Recorder<D>,
+    /// What the site file opened at the moment of the record.
+    pub(crate) opening: Snapshot<Site>,
+    /// The device when the site was opened.
+    pub(crate) opened: Snapshot<D>,
+    /// The states that the site has been in since.
+    pub(crate) past: Vec<Snapshot<Site>>,
+}
+
+impl<D: Device> Model for Kept<D> {
+    ghost use Rattle.std.specs.Prelude.{map};
+    ghost use Rattle.ob_kept.specs.Keeping.{Keeping, keeping_code};
+
+    ghost Value = { Keeping };
+
+    ghost coded = { keeping_code };
+
+    ghost use Rattle.ob_kept.specs.Keeping.{IsKept};
+
+    ghost view = { λ k. record { boot = k.recorder.boot; opening = k.opening.value; since = D.moment k.opened.value; past = map (λ s. s.value) k.past.items; now = k.site } };
+
+    ghost invariant = { λ k. D.is_told → IsKept D.seen D.may_leave D.moment D.left_since
+        (record { boot = k.recorder.boot; opening = k.opening.value; since = D.moment k.opened.value; past = map (λ s. s.value) k.past.items; now = k.site })
+        k.recorder.journal.device k.recorder.journal.end k.recorder.next k.recorder.begun k.recorder.failed };
+}
+
+impl<D: Device + Drop> Drop for Kept<D> {
+    fn drop(self) {
+        let Kept {
+            site,
+            recorder,
+            opening,
+            opened,
+            past,
+        } = self;
+        drop(site);
+        drop(recorder);
+        drop(opening);
+        drop(opened);
+        drop(past);
+    }
+}
+
+impl<D: Device> Kept<D> {
+    ghost use Rattle.ob_kept.specs.Keeping.{IsLeft};
+
+    /// Whether a call of the device has failed. Then each step is refused, and the device is to be opened again.
+    pub fn has_failed(&self) -> bool {
+        self.recorder.failed
+    }
+
+    /// Takes the device back. Its file leads to a state from which the site may go on from this one; or, where a call of it has
+    /// failed, perhaps from one request more, as do all that a crash since the opening might have left.
+    pub fn into_device(self) -> D
+        ensures { D.is_told → IsLeft D.seen D.may_leave D.moment D.left_since self result }
+    {
+        let Kept {
+            site,
+            recorder,
+            opening,
+            opened,
+            past,
+        } = self;
+        drop(site);
+        drop(opening);
+        drop(opened);
+        drop(past);
+        recorder.into_device()
+    }
+}
+
+impl<D: Device> Machine for Kept<D> {
+    ghost use Rattle.ob_kept.specs.Keeping.{kept_act};
+
+    type Request = Request;
+
+    type Reply = Obj;
+
+    ghost act = { kept_act };
+
+    /// Does one request at a moment, as the site does, and gives the reply once what changes is on the disk. An error for want of
+    /// memory, or where the file has no room, and for good where a call of the device has failed: it leaves the site as it was.
+    fn step(&mut self, request: &Request, moment: Moment) -> Result<Obj, AllocError> {
+        if self.recorder.failed {
+            return Err(AllocError);
+        }
+        self.site.is_sound();
+        self.past.push(Snapshot::of(&self.site))?;
+        match self.site.step_kept(&mut self.recorder, request, moment) {
+            Ok(reply) => Ok(reply),
+            Err(AllocError) => {
+                let _ = self.past.pop();
+                Err(AllocError)
+            }
+        }
+    }
+}
