@@ -241,7 +241,7 @@ VALUE = '<int name="value" val="2"/>'
 # the files of `schedule`, each with the site that it is for, and the status
 SCHEDULES = {
     "60 entries, a point of n children": (8_000, lambda n: (parted("int", 'val="1" max="9" is="obix:WritablePoint" writable="true"', n), filed(week("/obix/b", each(60, lambda k: entry(k, VALUE))))), 0),
-    "too many schedules": (20_000, lambda n: (points(1), filed(each(n, lambda k: week(f"/obix/p{k}", "")))), 2),
+    "too many schedules": (40_000, lambda n: (points(1), filed(each(n, lambda k: week(f"/obix/p{k}", "")))), 2),
     "too many entries": (20_000, lambda n: (points(1), filed(week("/obix/p0", each(n, lambda k: entry(k % 168, VALUE))))), 2),
     "100 schedules behind n children": (20_000, lambda n: (points(100), filed(each(100, lambda k: week(f"/obix/p{k}", entry(0, VALUE), "" if k else "<int/>" * n)))), 0),
 }
