@@ -10,3 +10,4 @@ pub mod WellFormed
 pub mod Pushed
 pub mod Spelled
 pub mod Write
+pub mod Kept

@@ -1,13 +1,14 @@
 //! Copies of parts that may be there.
 ghost use Rattle.std.specs.Prelude.{◌≡◌, None, IfOk, OnOk};
+ghost use Rattle.std.specs.Option.{option_copied};
 
 use crate::words::Words;
 use ob_values::{Text, Value};
 use std::alloc::AllocError;
 
 /// A copy of a text that may be there.
-pub fn copy_text(text: &Option<Text>) -> Result<Option<Text>, AllocError>
-    ensures { IfOk result (λ copy. copy ≡ text.now) }
+pub fn copy_text(text: Option<&Text>) -> Result<Option<Text>, AllocError>
+    ensures { IfOk result (λ copy. copy ≡ option_copied text.entry) }
 {
     match text {
         Some(text) => {
@@ -19,8 +20,8 @@ pub fn copy_text(text: &Option<Text>) -> Result<Option<Text>, AllocError>
 }
 
 /// A copy of words that may be there.
-pub fn copy_words(words: &Option<Words>) -> Result<Option<Words>, AllocError>
-    ensures { IfOk result (λ copy. copy ≡ words.now) }
+pub fn copy_words(words: Option<&Words>) -> Result<Option<Words>, AllocError>
+    ensures { IfOk result (λ copy. copy ≡ option_copied words.entry) }
 {
     match words {
         Some(words) => {
@@ -32,8 +33,8 @@ pub fn copy_words(words: &Option<Words>) -> Result<Option<Words>, AllocError>
 }
 
 /// A copy of a value that may be there.
-pub fn copy_value(value: &Option<Value>) -> Result<Option<Value>, AllocError>
-    ensures { IfOk result (λ copy. copy ≡ value.now) }
+pub fn copy_value(value: Option<&Value>) -> Result<Option<Value>, AllocError>
+    ensures { IfOk result (λ copy. copy ≡ option_copied value.entry) }
 {
     match value {
         Some(value) => {
@@ -62,17 +63,6 @@ pub(crate) fn put_words(place: &mut Option<Words>, words: &Option<Words>) -> Res
 {
     if let Some(words) = words {
         *place = Some(words.copy()?);
-    }
-    Ok(())
-}
-
-/// Puts a copy of a value that may be there into an empty place.
-pub(crate) fn put_value(place: &mut Option<Value>, value: &Option<Value>) -> Result<(), AllocError>
-    requires { place.old ≡ None }
-    ensures { OnOk result (place.new ≡ value.now) }
-{
-    if let Some(value) = value {
-        *place = Some(value.copy()?);
     }
     Ok(())
 }

@@ -1,11 +1,10 @@
 //! Facets: what an object says of its value.
-ghost use Rattle.std.specs.Prelude.{◌≡◌, IfOk, OnOk, option_map};
-ghost use Rattle.ob_object.specs.Facets.{no_facets, facet_value, facet_of, words, limit};
+ghost use Rattle.std.specs.Prelude.{◌≡◌, ◌↔◌, false};
+ghost use Rattle.ob_object.specs.Facets.{no_facets};
+ghost use Rattle.ob_object.specs.Kept.{HasNoRare};
 
-use crate::copying::{put_text, put_value};
 use crate::status::Status;
 use ob_values::{Text, Value};
-use std::alloc::AllocError;
 
 /// The names of the facets.
 #[derive(Clone, Copy, PartialEq, Eq)]
@@ -91,24 +90,6 @@ impl Drop for Facets {
     }
 }
 
-fn lent_words(text: &Option<Text>) -> Option<FacetRef<'_>>
-    ensures { option_map facet_value result ≡ option_map words text.now }
-{
-    match text {
-        Some(text) => Some(FacetRef::Words(text)),
-        None => None,
-    }
-}
-
-fn lent_limit(value: &Option<Value>) -> Option<FacetRef<'_>>
-    ensures { option_map facet_value result ≡ option_map limit value.now }
-{
-    match value {
-        Some(value) => Some(FacetRef::Limit(value)),
-        None => None,
-    }
-}
-
 impl Facets {
     /// No facets.
     pub fn none() -> Facets
@@ -129,59 +110,14 @@ impl Facets {
         }
     }
 
-    /// The facet of a name, lent.
-    pub fn get(&self, which: Facet) -> Option<FacetRef<'_>>
-        ensures { option_map facet_value result ≡ facet_of which self.now }
+    /// Whether one is there that few objects have.
+    pub(crate) fn has_rare(&self) -> bool
+        ensures { (result ≡ false) ↔ HasNoRare self.now }
     {
-        match which {
-            Facet::Display => lent_words(&self.display),
-            Facet::DisplayName => lent_words(&self.display_name),
-            Facet::Icon => lent_words(&self.icon),
-            Facet::Min => lent_limit(&self.min),
-            Facet::Max => lent_limit(&self.max),
-            Facet::Precision => match self.precision {
-                Some(number) => Some(FacetRef::Number(number)),
-                None => None,
-            },
-            Facet::Range => lent_words(&self.range),
-            Facet::Status => match self.status {
-                Some(status) => Some(FacetRef::Word(status)),
-                None => None,
-            },
-            Facet::Tz => lent_words(&self.tz),
-            Facet::Unit => lent_words(&self.unit),
-            Facet::Writable => match self.writable {
-                Some(truth) => Some(FacetRef::Truth(truth)),
-                None => None,
-            },
-        }
-    }
-
-    /// Takes a copy of each facet of another. It has none before.
-    pub(crate) fn fill(&mut self, from: &Facets) -> Result<(), AllocError>
-        requires { self.old ≡ no_facets }
-        ensures { OnOk result (self.new ≡ from.now) }
-    {
-        put_text(&mut self.display, &from.display)?;
-        put_text(&mut self.display_name, &from.display_name)?;
-        put_text(&mut self.icon, &from.icon)?;
-        put_value(&mut self.min, &from.min)?;
-        put_value(&mut self.max, &from.max)?;
-        put_text(&mut self.range, &from.range)?;
-        put_text(&mut self.tz, &from.tz)?;
-        put_text(&mut self.unit, &from.unit)?;
-        self.precision = from.precision;
-        self.status = from.status;
-        self.writable = from.writable;
-        Ok(())
-    }
-
-    /// A copy of the facets.
-    pub fn copy(&self) -> Result<Facets, AllocError>
-        ensures { IfOk result (λ copy. copy ≡ self.now) }
-    {
-        let mut copy = Facets::none();
-        copy.fill(self)?;
-        Ok(copy)
+        self.display.is_some()
+            || self.display_name.is_some()
+            || self.icon.is_some()
+            || self.range.is_some()
+            || self.tz.is_some()
     }
 }

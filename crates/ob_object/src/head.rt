@@ -1,9 +1,9 @@
 //! What an object says of itself, beside its children.
-ghost use Rattle.std.specs.Prelude.{true, ◌≡◌, None, IfOk, IsTrue, OnOk};
+ghost use Rattle.std.specs.Prelude.{◌≡◌, ◌&&◌, Bool, true, None, IfOk};
+ghost use Rattle.std.specs.Option.{option_copied};
 ghost use Rattle.ob_object.specs.Object.{empty_head};
-ghost use Rattle.ob_object.specs.Fits.{fits_slot, fits_facets, fits_name, fits_words, fits_head, fits_if_there};
+ghost use Rattle.ob_object.specs.Fits.{fits_slot, fits_name, fits_words, fits_if_there};
 
-use crate::copying::{put_text, put_words};
 use crate::facet::Facets;
 use crate::kind::Kind;
 use crate::words::Words;
@@ -72,8 +72,8 @@ pub(crate) fn fits_slot(kind: Kind, slot: &Slot) -> bool
 }
 
 // Whether the limit, if there is one, fits the kind.
-fn fits_if_there(kind: Kind, limit: &Option<Value>) -> bool
-    ensures { result ≡ fits_if_there kind limit.now }
+fn fits_if_there(kind: Kind, limit: Option<&Value>) -> bool
+    ensures { result ≡ fits_if_there kind (option_copied limit.entry) }
 {
     match limit {
         Some(limit) => kind.fits_limit(limit),
@@ -82,15 +82,15 @@ fn fits_if_there(kind: Kind, limit: &Option<Value>) -> bool
 }
 
 /// Whether min and max fit the kind.
-pub(crate) fn fits_facets(kind: Kind, facets: &Facets) -> bool
-    ensures { result ≡ fits_facets kind facets.now }
+pub(crate) fn fits_limits(kind: Kind, min: Option<&Value>, max: Option<&Value>) -> bool
+    ensures { result ≡ (fits_if_there kind (option_copied min.entry) && fits_if_there kind (option_copied max.entry)) }
 {
-    fits_if_there(kind, &facets.min) && fits_if_there(kind, &facets.max)
+    fits_if_there(kind, min) && fits_if_there(kind, max)
 }
 
 /// Whether a name, where there is one, has 1 to 255 bytes.
-pub(crate) fn fits_name(name: &Option<Text>) -> bool
-    ensures { result ≡ fits_name name.now }
+pub(crate) fn fits_name(name: Option<&Text>) -> bool
+    ensures { result ≡ fits_name (option_copied name.entry) }
 {
     match name {
         Some(text) => {
@@ -101,9 +101,9 @@ pub(crate) fn fits_name(name: &Option<Text>) -> bool
     }
 }
 
-// Whether words may stand there, where the kind has such a list or not.
-fn fits_words(has: bool, words: &Option<Words>) -> bool
-    ensures { result ≡ fits_words has words.now }
+/// Whether words may stand there, where the kind has such a list or not.
+pub(crate) fn fits_words(has: bool, words: Option<&Words>) -> bool
+    ensures { result ≡ fits_words has (option_copied words.entry) }
 {
     match words {
         Some(words) => {
@@ -114,9 +114,9 @@ fn fits_words(has: bool, words: &Option<Words>) -> bool
     }
 }
 
-// Each word of a list is one.
-pub(crate) fn are_words(words: &Option<Words>)
-    ensures { IsTrue (fits_words true words.now) }
+/// Says of words that each of them is a word, so that they may stand where the kind has such a list.
+pub(crate) fn know_words(words: Option<&Words>)
+    ensures { (has : Bool) → has ≡ true → fits_words has (option_copied words.entry) ≡ true }
 {
     if let Some(words) = words {
         let _words = words.as_slice();
@@ -140,21 +140,6 @@ impl Slot {
 }
 
 impl Head {
-    /// Whether each attribute fits the kind.
-    pub fn fits(&self) -> bool
-        ensures { result ≡ fits_head self.now }
-    {
-        let kind = self.kind;
-        let lists = fits_words(true, &self.is)
-            && fits_words(kind.has_of(), &self.of)
-            && fits_words(kind.has_input(), &self.input)
-            && fits_words(kind.has_output(), &self.output);
-        fits_name(&self.name)
-            && lists
-            && fits_slot(kind, &self.slot)
-            && fits_facets(kind, &self.facets)
-    }
-
     /// A kind, and nothing else.
     pub fn empty(kind: Kind) -> Head
         ensures { result ≡ empty_head kind }
@@ -170,38 +155,5 @@ impl Head {
             slot: Slot::Absent,
             facets: Facets::none(),
         }
-    }
-
-    /// Takes a copy of each part of another but the href, and of a slot. It is empty before.
-    pub(crate) fn fill(&mut self, from: &Head, slot: &Slot) -> Result<(), AllocError>
-        requires { self.old ≡ empty_head from.now.kind }
-        ensures { OnOk result (self.new ≡ record from.now { href = None; slot = slot.now }) }
-    {
-        put_text(&mut self.name, &from.name)?;
-        put_words(&mut self.is, &from.is)?;
-        put_words(&mut self.of, &from.of)?;
-        put_words(&mut self.input, &from.input)?;
-        put_words(&mut self.output, &from.output)?;
-        self.slot = slot.copy()?;
-        self.facets.fill(&from.facets)
-    }
-
-    /// A copy.
-    pub fn copy(&self) -> Result<Head, AllocError>
-        ensures { IfOk result (λ copy. copy ≡ self.now) }
-    {
-        let mut copy = Head::empty(self.kind);
-        copy.fill(self, &self.slot)?;
-        put_text(&mut copy.href, &self.href)?;
-        Ok(copy)
-    }
-
-    /// A copy without the href, and with another slot.
-    pub fn copy_with(&self, slot: &Slot) -> Result<Head, AllocError>
-        ensures { IfOk result (λ copy. copy ≡ record self.now { href = None; slot = slot.now }) }
-    {
-        let mut copy = Head::empty(self.kind);
-        copy.fill(self, slot)?;
-        Ok(copy)
     }
 }

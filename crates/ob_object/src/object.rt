@@ -4,12 +4,15 @@ ghost use Rattle.std.specs.Option.{option_copied};
 ghost use Rattle.ob_object.specs.Fits.{fits_name, fits_slot, fits_facets, fits_head};
 ghost use Rattle.ob_object.specs.Kinds.{has_of, has_input, has_output};
 ghost use Rattle.ob_object.specs.Object.{Object, none, children, parts, in_row, empty_head};
-ghost use Rattle.ob_object.specs.Pushed.{IsPushed};
+ghost use Rattle.ob_object.specs.Pushed.{IsPushed, IsUnput};
+ghost use Rattle.ob_object.specs.Kept.{facets_lent};
 ghost use Rattle.ob_object.specs.WellFormed.{IsWellFormed, named, is_taken, has_name, NamesDiffer, with_child};
 
+use crate::attributes::Attributes;
 use crate::facet::Facets;
-use crate::head::{Head, Slot, are_words, fits_facets, fits_name, fits_slot};
+use crate::head::{Head, Slot, fits_limits, fits_name, fits_slot, know_words};
 use crate::kind::Kind;
+use crate::lent::LentFacets;
 use crate::same::same_head;
 use crate::status::Status;
 use crate::words::Words;
@@ -22,7 +25,7 @@ use thiserror::Error;
 /// An object: its head and its children, in order.
 /// Source: oBIX 1.1, chapter 4.
 pub struct Obj {
-    head: Head,
+    head: Attributes,
     children: Vec<Obj>,
 }
 
@@ -95,8 +98,8 @@ pub fn find_named<'a>(objects: &'a [Obj], name: &str) -> Option<&'a Obj>
 }
 
 // Whether an object has that name, if it is one.
-fn is_taken(objects: &[Obj], name: &Option<Text>) -> bool
-    ensures { result ≡ is_taken name.now objects.now }
+fn is_taken(objects: &[Obj], name: Option<&Text>) -> bool
+    ensures { result ≡ is_taken (option_copied name.entry) objects.now }
 {
     match name {
         Some(name) => find_named(objects, name.as_str()).is_some(),
@@ -104,10 +107,19 @@ fn is_taken(objects: &[Obj], name: &Option<Text>) -> bool
     }
 }
 
+/// Why a part was not taken.
+#[derive(Drop)]
+pub enum PutFault<T: Drop> {
+    /// It doesn't fit the kind.
+    Unfit { back: T },
+    /// There was no memory for it.
+    Memory { back: T },
+}
+
 #[tactic(auto, using(crate::proofs::Rows::rows))]
 impl Obj {
-    /// An object with a head that fits its kind, and no children.
-    pub fn from_head(alloc: Global, head: Head) -> Obj
+    /// An object of attributes that fit its kind, and no children.
+    pub fn from_head(alloc: Global, head: Attributes) -> Obj
         requires { IsTrue (fits_head head) }
         ensures { result ≡ record { head = head; inner = none } }
     {
@@ -117,17 +129,13 @@ impl Obj {
         }
     }
 
-    /// An object with a head and no children. The head comes back where it doesn't fit its kind.
-    pub fn with_head(alloc: Global, head: Head) -> Result<Obj, Head>
-        ensures { MatchResult result
-            (λ made. IsTrue (fits_head head) × (made ≡ record { head = head; inner = none }))
-            (λ back. (fits_head head ≡ false) × (back ≡ head)) }
+    /// An object of a head that fits its kind, and no children. It takes memory only for what few objects have.
+    pub fn with_head(alloc: Global, head: Head) -> Result<Obj, AllocError>
+        requires { IsTrue (fits_head head) }
+        ensures { IfOk result (λ made. made ≡ record { head = head; inner = none }) }
     {
-        if head.fits() {
-            Ok(Obj::from_head(alloc, head))
-        } else {
-            Err(head)
-        }
+        let head = Attributes::from_head(alloc, head)?;
+        Ok(Obj::from_head(alloc, head))
     }
 
     /// An object of a kind, with nothing else.
@@ -135,13 +143,13 @@ impl Obj {
         ensures { result ≡ record { head = empty_head kind; inner = none } }
     {
         Obj {
-            head: Head::empty(kind),
+            head: Attributes::empty(alloc, kind),
             children: Vec::new(alloc),
         }
     }
 
     /// The kind, the attributes, the slot and the facets, which fit the kind.
-    pub fn head(&self) -> &Head
+    pub fn head(&self) -> &Attributes
         ensures value { result.now ≡ self.now.head }
         ensures fits { IsTrue (fits_head self.now.head) }
         ensures well_formed { IsWellFormed self.now }
@@ -153,70 +161,70 @@ impl Obj {
     pub fn kind(&self) -> Kind
         ensures { result ≡ self.now.head.kind }
     {
-        self.head.kind
+        self.head.kind()
     }
 
     /// The name.
     pub fn name(&self) -> Option<&Text>
         ensures { option_copied result ≡ self.now.head.name }
     {
-        self.head.name.as_ref()
+        self.head.name()
     }
 
     /// The href, as it was written.
     pub fn href(&self) -> Option<&Text>
         ensures { option_copied result ≡ self.now.head.href }
     {
-        self.head.href.as_ref()
+        self.head.href()
     }
 
     /// The words of its contracts.
     pub fn is(&self) -> Option<&Words>
         ensures { option_copied result ≡ self.now.head.is }
     {
-        self.head.is.as_ref()
+        self.head.is()
     }
 
     /// The words of its children's contracts, of a list or a feed.
     pub fn of(&self) -> Option<&Words>
         ensures { option_copied result ≡ self.now.head.of }
     {
-        self.head.of.as_ref()
+        self.head.of()
     }
 
     /// The words of the contracts of what it is called with, of an op or a feed.
     pub fn input(&self) -> Option<&Words>
         ensures { option_copied result ≡ self.now.head.input }
     {
-        self.head.input.as_ref()
+        self.head.input()
     }
 
     /// The words of the contracts of what it answers, of an op.
     pub fn output(&self) -> Option<&Words>
         ensures { option_copied result ≡ self.now.head.output }
     {
-        self.head.output.as_ref()
+        self.head.output()
     }
 
     /// The slot.
     pub fn slot(&self) -> &Slot
         ensures { result.now ≡ self.now.head.slot }
     {
-        &self.head.slot
+        self.head.slot()
     }
 
     /// The facets.
-    pub fn facets(&self) -> &Facets
-        ensures { result.now ≡ self.now.head.facets }
+    pub fn facets(&self) -> LentFacets<'_>
+        ensures { facets_lent result ≡ self.now.head.facets }
     {
-        &self.head.facets
+        self.head.facets()
     }
 
     /// Whether it has that name.
     pub fn is_named(&self, name: &str) -> bool
         ensures { result ≡ has_name name.now self.now.head.name }
     {
-        match &self.head.name {
+        match self.head.name() {
             Some(text) => text.as_str() == name,
             None => false,
         }
@@ -228,8 +236,8 @@ impl Obj {
             (λ _. IsTrue (fits_name name) × (self.new ≡ record self.old { head = record self.old.head { name = name } }))
             (λ back. (fits_name name ≡ false) × (back ≡ name) × (self.new ≡ self.old)) }
     {
-        if fits_name(&name) {
-            self.head.name = name;
+        if fits_name(name.as_ref()) {
+            self.head.put_name(name);
             Ok(())
         } else {
             Err(name)
@@ -240,7 +248,7 @@ impl Obj {
     pub fn put_href(&mut self, href: Option<Text>)
         ensures { self.new ≡ record self.old { head = record self.old.head { href = href } } }
     {
-        self.head.href = href;
+        self.head.put_href(href);
     }
 
     /// Sets the words of its contracts, which every kind may have.
@@ -249,50 +257,59 @@ impl Obj {
             (λ _. self.new ≡ record self.old { head = record self.old.head { is = words } })
             (λ _. ⊥) }
     {
-        are_words(&words);
-        self.head.is = words;
+        know_words(words.as_ref());
+        self.head.put_is(words);
         Ok(())
     }
 
     /// Sets the words of its children's contracts, or gives them back where it is no list or feed.
-    pub fn put_of(&mut self, words: Option<Words>) -> Result<(), Option<Words>>
+    pub fn put_of(&mut self, words: Option<Words>) -> Result<(), PutFault<Option<Words>>>
         ensures { MatchResult result
             (λ _. IsTrue (has_of self.old.head.kind) × (self.new ≡ record self.old { head = record self.old.head { of = words } }))
-            (λ back. (has_of self.old.head.kind ≡ false) × (back ≡ words) × (self.new ≡ self.old)) }
+            (λ fault. IsUnput (has_of self.old.head.kind) words fault × (self.new ≡ self.old)) }
     {
-        if self.head.kind.has_of() {
-            self.head.of = words;
-            Ok(())
+        if self.head.kind().has_of() {
+            know_words(words.as_ref());
+            match self.head.put_of(words) {
+                Ok(()) => Ok(()),
+                Err(back) => Err(PutFault::Memory { back }),
+            }
         } else {
-            Err(words)
+            Err(PutFault::Unfit { back: words })
         }
     }
 
     /// Sets the words of what it is called with, or gives them back where it is no op or feed.
-    pub fn put_input(&mut self, words: Option<Words>) -> Result<(), Option<Words>>
+    pub fn put_input(&mut self, words: Option<Words>) -> Result<(), PutFault<Option<Words>>>
         ensures { MatchResult result
             (λ _. IsTrue (has_input self.old.head.kind) × (self.new ≡ record self.old { head = record self.old.head { input = words } }))
-            (λ back. (has_input self.old.head.kind ≡ false) × (back ≡ words) × (self.new ≡ self.old)) }
+            (λ fault. IsUnput (has_input self.old.head.kind) words fault × (self.new ≡ self.old)) }
     {
-        if self.head.kind.has_input() {
-            self.head.input = words;
-            Ok(())
+        if self.head.kind().has_input() {
+            know_words(words.as_ref());
+            match self.head.put_input(words) {
+                Ok(()) => Ok(()),
+                Err(back) => Err(PutFault::Memory { back }),
+            }
         } else {
-            Err(words)
+            Err(PutFault::Unfit { back: words })
         }
     }
 
     /// Sets the words of what it answers, or gives them back where it is no op.
-    pub fn put_output(&mut self, words: Option<Words>) -> Result<(), Option<Words>>
+    pub fn put_output(&mut self, words: Option<Words>) -> Result<(), PutFault<Option<Words>>>
         ensures { MatchResult result
             (λ _. IsTrue (has_output self.old.head.kind) × (self.new ≡ record self.old { head = record self.old.head { output = words } }))
-            (λ back. (has_output self.old.head.kind ≡ false) × (back ≡ words) × (self.new ≡ self.old)) }
+            (λ fault. IsUnput (has_output self.old.head.kind) words fault × (self.new ≡ self.old)) }
     {
-        if self.head.kind.has_output() {
-            self.head.output = words;
-            Ok(())
+        if self.head.kind().has_output() {
+            know_words(words.as_ref());
+            match self.head.put_output(words) {
+                Ok(()) => Ok(()),
+                Err(back) => Err(PutFault::Memory { back }),
+            }
         } else {
-            Err(words)
+            Err(PutFault::Unfit { back: words })
         }
     }
 
@@ -302,8 +319,8 @@ impl Obj {
             (λ _. IsTrue (fits_slot self.old.head.kind slot) × (self.new ≡ record self.old { head = record self.old.head { slot = slot } }))
             (λ back. (fits_slot self.old.head.kind slot ≡ false) × (back ≡ slot) × (self.new ≡ self.old)) }
     {
-        if fits_slot(self.head.kind, &slot) {
-            self.head.slot = slot;
+        if fits_slot(self.head.kind(), &slot) {
+            self.head.put_slot(slot);
             Ok(())
         } else {
             Err(slot)
@@ -316,7 +333,7 @@ impl Obj {
         ensures old { result ≡ self.old.head.slot }
         ensures new { self.new ≡ record self.old { head = record self.old.head { slot = slot } } }
     {
-        std::mem::replace(&mut self.head.slot, slot)
+        self.head.replace_slot(slot)
     }
 
     /// Sets the status, or takes it away, and gives the old one.
@@ -324,20 +341,24 @@ impl Obj {
         ensures old { result ≡ self.old.head.facets.status }
         ensures new { self.new ≡ record self.old { head = record self.old.head { facets = record self.old.head.facets { status = status } } } }
     {
-        std::mem::replace(&mut self.head.facets.status, status)
+        let old = self.head.status();
+        self.head.put_status(status);
+        old
     }
 
-    /// Sets the facets, or gives them back where min or max doesn't fit the kind.
-    pub fn put_facets(&mut self, facets: Facets) -> Result<(), Facets>
+    /// Sets the facets, or gives them back where min or max doesn't fit the kind, or where they find no memory.
+    pub fn put_facets(&mut self, facets: Facets) -> Result<(), PutFault<Facets>>
         ensures { MatchResult result
             (λ _. IsTrue (fits_facets self.old.head.kind facets) × (self.new ≡ record self.old { head = record self.old.head { facets = facets } }))
-            (λ back. (fits_facets self.old.head.kind facets ≡ false) × (back ≡ facets) × (self.new ≡ self.old)) }
+            (λ fault. IsUnput (fits_facets self.old.head.kind facets) facets fault × (self.new ≡ self.old)) }
     {
-        if fits_facets(self.head.kind, &facets) {
-            drop(std::mem::replace(&mut self.head.facets, facets));
-            Ok(())
+        if fits_limits(self.head.kind(), facets.min.as_ref(), facets.max.as_ref()) {
+            match self.head.put_facets(facets) {
+                Ok(()) => Ok(()),
+                Err(back) => Err(PutFault::Memory { back }),
+            }
         } else {
-            Err(facets)
+            Err(PutFault::Unfit { back: facets })
         }
     }
 
@@ -386,7 +407,7 @@ impl Obj {
     pub fn push(&mut self, child: Obj) -> Result<(), PushFault>
         ensures { IsPushed self.old self.new child result }
     {
-        let taken = is_taken(&self.children, &child.head.name);
+        let taken = is_taken(&self.children, child.head.name());
         if taken {
             return Err(PushFault::SameName { child });
         }
@@ -408,7 +429,7 @@ impl Obj {
             (λ _. self.new ≡ with_child self.old child)
             (λ back. (back ≡ child) × (self.new ≡ self.old)) }
     {
-        let _kind = child.head.kind;
+        let _kind = child.head.kind();
         match self.children.push(child) {
             Ok(()) => Ok(()),
             Err(refused) => Err(refused.value),
@@ -433,14 +454,13 @@ impl Obj {
     /// of a slot in place of the head's, which must fit the kind. Where it finds no memory the object is as it was.
     ///
     /// It looks at no other child, and takes less time than to make the child and to push it.
-    pub fn push_leaf(&mut self, head: &Head, slot: &Slot) -> Result<(), AllocError>
+    pub fn push_leaf(&mut self, head: &Attributes, slot: &Slot) -> Result<(), AllocError>
         requires free { is_taken head.now.name (children self.old) ≡ false }
         requires fits { IsTrue (fits_head (record head.now { href = None; slot = slot.now })) }
         ensures ok { OnOk result (self.new ≡ with_child self.old (record { head = record head.now { href = None; slot = slot.now }; inner = none })) }
         ensures err { OnErr result (self.new ≡ self.old) }
     {
-        let mut own = Head::empty(head.kind);
-        own.fill(head, slot)?;
+        let own = head.copy_with(slot)?;
         let child = Obj::from_head(*self.children.allocator(), own);
         match self.push_new(child) {
             Ok(()) => Ok(()),

@@ -116,6 +116,11 @@ impl Words {
         }
     }
 
+    // Where it takes its memory from.
+    pub(crate) fn allocator(&self) -> Global {
+        self.alloc
+    }
+
     /// The words, in order.
     pub fn as_slice(&self) -> &[Text]
         ensures value { result.now ≡ self.now }

@@ -1,0 +1,777 @@
+//! What an object keeps of what it says of itself, beside its children.
+ghost use Rattle.std.specs.Prelude.{◌≡◌, None, IfOk, MatchResult};
+ghost use Rattle.std.specs.Option.{option_copied};
+ghost use Rattle.ob_object.specs.Object.{empty_head};
+ghost use Rattle.ob_object.specs.Fits.{fits_head};
+ghost use Rattle.ob_object.specs.Kept.{there, facets_lent};
+
+use crate::facet::Facets;
+use crate::head::{Head, Slot, fits_limits, fits_name, fits_slot, fits_words};
+use crate::kind::Kind;
+use crate::lent::LentFacets;
+use crate::rare::{Rare, copy_rare, take_rare};
+use crate::status::Status;
+use crate::words::Words;
+use ob_values::{Text, Value};
+use std::alloc::{AllocError, Global};
+use std::marker::Model;
+
+/// What an object says of itself, beside its children, in the room that a common object needs: contracts see it as the
+/// plain `Head`. A part that few objects have (of, in, out, display, displayName, icon, range, tz) takes memory when it is
+/// put; every other call takes none.
+pub struct Attributes {
+    // A part that may be absent stands beside a truth, since an option of it takes 8 bytes more.
+    name: Text,
+    href: Text,
+    words: Words,
+    slot: Slot,
+    unit: Text,
+    low: Value,
+    high: Value,
+    places: i64,
+    rare: Option<Box<Rare>>,
+    kind: Kind,
+    status: Option<Status>,
+    writable: Option<bool>,
+    has_name: bool,
+    has_href: bool,
+    has_words: bool,
+    has_unit: bool,
+    has_low: bool,
+    has_high: bool,
+    has_places: bool,
+}
+
+impl Model for Attributes {
+    ghost use Rattle.std.specs.Prelude.{option_map};
+    ghost use Rattle.ob_object.specs.declared.head.Head.{Head};
+    ghost use Rattle.ob_object.specs.Kept.{there, rare_of};
+
+    ghost Value = { Head };
+
+    ghost view = { λ a. record {
+      kind = a.kind;
+      name = there a.has_name a.name;
+      href = there a.has_href a.href;
+      is = there a.has_words a.words;
+      of = (rare_of (option_map (λ b. b.value) a.rare)).of;
+      input = (rare_of (option_map (λ b. b.value) a.rare)).input;
+      output = (rare_of (option_map (λ b. b.value) a.rare)).output;
+      slot = a.slot;
+      facets = record {
+        display = (rare_of (option_map (λ b. b.value) a.rare)).display;
+        display_name = (rare_of (option_map (λ b. b.value) a.rare)).display_name;
+        icon = (rare_of (option_map (λ b. b.value) a.rare)).icon;
+        min = there a.has_low a.low;
+        max = there a.has_high a.high;
+        precision = there a.has_places a.places;
+        range = (rare_of (option_map (λ b. b.value) a.rare)).range;
+        status = a.status;
+        tz = (rare_of (option_map (λ b. b.value) a.rare)).tz;
+        unit = there a.has_unit a.unit;
+        writable = a.writable;
+      };
+    } };
+}
+
+impl Drop for Attributes {
+    // By one call for each part, as a head.
+    fn drop(self) {
+        let Attributes {
+            name,
+            href,
+            words,
+            slot,
+            unit,
+            low,
+            high,
+            places: _,
+            rare,
+            kind: _,
+            status: _,
+            writable: _,
+            has_name: _,
+            has_href: _,
+            has_words: _,
+            has_unit: _,
+            has_low: _,
+            has_high: _,
+            has_places: _,
+        } = self;
+        drop(name);
+        drop(href);
+        drop(words);
+        drop(slot);
+        drop(unit);
+        drop(low);
+        drop(high);
+        drop(rare);
+    }
+}
+
+impl Attributes {
+    /// A kind, and nothing else.
+    pub fn empty(alloc: Global, kind: Kind) -> Attributes
+        ensures { result ≡ empty_head kind }
+    {
+        Attributes {
+            name: Text::empty(),
+            href: Text::empty(),
+            words: Words::new(alloc),
+            slot: Slot::Absent,
+            unit: Text::empty(),
+            low: Value::Bool(false),
+            high: Value::Bool(false),
+            places: 0,
+            rare: None,
+            kind,
+            status: None,
+            writable: None,
+            has_name: false,
+            has_href: false,
+            has_words: false,
+            has_unit: false,
+            has_low: false,
+            has_high: false,
+            has_places: false,
+        }
+    }
+
+    /// The kind.
+    pub fn kind(&self) -> Kind
+        ensures { result ≡ self.now.kind }
+    {
+        self.kind
+    }
+
+    /// The slot.
+    pub fn slot(&self) -> &Slot
+        ensures { result.now ≡ self.now.slot }
+    {
+        &self.slot
+    }
+
+    /// The status.
+    pub fn status(&self) -> Option<Status>
+        ensures { result ≡ self.now.facets.status }
+    {
+        self.status
+    }
+
+    /// Whether clients may write the value.
+    pub fn writable(&self) -> Option<bool>
+        ensures { result ≡ self.now.facets.writable }
+    {
+        self.writable
+    }
+
+    /// How many places of a real count.
+    pub fn precision(&self) -> Option<i64>
+        ensures { result ≡ self.now.facets.precision }
+    {
+        if self.has_places {
+            Some(self.places)
+        } else {
+            None
+        }
+    }
+
+    /// The name.
+    pub fn name(&self) -> Option<&Text>
+        ensures { option_copied result ≡ self.now.name }
+    {
+        if self.has_name {
+            Some(&self.name)
+        } else {
+            None
+        }
+    }
+
+    /// The href, as it was written.
+    pub fn href(&self) -> Option<&Text>
+        ensures { option_copied result ≡ self.now.href }
+    {
+        if self.has_href {
+            Some(&self.href)
+        } else {
+            None
+        }
+    }
+
+    /// The words of its contracts.
+    pub fn is(&self) -> Option<&Words>
+        ensures { option_copied result ≡ self.now.is }
+    {
+        if self.has_words {
+            Some(&self.words)
+        } else {
+            None
+        }
+    }
+
+    /// The address of the unit of a number.
+    pub fn unit(&self) -> Option<&Text>
+        ensures { option_copied result ≡ self.now.facets.unit }
+    {
+        if self.has_unit {
+            Some(&self.unit)
+        } else {
+            None
+        }
+    }
+
+    /// The least value, or the least length of a str or a list.
+    pub fn min(&self) -> Option<&Value>
+        ensures { option_copied result ≡ self.now.facets.min }
+    {
+        if self.has_low { Some(&self.low) } else { None }
+    }
+
+    /// The greatest value, or the greatest length.
+    pub fn max(&self) -> Option<&Value>
+        ensures { option_copied result ≡ self.now.facets.max }
+    {
+        if self.has_high {
+            Some(&self.high)
+        } else {
+            None
+        }
+    }
+
+    /// The words of its children's contracts, of a list or a feed.
+    pub fn of(&self) -> Option<&Words>
+        ensures { option_copied result ≡ self.now.of }
+    {
+        match &self.rare {
+            Some(rare) => rare.of.as_ref(),
+            None => None,
+        }
+    }
+
+    /// The words of the contracts of what it is called with, of an op or a feed.
+    pub fn input(&self) -> Option<&Words>
+        ensures { option_copied result ≡ self.now.input }
+    {
+        match &self.rare {
+            Some(rare) => rare.input.as_ref(),
+            None => None,
+        }
+    }
+
+    /// The words of the contracts of what it answers, of an op.
+    pub fn output(&self) -> Option<&Words>
+        ensures { option_copied result ≡ self.now.output }
+    {
+        match &self.rare {
+            Some(rare) => rare.output.as_ref(),
+            None => None,
+        }
+    }
+
+    /// Text for people, of the object's state.
+    pub fn display(&self) -> Option<&Text>
+        ensures { option_copied result ≡ self.now.facets.display }
+    {
+        match &self.rare {
+            Some(rare) => rare.display.as_ref(),
+            None => None,
+        }
+    }
+
+    /// Text for people, in place of the name.
+    pub fn display_name(&self) -> Option<&Text>
+        ensures { option_copied result ≡ self.now.facets.display_name }
+    {
+        match &self.rare {
+            Some(rare) => rare.display_name.as_ref(),
+            None => None,
+        }
+    }
+
+    /// The address of a picture.
+    pub fn icon(&self) -> Option<&Text>
+        ensures { option_copied result ≡ self.now.facets.icon }
+    {
+        match &self.rare {
+            Some(rare) => rare.icon.as_ref(),
+            None => None,
+        }
+    }
+
+    /// The address of the object whose children name the values of an enum.
+    pub fn range(&self) -> Option<&Text>
+        ensures { option_copied result ≡ self.now.facets.range }
+    {
+        match &self.rare {
+            Some(rare) => rare.range.as_ref(),
+            None => None,
+        }
+    }
+
+    /// The zone of a time.
+    pub fn tz(&self) -> Option<&Text>
+        ensures { option_copied result ≡ self.now.facets.tz }
+    {
+        match &self.rare {
+            Some(rare) => rare.tz.as_ref(),
+            None => None,
+        }
+    }
+
+    /// The facets.
+    pub fn facets(&self) -> LentFacets<'_>
+        ensures { facets_lent result ≡ self.now.facets }
+    {
+        LentFacets {
+            display: self.display(),
+            display_name: self.display_name(),
+            icon: self.icon(),
+            min: self.min(),
+            max: self.max(),
+            precision: self.precision(),
+            range: self.range(),
+            status: self.status(),
+            tz: self.tz(),
+            unit: self.unit(),
+            writable: self.writable(),
+        }
+    }
+
+    /// Whether each attribute fits the kind.
+    pub fn fits(&self) -> bool
+        ensures { result ≡ fits_head self.now }
+    {
+        let kind = self.kind();
+        let lists = fits_words(true, self.is())
+            && fits_words(kind.has_of(), self.of())
+            && fits_words(kind.has_input(), self.input())
+            && fits_words(kind.has_output(), self.output());
+        fits_name(self.name())
+            && lists
+            && fits_slot(kind, self.slot())
+            && fits_limits(kind, self.min(), self.max())
+    }
+
+    /// Sets it, or takes it away: the name.
+    pub fn put_name(&mut self, name: Option<Text>)
+        ensures { self.new ≡ record self.old { name = name } }
+    {
+        match name {
+            Some(name) => {
+                self.name = name;
+                self.has_name = true;
+            }
+            None => {
+                self.name = Text::empty();
+                self.has_name = false;
+            }
+        }
+    }
+
+    /// Sets it, or takes it away: the href, as it was written.
+    pub fn put_href(&mut self, href: Option<Text>)
+        ensures { self.new ≡ record self.old { href = href } }
+    {
+        match href {
+            Some(href) => {
+                self.href = href;
+                self.has_href = true;
+            }
+            None => {
+                self.href = Text::empty();
+                self.has_href = false;
+            }
+        }
+    }
+
+    /// Sets it, or takes it away: the words of its contracts.
+    pub fn put_is(&mut self, is: Option<Words>)
+        ensures { self.new ≡ record self.old { is = is } }
+    {
+        match is {
+            Some(is) => {
+                self.words = is;
+                self.has_words = true;
+            }
+            None => {
+                self.words = Words::new(self.words.allocator());
+                self.has_words = false;
+            }
+        }
+    }
+
+    /// Sets it, or takes it away: the address of the unit of a number.
+    pub fn put_unit(&mut self, unit: Option<Text>)
+        ensures { self.new ≡ record self.old { facets = record self.old.facets { unit = unit } } }
+    {
+        match unit {
+            Some(unit) => {
+                self.unit = unit;
+                self.has_unit = true;
+            }
+            None => {
+                self.unit = Text::empty();
+                self.has_unit = false;
+            }
+        }
+    }
+
+    /// Sets it, or takes it away: the least value, or the least length of a str or a list.
+    pub fn put_min(&mut self, min: Option<Value>)
+        ensures { self.new ≡ record self.old { facets = record self.old.facets { min = min } } }
+    {
+        match min {
+            Some(min) => {
+                self.low = min;
+                self.has_low = true;
+            }
+            None => {
+                self.low = Value::Bool(false);
+                self.has_low = false;
+            }
+        }
+    }
+
+    /// Sets it, or takes it away: the greatest value, or the greatest length.
+    pub fn put_max(&mut self, max: Option<Value>)
+        ensures { self.new ≡ record self.old { facets = record self.old.facets { max = max } } }
+    {
+        match max {
+            Some(max) => {
+                self.high = max;
+                self.has_high = true;
+            }
+            None => {
+                self.high = Value::Bool(false);
+                self.has_high = false;
+            }
+        }
+    }
+
+    /// Sets the slot, and gives the old one.
+    pub fn replace_slot(&mut self, slot: Slot) -> Slot
+        ensures old { result ≡ self.old.slot }
+        ensures new { self.new ≡ record self.old { slot = slot } }
+    {
+        std::mem::replace(&mut self.slot, slot)
+    }
+
+    /// Sets the slot.
+    pub fn put_slot(&mut self, slot: Slot)
+        ensures { self.new ≡ record self.old { slot = slot } }
+    {
+        self.slot = slot;
+    }
+
+    /// Sets the status, or takes it away.
+    pub fn put_status(&mut self, status: Option<Status>)
+        ensures { self.new ≡ record self.old { facets = record self.old.facets { status = status } } }
+    {
+        self.status = status;
+    }
+
+    /// Sets whether clients may write the value, or takes it away.
+    pub fn put_writable(&mut self, writable: Option<bool>)
+        ensures { self.new ≡ record self.old { facets = record self.old.facets { writable = writable } } }
+    {
+        self.writable = writable;
+    }
+
+    /// Sets how many places of a real count, or takes it away.
+    pub fn put_precision(&mut self, precision: Option<i64>)
+        ensures { self.new ≡ record self.old { facets = record self.old.facets { precision = precision } } }
+    {
+        match precision {
+            Some(places) => {
+                self.places = places;
+                self.has_places = true;
+            }
+            None => self.has_places = false,
+        }
+    }
+
+    /// Sets it, or takes it away: the words of its children's contracts, of a list or a feed.
+    /// It comes back where there is no memory; all is then as it was.
+    pub fn put_of(&mut self, of: Option<Words>) -> Result<(), Option<Words>>
+        ensures { MatchResult result
+            (λ _. self.new ≡ record self.old { of = of })
+            (λ back. (back ≡ of) × (self.new ≡ self.old)) }
+    {
+        if of.is_none() && self.rare.is_none() {
+            return Ok(());
+        }
+        match take_rare(self.words.allocator(), &mut self.rare) {
+            Ok(mut rare) => {
+                rare.of = of;
+                self.rare = Some(rare);
+                Ok(())
+            }
+            Err(_) => Err(of),
+        }
+    }
+
+    /// Sets it, or takes it away: the words of the contracts of what it is called with, of an op or a feed.
+    /// It comes back where there is no memory; all is then as it was.
+    pub fn put_input(&mut self, input: Option<Words>) -> Result<(), Option<Words>>
+        ensures { MatchResult result
+            (λ _. self.new ≡ record self.old { input = input })
+            (λ back. (back ≡ input) × (self.new ≡ self.old)) }
+    {
+        if input.is_none() && self.rare.is_none() {
+            return Ok(());
+        }
+        match take_rare(self.words.allocator(), &mut self.rare) {
+            Ok(mut rare) => {
+                rare.input = input;
+                self.rare = Some(rare);
+                Ok(())
+            }
+            Err(_) => Err(input),
+        }
+    }
+
+    /// Sets it, or takes it away: the words of the contracts of what it answers, of an op.
+    /// It comes back where there is no memory; all is then as it was.
+    pub fn put_output(&mut self, output: Option<Words>) -> Result<(), Option<Words>>
+        ensures { MatchResult result
+            (λ _. self.new ≡ record self.old { output = output })
+            (λ back. (back ≡ output) × (self.new ≡ self.old)) }
+    {
+        if output.is_none() && self.rare.is_none() {
+            return Ok(());
+        }
+        match take_rare(self.words.allocator(), &mut self.rare) {
+            Ok(mut rare) => {
+                rare.output = output;
+                self.rare = Some(rare);
+                Ok(())
+            }
+            Err(_) => Err(output),
+        }
+    }
+
+    /// Sets it, or takes it away: text for people, of the object's state.
+    /// It comes back where there is no memory; all is then as it was.
+    pub fn put_display(&mut self, display: Option<Text>) -> Result<(), Option<Text>>
+        ensures { MatchResult result
+            (λ _. self.new ≡ record self.old { facets = record self.old.facets { display = display } })
+            (λ back. (back ≡ display) × (self.new ≡ self.old)) }
+    {
+        if display.is_none() && self.rare.is_none() {
+            return Ok(());
+        }
+        match take_rare(self.words.allocator(), &mut self.rare) {
+            Ok(mut rare) => {
+                rare.display = display;
+                self.rare = Some(rare);
+                Ok(())
+            }
+            Err(_) => Err(display),
+        }
+    }
+
+    /// Sets it, or takes it away: text for people, in place of the name.
+    /// It comes back where there is no memory; all is then as it was.
+    pub fn put_display_name(&mut self, display_name: Option<Text>) -> Result<(), Option<Text>>
+        ensures { MatchResult result
+            (λ _. self.new ≡ record self.old { facets = record self.old.facets { display_name = display_name } })
+            (λ back. (back ≡ display_name) × (self.new ≡ self.old)) }
+    {
+        if display_name.is_none() && self.rare.is_none() {
+            return Ok(());
+        }
+        match take_rare(self.words.allocator(), &mut self.rare) {
+            Ok(mut rare) => {
+                rare.display_name = display_name;
+                self.rare = Some(rare);
+                Ok(())
+            }
+            Err(_) => Err(display_name),
+        }
+    }
+
+    /// Sets it, or takes it away: the address of a picture.
+    /// It comes back where there is no memory; all is then as it was.
+    pub fn put_icon(&mut self, icon: Option<Text>) -> Result<(), Option<Text>>
+        ensures { MatchResult result
+            (λ _. self.new ≡ record self.old { facets = record self.old.facets { icon = icon } })
+            (λ back. (back ≡ icon) × (self.new ≡ self.old)) }
+    {
+        if icon.is_none() && self.rare.is_none() {
+            return Ok(());
+        }
+        match take_rare(self.words.allocator(), &mut self.rare) {
+            Ok(mut rare) => {
+                rare.icon = icon;
+                self.rare = Some(rare);
+                Ok(())
+            }
+            Err(_) => Err(icon),
+        }
+    }
+
+    /// Sets it, or takes it away: the address of the object whose children name the values of an enum.
+    /// It comes back where there is no memory; all is then as it was.
+    pub fn put_range(&mut self, range: Option<Text>) -> Result<(), Option<Text>>
+        ensures { MatchResult result
+            (λ _. self.new ≡ record self.old { facets = record self.old.facets { range = range } })
+            (λ back. (back ≡ range) × (self.new ≡ self.old)) }
+    {
+        if range.is_none() && self.rare.is_none() {
+            return Ok(());
+        }
+        match take_rare(self.words.allocator(), &mut self.rare) {
+            Ok(mut rare) => {
+                rare.range = range;
+                self.rare = Some(rare);
+                Ok(())
+            }
+            Err(_) => Err(range),
+        }
+    }
+
+    /// Sets it, or takes it away: the zone of a time.
+    /// It comes back where there is no memory; all is then as it was.
+    pub fn put_tz(&mut self, tz: Option<Text>) -> Result<(), Option<Text>>
+        ensures { MatchResult result
+            (λ _. self.new ≡ record self.old { facets = record self.old.facets { tz = tz } })
+            (λ back. (back ≡ tz) × (self.new ≡ self.old)) }
+    {
+        if tz.is_none() && self.rare.is_none() {
+            return Ok(());
+        }
+        match take_rare(self.words.allocator(), &mut self.rare) {
+            Ok(mut rare) => {
+                rare.tz = tz;
+                self.rare = Some(rare);
+                Ok(())
+            }
+            Err(_) => Err(tz),
+        }
+    }
+
+    // Takes those facets that few objects have.
+    fn keep_rare(&mut self, facets: &mut Facets) -> Result<(), AllocError>
+        ensures { MatchResult result
+            (λ _. (self.new ≡ record self.old {
+              facets = record self.old.facets {
+                display = facets.old.display;
+                display_name = facets.old.display_name;
+                icon = facets.old.icon;
+                range = facets.old.range;
+                tz = facets.old.tz;
+              };
+            }) × (facets.new ≡ record facets.old { display = None; display_name = None; icon = None; range = None; tz = None }))
+            (λ _. (self.new ≡ self.old) × (facets.new ≡ facets.old)) }
+    {
+        if self.rare.is_none() && !facets.has_rare() {
+            return Ok(());
+        }
+        let mut rare = take_rare(self.words.allocator(), &mut self.rare)?;
+        rare.display = facets.display.take();
+        rare.display_name = facets.display_name.take();
+        rare.icon = facets.icon.take();
+        rare.range = facets.range.take();
+        rare.tz = facets.tz.take();
+        self.rare = Some(rare);
+        Ok(())
+    }
+
+    /// Sets the facets. They come back where there is no memory; all is then as it was.
+    pub fn put_facets(&mut self, mut facets: Facets) -> Result<(), Facets>
+        ensures { MatchResult result
+            (λ _. self.new ≡ record self.old { facets = facets })
+            (λ back. (back ≡ facets) × (self.new ≡ self.old)) }
+    {
+        if self.keep_rare(&mut facets).is_err() {
+            return Err(facets);
+        }
+        self.put_unit(facets.unit.take());
+        self.put_min(facets.min.take());
+        self.put_max(facets.max.take());
+        self.put_precision(facets.precision);
+        self.put_status(facets.status);
+        self.put_writable(facets.writable);
+        Ok(())
+    }
+
+    /// What a head says, kept. It takes memory only for what few objects have.
+    pub fn from_head(alloc: Global, mut head: Head) -> Result<Attributes, AllocError>
+        ensures { IfOk result (λ kept. kept ≡ head) }
+    {
+        let mut kept = Attributes::empty(alloc, head.kind);
+        kept.put_name(head.name.take());
+        kept.put_href(head.href.take());
+        kept.put_is(head.is.take());
+        kept.put_slot(std::mem::replace(&mut head.slot, Slot::Absent));
+        let facets = std::mem::replace(&mut head.facets, Facets::none());
+        match kept.keep_lists(
+            head.of.take(),
+            head.input.take(),
+            head.output.take(),
+            facets,
+        ) {
+            Ok(()) => Ok(kept),
+            Err(_) => Err(AllocError),
+        }
+    }
+
+    // Sets the lists that few objects have, and the facets.
+    fn keep_lists(
+        &mut self,
+        of: Option<Words>,
+        input: Option<Words>,
+        output: Option<Words>,
+        facets: Facets,
+    ) -> Result<(), AllocError>
+        ensures { IfOk result (λ _. self.new ≡ record self.old { of = of; input = input; output = output; facets = facets }) }
+    {
+        if self.put_of(of).is_err()
+            || self.put_input(input).is_err()
+            || self.put_output(output).is_err()
+            || self.put_facets(facets).is_err()
+        {
+            Err(AllocError)
+        } else {
+            Ok(())
+        }
+    }
+
+    /// A copy without the href, and with another slot.
+    pub fn copy_with(&self, slot: &Slot) -> Result<Attributes, AllocError>
+        ensures { IfOk result (λ copy. copy ≡ record self.now { href = None; slot = slot.now }) }
+    {
+        let alloc = self.words.allocator();
+        Ok(Attributes {
+            name: self.name.copy()?,
+            href: Text::empty(),
+            words: self.words.copy()?,
+            slot: slot.copy()?,
+            unit: self.unit.copy()?,
+            low: self.low.copy()?,
+            high: self.high.copy()?,
+            places: self.places,
+            rare: copy_rare(alloc, &self.rare)?,
+            kind: self.kind,
+            status: self.status,
+            writable: self.writable,
+            has_name: self.has_name,
+            has_href: false,
+            has_words: self.has_words,
+            has_unit: self.has_unit,
+            has_low: self.has_low,
+            has_high: self.has_high,
+            has_places: self.has_places,
+        })
+    }
+
+    /// A copy.
+    pub fn copy(&self) -> Result<Attributes, AllocError>
+        ensures { IfOk result (λ copy. copy ≡ self.now) }
+    {
+        let mut copy = self.copy_with(&self.slot)?;
+        copy.href = self.href.copy()?;
+        copy.has_href = self.has_href;
+        Ok(copy)
+    }
+}
