@@ -11,7 +11,6 @@ ghost use Rattle.ob_contracts.specs.Rows.{FirstContractWins, ChildOverrides, Ite
 mod adding;
 mod ancestry;
 mod build;
-mod copies;
 mod counting;
 mod fewer;
 mod inherited;

@@ -193,7 +193,7 @@ impl<'a> Sources<'a> {
         ensures { option_copied result ≡ implied_by (inherited_head self.now.own.now.head (sources_of self.now)) }
     {
         if self.own.kind().has_of() {
-            self.holder(&Part::Of).head().of.as_ref()
+            self.holder(&Part::Of).head().of()
         } else {
             None
         }

@@ -50,3 +50,7 @@ invariant_of-self-2 c =
           ∙ ap (place_of word) (sym put),
       library_known c.self.inside.named c.put_named.new.known items c.push_reserved.new.self.items (uri, made) put c.put_named.ensures.kept all old.10,
     )
+
+pub returns-clause-ok : goal.returns-clause-ok
+returns-clause-ok c =
+    c.push_reserved.ensures.items ∙ ap (λ (l : Contracts). l ++ (c.args.uri, c.args.made) ∷ []) (c.reserve.ensures.items ∙ c.self.view_is)

@@ -8,5 +8,5 @@ use Rattle.ob_contracts.proofs.lookup.Sources.implied_by.Goals as goal
 
 pub returns-then-has_of : goal.returns-then-has_of
 returns-then-has_of c =
-    c.as_ref.ensures.value ∙ ap (λ (h : Head). h.of) c.head.ensures.value ∙ ap (λ (o : Object). o.head.of) c.holder.ensures
+    c.of.ensures ∙ ap (λ (h : Head). h.of) c.head.ensures.value ∙ ap (λ (o : Object). o.head.of) c.holder.ensures
     ∙ gives_words c.args.self.now.own.now (sources_of c.args.self.now) (sym (ap has_of c.kind.ensures) ∙ sym c.has_of.ensures ∙ c.if-has_of.true)
