@@ -1,4 +1,5 @@
 //! Attributes, each where the object has it.
+ghost use Rattle.std.specs.Option.{option_copied};
 ghost use Rattle.std.specs.Prelude.{◌≡◌, ◌++◌, Some, OnOk, option_map};
 ghost use Rattle.ob_encode.specs.Canonical.{quoted, joined};
 ghost use Rattle.ob_values.specs.Spelled.{printed};
@@ -24,10 +25,10 @@ pub(crate) fn write_quoted(lead: &[u8], text: &str, out: &mut Vec<u8>) -> Result
 
 pub(crate) fn write_text(
     lead: &[u8],
-    text: &Option<Text>,
+    text: Option<&Text>,
     out: &mut Vec<u8>,
 ) -> Result<(), AllocError>
-    ensures written { OnOk result (out.new.items ≡ out.old.items ++ quoted lead.now text.now) }
+    ensures written { OnOk result (out.new.items ≡ out.old.items ++ quoted lead.now (option_copied text.entry)) }
     ensures front { IsFront out.old.items out.new.items }
 {
     match text {
@@ -50,10 +51,10 @@ pub(crate) fn write_value(lead: &[u8], value: &Value, out: &mut Vec<u8>) -> Resu
 
 pub(crate) fn write_limit(
     lead: &[u8],
-    limit: &Option<Value>,
+    limit: Option<&Value>,
     out: &mut Vec<u8>,
 ) -> Result<(), AllocError>
-    ensures written { OnOk result (out.new.items ≡ out.old.items ++ quoted lead.now (option_map printed limit.now)) }
+    ensures written { OnOk result (out.new.items ≡ out.old.items ++ quoted lead.now (option_map printed (option_copied limit.entry))) }
     ensures front { IsFront out.old.items out.new.items }
 {
     match limit {
@@ -131,10 +132,10 @@ fn write_list(lead: &[u8], words: &Words, out: &mut Vec<u8>) -> Result<(), Alloc
 
 pub(crate) fn write_words(
     lead: &[u8],
-    words: &Option<Words>,
+    words: Option<&Words>,
     out: &mut Vec<u8>,
 ) -> Result<(), AllocError>
-    ensures written { OnOk result (out.new.items ≡ out.old.items ++ quoted lead.now (option_map joined words.now)) }
+    ensures written { OnOk result (out.new.items ≡ out.old.items ++ quoted lead.now (option_map joined (option_copied words.entry))) }
     ensures front { IsFront out.old.items out.new.items }
 {
     match words {

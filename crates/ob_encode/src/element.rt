@@ -13,17 +13,17 @@ use crate::attribute::{
 };
 use crate::escape::append;
 use crate::names::kind_name;
-use ob_object::{Facets, Head, Kind, Obj, Slot};
+use ob_object::{Attributes, Kind, Obj, Slot};
 use ob_values::Text;
 use std::alloc::{AllocError, Global};
 
-fn write_names(head: &Head, out: &mut Vec<u8>) -> Result<(), AllocError>
+fn write_names(head: &Attributes, out: &mut Vec<u8>) -> Result<(), AllocError>
     ensures written { OnOk result (out.new.items ≡ out.old.items ++ attributes_text (names_part head.now)) }
     ensures front { IsFront out.old.items out.new.items }
 {
-    write_text(b" name=\"", &head.name, out)?;
-    write_text(b" href=\"", &head.href, out)?;
-    write_words(b" is=\"", &head.is, out)
+    write_text(b" name=\"", head.name(), out)?;
+    write_text(b" href=\"", head.href(), out)?;
+    write_words(b" is=\"", head.is(), out)
 }
 
 fn write_slot(slot: &Slot, out: &mut Vec<u8>) -> Result<(), AllocError>
@@ -37,62 +37,62 @@ fn write_slot(slot: &Slot, out: &mut Vec<u8>) -> Result<(), AllocError>
     }
 }
 
-fn write_lists(head: &Head, out: &mut Vec<u8>) -> Result<(), AllocError>
+fn write_lists(head: &Attributes, out: &mut Vec<u8>) -> Result<(), AllocError>
     ensures written { OnOk result (out.new.items ≡ out.old.items ++ attributes_text (lists_part head.now)) }
     ensures front { IsFront out.old.items out.new.items }
 {
-    write_words(b" of=\"", &head.of, out)?;
-    write_words(b" in=\"", &head.input, out)?;
-    write_words(b" out=\"", &head.output, out)
+    write_words(b" of=\"", head.of(), out)?;
+    write_words(b" in=\"", head.input(), out)?;
+    write_words(b" out=\"", head.output(), out)
 }
 
-fn write_labels(facets: &Facets, out: &mut Vec<u8>) -> Result<(), AllocError>
-    ensures written { OnOk result (out.new.items ≡ out.old.items ++ attributes_text (labels_part facets.now)) }
+fn write_labels(head: &Attributes, out: &mut Vec<u8>) -> Result<(), AllocError>
+    ensures written { OnOk result (out.new.items ≡ out.old.items ++ attributes_text (labels_part head.now.facets)) }
     ensures front { IsFront out.old.items out.new.items }
 {
-    write_text(b" display=\"", &facets.display, out)?;
-    write_text(b" displayName=\"", &facets.display_name, out)?;
-    write_text(b" icon=\"", &facets.icon, out)
+    write_text(b" display=\"", head.display(), out)?;
+    write_text(b" displayName=\"", head.display_name(), out)?;
+    write_text(b" icon=\"", head.icon(), out)
 }
 
-fn write_limits(facets: &Facets, out: &mut Vec<u8>) -> Result<(), AllocError>
-    ensures written { OnOk result (out.new.items ≡ out.old.items ++ attributes_text (limits_part facets.now)) }
+fn write_limits(head: &Attributes, out: &mut Vec<u8>) -> Result<(), AllocError>
+    ensures written { OnOk result (out.new.items ≡ out.old.items ++ attributes_text (limits_part head.now.facets)) }
     ensures front { IsFront out.old.items out.new.items }
 {
-    write_limit(b" max=\"", &facets.max, out)?;
-    write_limit(b" min=\"", &facets.min, out)?;
-    write_number(b" precision=\"", facets.precision, out)
+    write_limit(b" max=\"", head.max(), out)?;
+    write_limit(b" min=\"", head.min(), out)?;
+    write_number(b" precision=\"", head.precision(), out)
 }
 
-fn write_meaning(facets: &Facets, out: &mut Vec<u8>) -> Result<(), AllocError>
-    ensures written { OnOk result (out.new.items ≡ out.old.items ++ attributes_text (meaning_part facets.now)) }
+fn write_meaning(head: &Attributes, out: &mut Vec<u8>) -> Result<(), AllocError>
+    ensures written { OnOk result (out.new.items ≡ out.old.items ++ attributes_text (meaning_part head.now.facets)) }
     ensures front { IsFront out.old.items out.new.items }
 {
-    write_text(b" range=\"", &facets.range, out)?;
-    write_status(b" status=\"", facets.status, out)?;
-    write_text(b" tz=\"", &facets.tz, out)?;
-    write_text(b" unit=\"", &facets.unit, out)?;
-    write_truth(b" writable=\"", facets.writable, out)
+    write_text(b" range=\"", head.range(), out)?;
+    write_status(b" status=\"", head.status(), out)?;
+    write_text(b" tz=\"", head.tz(), out)?;
+    write_text(b" unit=\"", head.unit(), out)?;
+    write_truth(b" writable=\"", head.writable(), out)
 }
 
-fn write_facets(facets: &Facets, out: &mut Vec<u8>) -> Result<(), AllocError>
-    ensures written { OnOk result (out.new.items ≡ out.old.items ++ attributes_text (facet_attributes facets.now)) }
+fn write_facets(head: &Attributes, out: &mut Vec<u8>) -> Result<(), AllocError>
+    ensures written { OnOk result (out.new.items ≡ out.old.items ++ attributes_text (facet_attributes head.now.facets)) }
     ensures front { IsFront out.old.items out.new.items }
 {
-    write_labels(facets, out)?;
-    write_limits(facets, out)?;
-    write_meaning(facets, out)
+    write_labels(head, out)?;
+    write_limits(head, out)?;
+    write_meaning(head, out)
 }
 
 /// Appends all attributes but the namespace.
-fn write_attributes(head: &Head, out: &mut Vec<u8>) -> Result<(), AllocError>
+fn write_attributes(head: &Attributes, out: &mut Vec<u8>) -> Result<(), AllocError>
     ensures written { OnOk result (out.new.items ≡ out.old.items ++ attributes_text (attributes None head.now)) }
     ensures front { IsFront out.old.items out.new.items }
 {
     write_names(head, out)?;
-    write_slot(&head.slot, out)?;
+    write_slot(head.slot(), out)?;
     write_lists(head, out)?;
-    write_facets(&head.facets, out)
+    write_facets(head, out)
 }
 
 fn write_namespace(ns: Option<&Text>, out: &mut Vec<u8>) -> Result<(), AllocError>
@@ -106,12 +106,12 @@ fn write_namespace(ns: Option<&Text>, out: &mut Vec<u8>) -> Result<(), AllocErro
 }
 
 /// Appends the start tag up to its end.
-fn write_start(ns: Option<&Text>, head: &Head, out: &mut Vec<u8>) -> Result<(), AllocError>
+fn write_start(ns: Option<&Text>, head: &Attributes, out: &mut Vec<u8>) -> Result<(), AllocError>
     ensures written { OnOk result (out.new.items ≡ out.old.items ++ start_text (option_copied ns.entry) head.now) }
     ensures front { IsFront out.old.items out.new.items }
 {
     append(b"<", out)?;
-    append(kind_name(head.kind).as_bytes(), out)?;
+    append(kind_name(head.kind()).as_bytes(), out)?;
     write_namespace(ns, out)?;
     write_attributes(head, out)
 }

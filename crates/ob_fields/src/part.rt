@@ -1,13 +1,13 @@
 //! What one attribute says of an object.
 
-ghost use Rattle.std.specs.Prelude.{◌≡◌, true};
+ghost use Rattle.std.specs.Prelude.{◌≡◌, true, IfOk, OnOk, Ok};
 ghost use Rattle.ob_fields.specs.Fields.{has_value, has_limit, applies};
 ghost use Rattle.ob_fields.specs.Parts.{ReadsValue, ReadsLimit, PartRead, put_text, put_words, put_part};
 
 use crate::field::{Field, TextField, ValueField, WordsField};
 use crate::status::read_status;
 use crate::words::read_words;
-use ob_object::{Head, Kind, Slot, Status, Words};
+use ob_object::{Attributes, Kind, Slot, Status, Words};
 use ob_values::{
     Text, Value, ValueFault, read_abstime, read_bool, read_date, read_dec, read_int, read_reltime,
     read_time,
@@ -157,30 +157,42 @@ pub fn read_part(alloc: Global, kind: Kind, field: Field, text: Text) -> Result<
     }
 }
 
-fn put_text_in(head: &mut Head, field: TextField, text: Text)
-    ensures { head.new ≡ put_text field head.old text }
+// Done, or want of memory, where a part came back.
+fn taken<T: Drop>(put: Result<(), T>) -> Result<(), AllocError>
+    ensures { OnOk result (put ≡ Ok tt) }
 {
-    match field {
-        TextField::Name => head.name = Some(text),
-        TextField::Href => head.href = Some(text),
-        TextField::Display => head.facets.display = Some(text),
-        TextField::DisplayName => head.facets.display_name = Some(text),
-        TextField::Icon => head.facets.icon = Some(text),
-        TextField::Range => head.facets.range = Some(text),
-        TextField::Tz => head.facets.tz = Some(text),
-        TextField::Unit => head.facets.unit = Some(text),
+    match put {
+        Ok(()) => Ok(()),
+        Err(_back) => Err(AllocError),
     }
 }
 
-fn put_words_in(head: &mut Head, field: WordsField, words: Words)
-    ensures { head.new ≡ put_words field head.old words }
+fn put_text_in(head: &mut Attributes, field: TextField, text: Text) -> Result<(), AllocError>
+    ensures { IfOk result (λ _. head.new ≡ put_text field head.old text) }
 {
     match field {
-        WordsField::Is => head.is = Some(words),
-        WordsField::Of => head.of = Some(words),
-        WordsField::In => head.input = Some(words),
-        WordsField::Out => head.output = Some(words),
+        TextField::Name => head.put_name(Some(text)),
+        TextField::Href => head.put_href(Some(text)),
+        TextField::Display => taken(head.put_display(Some(text)))?,
+        TextField::DisplayName => taken(head.put_display_name(Some(text)))?,
+        TextField::Icon => taken(head.put_icon(Some(text)))?,
+        TextField::Range => taken(head.put_range(Some(text)))?,
+        TextField::Tz => taken(head.put_tz(Some(text)))?,
+        TextField::Unit => head.put_unit(Some(text)),
     }
+    Ok(())
+}
+
+fn put_words_in(head: &mut Attributes, field: WordsField, words: Words) -> Result<(), AllocError>
+    ensures { IfOk result (λ _. head.new ≡ put_words field head.old words) }
+{
+    match field {
+        WordsField::Is => head.put_is(Some(words)),
+        WordsField::Of => taken(head.put_of(Some(words)))?,
+        WordsField::In => taken(head.put_input(Some(words)))?,
+        WordsField::Out => taken(head.put_output(Some(words)))?,
+    }
+    Ok(())
 }
 
 fn is_null(slot: &Slot) -> bool
@@ -191,27 +203,28 @@ fn is_null(slot: &Slot) -> bool
 
 impl Part {
     /// Puts it into the head of an object. Null goes before a value, whichever comes first.
-    pub fn put(self, head: &mut Head)
-        ensures { head.new ≡ put_part self head.old }
+    pub fn put(self, head: &mut Attributes) -> Result<(), AllocError>
+        ensures { IfOk result (λ _. head.new ≡ put_part self head.old) }
     {
         match self {
-            Part::Text(field, text) => put_text_in(head, field, text),
-            Part::Words(field, words) => put_words_in(head, field, words),
+            Part::Text(field, text) => put_text_in(head, field, text)?,
+            Part::Words(field, words) => put_words_in(head, field, words)?,
             Part::Null(truth) => {
                 if truth {
-                    head.slot = Slot::Null;
+                    head.put_slot(Slot::Null);
                 }
             }
             Part::Val(value) => {
-                if !is_null(&head.slot) {
-                    head.slot = Slot::Is(value);
+                if !is_null(head.slot()) {
+                    head.put_slot(Slot::Is(value));
                 }
             }
-            Part::Max(value) => head.facets.max = Some(value),
-            Part::Min(value) => head.facets.min = Some(value),
-            Part::Precision(number) => head.facets.precision = Some(number),
-            Part::Status(status) => head.facets.status = Some(status),
-            Part::Writable(truth) => head.facets.writable = Some(truth),
+            Part::Max(value) => head.put_max(Some(value)),
+            Part::Min(value) => head.put_min(Some(value)),
+            Part::Precision(number) => head.put_precision(Some(number)),
+            Part::Status(status) => head.put_status(Some(status)),
+            Part::Writable(truth) => head.put_writable(Some(truth)),
         }
+        Ok(())
     }
 }
