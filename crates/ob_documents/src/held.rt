@@ -1,23 +1,24 @@
 //! Objects in hand: all that a document asks of them but how deep they are.
+ghost use Rattle.std.specs.Option.{option_copied};
 ghost use Rattle.std.specs.Prelude.{option_map};
 ghost use Rattle.ob_values.specs.declared.value.Value.TheVariants.{Int};
 ghost use Rattle.ob_object.specs.Object.{in_row};
 ghost use Rattle.ob_grammar.specs.Carried.{AreTextsIfThere, IsHeadCarried, IsSlotWritten, IsTextIfThere, IsWritten, IsWrittenIfThere};
 ghost use Rattle.ob_documents.specs.Held.{IsHeld, IsRowHeld};
 
-use ob_object::{Head, Obj, Slot, Words};
+use ob_object::{Attributes, Obj, Slot, Words};
 use ob_values::{Text, Value, print_value};
 
-fn text_held(text: &Option<Text>)
-    ensures { IsTextIfThere text.now }
+fn text_held(text: Option<&Text>)
+    ensures { IsTextIfThere (option_copied text.entry) }
 {
     if let Some(text) = text {
         text.as_str();
     }
 }
 
-fn words_held(words: &Option<Words>)
-    ensures { AreTextsIfThere words.now }
+fn words_held(words: Option<&Words>)
+    ensures { AreTextsIfThere (option_copied words.entry) }
 {
     if let Some(words) = words {
         for word in words.as_slice() {
@@ -39,8 +40,8 @@ fn value_held(value: &Value)
     }
 }
 
-fn limit_held(limit: &Option<Value>)
-    ensures { IsWrittenIfThere limit.now }
+fn limit_held(limit: Option<&Value>)
+    ensures { IsWrittenIfThere (option_copied limit.entry) }
 {
     if let Some(value) = limit {
         value_held(value);
@@ -63,25 +64,25 @@ fn slot_held(slot: &Slot)
     }
 }
 
-fn head_held(head: &Head)
+fn head_held(head: &Attributes)
     ensures { IsHeadCarried head.now }
 {
-    text_held(&head.name);
-    text_held(&head.href);
-    words_held(&head.is);
-    words_held(&head.of);
-    words_held(&head.input);
-    words_held(&head.output);
-    slot_held(&head.slot);
-    text_held(&head.facets.display);
-    text_held(&head.facets.display_name);
-    text_held(&head.facets.icon);
-    limit_held(&head.facets.max);
-    limit_held(&head.facets.min);
-    number_held(head.facets.precision);
-    text_held(&head.facets.range);
-    text_held(&head.facets.tz);
-    text_held(&head.facets.unit);
+    text_held(head.name());
+    text_held(head.href());
+    words_held(head.is());
+    words_held(head.of());
+    words_held(head.input());
+    words_held(head.output());
+    slot_held(head.slot());
+    text_held(head.display());
+    text_held(head.display_name());
+    text_held(head.icon());
+    limit_held(head.max());
+    limit_held(head.min());
+    number_held(head.precision());
+    text_held(head.range());
+    text_held(head.tz());
+    text_held(head.unit());
 }
 
 #[cycle(holding)]

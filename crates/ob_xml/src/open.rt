@@ -8,7 +8,7 @@ ghost use Rattle.ob_xml.specs.Indexes.{with_name};
 ghost use Rattle.std.specs.Prelude.{IsTrue};
 
 use crate::names::Names;
-use ob_object::{Head, Kind, Obj};
+use ob_object::{Attributes, Kind, Obj};
 use std::alloc::{AllocError, Global};
 use std::marker::Model;
 
@@ -60,7 +60,7 @@ fn lost<T: Drop>(_parts: T) -> Result<Open, AllocError>
 }
 
 impl Open {
-    pub fn new(alloc: Global, head: Head) -> Result<Open, AllocError>
+    pub fn new(alloc: Global, head: Attributes) -> Result<Open, AllocError>
         requires { IsTrue (fits_head head) }
         ensures { IfOk result (λ o. o ≡ record { head = head; inner = none }) }
     {

@@ -18,7 +18,7 @@ use crate::names::Names;
 use crate::open::Open;
 use crate::refused::Why;
 use ob_fields::{Part, TextField, is_word, read_kind};
-use ob_object::{Head, Kind, Obj};
+use ob_object::{Attributes, Kind, Obj};
 use ob_scan::Place;
 use ob_values::{Text, ValueFault};
 use std::alloc::Global;
@@ -41,7 +41,7 @@ pub enum State {
     InTag {
         ns: Option<Text>,
         names: Names,
-        head: Box<Head>,
+        head: Box<Attributes>,
         outer: Vec<Open>,
     },
     Behind {
@@ -108,11 +108,11 @@ fn close_named(
 }
 
 /// What an object says whose tag has no attributes yet.
-fn new_head(kind: Kind) -> Head
+fn new_head(alloc: Global, kind: Kind) -> Attributes
     ensures value { result ≡ empty_head kind }
     ensures fits { IsTrue (fits_head result) }
 {
-    Head::empty(kind)
+    Attributes::empty(alloc, kind)
 }
 
 /// The start of a tag of the kind.
@@ -122,7 +122,7 @@ fn begin(alloc: Global, ns: Option<Text>, outer: Vec<Open>, kind: Kind) -> Resul
     ensures exact { Gives state_of result (Ok (Rattle.ob_xml.specs.Structure.in_tag ns set.empty (empty_head kind) (reverse outer.items))) }
     ensures sound { IfOk result (λ s. IsSound (state_of s)) }
 {
-    match Box::new(alloc, new_head(kind)) {
+    match Box::new(alloc, new_head(alloc, kind)) {
         Ok(head) => Ok(State::InTag {
             ns,
             names: Names::new(alloc),
@@ -193,7 +193,7 @@ fn keep_head(
     alloc: Global,
     ns: Option<Text>,
     names: Names,
-    head: Box<Head>,
+    head: Box<Attributes>,
     outer: Vec<Open>,
     name: &[u8],
     twice: bool,
@@ -224,7 +224,7 @@ fn keep_part(
     alloc: Global,
     ns: Option<Text>,
     names: Names,
-    mut head: Box<Head>,
+    mut head: Box<Attributes>,
     outer: Vec<Open>,
     name: &[u8],
     part: Part,
@@ -234,15 +234,17 @@ fn keep_part(
     ensures sound { IfOk result (λ s. IsSound (state_of s)) }
 {
     let twice = is_named_twice(&outer, &part);
-    part.put(&mut *head);
-    keep_head(alloc, ns, names, head, outer, name, twice)
+    match part.put(&mut *head) {
+        Ok(()) => keep_head(alloc, ns, names, head, outer, name, twice),
+        Err(_) => refused((ns, names, head, outer), Why::Memory),
+    }
 }
 
 fn keep_other(
     alloc: Global,
     ns: Option<Text>,
     names: Names,
-    head: Box<Head>,
+    head: Box<Attributes>,
     outer: Vec<Open>,
     name: &[u8],
     text: Text,
@@ -267,7 +269,7 @@ fn attribute(
     alloc: Global,
     ns: Option<Text>,
     names: Names,
-    head: Box<Head>,
+    head: Box<Attributes>,
     outer: Vec<Open>,
     name: &[u8],
     said: Result<Said, ValueFault>,
@@ -291,7 +293,7 @@ fn attribute(
 fn end_start(
     alloc: Global,
     ns: Option<Text>,
-    head: Box<Head>,
+    head: Box<Attributes>,
     mut outer: Vec<Open>,
 ) -> Result<State, Why>
     requires fits { IsTrue (fits_head head.value) }
@@ -314,7 +316,7 @@ fn end_start(
 fn end_empty(
     alloc: Global,
     ns: Option<Text>,
-    head: Box<Head>,
+    head: Box<Attributes>,
     outer: Vec<Open>,
 ) -> Result<State, Why>
     requires named { is_taken head.value.name (siblings (reverse outer.items)) ≡ false }
@@ -335,7 +337,7 @@ fn in_tag(
     alloc: Global,
     ns: Option<Text>,
     names: Names,
-    head: Box<Head>,
+    head: Box<Attributes>,
     outer: Vec<Open>,
     meaning: Meaning<'_>,
 ) -> Result<State, Why>
@@ -397,7 +399,7 @@ impl State {
         ensures { result ≡ kind_in (state_of self.now) }
     {
         match self {
-            State::InTag { head, .. } => head.kind,
+            State::InTag { head, .. } => head.kind(),
             _ => Kind::Obj,
         }
     }

@@ -10,6 +10,6 @@ use Rattle.ob_xml.proofs.state.keep_part.Goals as goal
 
 pub keep_head-requires-clause-named : goal.keep_head-requires-clause-named
 keep_head-requires-clause-named c = λ e.
-    subst (λ (h : Head). is_taken h.name (siblings (reverse c.args.outer.items)) ≡ false) (sym c.put.ensures)
+    subst (λ (h : Head). is_taken h.name (siblings (reverse c.args.outer.items)) ≡ false) (sym c.in-Ok.ensures)
     (subst (λ (h : Head). is_taken (put_part c.args.part h).name (siblings (reverse c.args.outer.items)) ≡ false) (sym c.deref_mut.ensures.value)
     (still_free c.args.part c.args.head.value (siblings (reverse c.args.outer.items)) c.requires.1.0 (ap (λ (xs : List Object). is_twice c.args.part (siblings (reverse xs))) (sym c.deref.ensures.value) ∙ sym c.is_named_twice-twice.ensures ∙ e)))
