@@ -17,11 +17,11 @@ use ob_values::{Text, Value};
 use std::alloc::{AllocError, Global};
 
 /// An object of a kind with a name and a slot, and nothing else.
-fn value_child(alloc: Global, kind: Kind, name: Text, slot: Slot) -> Obj
+fn value_child(alloc: Global, kind: Kind, name: Text, slot: Slot) -> Result<Obj, AllocError>
     requires { IsTrue (fits_head (value_head kind name slot)) }
-    ensures { result ≡ leaf (value_head kind name slot) }
+    ensures { IfOk result (λ o. o ≡ leaf (value_head kind name slot)) }
 {
-    Obj::from_head(
+    Obj::with_head(
         alloc,
         Head {
             kind,
@@ -70,7 +70,7 @@ fn put_value(
     ensures { IfOk result (λ _. object.new ≡ with_child object.old (leaf (value_head kind name.now slot))) }
 {
     let name = Text::from_ascii(alloc, name)?;
-    object.push_last(value_child(alloc, kind, name, slot))
+    object.push_last(value_child(alloc, kind, name, slot)?)
 }
 
 fn named_head(
@@ -126,7 +126,7 @@ fn put_source(alloc: Global, object: &mut Obj, path: &Text) -> Result<(), AllocE
 {
     let name = Text::from_ascii(alloc, "source")?;
     let href = path.copy()?;
-    object.push_last(Obj::from_head(alloc, named_head(Kind::Ref, name, Some(href), None, None)))
+    object.push_last(Obj::with_head(alloc, named_head(Kind::Ref, name, Some(href), None, None))?)
 }
 
 /// When an alarm was raised, and when it ended.
@@ -181,10 +181,10 @@ fn ack_op(alloc: Global, path: &Text) -> Result<Obj, AllocError>
     let href = path.followed_by(alloc, "ack")?;
     let input = one_word(alloc, "obix:AckAlarmIn")?;
     let output = one_word(alloc, "obix:AckAlarmOut")?;
-    Ok(Obj::from_head(
+    Obj::with_head(
         alloc,
         named_head(Kind::Op, name, Some(href), Some(input), Some(output)),
-    ))
+    )
 }
 
 fn user_slot(ack: &Option<Ack>) -> Result<Slot, AllocError>
@@ -249,7 +249,7 @@ fn alarm_head(alloc: Global, path: &Text, needs_ack: bool) -> Result<Obj, AllocE
     let href = path.copy()?;
     let is = alarm_words(alloc, needs_ack)?;
     let _words = is.as_slice();
-    Ok(Obj::from_head(
+    Obj::with_head(
         alloc,
         Head {
             kind: Kind::Obj,
@@ -262,7 +262,7 @@ fn alarm_head(alloc: Global, path: &Text, needs_ack: bool) -> Result<Obj, AllocE
             slot: Slot::Absent,
             facets: Facets::none(),
         },
-    ))
+    )
 }
 
 /// An alarm as an object, but for the value that raised it.

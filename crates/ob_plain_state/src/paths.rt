@@ -4,16 +4,16 @@ ghost use Rattle.std.specs.Option.{option_copied};
 ghost use Rattle.ob_site_rules.specs.Shown.{node_path};
 ghost use Rattle.ob_site_rules.specs.State.{is_path};
 
-use ob_object::{Head, Kind};
+use ob_object::{Attributes, Kind};
 use ob_values::Text;
 
 /// The path of a node: its href, unless it is a ref or an err.
-pub fn node_path(head: &Head) -> Option<&Text>
+pub fn node_path(head: &Attributes) -> Option<&Text>
     ensures { option_copied result ≡ node_path head.now }
 {
-    match head.kind {
+    match head.kind() {
         Kind::Ref | Kind::Err => None,
-        _ => head.href.as_ref(),
+        _ => head.href(),
     }
 }
 
