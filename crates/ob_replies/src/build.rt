@@ -9,19 +9,19 @@ ghost use Rattle.ob_replies.specs.Names.{is_name, are_new};
 ghost use Rattle.ob_replies.specs.Told as told;
 
 use crate::contract::Contract;
-use ob_object::{Head, Kind, Obj, Slot};
+use ob_object::{Attributes, Kind, Obj, Slot};
 use ob_times::Abstime;
 use ob_values::{Text, Value};
 use std::alloc::{AllocError, Global};
 
 /// An obj's head with one contract, and its path if one is given.
-pub fn obj_head(alloc: Global, href: Option<Text>, is: Contract) -> Result<Head, AllocError>
+pub fn obj_head(alloc: Global, href: Option<Text>, is: Contract) -> Result<Attributes, AllocError>
     ensures { IfOk result (λ h. h ≡ record (empty_head kind.Obj) { href = href; is = word (told.contract is) }) }
 {
     let words = is.words(alloc)?;
-    let mut head = Head::empty(Kind::Obj);
-    head.href = href;
-    head.is = Some(words);
+    let mut head = Attributes::empty(alloc, Kind::Obj);
+    head.put_href(href);
+    head.put_is(Some(words));
     Ok(head)
 }
 
@@ -36,7 +36,7 @@ pub fn put(objects: &mut Vec<Obj>, object: Obj) -> Result<(), AllocError>
 }
 
 /// An object of a head and children, none of which has the name of one before it.
-pub fn whole(alloc: Global, head: Head, children: Vec<Obj>) -> Result<Obj, AllocError>
+pub fn whole(alloc: Global, head: Attributes, children: Vec<Obj>) -> Result<Obj, AllocError>
     requires fits { IsTrue (fits_head head) }
     requires differ { IsTrue (are_new [] children.items) }
     ensures { IfOk result (λ o. o ≡ whole head children.items) }
@@ -50,7 +50,7 @@ pub fn whole(alloc: Global, head: Head, children: Vec<Obj>) -> Result<Obj, Alloc
 
 /// An object of a head and one child.
 #[tactic(auto, using(crate::proofs::New::one_new))]
-pub fn one_child(alloc: Global, head: Head, child: Obj) -> Result<Obj, AllocError>
+pub fn one_child(alloc: Global, head: Attributes, child: Obj) -> Result<Obj, AllocError>
     requires { IsTrue (fits_head head) }
     ensures { IfOk result (λ o. o ≡ whole head (child ∷ [])) }
 {
@@ -67,9 +67,9 @@ pub fn valued(alloc: Global, kind: Kind, name: &str, slot: Slot) -> Result<Obj, 
     ensures { IfOk result (λ o. o ≡ valued kind name.now slot) }
 {
     let name = Text::from_ascii(alloc, name)?;
-    let mut head = Head::empty(kind);
-    head.name = Some(name);
-    head.slot = slot;
+    let mut head = Attributes::empty(alloc, kind);
+    head.put_name(Some(name));
+    head.put_slot(slot);
     Ok(Obj::from_head(alloc, head))
 }
 
@@ -100,10 +100,10 @@ pub fn ref_to(alloc: Global, name: &str, path: Text, is: Contract) -> Result<Obj
 {
     let name = Text::from_ascii(alloc, name)?;
     let words = is.words(alloc)?;
-    let mut head = Head::empty(Kind::Ref);
-    head.name = Some(name);
-    head.href = Some(path);
-    head.is = Some(words);
+    let mut head = Attributes::empty(alloc, Kind::Ref);
+    head.put_name(Some(name));
+    head.put_href(Some(path));
+    head.put_is(Some(words));
     Ok(Obj::from_head(alloc, head))
 }
 
@@ -122,11 +122,15 @@ pub fn op_at(
     let name = Text::from_ascii(alloc, name)?;
     let input = takes.words(alloc)?;
     let output = gives.words(alloc)?;
-    let mut head = Head::empty(Kind::Op);
-    head.name = Some(name);
-    head.href = Some(path);
-    head.input = Some(input);
-    head.output = Some(output);
+    let mut head = Attributes::empty(alloc, Kind::Op);
+    head.put_name(Some(name));
+    head.put_href(Some(path));
+    if head.put_input(Some(input)).is_err() {
+        return Err(AllocError);
+    }
+    if head.put_output(Some(output)).is_err() {
+        return Err(AllocError);
+    }
     Ok(Obj::from_head(alloc, head))
 }
 
@@ -145,11 +149,15 @@ pub fn feed_at(
     let name = Text::from_ascii(alloc, name)?;
     let of = of.words(alloc)?;
     let input = takes.words(alloc)?;
-    let mut head = Head::empty(Kind::Feed);
-    head.name = Some(name);
-    head.href = Some(path);
-    head.of = Some(of);
-    head.input = Some(input);
+    let mut head = Attributes::empty(alloc, Kind::Feed);
+    head.put_name(Some(name));
+    head.put_href(Some(path));
+    if head.put_of(Some(of)).is_err() {
+        return Err(AllocError);
+    }
+    if head.put_input(Some(input)).is_err() {
+        return Err(AllocError);
+    }
     Ok(Obj::from_head(alloc, head))
 }
 

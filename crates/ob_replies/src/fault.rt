@@ -4,7 +4,7 @@ ghost use Rattle.ob_site_rules.specs.Faults.{err, fault_is, fault_display};
 ghost use Rattle.ob_replies.specs.Told as told;
 
 use crate::contract::Contract;
-use ob_object::{Head, Kind, Obj, Words};
+use ob_object::{Attributes, Kind, Obj, Words};
 use ob_values::Text;
 use std::alloc::{AllocError, Global};
 
@@ -97,8 +97,10 @@ pub fn refusal(alloc: Global, fault: Fault) -> Result<Obj, AllocError>
 {
     let is = fault.contract(alloc)?;
     let display = fault.display(alloc)?;
-    let mut head = Head::empty(Kind::Err);
-    head.is = is;
-    head.facets.display = Some(display);
+    let mut head = Attributes::empty(alloc, Kind::Err);
+    head.put_is(is);
+    if head.put_display(Some(display)).is_err() {
+        return Err(AllocError);
+    }
     Ok(Obj::from_head(alloc, head))
 }

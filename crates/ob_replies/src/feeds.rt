@@ -10,7 +10,7 @@ use crate::build::{put, valued, whole};
 use crate::contract::Contract;
 use crate::paths::below;
 use crate::plan::Plan;
-use ob_object::{Head, Kind, Obj, Slot};
+use ob_object::{Attributes, Kind, Obj, Slot};
 use ob_values::{Text, Value};
 use std::alloc::{AllocError, Global};
 
@@ -39,8 +39,10 @@ pub fn feed_there(alloc: Global, plan: &Plan, path: &Text) -> Result<Obj, AllocE
         Contract::HistoryRecord
     };
     let of = contract.words(alloc)?;
-    let mut head = Head::empty(Kind::Feed);
-    head.of = Some(of);
+    let mut head = Attributes::empty(alloc, Kind::Feed);
+    if head.put_of(Some(of)).is_err() {
+        return Err(AllocError);
+    }
     Ok(Obj::from_head(alloc, head))
 }
 

@@ -15,7 +15,7 @@ use crate::build::{named, obj_head, one_child, op_at, put, timed, valued, whole}
 use crate::contract::Contract;
 use crate::paths::ack_path;
 use crate::plan::Plan;
-use ob_object::{Head, Kind, Obj, Slot};
+use ob_object::{Attributes, Kind, Obj, Slot};
 use ob_values::{Moment, Text, Value};
 use std::alloc::{AllocError, Global};
 
@@ -26,7 +26,7 @@ pub fn nil(alloc: Global) -> Result<Obj, AllocError>
     ensures { IfOk result (λ o. o ≡ nil_object) }
 {
     let mut head = obj_head(alloc, None, Contract::Nil)?;
-    head.slot = Slot::Null;
+    head.put_slot(Slot::Null);
     Ok(Obj::from_head(alloc, head))
 }
 
@@ -237,7 +237,7 @@ pub fn batch_out(alloc: Global, results: Vec<Obj>) -> Result<Obj, AllocError>
     ensures { IfOk result (λ o. o ≡ batch_out results.items) }
 {
     let words = Contract::BatchOut.words(alloc)?;
-    let mut head = Head::empty(Kind::List);
-    head.is = Some(words);
+    let mut head = Attributes::empty(alloc, Kind::List);
+    head.put_is(Some(words));
     whole(alloc, head, results)
 }

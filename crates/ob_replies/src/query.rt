@@ -9,7 +9,7 @@ ghost use Rattle.ob_replies.specs.Queries.{counts_of, data_of};
 use crate::build::{obj_head, put, timed, valued, whole};
 use crate::contract::Contract;
 use ob_history::Filter;
-use ob_object::{Head, Kind, Obj, Slot};
+use ob_object::{Attributes, Kind, Obj, Slot};
 use ob_times::Abstime;
 use ob_values::{Text, Value};
 use std::alloc::{AllocError, Global};
@@ -67,9 +67,11 @@ fn data(alloc: Global, of: Contract, objects: Vec<Obj>) -> Result<Obj, AllocErro
 {
     let name = Text::from_ascii(alloc, "data")?;
     let of = of.words(alloc)?;
-    let mut head = Head::empty(Kind::List);
-    head.name = Some(name);
-    head.of = Some(of);
+    let mut head = Attributes::empty(alloc, Kind::List);
+    head.put_name(Some(name));
+    if head.put_of(Some(of)).is_err() {
+        return Err(AllocError);
+    }
     whole(alloc, head, objects)
 }
 

@@ -13,7 +13,7 @@ use crate::paths::below;
 use crate::query::{is_asked, query_out};
 use crate::roles::count_child;
 use ob_history::{Filter, Record};
-use ob_object::{Head, Kind, Obj};
+use ob_object::{Attributes, Kind, Obj};
 use ob_times::Abstime;
 use ob_values::Text;
 use std::alloc::{AllocError, Global};
@@ -29,7 +29,7 @@ pub fn record_object(alloc: Global, kept: &Record) -> Result<Obj, AllocError>
     let mut children = Vec::new(alloc);
     put(&mut children, timed(alloc, "timestamp", Some(kept.time))?)?;
     put(&mut children, valued(alloc, kept.kind, "value", slot)?)?;
-    whole(alloc, Head::empty(Kind::Obj), children)
+    whole(alloc, Attributes::empty(alloc, Kind::Obj), children)
 }
 
 /// Records as objects, in their order.

@@ -9,7 +9,7 @@ use crate::contract::Contract;
 use crate::fixed::batch_op;
 use crate::paths::below;
 use crate::plan::Plan;
-use ob_object::{Head, Kind, Obj, Slot};
+use ob_object::{Attributes, Kind, Obj, Slot};
 use ob_values::{Text, Value};
 use std::alloc::{AllocError, Global};
 
@@ -56,10 +56,10 @@ pub fn count_child(alloc: Global, count: u64) -> Result<Obj, AllocError>
     ensures { IfOk result (λ o. o ≡ count_child count) }
 {
     let name = Text::from_ascii(alloc, "count")?;
-    let mut head = Head::empty(Kind::Int);
-    head.name = Some(name);
-    head.slot = Slot::Is(Value::Int(count as i64));
-    head.facets.min = Some(Value::Int(0));
+    let mut head = Attributes::empty(alloc, Kind::Int);
+    head.put_name(Some(name));
+    head.put_slot(Slot::Is(Value::Int(count as i64)));
+    head.put_min(Some(Value::Int(0)));
     Ok(Obj::from_head(alloc, head))
 }
 

@@ -12,7 +12,7 @@ use crate::build::{nameless, obj_head, one_child, op_at, put, whole};
 use crate::contract::Contract;
 use crate::paths::watch_path;
 use crate::plan::Plan;
-use ob_object::{Head, Kind, Obj, Slot};
+use ob_object::{Attributes, Kind, Obj, Slot};
 use ob_times::Reltime;
 use ob_values::{Text, Value};
 use std::alloc::{AllocError, Global};
@@ -51,13 +51,13 @@ fn lease_child(alloc: Global, path: &Text, lease: u64) -> Result<Obj, AllocError
 {
     let name = Text::from_ascii(alloc, "lease")?;
     let href = path.followed_by(alloc, "lease")?;
-    let mut head = Head::empty(Kind::Reltime);
-    head.name = Some(name);
-    head.href = Some(href);
-    head.slot = Slot::Is(span(lease));
-    head.facets.min = Some(span(SECOND));
-    head.facets.max = Some(span(DAY));
-    head.facets.writable = Some(true);
+    let mut head = Attributes::empty(alloc, Kind::Reltime);
+    head.put_name(Some(name));
+    head.put_href(Some(href));
+    head.put_slot(Slot::Is(span(lease)));
+    head.put_min(Some(span(SECOND)));
+    head.put_max(Some(span(DAY)));
+    head.put_writable(Some(true));
     Ok(Obj::from_head(alloc, head))
 }
 
@@ -173,8 +173,8 @@ pub fn watch_out(alloc: Global, entries: Vec<Obj>) -> Result<Obj, AllocError>
     ensures { IfOk result (λ o. o ≡ watch_out entries.items) }
 {
     let name = Text::from_ascii(alloc, "values")?;
-    let mut head = Head::empty(Kind::List);
-    head.name = Some(name);
+    let mut head = Attributes::empty(alloc, Kind::List);
+    head.put_name(Some(name));
     let values = whole(alloc, head, entries)?;
     let head = obj_head(alloc, None, Contract::WatchOut)?;
     one_child(alloc, head, values)
