@@ -7,13 +7,13 @@ ghost use Rattle.ob_tree.specs.Children.{child_at};
 
 use crate::shown::{head_in, spot_in};
 use crate::spot::Spot;
-use ob_object::{Head, Obj};
+use ob_object::{Attributes, Obj};
 
 /// Whether an object has that name.
-fn is_named(head: &Head, name: &str) -> bool
+fn is_named(head: &Attributes, name: &str) -> bool
     ensures { result ≡ has_name name.now head.now.name }
 {
-    match &head.name {
+    match head.name() {
         Some(text) => text.as_str() == name,
         None => false,
     }

@@ -10,7 +10,7 @@ ghost use Rattle.ob_tree.specs.Children.{AreNumbered, child_at};
 use crate::laying::{is_known, put_place};
 use crate::shown::{head_in, spot_in};
 use crate::spot::Spot;
-use ob_object::{Head, Obj};
+use ob_object::{Attributes, Obj};
 use std::alloc::{AllocError, Global};
 use std::collections::BTreeMap;
 
@@ -18,12 +18,12 @@ use std::collections::BTreeMap;
 fn put_number(
     alloc: Global,
     numbers: &mut BTreeMap<String, usize>,
-    head: &Head,
+    head: &Attributes,
     number: usize,
 ) -> Result<(), AllocError>
     ensures { OnOk result ((n : List ℕ) → get_by_text numbers.new n ≡ or_else (get_by_text numbers.old n) (cond (has_name n head.now.name) (Some number) None)) }
 {
-    let Some(name) = &head.name else {
+    let Some(name) = head.name() else {
         return Ok(());
     };
     if is_known(numbers, name) {

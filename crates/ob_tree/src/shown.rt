@@ -11,7 +11,7 @@ ghost use Rattle.ob_tree.specs.Told.{words_for, AreToldBy};
 
 use crate::spot::Spot;
 use ob_contracts::Library;
-use ob_object::{Head, Obj};
+use ob_object::{Attributes, Obj};
 use ob_standing::{Instead, Standing};
 use ob_steps::Steps;
 use std::alloc::{AllocError, Global};
@@ -34,7 +34,7 @@ pub(crate) fn leaf_in(leaves: &[Obj], place: usize) -> &Obj
 }
 
 /// What the object of a number says of itself.
-pub(crate) fn head_in(leaves: &[Obj], place: usize) -> &Head
+pub(crate) fn head_in(leaves: &[Obj], place: usize) -> &Attributes
     requires { place < length leaves.now }
     ensures { slice_get (said leaves.now) place ≡ Some result.now }
 {

@@ -9,8 +9,8 @@ use Rattle.ob_tree.proofs.numbering.put_number.Goals as goal
 pub returns-then-is_known : goal.returns-then-is_known
 returns-then-is_known c = λ n.
     let old = get_by_text c.args.numbers.now in
-    word_kept old c.in-Some.name c.args.number (sym c.is_known.ensures ∙ c.if-is_known.true) n
-    ∙ ap (λ (k : Option (List ℕ)). or_else (old n) (cond (has_name n k) (Some c.args.number) None)) (sym c.in-Some.is)
+    word_kept old c.in-Some.name.now c.args.number (sym c.is_known.ensures ∙ c.if-is_known.true) n
+    ∙ ap (λ (k : Option (List ℕ)). or_else (old n) (cond (has_name n k) (Some c.args.number) None)) c.in-Some.ensures
 
 pub returns : goal.returns
 returns c =
@@ -18,5 +18,5 @@ returns c =
     on_ok_weaker c.put_place.result
     (λ put n.
     put n
-    ∙ word_put old c.in-Some.name c.args.number (sym c.is_known.ensures ∙ c.if-is_known.false) n
-    ∙ ap (λ (k : Option (List ℕ)). or_else (old n) (cond (has_name n k) (Some c.args.number) None)) (sym c.in-Some.is)) c.put_place.ensures
+    ∙ word_put old c.in-Some.name.now c.args.number (sym c.is_known.ensures ∙ c.if-is_known.false) n
+    ∙ ap (λ (k : Option (List ℕ)). or_else (old n) (cond (has_name n k) (Some c.args.number) None)) c.in-Some.ensures) c.put_place.ensures
