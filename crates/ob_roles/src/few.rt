@@ -12,7 +12,7 @@ ghost use Rattle.ob_roles.specs.Kinds.{Are, Tells};
 use crate::ancestors::Ancestors;
 use crate::kinds::{Known, word_is};
 use crate::taking::own_words;
-use ob_object::{Head, Obj, Words};
+use ob_object::{Attributes, Obj, Words};
 use ob_values::Text;
 use std::alloc::{AllocError, Global};
 
@@ -144,7 +144,7 @@ pub(crate) fn few_given(
 pub(crate) fn few_own<'a>(
     alloc: Global,
     known: &Known,
-    head: &'a Head,
+    head: &'a Attributes,
     given: Option<&'a Words>,
     over: Option<&'a Obj>,
 ) -> Result<Option<Words>, AllocError>
@@ -152,8 +152,9 @@ pub(crate) fn few_own<'a>(
         → option_copied given.entry ≡ option_map (few_words lib) implied → option_copied over.entry ≡ option_map (brief lib) o
         → few ≡ option_map (few_words lib) (own_words head.now implied o)) }
 {
-    if head.is.is_some() {
-        let few = few_if(alloc, known, head.is.as_ref())?;
+    let own = head.is();
+    if own.is_some() {
+        let few = few_if(alloc, known, own)?;
         return Ok(few);
     }
     let few = copied(own_words(head, given, over))?;

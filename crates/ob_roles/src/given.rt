@@ -14,7 +14,7 @@ use crate::ancestors::{Ancestors, none};
 use crate::kinds::{Known, words_are};
 use crate::naming::{Names, find_by, names_in};
 use crate::taking::{Table, contracts_of, first_of};
-use ob_object::{Head, Obj, Words};
+use ob_object::{Attributes, Obj, Words};
 use std::alloc::{AllocError, Global};
 use std::collections::BTreeMap;
 
@@ -88,10 +88,14 @@ pub(crate) fn base_of<'a, 'b>(own: &'b Given<'a>, list: &'b Given<'a>) -> &'b Gi
 }
 
 // The words of an object, or else those that are given to it, or else those of the child that it overrides.
-fn first_words<'a>(head: &'a Head, base: &Given<'a>, over: Option<&'a Obj>) -> Option<&'a Words>
+fn first_words<'a>(
+    head: &'a Attributes,
+    base: &Given<'a>,
+    over: Option<&'a Obj>,
+) -> Option<&'a Words>
     ensures { option_copied result ≡ or_else head.now.of (or_else (option_copied base.now.of) (option_and_then (λ o. o.head.of) (option_copied over.entry))) }
 {
-    match &head.of {
+    match head.of() {
         Some(words) => Some(words),
         None => match base.of {
             Some(words) => Some(words),
@@ -105,13 +109,13 @@ fn first_words<'a>(head: &'a Head, base: &Given<'a>, over: Option<&'a Obj>) -> O
 
 /// The words that an object gives to its children, where it is a list or a feed.
 pub(crate) fn gives_of<'a>(
-    head: &'a Head,
+    head: &'a Attributes,
     base: &Given<'a>,
     over: Option<&'a Obj>,
 ) -> Option<&'a Words>
     ensures { (lib : Contracts) (implied : Option Words) → IsBase base.now lib head.now implied → option_copied result ≡ implied_by (inherited_head head.now (sources lib head.now implied (option_copied over.entry))) }
 {
-    if head.kind.has_of() {
+    if head.kind().has_of() {
         return first_words(head, base, over);
     }
     None
@@ -126,7 +130,7 @@ pub(crate) struct Above<'a, 'b> {
 }
 
 // The child of the contracts that has the name of this head, where there are any.
-fn based<'a, 'b>(base: Option<&'b Names<'a>>, head: &'a Head) -> Option<&'a Obj>
+fn based<'a, 'b>(base: Option<&'b Names<'a>>, head: &'a Attributes) -> Option<&'a Obj>
     ensures { option_copied result ≡ based base.entry head.now.name }
 {
     match base {
@@ -137,7 +141,7 @@ fn based<'a, 'b>(base: Option<&'b Names<'a>>, head: &'a Head) -> Option<&'a Obj>
 
 impl<'a, 'b> Above<'a, 'b> {
     /// The child that an object of this head overrides.
-    pub(crate) fn over(&self, head: &'a Head) -> Option<&'a Obj>
+    pub(crate) fn over(&self, head: &'a Attributes) -> Option<&'a Obj>
         ensures { (ss : List Object) → IsAbove self.now ss → option_copied result ≡ overridden head.now.name ss }
     {
         let first = based(self.base, head);
@@ -151,12 +155,12 @@ impl<'a, 'b> Above<'a, 'b> {
 /// The children of the object that an object overrides, the first of each name; a ref takes none.
 pub(crate) fn over_names<'a>(
     alloc: Global,
-    head: &Head,
+    head: &Attributes,
     over: Option<&'a Obj>,
 ) -> Result<Names<'a>, AllocError>
     ensures { IfOk result (λ names. (n : List ℕ) → found names n ≡ overridden (Some n) (cond (is_ref head.now.kind) [] (present (option_copied over.entry ∷ [])))) }
 {
-    if head.kind.is_ref() {
+    if head.kind().is_ref() {
         return Ok(BTreeMap::new(alloc));
     }
     match over {
@@ -171,13 +175,13 @@ pub(crate) fn over_names<'a>(
 /// The children that those of an object may override, by what is given to it and by those of the object that it
 /// overrides. A ref takes none.
 pub(crate) fn above_of<'a, 'b>(
-    head: &Head,
+    head: &Attributes,
     base: &'b Given<'a>,
     over: &'b Names<'a>,
 ) -> Above<'a, 'b>
     ensures { (lib : Contracts) (implied : Option Words) (o : Option Object) → IsBase base.now lib head.now implied → ((n : List ℕ) → found over.now n ≡ overridden (Some n) (cond (is_ref head.now.kind) [] (present (o ∷ [])))) → IsAbove result (sources lib head.now implied o) }
 {
-    if head.kind.is_ref() {
+    if head.kind().is_ref() {
         return Above { base: None, over };
     }
     Above {

@@ -8,17 +8,17 @@ ghost use Rattle.ob_site_rules.specs.Writes.{site_contracts};
 ghost use Rattle.ob_roles.specs.Sums.{Gives, IsAddedIf};
 
 use ob_contracts::{LibFault, Library};
-use ob_object::{Head, Kind, Obj};
+use ob_object::{Attributes, Kind, Obj};
 use ob_values::Text;
 use std::alloc::Global;
 
 /// The path of a node: its href, unless it is a ref or an err.
-pub fn node_path(head: &Head) -> Option<&Text>
+pub fn node_path(head: &Attributes) -> Option<&Text>
     ensures { option_copied result ≡ node_path head.now }
 {
-    match head.kind {
+    match head.kind() {
         Kind::Ref | Kind::Err => None,
-        _ => head.href.as_ref(),
+        _ => head.href(),
     }
 }
 

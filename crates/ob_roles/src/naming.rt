@@ -7,7 +7,7 @@ ghost use Rattle.ob_contracts.specs.Found.{found, lent};
 ghost use Rattle.ob_contracts.specs.Inherit.{or_else, overridden};
 ghost use Rattle.ob_roles.specs.Given.{found_by};
 
-use ob_object::{Head, Obj};
+use ob_object::{Attributes, Obj};
 use std::alloc::{AllocError, Global};
 use std::collections::BTreeMap;
 
@@ -50,17 +50,17 @@ pub(crate) fn names_of<'a>(alloc: Global, object: &'a Obj) -> Result<Names<'a>, 
 }
 
 /// The object that has the name of this head.
-pub(crate) fn find_by<'a>(names: &Names<'a>, head: &'a Head) -> Option<&'a Obj>
+pub(crate) fn find_by<'a>(names: &Names<'a>, head: &'a Attributes) -> Option<&'a Obj>
     ensures { option_copied result ≡ found_by names.now head.now.name }
 {
-    match &head.name {
+    match head.name() {
         Some(name) => names.get(&name.as_str()).copied(),
         None => None,
     }
 }
 
 /// The child that an object of this head overrides.
-pub fn find_over<'a>(names: &Names<'a>, head: &'a Head) -> Option<&'a Obj>
+pub fn find_over<'a>(names: &Names<'a>, head: &'a Attributes) -> Option<&'a Obj>
     ensures { (ss : List Object) → ((n : List ℕ) → found names.now n ≡ overridden (Some n) ss) → option_copied result ≡ overridden head.now.name ss }
 {
     find_by(names, head)

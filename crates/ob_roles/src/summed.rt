@@ -13,7 +13,7 @@ ghost use Rattle.ob_roles.specs.Worded.{with_more};
 use crate::few::copied;
 use crate::naming::{Names, put_first};
 use crate::taking::{Table, contracts_of, first_of};
-use ob_object::{Head, Kind, Obj, PushFault, Words};
+use ob_object::{Attributes, Kind, Obj, PushFault, Words};
 use std::alloc::{AllocError, Global};
 use std::collections::BTreeMap;
 
@@ -67,7 +67,7 @@ fn list_of(alloc: Global, of: Option<&Words>) -> Result<Obj, AllocError>
     let of = copied(of)?;
     match made.put_of(of) {
         Ok(()) => Ok(made),
-        Err(_of) => Err(AllocError),
+        Err(_fault) => Err(AllocError),
     }
 }
 
@@ -87,10 +87,10 @@ fn sum_of(alloc: Global, table: &Table, words: &Words) -> Result<Obj, AllocError
 
 // Whether an object takes from the contracts of the words that its list or feed gives it: it has none of its own, and is no
 // ref.
-fn takes_given(head: &Head) -> bool
+fn takes_given(head: &Attributes) -> bool
     ensures { result ≡ takes_given head.now }
 {
-    head.is.is_none() && !head.kind.is_ref()
+    head.is().is_none() && !head.kind().is_ref()
 }
 
 // Whether one of some objects does.

@@ -7,7 +7,7 @@ ghost use Rattle.ob_contracts.specs.Inherit.{Contracts, present, contract_of, im
 ghost use Rattle.ob_roles.specs.Summed.{given_from, taken_from};
 ghost use Rattle.ob_roles.specs.Tables.{Holds};
 
-use ob_object::{Head, Obj, Words};
+use ob_object::{Attributes, Obj, Words};
 use ob_values::Text;
 use std::alloc::{AllocError, Global};
 use std::collections::BTreeMap;
@@ -21,13 +21,13 @@ pub(crate) type Names<'a> = BTreeMap<&'a str, &'a Obj>;
 /// An object's words: its own, or else those that its list or feed gives, or else those of the child that it
 /// overrides.
 pub fn own_words<'a>(
-    head: &'a Head,
+    head: &'a Attributes,
     implied: Option<&'a Words>,
     over: Option<&'a Obj>,
 ) -> Option<&'a Words>
     ensures { option_copied result ≡ own_words head.now (option_copied implied.entry) (option_copied over.entry) }
 {
-    match &head.is {
+    match head.is() {
         Some(words) => Some(words),
         None => match implied {
             Some(words) => Some(words),
@@ -85,12 +85,12 @@ pub(crate) fn contracts_of<'a>(
 fn given_from<'a>(
     alloc: Global,
     table: &'a Table,
-    head: &Head,
+    head: &Attributes,
     list: Option<&'a Obj>,
 ) -> Result<Vec<&'a Obj>, AllocError>
     ensures { IfOk result (λ from. (lib : Contracts) → Holds table.now lib → lent from.items ≡ given_from lib head.now.is (option_copied list.entry)) }
 {
-    if let Some(words) = &head.is {
+    if let Some(words) = head.is() {
         let from = contracts_of(alloc, table, words.as_slice())?;
         return Ok(from);
     }
@@ -104,13 +104,13 @@ fn given_from<'a>(
 pub(crate) fn sources<'a>(
     alloc: Global,
     table: &'a Table,
-    head: &Head,
+    head: &Attributes,
     list: Option<&'a Obj>,
     over: Option<&'a Obj>,
 ) -> Result<Vec<&'a Obj>, AllocError>
     ensures { IfOk result (λ from. (lib : Contracts) → Holds table.now lib → lent from.items ≡ taken_from lib head.now (option_copied list.entry) (option_copied over.entry)) }
 {
-    if head.kind.is_ref() {
+    if head.kind().is_ref() {
         return Ok(Vec::new(alloc));
     }
     let mut from = given_from(alloc, table, head, list)?;
@@ -134,13 +134,13 @@ pub(crate) fn first_of<'a>(from: &[&'a Obj]) -> Option<&'a Words>
 /// The words that the children of an object get, where it is a list or a feed: its own, or else those of the first
 /// source that has them.
 #[tactic(auto, using(crate::proofs::Taken::implied_is))]
-pub fn implied_by<'a>(head: &'a Head, from: &[&'a Obj]) -> Option<&'a Words>
+pub fn implied_by<'a>(head: &'a Attributes, from: &[&'a Obj]) -> Option<&'a Words>
     ensures { option_copied result ≡ implied_by (inherited_head head.now (lent from.now)) }
 {
-    if !head.kind.has_of() {
+    if !head.kind().has_of() {
         return None;
     }
-    match &head.of {
+    match head.of() {
         Some(words) => Some(words),
         None => first_of(from),
     }

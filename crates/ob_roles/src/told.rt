@@ -3,7 +3,7 @@ ghost use Rattle.std.specs.Prelude.{◌≡◌, ◌||◌, ◌∷◌, [], codes};
 ghost use Rattle.ob_opening.specs.Roles.{no_roles, role_at, derived_names, is_part, is_dropped, holds_contracts, name_among};
 ghost use Rattle.ob_site_rules.specs.State.{is_among};
 
-use ob_object::{Head, Kind};
+use ob_object::{Attributes, Kind};
 use ob_opening::Roles;
 
 /// No role.
@@ -65,27 +65,27 @@ fn derive(roles: Roles, name: &str) -> bool
 }
 
 /// Whether an object has a name and is of a kind.
-fn is_part(head: &Head, name: &str, kind: Kind) -> bool
+fn is_part(head: &Attributes, name: &str, kind: Kind) -> bool
     ensures { result ≡ is_part name.now kind head.now }
 {
-    match &head.name {
-        Some(own) => own.as_str() == name && head.kind.same(kind),
+    match head.name() {
+        Some(own) => own.as_str() == name && head.kind().same(kind),
         None => false,
     }
 }
 
 /// Whether roles derive a child of the name of an object.
-fn derive_one(roles: Roles, head: &Head) -> bool
+fn derive_one(roles: Roles, head: &Attributes) -> bool
     ensures { result ≡ name_among (derived_names roles) head.now.name }
 {
-    match &head.name {
+    match head.name() {
         Some(name) => derive(roles, name.as_str()),
         None => false,
     }
 }
 
 /// Whether an own child is dropped or taken out.
-pub fn drops(roles: Roles, head: &Head) -> bool
+pub fn drops(roles: Roles, head: &Attributes) -> bool
     ensures { result ≡ is_dropped roles head.now }
 {
     derive_one(roles, head)
@@ -95,24 +95,24 @@ pub fn drops(roles: Roles, head: &Head) -> bool
 }
 
 /// Whether what is in a child of an object is inside the contracts of the site.
-fn holds_contracts(root: bool, head: &Head) -> bool
+fn holds_contracts(root: bool, head: &Attributes) -> bool
     ensures { result ≡ holds_contracts root head.now }
 {
-    match &head.name {
+    match head.name() {
         Some(name) => root && name.as_str() == "contracts",
         None => false,
     }
 }
 
 /// The same, where the object round it is inside or isn't.
-pub(crate) fn is_below(inside: bool, under: bool, head: &Head) -> bool
+pub(crate) fn is_below(inside: bool, under: bool, head: &Attributes) -> bool
     ensures { result ≡ (inside || holds_contracts under head.now) }
 {
     inside || holds_contracts(under, head)
 }
 
 /// Whether what is in an object is inside the contracts of the site, where the object is or isn't.
-pub(crate) fn is_inside(inside: bool, above: Roles, head: &Head) -> bool
+pub(crate) fn is_inside(inside: bool, above: Roles, head: &Attributes) -> bool
     ensures { result ≡ (inside || holds_contracts above.root head.now) }
 {
     inside || holds_contracts(above.root, head)

@@ -42,7 +42,7 @@ fn put_row<'a>(
         all.push(roles)?;
         let children = object.children();
         if children.len() > 0 {
-            let own = given_by(alloc, table, known, head.is.as_ref())?;
+            let own = given_by(alloc, table, known, head.is())?;
             let base = base_of(&own, &*list);
             let gives = gives_of(head, base, over);
             let handed = given_by(alloc, table, known, gives)?;

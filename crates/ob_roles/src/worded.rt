@@ -44,11 +44,11 @@ fn thin_head(object: &Obj, words: Option<&Words>, gives: Option<&Words>) -> Resu
     ensures fits { IfOk result (λ head. IsTrue (fits_head head)) }
 {
     let own = object.head();
-    let name = copy_text(&own.name)?;
+    let name = copy_text(own.name())?;
     let is = copied(words)?;
-    let of = copied_if(own.kind.has_of(), gives)?;
+    let of = copied_if(own.kind().has_of(), gives)?;
     Ok(Head {
-        kind: own.kind,
+        kind: own.kind(),
         name,
         href: None,
         is,
@@ -83,7 +83,7 @@ fn worded<'a>(
     let few = few_given(alloc, known, object, gives)?;
     let given = few.as_ref();
     let names = names_in(alloc, from.as_slice())?;
-    let mut made = Obj::from_head(alloc, thin_head(object, words, gives)?);
+    let mut made = Obj::with_head(alloc, thin_head(object, words, gives)?)?;
     for child in object.children() {
         let part = child.head();
         let below = find_over(&names, part);

@@ -6,7 +6,7 @@ ghost use Rattle.ob_plain_state.specs.States.{entry_of};
 ghost use Rattle.ob_site_file.specs.Sizes.{has_text, IsCounting, stand_in, stood, plain};
 
 use ob_contracts::Library;
-use ob_object::Head;
+use ob_object::Attributes;
 use ob_plain_state::Log;
 use ob_replies::Plan;
 use ob_roles::node_path;
@@ -182,7 +182,7 @@ fn put_derived(list: &mut Vec<Derived>, counting: &Counting, path: &Text) -> Res
 pub(crate) fn derived_children(
     alloc: Global,
     counting: &Counting,
-    head: &Head,
+    head: &Attributes,
 ) -> Result<Vec<Derived>, AllocError>
     ensures { IfOk result (λ ds. (plan : SitePlan) (s : SiteState) → IsCounting counting.now plan s → map stood ds.items ≡ map plain (derived plan s (node_path head.now))) }
 {

@@ -72,8 +72,8 @@ fn slot_or_default(object: &Obj) -> Result<Slot, AllocError>
     ensures fits { IfOk result (λ s. IsTrue (fits_slot object.now.head.kind s)) }
 {
     let own = object.head();
-    match &own.slot {
-        Slot::Absent => Ok(own.kind.default_slot()),
+    match own.slot() {
+        Slot::Absent => Ok(own.kind().default_slot()),
         slot => slot.copy(),
     }
 }

@@ -55,7 +55,7 @@ fn own_number(item: &Obj, name: &str, kind: Kind) -> Option<Num>
     ensures kind { IfSome result (λ n. num_kind n ≡ kind) }
 {
     match child_of(item, name, kind) {
-        Some(child) => number_in(&child.head().slot),
+        Some(child) => number_in(child.head().slot()),
         None => None,
     }
 }

@@ -12,7 +12,7 @@ ghost use Rattle.ob_site_file.specs.Sizes.{has_text, HasNames, is_fresh, IsCount
 
 use crate::derived::{Counting, Derived, Texts, derived_children};
 use ob_contracts::{Library, telling, told_by};
-use ob_object::{Head, Obj, Words};
+use ob_object::{Attributes, Obj, Words};
 use ob_roles::{Names, find_over, implied_by, names_in};
 use ob_steps::Steps;
 use ob_values::Text;
@@ -130,10 +130,10 @@ fn words_in(words: Option<&Words>) -> &[Text]
 }
 
 // The words that name the contracts of an object.
-fn words_of<'a>(head: &'a Head, implied: Option<&'a Words>) -> &'a [Text]
+fn words_of<'a>(head: &'a Attributes, implied: Option<&'a Words>) -> &'a [Text]
     ensures { result.now ≡ words_in (or_else head.now.is (option_copied implied.entry)) }
 {
-    match &head.is {
+    match head.is() {
         Some(words) => words.as_slice(),
         None => words_in(implied),
     }
@@ -143,13 +143,13 @@ fn words_of<'a>(head: &'a Head, implied: Option<&'a Words>) -> &'a [Text]
 fn sources<'a>(
     alloc: Global,
     library: &'a Library,
-    head: &'a Head,
+    head: &'a Attributes,
     implied: Option<&Words>,
     over: Option<&'a Obj>,
 ) -> Result<Vec<&'a Obj>, AllocError>
     ensures { IfOk result (λ from. lent from.items ≡ sources library.now head.now (option_copied implied.entry) (option_copied over.entry)) }
 {
-    if head.kind.is_ref() {
+    if head.kind().is_ref() {
         return Ok(Vec::new(alloc));
     }
     let from = contracts_for(alloc, library, words_of(&*head, implied), over)?;

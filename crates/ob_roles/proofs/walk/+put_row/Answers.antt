@@ -45,7 +45,7 @@ loop-object-preserved t c = λ lib ss holds tells given finds.
     let kept = c.loop-object.invariant lib ss holds tells given finds in
     elim c.if-children-gt0.branch [
       | then-children-gt0+in_ok-own+in_ok-handed+in_ok-names+in_ok-put_row w ↦
-          let base : IsBase w.base_of-base.result.now lib h implied = w.base_of-base.ensures lib h (w.in_ok-own.ensures.words ∙ w.as_ref.ensures.value) (w.in_ok-own.ensures.given lib holds tells) given in
+          let base : IsBase w.base_of-base.result.now lib h implied = w.base_of-base.ensures lib h (w.in_ok-own.ensures.words ∙ w.is.ensures) (w.in_ok-own.ensures.given lib holds tells) given in
           let put = row_roles lib false root b (option_copied w.in_ok-handed.handed.words) (sources lib h implied o) (in_row cs) in
           goes_more lib root under inside implied ss os i x c.args.all.now.items c.loop-object.all.items mid c.if-children-gt0.all.items put c.roles_by-roles.result c.loop-object-test.true c.object-item.is which c.in_ok-push.ensures.items
           (ap (λ v. v.items) w.all-is

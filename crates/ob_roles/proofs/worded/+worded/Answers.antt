@@ -34,8 +34,8 @@ loop-child-init t c = λ whole lib implied o tells holds given is.
     let like : TellFew whole fs (sources lib x.head implied o) =
     from_few whole lib x c.head-head.result.now implied (option_copied c.args.list) (option_copied c.args.over) o fs c.head-head.ensures.value (ap lent c.as_slice.ensures.value ∙ c.in_ok-from.ensures (brief_contracts whole lib) holds) is given in
     let which : gives ≡ gives_of lib x.head implied o = gives_are whole lib x c.head-head.result.now implied gives o fs c.head-head.ensures.value c.implied_by-gives.ensures like in (
-      rows_first whole lib (gives_of lib x.head implied o) (sources lib x.head implied o) c.children-child-items.result.now (children c.from_head-made.result) (ap children c.from_head-made.ensures),
-      ap (λ (y : Object). y.head) c.from_head-made.ensures ∙ head_is lib x c.in_ok-thin_head.field-0 implied (option_copied c.args.words) gives o which c.in_ok-thin_head.ensures.thin,
+      rows_first whole lib (gives_of lib x.head implied o) (sources lib x.head implied o) c.children-child-items.result.now (children c.in_ok-made.made) (ap children c.in_ok-made.ensures),
+      ap (λ (y : Object). y.head) c.in_ok-made.ensures ∙ head_is lib x c.in_ok-thin_head.field-0 implied (option_copied c.args.words) gives o which c.in_ok-thin_head.ensures.thin,
     )
 
 pub loop-child-preserved : goal.loop-child-preserved

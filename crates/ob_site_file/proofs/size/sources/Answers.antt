@@ -9,7 +9,7 @@ returns c =
     let h = c.args.head.now in
     let lib = c.args.library.now in
     let over = option_copied c.args.over in
-    let kind : is_ref h.kind ≡ false = sym c.is_ref.ensures ∙ c.if-is_ref.false in
+    let kind : is_ref h.kind ≡ false = sym (ap is_ref c.kind.ensures) ∙ sym c.is_ref.ensures ∙ c.if-is_ref.false in
     c.in_ok-from.ensures
     ∙ ap (λ (ws : List (List ℕ)). present (map (contract_of lib) ws ++ over ∷ [])) c.words_of.ensures
     ∙ sym (ap (λ b. present (cond b [] (map (contract_of lib) (words_in (or_else h.is (option_copied c.args.implied))) ++ over ∷ []))) kind)
