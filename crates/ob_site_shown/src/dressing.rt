@@ -11,7 +11,7 @@ ghost use Rattle.ob_site_state.specs.Contents.{state_in};
 ghost use Rattle.ob_site_state.specs.Kept.{keys};
 
 use crate::roles::derived;
-use ob_object::{Head, Obj};
+use ob_object::{Attributes, Obj};
 use ob_plain_state::node_path;
 use ob_replies::Plan;
 use ob_replies::build::whole;
@@ -19,14 +19,14 @@ use ob_site_state::Contents;
 use std::alloc::{AllocError, Global};
 
 /// A copy of a head, with the status of the alarms of its rule if it has one.
-fn dressed_head(contents: &Contents, head: &Head) -> Result<Head, AllocError>
+fn dressed_head(contents: &Contents, head: &Attributes) -> Result<Attributes, AllocError>
     ensures { (plan : SitePlan) → AreRoles contents.now.roles plan → contents.now.board.rules ≡ numbered_from 0 plan.rules
         → IfOk result (λ h. h ≡ with_status plan (state_in contents.now) head.now) }
 {
     let mut dressed = head.copy()?;
     if let Some(path) = node_path(head) {
         if let Some(rule) = contents.roles.rule_of(path) {
-            dressed.facets.status = Some(contents.board.status_of(rule as u64));
+            dressed.put_status(Some(contents.board.status_of(rule as u64)));
         }
     }
     Ok(dressed)

@@ -11,7 +11,7 @@ ghost use Rattle.ob_values.specs.declared.value.Value.{Value};
 
 use crate::shown::shown_at;
 use ob_contracts::View;
-use ob_object::{Facet, FacetRef, Head, Kind, Obj};
+use ob_object::{Attributes, Facet, FacetRef, Kind, Obj};
 use ob_replies::Plan;
 use ob_site_state::Contents;
 use ob_values::{Text, Value};
@@ -54,15 +54,18 @@ fn truth(facet: Option<FacetRef<'_>>) -> Option<bool>
 }
 
 /// What of a view is asked when a value is to be written. An error only for want of memory.
-fn target_head(view: &View<'_>) -> Result<Head, AllocError>
+fn target_head(alloc: Global, view: &View<'_>) -> Result<Attributes, AllocError>
     ensures { IfOk result (λ head. head ≡ target_head (shown_by view.now).head) }
 {
-    let mut head = Head::empty(view.kind());
-    head.slot = view.slot().copy()?;
-    head.facets.min = limit(view.facet(Facet::Min))?;
-    head.facets.max = limit(view.facet(Facet::Max))?;
-    head.facets.range = words(view.facet(Facet::Range))?;
-    head.facets.writable = truth(view.facet(Facet::Writable));
+    let mut head = Attributes::empty(alloc, view.kind());
+    head.put_slot(view.slot().copy()?);
+    head.put_min(limit(view.facet(Facet::Min))?);
+    head.put_max(limit(view.facet(Facet::Max))?);
+    let range = words(view.facet(Facet::Range))?;
+    if head.put_range(range).is_err() {
+        return Err(AllocError);
+    }
+    head.put_writable(truth(view.facet(Facet::Writable)));
     Ok(head)
 }
 
@@ -81,10 +84,11 @@ pub fn own_target(
     let Some(node) = tree.get(path) else {
         return Ok(None);
     };
-    let head = target_head(&contents.ground.view(node))?;
-    match Obj::with_head(alloc, head) {
-        Ok(target) => Ok(Some(target)),
-        Err(_head) => Ok(None),
+    let head = target_head(alloc, &contents.ground.view(node))?;
+    if head.fits() {
+        Ok(Some(Obj::from_head(alloc, head)))
+    } else {
+        Ok(None)
     }
 }
 

@@ -54,7 +54,7 @@ fn shown_inside(
     requires { node.number < parts contents.now.ground.tree.root }
     ensures { IfOk result (λ o. Some o ≡ option_and_then (λ h. option_map (λ c. comes_to (under (handed_down c h) child.now.head.name) child.now) (standing_at contents.now.ground.library node.number contents.now.ground.tree.root)) (head_at node.number contents.now.ground.tree.root)) }
 {
-    let inside = contents.ground.inside(node, child.head().name.as_ref());
+    let inside = contents.ground.inside(node, child.head().name());
     inside.whole(alloc, child)
 }
 

@@ -47,7 +47,7 @@ fn is_refused(watches: &Watches, adding: &Adding<'_>, text: &Text) -> bool
 fn too_many(alloc: Global, own: &Obj) -> Result<Obj, AllocError>
     ensures { IfOk result (λ o. o ≡ under_href own.now.head.href (err TooManyItems)) }
 {
-    let href = copy_text(&own.head().href)?;
+    let href = copy_text(own.head().href())?;
     let mut entry = refusal(alloc, Fault::TooManyItems)?;
     entry.put_href(href);
     Ok(entry)

@@ -15,11 +15,11 @@ use crate::stop::Stop;
 use crate::value::{target_fault, value_fault};
 use crate::written::written_at;
 use ob_contracts::{Library, View};
-use ob_object::{Head, Obj, Slot};
+use ob_object::{Attributes, Obj, Slot};
 use ob_replies::Fault;
 use ob_site_state::State;
 use ob_values::Text;
-use std::alloc::AllocError;
+use std::alloc::{AllocError, Global};
 
 /// Writes a value in which nothing is wrong to the object shown at a path, and answers what is shown there then.
 fn show_written(
@@ -40,7 +40,7 @@ fn show_written(
 
 /// Writes the value of a head to the object shown at a path, where nothing is wrong, and answers what is shown there
 /// then.
-fn write_given(state: &mut State, path: &Text, object: &Obj, new: &Head) -> Result<Obj, Stop>
+fn write_given(state: &mut State, path: &Text, object: &Obj, new: &Attributes) -> Result<Obj, Stop>
     requires shows { shown state.old.plan state.old.now path.now ≡ Some object.now }
     requires records { (history : Path) → records_from state.old.plan path.now history ≡ true → is_value_kind object.now.head.kind ≡ true }
     requires held { is_value_kind new.now.kind ≡ true → IsTrue (fits_slot new.now.kind new.now.slot) → IsTrue (holds_value new.now.kind new.now.slot) }
@@ -51,18 +51,22 @@ fn write_given(state: &mut State, path: &Text, object: &Obj, new: &Head) -> Resu
     if let Some(fault) = value_fault(state, path, object, new)? {
         return Err(Stop::Refused(fault));
     }
-    let reply = show_written(state, path, object, &new.slot)?;
+    let reply = show_written(state, path, object, new.slot())?;
     Ok(reply)
 }
 
 /// The kind and the slot that a body gives, with what it inherits by its own words; nothing else of it is looked at.
-pub(crate) fn given_by<'x>(library: &'x Library, body: &'x Obj) -> Result<Head, AllocError>
+pub(crate) fn given_by<'x>(
+    alloc: Global,
+    library: &'x Library,
+    body: &'x Obj,
+) -> Result<Attributes, AllocError>
     ensures kind { IfOk result (λ head. head.kind ≡ (effective_of library.now body.now None None).head.kind) }
     ensures slot { IfOk result (λ head. head.slot ≡ (effective_of library.now body.now None None).head.slot) }
 {
     let view = View::new(library, body, None, None);
-    let mut head = Head::empty(view.kind());
-    head.slot = view.slot().copy()?;
+    let mut head = Attributes::empty(alloc, view.kind());
+    head.put_slot(view.slot().copy()?);
     Ok(head)
 }
 
@@ -74,7 +78,7 @@ pub fn write_by(state: &mut State, path: &Text, object: &Obj, body: &Obj) -> Res
     ensures ok { IfOk result (IsDone state.old state.new (write_by state.old.plan state.old.now state.old.time path.now object.now None body.now)) }
     ensures stop { IfErr result (Stops state.old state.new (write_by state.old.plan state.old.now state.old.time path.now object.now None body.now)) }
 {
-    let given = given_by(state.library(), body)?;
+    let given = given_by(state.allocator(), state.library(), body)?;
     write_given(state, path, object, &given)
 }
 

@@ -33,7 +33,7 @@ fn body_fault(
     ensures same { state.new ≡ state.old }
     ensures fault { IfOk result (λ fault. option_map told.fault fault ≡ value_fault state.old.plan state.old.now state.old.time path.now target.now.head (given_by state.old.now body.now)) }
 {
-    let given = given_by(state.library(), body)?;
+    let given = given_by(state.allocator(), state.library(), body)?;
     value_fault(state, path, target, &given)
 }
 

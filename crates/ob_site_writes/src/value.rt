@@ -8,7 +8,7 @@ ghost use Rattle.ob_replies.specs.Told as told;
 ghost use Rattle.ob_site_rules.specs.Writes.{ranged, has_child, is_listed, fault_of, verdict_fault, slot_fault, value_fault, target_fault};
 ghost use Rattle.ob_site_writes.specs.Targets.{IsTarget};
 
-use ob_object::{Head, Kind, Obj, Slot, WriteFault, check_write};
+use ob_object::{Attributes, Kind, Obj, Slot, WriteFault, check_write};
 use ob_replies::Fault;
 use ob_site_shown::shows_child;
 use ob_site_state::State;
@@ -27,13 +27,13 @@ pub fn is_value_kind(kind: Kind) -> bool
 }
 
 /// What is wrong with a node that is to be put to: it has no value, or isn't shown as writable.
-pub(crate) fn target_fault(head: &Head) -> Option<Fault>
+pub(crate) fn target_fault(head: &Attributes) -> Option<Fault>
     ensures { option_map told.fault result ≡ target_fault head.now }
 {
-    if !is_value_kind(head.kind) {
+    if !is_value_kind(head.kind()) {
         return Some(Fault::NotSupported);
     }
-    match head.facets.writable {
+    match head.writable() {
         Some(true) => None,
         _ => Some(Fault::NotWritable),
     }
@@ -81,11 +81,11 @@ fn is_in_range(state: &State, range: Option<&Text>, name: &Text) -> Result<bool,
 
 /// Whether the value of an enum is the name of a child of the object that its range names, if it names one.
 /// Other values are not held against a range.
-fn is_listed(state: &State, head: &Head, value: &Value) -> Result<bool, AllocError>
+fn is_listed(state: &State, head: &Attributes, value: &Value) -> Result<bool, AllocError>
     ensures { IfOk result (λ listed. listed ≡ is_listed state.now.plan state.now.now head.now value.now) }
 {
     match value {
-        Value::Enum(name) => is_in_range(state, head.facets.range.as_ref(), name),
+        Value::Enum(name) => is_in_range(state, head.range(), name),
         _ => Ok(true),
     }
 }
@@ -118,13 +118,7 @@ fn listed_fault(object: &Obj, value: &Value, listed: bool) -> Option<Fault>
     ensures { option_map told.fault result ≡ verdict_fault (verdict object.now.head.kind object.now.head.facets.min object.now.head.facets.max value.now listed) }
 {
     let head = object.head();
-    verdict_fault(check_write(
-        head.kind,
-        head.facets.min.as_ref(),
-        head.facets.max.as_ref(),
-        value,
-        listed,
-    ))
+    verdict_fault(check_write(head.kind(), head.min(), head.max(), value, listed))
 }
 
 /// What is wrong with a value that is to stand in an object's slot.
@@ -155,22 +149,23 @@ pub(crate) fn value_fault(
     state: &mut State,
     path: &Text,
     object: &Obj,
-    new: &Head,
+    new: &Attributes,
 ) -> Result<Option<Fault>, AllocError>
     requires { IsTarget state.old.plan state.old.now path.now object.now }
     ensures same { state.new ≡ state.old }
     ensures fault { IfOk result (λ fault. option_map told.fault fault ≡ value_fault state.old.plan state.old.now state.old.time path.now object.now.head new.now) }
 {
     let head = object.head();
-    if !new.kind.same(head.kind) {
+    if !new.kind().same(head.kind()) {
         return Ok(Some(Fault::OtherKind));
     }
-    let fault = slot_fault(state, object, &new.slot)?;
+    let slot = new.slot();
+    let fault = slot_fault(state, object, slot)?;
     if fault.is_some() {
         return Ok(fault);
     }
     state.is_sound();
-    if overfills(state, path, head, &new.slot)? {
+    if overfills(state, path, head, slot)? {
         return Ok(Some(Fault::TooManyEntries));
     }
     Ok(None)

@@ -6,7 +6,7 @@ ghost use Rattle.ob_tree.specs.Paths.{place_of};
 ghost use Rattle.ob_site_rules.specs.Writes.{written, overfills};
 ghost use Rattle.ob_site_written.specs.Fitting.{CanBeWritten};
 
-use ob_object::{Head, Slot};
+use ob_object::{Attributes, Slot};
 use ob_site_state::State;
 use ob_site_written::{same_slot, written};
 use ob_values::Text;
@@ -16,7 +16,7 @@ use std::alloc::AllocError;
 fn written_derived(
     state: &mut State,
     path: &Text,
-    head: &Head,
+    head: &Attributes,
     slot: &Slot,
 ) -> Result<(), AllocError>
     requires off { place_of path.now (paths state.old.now.tree) ≡ None }
@@ -26,11 +26,11 @@ fn written_derived(
         → state.new ≡ record state.old { now = written state.old.plan state.old.time path.now object slot.now state.old.now }) }
     ensures err { OnErr result (state.new ≡ record state.old { now = state.new.now }) }
 {
-    if same_slot(slot, &head.slot) {
+    if same_slot(slot, head.slot()) {
         return Ok(());
     }
     state.is_sound();
-    state.record_all(path, head.kind, slot)?;
+    state.record_all(path, head.kind(), slot)?;
     state.act(path, slot)
 }
 
@@ -39,7 +39,7 @@ fn written_derived(
 pub(crate) fn written_at(
     state: &mut State,
     path: &Text,
-    head: &Head,
+    head: &Attributes,
     slot: &Slot,
 ) -> Result<(), AllocError>
     requires can { CanBeWritten state.old.plan state.old.now path.now head.now.kind slot.now }

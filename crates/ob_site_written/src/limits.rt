@@ -8,7 +8,7 @@ ghost use Rattle.ob_plain_state.specs.Fitting.{TakesIfRule};
 ghost use Rattle.ob_site_written.specs.Limits.{growing, any_counted_out};
 
 use crate::slots::same_slot;
-use ob_object::{Head, Slot};
+use ob_object::{Attributes, Slot};
 use ob_site_state::State;
 use ob_values::Text;
 use std::alloc::AllocError;
@@ -49,14 +49,14 @@ fn any_counted_out(state: &State, source: &Text) -> bool
 pub fn overfills(
     state: &mut State,
     path: &Text,
-    head: &Head,
+    head: &Attributes,
     slot: &Slot,
 ) -> Result<bool, AllocError>
     requires { TakesIfRule (numbered_from 0 state.old.plan.rules) (rule_of state.old.plan path.now) slot.now }
     ensures same { state.new ≡ state.old }
     ensures over { IfOk result (λ over. over ≡ overfills state.old.plan state.old.now state.old.time path.now head.now slot.now) }
 {
-    if same_slot(slot, &head.slot) {
+    if same_slot(slot, head.slot()) {
         return Ok(false);
     }
     state.is_sound();

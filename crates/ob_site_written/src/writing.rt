@@ -9,7 +9,7 @@ ghost use Rattle.ob_site_written.specs.Limits.{any_counted_out};
 
 use crate::contracts::renew_library;
 use crate::slots::same_slot;
-use ob_object::{Head, Kind, Slot};
+use ob_object::{Attributes, Kind, Slot};
 use ob_site_state::State;
 use ob_tree::NodeId;
 use ob_values::Text;
@@ -46,7 +46,7 @@ pub fn written(
     state: &mut State,
     node: NodeId,
     path: &Text,
-    head: &Head,
+    head: &Attributes,
     slot: &Slot,
 ) -> Result<(), AllocError>
     requires node { place_of path.now (paths state.old.now.tree) ≡ Some node.number }
@@ -56,9 +56,9 @@ pub fn written(
         → state.new ≡ record state.old { now = written state.old.plan state.old.time path.now object slot.now state.old.now }) }
     ensures err { OnErr result (state.new ≡ record state.old { now = state.new.now }) }
 {
-    if same_slot(slot, &head.slot) {
+    if same_slot(slot, head.slot()) {
         return Ok(());
     }
     state.is_sound();
-    write(state, node, path, head.kind, slot)
+    write(state, node, path, head.kind(), slot)
 }

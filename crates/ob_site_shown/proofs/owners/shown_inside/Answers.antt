@@ -12,7 +12,7 @@ pub returns : goal.returns
 returns c =
     let g = c.args.contents.now.ground in
     let n = c.args.node.number in
-    let named : option_copied c.as_ref.result ≡ c.args.child.now.head.name = c.as_ref.ensures.value ∙ ap (λ (h : Head). h.name) c.head.ensures.value in
+    let named : option_copied c.name.result ≡ c.args.child.now.head.name = c.name.ensures ∙ ap (λ (h : Head). h.name) c.head.ensures.value in
     let stands : Some (context c.inside-inside.result) ≡ inside_at g.library n c.args.child.now.head.name g.tree.root =
     c.inside-inside.ensures ∙ ap (λ (m : Option (List ℕ)). inside_at g.library n m g.tree.root) named in
     IfOk-weaker c.whole.result _ _

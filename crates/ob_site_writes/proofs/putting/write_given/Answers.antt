@@ -1,4 +1,5 @@
 use Rattle.std.proofs.Common.{◌≡◌, true, Option, None, option_map, sym, ap, ◌∙◌, subst, IsTrue}
+use Rattle.ob_object.specs.declared.head.Slot.{Slot}
 use Rattle.ob_object.specs.declared.kind.Kind.{Kind}
 use Rattle.ob_object.specs.Fits.{fits_slot}
 use Rattle.ob_object.specs.Kinds.{same_kind}
@@ -27,5 +28,6 @@ show_written-requires-clause-can c =
     let fits : IsTrue (fits_slot o.head.kind new.slot) = slot_fits k.plan k.now o.head new.slot (nothing_of (same_kind new.kind o.head.kind) found over right).0 in
     let kind : new.kind ≡ o.head.kind = one_kind new.kind o.head.kind (same_of (same_kind new.kind o.head.kind) found over right) in
     let held = subst (λ (x : Kind). is_value_kind x ≡ true → IsTrue (fits_slot x new.slot) → IsTrue (holds_value x new.slot)) kind c.requires.held in
-    subst (λ (x : Kept). CanBeWritten x.plan x.now p o.head.kind new.slot) (sym c.in_ok-fault.ensures.same)
-    (can_be_written k.plan k.now p o new.slot c.is_sound.ensures.sound.consistent c.requires.shows fits c.requires.records (λ v. held v fits))
+    subst (λ (x : Kept). CanBeWritten x.plan x.now p o.head.kind c.slot.result.now) (sym c.in_ok-fault.ensures.same)
+    (subst (λ (s : Slot). CanBeWritten k.plan k.now p o.head.kind s) (sym c.slot.ensures)
+    (can_be_written k.plan k.now p o new.slot c.is_sound.ensures.sound.consistent c.requires.shows fits c.requires.records (λ v. held v fits)))

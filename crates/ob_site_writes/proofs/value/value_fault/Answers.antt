@@ -10,7 +10,7 @@ use Rattle.ob_site_writes.proofs.value.value_fault.Goals as goal
 pub overfills-requires : goal.overfills-requires
 overfills-requires c =
     let k = c.args.state.now in
-    let slot = c.args.new.now.slot in
+    let slot = c.slot-slot.result.now in
     let o = c.args.object.now in
     rule_takes k.plan k.now c.args.path.now c.requires.0 slot c.is_sound.ensures.sound.consistent c.requires.1.0
     (subst (λ (kind : Kind). IsTrue (fits_slot kind slot)) (sym (ap (λ (x : Object). x.head.kind) c.requires.1.1))

@@ -1,5 +1,6 @@
 use Rattle.std.proofs.Common.{◌≡◌, ◌+◌, ◌-◌, ◌^◌, ℕ, min, cond, refl, sym, ap, ◌∙◌, arith}
 use Rattle.std.specs.Prelude.{nat_lt}
+use Rattle.ob_site_rules.specs.Sameness.{same_slot}
 use Rattle.ob_site_rules.specs.State.{board}
 use Rattle.ob_site_rules.specs.Writes.{stored, is_over, recorded, board_after}
 use Rattle.ob_site_state.specs.Kept.{Kept}
@@ -20,7 +21,7 @@ returns-then-is_full-clause-over c =
     let room = c.is_full.ensures ∙ ap (λ (x : Kept). nat_lt 1_000_000 (stored x.now.logs (board x.plan x.now) + c.saturating_add-more.result)) same in
     full_over c.is_full.result (any_counted_out k.plan p k.now.logs) (is_over (recorded k.plan k.time p h.kind slot k.now.logs) (board_after k.plan k.now k.time p slot)) c.if-is_full.true
     (over_is k.plan k.now k.time p h.kind slot is c.saturating_add-more.result c.is_full.result (any_counted_out k.plan p k.now.logs) c.is_sound.ensures.sound.consistent.counted c.in_ok-is_event.ensures.event sum room refl)
-    ∙ other_overfills k.plan k.now k.time p h slot (sym c.same_slot.ensures ∙ c.if-same_slot.false)
+    ∙ other_overfills k.plan k.now k.time p h slot (sym (ap (same_slot slot) c.slot.ensures) ∙ sym c.same_slot.ensures ∙ c.if-same_slot.false)
 
 pub returns-else-is_full-clause-over : goal.returns-else-is_full-clause-over
 returns-else-is_full-clause-over c =
@@ -36,4 +37,4 @@ returns-else-is_full-clause-over c =
     let out : c.any_counted_out.result ≡ any_counted_out k.plan p k.now.logs = c.any_counted_out.ensures ∙ ap (λ (x : Kept). any_counted_out x.plan p x.now.logs) same in
     out_over c.is_full.result c.any_counted_out.result (is_over (recorded k.plan k.time p h.kind slot k.now.logs) (board_after k.plan k.now k.time p slot)) c.if-is_full.false
     (over_is k.plan k.now k.time p h.kind slot is c.saturating_add-more.result c.is_full.result c.any_counted_out.result c.is_sound.ensures.sound.consistent.counted c.in_ok-is_event.ensures.event sum room out)
-    ∙ other_overfills k.plan k.now k.time p h slot (sym c.same_slot.ensures ∙ c.if-same_slot.false)
+    ∙ other_overfills k.plan k.now k.time p h slot (sym (ap (same_slot slot) c.slot.ensures) ∙ sym c.same_slot.ensures ∙ c.if-same_slot.false)
