@@ -107,7 +107,7 @@ fn dropped_object(alloc: Global, missed: u64) -> Result<Obj, AllocError>
         slot: Slot::Is(Value::Int(missed as i64)),
         facets: Facets::none(),
     };
-    Ok(Obj::from_head(alloc, head))
+    Obj::with_head(alloc, head)
 }
 
 // Puts that child into an object without children, where it isn't 0.

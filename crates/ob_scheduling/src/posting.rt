@@ -9,7 +9,7 @@ ghost use Rattle.ob_scheduling.specs.Fitting.{AreFitting};
 ghost use Rattle.ob_scheduling.specs.Posted.{IsThere, Acts, BootsUpTo, FiresUpTo, FiresBetween};
 
 use ob_machine::Machine;
-use ob_object::{Head, Kind, Obj, Slot};
+use ob_object::{Attributes, Kind, Obj, Slot};
 use ob_replies::below;
 use ob_site_rules::Request;
 use ob_times::Moment;
@@ -33,9 +33,9 @@ fn value_of(alloc: Global, kind: Kind, slot: &Slot) -> Result<Obj, AllocError>
     ensures { IfOk result (λ o. o ≡ valued kind (codes "value") slot.now) }
 {
     let name = Text::from_ascii(alloc, "value")?;
-    let mut head = Head::empty(kind);
-    head.name = Some(name);
-    head.slot = slot.copy()?;
+    let mut head = Attributes::empty(alloc, kind);
+    head.put_name(Some(name));
+    head.put_slot(slot.copy()?);
     Ok(Obj::from_head(alloc, head))
 }
 

@@ -7,7 +7,7 @@ ghost use Rattle.ob_storm.specs.Requests.{point, op_of_watch, op_of_alarm, get, 
 ghost use Rattle.ob_object.specs.Object.{empty_head};
 ghost use Rattle.ob_site_rules.specs.Build.{whole};
 
-use ob_object::{Head, Kind, Obj, Slot};
+use ob_object::{Attributes, Kind, Obj, Slot};
 use ob_replies::Contract;
 use ob_replies::build::{obj_head, one_child, put, whole};
 use ob_site_rules::Request;
@@ -97,8 +97,8 @@ fn int_of(alloc: Global, number: u64) -> Obj
     requires { number < 2 ^ 63 }
     ensures { result ≡ int_of number }
 {
-    let mut head = Head::empty(Kind::Int);
-    head.slot = Slot::Is(Value::Int(number as i64));
+    let mut head = Attributes::empty(alloc, Kind::Int);
+    head.put_slot(Slot::Is(Value::Int(number as i64)));
     Obj::from_head(alloc, head)
 }
 
@@ -106,8 +106,8 @@ fn int_of(alloc: Global, number: u64) -> Obj
 fn uri_of(alloc: Global, text: Text) -> Obj
     ensures { result ≡ uri_of text }
 {
-    let mut head = Head::empty(Kind::Uri);
-    head.slot = Slot::Is(Value::Uri(text));
+    let mut head = Attributes::empty(alloc, Kind::Uri);
+    head.put_slot(Slot::Is(Value::Uri(text)));
     Obj::from_head(alloc, head)
 }
 
@@ -168,8 +168,8 @@ fn hrefs(alloc: Global, uris: Vec<Obj>) -> Result<Obj, AllocError>
     ensures { IfOk result (λ o. o ≡ whole (record (empty_head kind.List) { name = Some (codes "hrefs") }) uris.items) }
 {
     let name = Text::from_ascii(alloc, "hrefs")?;
-    let mut head = Head::empty(Kind::List);
-    head.name = Some(name);
+    let mut head = Attributes::empty(alloc, Kind::List);
+    head.put_name(Some(name));
     whole(alloc, head, uris)
 }
 

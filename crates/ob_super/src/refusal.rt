@@ -7,7 +7,7 @@ ghost use Rattle.ob_super.specs.Rounds.{plain_err, not_supported};
 ghost use Rattle.ob_super.specs.Supervised.{no_such_object};
 
 use ob_asking::one_word;
-use ob_object::{Facets, Head, Kind, Obj};
+use ob_object::{Attributes, Kind, Obj};
 use ob_values::Text;
 use std::alloc::{AllocError, Global};
 
@@ -16,10 +16,11 @@ pub(crate) fn err(alloc: Global, words: &str) -> Result<Obj, AllocError>
     requires { IsTrue (is_printable words.now) }
     ensures { IfOk result (λ o. o ≡ plain_err words.now) }
 {
-    let mut facets = Facets::none();
-    facets.display = Some(Text::from_ascii(alloc, words)?);
-    let mut head = Head::empty(Kind::Err);
-    head.facets = facets;
+    let display = Text::from_ascii(alloc, words)?;
+    let mut head = Attributes::empty(alloc, Kind::Err);
+    if head.put_display(Some(display)).is_err() {
+        return Err(AllocError);
+    }
     Ok(Obj::from_head(alloc, head))
 }
 

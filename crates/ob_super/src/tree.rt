@@ -9,7 +9,7 @@ ghost use Rattle.ob_super.specs.Told as told;
 use crate::place::{ROOT, list_path, object_path};
 use crate::upstream::{Followed, Upstream};
 use ob_client::Mirror;
-use ob_object::{Facets, Head, Kind, Obj, Status};
+use ob_object::{Attributes, Kind, Obj, Status};
 use ob_values::Text;
 use std::alloc::{AllocError, Global};
 
@@ -18,7 +18,7 @@ fn copy_bare(alloc: Global, object: &Obj) -> Result<Obj, AllocError>
     ensures { IfOk result (λ o. o ≡ bare_one object.now) }
 {
     let own = object.head();
-    let head = own.copy_with(&own.slot)?;
+    let head = own.copy_with(own.slot())?;
     let mut made = Obj::from_head(alloc, head);
     for child in object.children() {
         let copy = copy_bare(alloc, child)?;
@@ -59,14 +59,12 @@ pub(crate) fn placed_at(
 }
 
 // The head of the list of an upstream, without its name.
-fn list_head(alloc: Global, name: &Text, is_up: bool) -> Result<Head, AllocError>
+fn list_head(alloc: Global, name: &Text, is_up: bool) -> Result<Attributes, AllocError>
     ensures { IfOk result (λ h. h ≡ record (list_head name.now is_up) { name = None }) }
 {
-    let mut head = Head::empty(Kind::List);
-    head.href = Some(list_path(alloc, name)?);
-    let mut facets = Facets::none();
-    facets.status = Some(if is_up { Status::Ok } else { Status::Down });
-    head.facets = facets;
+    let mut head = Attributes::empty(alloc, Kind::List);
+    head.put_href(Some(list_path(alloc, name)?));
+    head.put_status(Some(if is_up { Status::Ok } else { Status::Down }));
     Ok(head)
 }
 
@@ -118,8 +116,8 @@ pub(crate) fn tree<L>(alloc: Global, all: &[Followed<L>]) -> Result<Obj, AllocEr
     requires { are_apart (names all.now) ≡ true }
     ensures { IfOk result (λ o. o ≡ tree (told.views all.now)) }
 {
-    let mut head = Head::empty(Kind::Obj);
-    head.href = Some(Text::from_ascii(alloc, ROOT)?);
+    let mut head = Attributes::empty(alloc, Kind::Obj);
+    head.put_href(Some(Text::from_ascii(alloc, ROOT)?));
     let mut root = Obj::from_head(alloc, head);
     for followed in all {
         let list = named_subtree(alloc, followed)?;
