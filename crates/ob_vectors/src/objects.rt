@@ -1,6 +1,6 @@
 //! Objects: what the calls that make and change them answer, and trees as large as a document may make them.
 use ob_encode::encode;
-use ob_object::{Facets, Head, Kind, Obj, PushFault, Slot, Words, WriteFault, check_write};
+use ob_object::{Attributes, Facets, Kind, Obj, PushFault, Slot, Words, WriteFault, check_write};
 use ob_rows::{Asked, Table, push_number};
 use ob_values::{Text, Value};
 use std::alloc::{AllocError, Global};
@@ -61,21 +61,21 @@ fn with_leaf(alloc: Global, of: &Obj) -> Obj {
     let mut object = Obj::new(alloc, Kind::Obj);
     let head = of.head();
     if object.reserve(1).is_ok() {
-        let _ = object.push_leaf(head, &head.slot);
+        let _ = object.push_leaf(head, head.slot());
     }
     object
 }
 
 // Whether it is an int `count` of 5 with that href, or with none.
-fn is_five(count: &Head, has_href: bool) -> bool {
-    let is_named = match &count.name {
+fn is_five(count: &Attributes, has_href: bool) -> bool {
+    let is_named = match count.name() {
         Some(name) => name.as_str() == "count",
         None => false,
     };
     is_named
-        && count.href.is_some() == has_href
-        && matches!(count.slot, Slot::Is(Value::Int(5)))
-        && matches!(count.facets.precision, Some(2))
+        && count.href().is_some() == has_href
+        && matches!(count.slot(), Slot::Is(Value::Int(5)))
+        && matches!(count.precision(), Some(2))
 }
 
 fn five(alloc: Global) -> Obj {
@@ -96,15 +96,15 @@ fn is_leaf(object: &Obj) -> bool {
     }
 }
 
-fn copies_head(head: &Head) -> bool {
+fn copies_head(head: &Attributes) -> bool {
     match &head.copy() {
         Ok(copy) => is_five(copy, true),
         Err(_) => false,
     }
 }
 
-fn copies_head_with(head: &Head) -> bool {
-    match &head.copy_with(&head.slot) {
+fn copies_head_with(head: &Attributes) -> bool {
+    match &head.copy_with(head.slot()) {
         Ok(copy) => is_five(copy, false),
         Err(_) => false,
     }

@@ -6,7 +6,7 @@ ghost use Rattle.ob_object.specs.Fits.{fits_value};
 
 use crate::firings::tell_firings;
 use crate::spelled::{object, push_object};
-use ob_object::{Head, Kind, Obj, Slot};
+use ob_object::{Kind, Obj, Slot};
 use ob_rows::{Asked, Table};
 use ob_schedule::{Points, ScheduleFault, read_schedules};
 use ob_times::Moment;
@@ -63,9 +63,11 @@ fn tell_spans(alloc: Global, schedules: &Schedules, told: &mut String) -> Result
 
 // An object of this kind with this slot, if there is one.
 fn with_slot(alloc: Global, kind: Kind, slot: Slot) -> Option<Obj> {
-    let mut head = Head::empty(kind);
-    head.slot = slot;
-    Obj::with_head(alloc, head).ok()
+    let mut object = Obj::new(alloc, kind);
+    match object.put_slot(slot) {
+        Ok(()) => Some(object),
+        Err(_) => None,
+    }
 }
 
 fn copied(slot: &Slot) -> Result<Slot, AllocError> {
