@@ -111,9 +111,9 @@ fn is_taken(objects: &[Obj], name: Option<&Text>) -> bool
 #[derive(Drop)]
 pub enum PutFault<T: Drop> {
     /// It doesn't fit the kind.
-    Unfit { back: T },
+    Unfit { part: T },
     /// There was no memory for it.
-    Memory { back: T },
+    Memory { part: T },
 }
 
 #[tactic(auto, using(crate::proofs::Rows::rows))]
@@ -272,10 +272,10 @@ impl Obj {
             know_words(words.as_ref());
             match self.head.put_of(words) {
                 Ok(()) => Ok(()),
-                Err(back) => Err(PutFault::Memory { back }),
+                Err(part) => Err(PutFault::Memory { part }),
             }
         } else {
-            Err(PutFault::Unfit { back: words })
+            Err(PutFault::Unfit { part: words })
         }
     }
 
@@ -289,10 +289,10 @@ impl Obj {
             know_words(words.as_ref());
             match self.head.put_input(words) {
                 Ok(()) => Ok(()),
-                Err(back) => Err(PutFault::Memory { back }),
+                Err(part) => Err(PutFault::Memory { part }),
             }
         } else {
-            Err(PutFault::Unfit { back: words })
+            Err(PutFault::Unfit { part: words })
         }
     }
 
@@ -306,10 +306,10 @@ impl Obj {
             know_words(words.as_ref());
             match self.head.put_output(words) {
                 Ok(()) => Ok(()),
-                Err(back) => Err(PutFault::Memory { back }),
+                Err(part) => Err(PutFault::Memory { part }),
             }
         } else {
-            Err(PutFault::Unfit { back: words })
+            Err(PutFault::Unfit { part: words })
         }
     }
 
@@ -355,10 +355,10 @@ impl Obj {
         if fits_limits(self.head.kind(), facets.min.as_ref(), facets.max.as_ref()) {
             match self.head.put_facets(facets) {
                 Ok(()) => Ok(()),
-                Err(back) => Err(PutFault::Memory { back }),
+                Err(part) => Err(PutFault::Memory { part }),
             }
         } else {
-            Err(PutFault::Unfit { back: facets })
+            Err(PutFault::Unfit { part: facets })
         }
     }
 
