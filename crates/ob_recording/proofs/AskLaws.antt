@@ -27,7 +27,7 @@ use Rattle.ob_server.specs.declared.sort.Sorted.{Sorted}
 use Rattle.ob_server.specs.declared.sort.Sorted.TheVariants.{Step, Fixed}
 use Rattle.ob_server.proofs.ExchangeLemmas.{breaks_early, breaks_inside, lasts_more}
 use Rattle.ob_site_rules.specs.declared.request.Request.{Request}
-use Rattle.ob_recording.specs.Entries.{entry_of, entries_of, calls_text, BodyIsCarried, Replies, IsOwn, own_call, Tells, Asked}
+use Rattle.ob_recording.specs.Entries.{entry_of, entries_of, calls_text, Replies, IsOwn, own_call, Tells, Asked}
 use Rattle.ob_recording.specs.Recording.{IsDone, Asks, RecordsOne}
 
 pub calls_text_then : (xs ys : List Call) → calls_text (xs ++ ys) ≡ calls_text xs ++ calls_text ys

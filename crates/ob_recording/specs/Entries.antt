@@ -1,8 +1,9 @@
 -- Requests that are recorded, as entries of a record.
-use Rattle.std.specs.Prelude.{◌≡◌, ℕ, List, map, Option, Some, None}
+use Rattle.std.specs.Prelude.{◌≡◌, ℕ, ◌≤◌, List, length, map, Option, Some, None}
 use Rattle.std.specs.List.{flat_map}
 use Rattle.ob_encode.specs.Canonical.{canonical_text}
-use Rattle.ob_grammar.specs.Carried.{IsCarried}
+use Rattle.ob_grammar.specs.Spelling.{Spells}
+use Rattle.ob_http.specs.Request.{body_limit}
 use Rattle.ob_machine.specs.declared.call.Answer.{Answer}
 use Rattle.ob_machine.specs.declared.call.Answer.TheVariants as answers
 use Rattle.ob_machine.specs.History.{entry, IsCall, left_by}
@@ -35,10 +36,10 @@ run_of boot calls = record { boot = boot; entries = entries_of calls }
 abbrev pub calls_text : List Call → List ℕ
 calls_text calls = flat_map entry_text (entries_of calls)
 
--- a body that was read can be carried by a document
-abbrev pub BodyIsCarried : Option Object → Type 0
-BodyIsCarried None = Unit {0}
-BodyIsCarried (Some o) = IsCarried None o
+-- a body was read from as many bytes as a request's body may have at most
+abbrev pub BodyIsSpelled : Option Object → Type 0
+BodyIsSpelled None = Unit {0}
+BodyIsSpelled (Some o) = (bytes : List ℕ) × ((ns : Option (List ℕ)) × Spells bytes ns o × (length bytes ≤ body_limit))
 
 -- a call of the one caller, that a record can tell
 pub record IsOwn (call : Call) : Type 0 where

@@ -1,7 +1,7 @@
 //! The service of one link whose requests are recorded.
 ghost use Rattle.std.specs.Prelude.{◌≡◌, ◌<◌, ◌≤◌, ◌+◌, ◌^◌, None, length};
 ghost use Rattle.ob_io.specs.Links.{inlet};
-ghost use Rattle.ob_http.specs.Request.{Request as Framed};
+ghost use Rattle.ob_http.specs.Request.{Request as Framed, body_limit};
 ghost use Rattle.ob_server.specs.Exchange.{SortsTo};
 ghost use Rattle.ob_server.specs.Answered.{HasBreakCause, HasStopCause, HasEndCause};
 ghost use Rattle.ob_server.specs.Complete.{ServesWhole};
@@ -32,7 +32,7 @@ fn record_one<M: Machine<Request = Request, Reply = Obj>, L: Link, C: Clock>(
     link: &mut L,
     clock: &mut C,
 ) -> Result<(), Break>
-    ensures records { (request : Framed) → SortsTo request next.sorted → request.close ≡ next.close
+    ensures records { (request : Framed) → SortsTo request next.sorted → request.close ≡ next.close → length request.body ≤ body_limit
         → RecordsOne M.act machine.old machine.new (L.held link.old) (L.held link.new) (C.given clock.old) (C.given clock.new) request result }
     ensures pace { C.pace clock.new ≡ C.pace clock.old }
     ensures apart { (L.left link.new ≡ L.left link.old) × (L.taken link.new ≡ L.taken link.old)

@@ -5,8 +5,8 @@ use Rattle.ob_http.specs.declared.seen.Seen.{Seen}
 use Rattle.ob_http.specs.declared.fault.FrameFault.{FrameFault}
 use Rattle.ob_http.specs.declared.fault.FrameFault.TheVariants as faults
 use Rattle.ob_http.specs.Answer.{refusal_text}
-use Rattle.ob_http.specs.Requests.{seen_request, SeesNext, Follows}
-use Rattle.ob_http.specs.Request.{Request}
+use Rattle.ob_http.specs.Requests.{seen_request, front_of, SeesNext, Follows}
+use Rattle.ob_http.specs.Request.{Request, Stands}
 use Rattle.ob_http.specs.Requests.{Framed, AreFirst, IsTaken}
 use Rattle.ob_http.specs.Stream.{Received, resting, closing, faulted, behind}
 use Rattle.ob_server.specs.Exchange.{Exchange, SortsTo, Call, Had, Went, IsExchange, HasAnswer, AreAnswered, request_of, moment_of, calls_in, answer_to, requests_of, moments_of, calls_of, answers_to}
@@ -17,6 +17,7 @@ use Rattle.ob_server.specs.Next.{SortsNext, IsNext, IsAtRest, IsFaulted}
 use Rattle.ob_server.specs.declared.next.Next.{Next}
 use Rattle.ob_server.specs.declared.end.Break.{Break}
 use Rattle.ob_server.specs.declared.end.Stop.TheVariants as stops
+use Rattle.ob_server.proofs.BodyLemmas.{body_short}
 use Rattle.ob_server.proofs.ExchangeLemmas.{answers_then, calls_then, moments_then, requests_then, answered_then, went_none, went_then}
 
 -- All requests so far are answered, whatever was taken before them.
@@ -214,13 +215,14 @@ sorts_none old new o is told = subst (λ (p : Option Next). SortsNext old new (O
 pub next_taken : (old new : Received) (o : Option Seen) (seen : Seen) (next : Next) → o ≡ Some seen
     → ((stream : List ℕ) (requests : List Request) → IsTaken stream requests old → SeesNext stream requests old (Ok o))
     → IfSome o (λ s. (0 < s.len) × (s.len ≤ length old.kept))
-    → SortsTo (seen_request seen) next.sorted → seen.close ≡ next.close → new ≡ behind seen.len old → IsNext old new next
-next_taken old new o seen next is sees within sorts closes dropped =
+    → Stands old.kept (front_of (Ok o)) → SortsTo (seen_request seen) next.sorted → seen.close ≡ next.close → new ≡ behind seen.len old → IsNext old new next
+next_taken old new o seen next is sees within stands sorts closes dropped =
     let size = subst (λ (p : Option Seen). IfSome p (λ s. (0 < s.len) × (s.len ≤ length old.kept))) is within in
     record {
       request = seen_request seen;
       sorts = sorts;
       closes = closes;
+      short = body_short old.kept (seen_request seen) seen.len (subst (λ (p : Option Seen). Stands old.kept (front_of (Ok p))) is stands);
       follows = λ stream requests taken. subst (λ (r : Received). Follows stream requests (seen_request seen) r) (sym dropped)
           (subst (λ (p : Option Seen). SeesNext stream requests old (Ok p)) is (sees stream requests taken));
       len = seen.len;

@@ -1,4 +1,5 @@
 pub mod ExchangeLemmas
+pub mod BodyLemmas
 pub mod HeldLemmas
 pub mod ServeLemmas
 pub mod CompleteLemmas

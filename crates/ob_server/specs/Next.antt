@@ -2,7 +2,7 @@
 use Rattle.std.specs.Prelude.{◌≡◌, ◌⊎◌, ℕ, ◌≤◌, ◌<◌, List, length, Option, Some, None, Result, Ok, Err}
 use Rattle.ob_http.specs.declared.fault.FrameFault.{FrameFault}
 use Rattle.ob_http.specs.declared.fault.FrameFault.TheVariants.{Memory}
-use Rattle.ob_http.specs.Request.{Request}
+use Rattle.ob_http.specs.Request.{Request, body_limit}
 use Rattle.ob_http.specs.Requests.{Framed, IsTaken, Follows}
 use Rattle.ob_http.specs.Stream.{Received, resting, faulted, behind}
 use Rattle.ob_server.specs.Exchange.{SortsTo}
@@ -13,6 +13,7 @@ pub record IsNext (old new : Received) (next : Next) : Type 0 where
   pub request : Request
   pub sorts : SortsTo request next.sorted
   pub closes : request.close ≡ next.close
+  pub short : length request.body ≤ body_limit
   pub follows : (stream : List ℕ) (requests : List Request) → IsTaken stream requests old
       → Follows stream requests request new
   pub len : ℕ

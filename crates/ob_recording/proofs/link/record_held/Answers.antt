@@ -16,7 +16,7 @@ pub returns-in-Err-record_one-clause-records : goal.returns-in-Err-record_one-cl
 returns-in-Err-record_one-clause-records g c =
     let next = sorts_some c.next.framer c.take_next.new.framer _ c.in-Ok-Some.next c.in-Ok-Some.field-0-is c.in-Ok-Some.ensures in
     held_broke _ _ _ _ _ _ _ _ _ _ _ _ _ c.next.invariant.holding next.request c.in-Err-record_one.broken
-    (c.in-Err-record_one.ensures.records next.request next.sorts next.closes)
+    (c.in-Err-record_one.ensures.records next.request next.sorts next.closes next.short)
     (next_first c.next.framer c.take_next.new.framer c.in-Ok-Some.next next)
     (next_size c.next.framer c.take_next.new.framer c.in-Ok-Some.next next)
     (next_place c.next.framer c.take_next.new.framer c.in-Ok-Some.next next)
@@ -25,7 +25,7 @@ pub returns-then-close-clause-records : goal.returns-then-close-clause-records
 returns-then-close-clause-records g c =
     let next = sorts_some c.next.framer c.take_next.new.framer _ c.in-Ok-Some.next c.in-Ok-Some.field-0-is c.in-Ok-Some.ensures in
     held_asked _ _ _ _ _ _ _ _ _ _ _ _ _ c.next.invariant.holding next.request c.in_default.field-0
-    (c.in_default.ensures.records next.request next.sorts next.closes)
+    (c.in_default.ensures.records next.request next.sorts next.closes next.short)
     (next_closes c.next.framer c.take_next.new.framer c.in-Ok-Some.next next c.if-close.true)
     (next_size c.next.framer c.take_next.new.framer c.in-Ok-Some.next next)
     (next_place c.next.framer c.take_next.new.framer c.in-Ok-Some.next next)
@@ -41,7 +41,7 @@ next-preserved g c =
     let next = sorts_some c.next.framer c.take_next.new.framer _ c.in-Ok-Some.next c.in-Ok-Some.field-0-is c.in-Ok-Some.ensures in
     record {
       holding = holding_more _ _ _ _ _ _ _ _ _ _ _ _ _ i.holding next.request c.in_default.field-0
-          (c.in_default.ensures.records next.request next.sorts next.closes)
+          (c.in_default.ensures.records next.request next.sorts next.closes next.short)
           (next_goes_on c.next.framer c.take_next.new.framer c.in-Ok-Some.next next c.if-close.false)
           (next_size c.next.framer c.take_next.new.framer c.in-Ok-Some.next next)
           (next_place c.next.framer c.take_next.new.framer c.in-Ok-Some.next next);

@@ -8,4 +8,4 @@ returns-in-Ok-None c = rest_seen c.args.framer.now c.in-Ok-None.field-0 c.in-Ok-
 pub returns : goal.returns
 returns c =
     next_taken c.args.framer.now c.drop_front.new.self c.in-Ok-Some.field-0 c.in-Ok-Some.seen _ c.in-Ok-Some.field-0-is c.in-Ok-Some.ensures.next
-    c.in-Ok-Some.ensures.within c.in-Ok.ensures refl c.drop_front.ensures.dropped
+    c.in-Ok-Some.ensures.within c.in-Ok-Some.ensures.front c.in-Ok.ensures refl c.drop_front.ensures.dropped
