@@ -148,7 +148,7 @@ module _ {D C : Type 0} (faults handed returned : D → ℕ) (visits : D → Opt
   pub served_there : (held held' held'' : Option (List ℕ)) (writes writes' writes'' : ℕ) (p q r : PortTold) (t v : ClockTold) (announced reported : Option ServeEnd) (links : Option ℕ) (ends : WorkerEnd) (end : ServeEnd) (left : SiteState)
       → (listened : Listened host place p q) → listened.failed ≡ false
       → announced ≡ None → Prints held held' (listening_text host place) (announced ≡ None) → writes ≤ writes'
-      → ((history : List Call) × ServesDoors faults handed returned visits given pace misses acts closed ns opening wanted quota history q r t v links ends × KeepsWatches opening history × (left ≡ after acts opening history))
+      → ((history : List Call) × ServesDoors faults handed returned visits given pace misses acts closed ns opening wanted quota false history q r t v links ends × KeepsWatches opening history × (left ≡ after acts opening history))
       → HasPortCause ends q.faults r.faults t.faults v.faults
       → Prints held' held'' (served_text links) (reported ≡ None) → IfSome reported (λ f. PrintRose f writes' writes'') → writes' ≤ writes'' → end ≡ end_with ends reported
       → At_ held held'' writes writes'' p r t v end

@@ -123,13 +123,13 @@ pub record ServesNone (p p' : PortTold) (t t' : ClockTold) (links : Option ℕ) 
 -- Of doors, faults, handed, returned, visits and closed say what is told; of clocks given, pace and misses.
 module _ {D C : Type 0} (faults handed returned : D → ℕ) (visits : D → Option (List Visit)) (closed : D → Bool)
     (given : C → Option (List ℕ)) (pace : C → Option Pace) (misses : C → ℕ) where
-  -- The port's doors were served from this state on, and the laws of watches hold of all that was asked. With a good end
-  -- every worker had its quota of links, or its door is closed.
+  -- The port's doors were served from this state on, by workers of which none goes on where memory was wanting, and the laws of
+  -- watches hold of all that was asked. With a good end every worker had its quota of links, or its door is closed.
   pub record ServesSite (opening : SiteState) (ns : Option (List ℕ)) (wanted quota : ℕ) (p p' : PortTold) (t t' : ClockTold)
       (links : Option ℕ) (end : ServeEnd) : Type 0 where
     pub history : List Call
     pub worker_end : WorkerEnd
-    pub doors : ServesDoors faults handed returned visits given pace misses acts closed ns opening wanted quota history
+    pub doors : ServesDoors faults handed returned visits given pace misses acts closed ns opening wanted quota false history
         p p' t t' links worker_end
     pub watches : KeepsWatches opening history
     pub well : end ≡ Done → is_fault worker_end ≡ false

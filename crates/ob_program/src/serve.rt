@@ -197,6 +197,7 @@ where
     let staff = Staff {
         workers: service.workers as u32,
         quota: service.quota,
+        stays: None,
     };
     let served = serve_port(rt, alloc, site, ns, port, clock, staff);
     end_with(served.end, report(alloc, sink, served.links))

@@ -155,14 +155,14 @@ module _ {S D C : Type 0} (faults handed returned : D → ℕ) (visits : D → O
           | false ↦ λ fault e. (done_by w.end w.links quota (closed w.door) (faults w.door) (misses w.clock) fault ended.0.comes, all_done ws ended.1 e)
         ] refl well
 
-  module _ (closed : D → Bool) (act : S → Asked → ℕ → S × Object) (ns : Option (List ℕ)) (opening : S) (goes : Option Pace) where
+  module _ (closed : D → Bool) (act : S → Asked → ℕ → S × Object) (ns : Option (List ℕ)) (opening : S) (stays : Bool) (goes : Option Pace) where
     abbrev Worked_ : Worker S D C Asked Object → Type 0
-    Worked_ w = HasWorked handed returned visits given pace ns goes w
+    Worked_ w = HasWorked handed returned visits given pace ns stays goes w
 
     -- ---- workers that served
 
     abbrev Ran : ℕ → Worker S D C Asked Object → Worker S D C Asked Object → Type 0
-    Ran quota old new = WorkerRan act visits handed returned closed faults given pace misses ns opening quota old new
+    Ran quota old new = WorkerRan act visits handed returned closed faults given pace misses ns opening quota stays old new
 
     worked_since : (quota : ℕ) (old new : Worker S D C Asked Object) → IsReady_ goes old → Ran quota old new → Worked_ new
     worked_since quota old new r ran =
@@ -253,10 +253,10 @@ module _ {S D C : Type 0} (faults handed returned : D → ℕ) (visits : D → O
 
   -- ---- doors
 
-  module _ (closed : D → Bool) (act : S → Asked → ℕ → S × Object) (ns : Option (List ℕ)) (opening : S) (count quota : ℕ) where
+  module _ (closed : D → Bool) (act : S → Asked → ℕ → S × Object) (ns : Option (List ℕ)) (opening : S) (count quota : ℕ) (stays : Bool) where
     abbrev Serves_ : List Call → (p p' : PortTold) → (t t' : ClockTold) → Option ℕ → WorkerEnd → Type 0
     Serves_ history p p' t t' links end =
-        ServesDoors faults handed returned visits given pace misses act closed ns opening count quota history p p' t t' links end
+        ServesDoors faults handed returned visits given pace misses act closed ns opening count quota stays history p p' t t' links end
 
     -- there was no memory to begin
     pub doors_none : (p : PortTold) (t : ClockTold) → Serves_ [] p p t t None workers.Memory
@@ -281,11 +281,11 @@ module _ {S D C : Type 0} (faults handed returned : D → ℕ) (visits : D → O
     -- all served
     pub doors_served : (first left last : Standing Asked Object) (before after : List (Worker S D C Asked Object)) (result : Result (Unit {0}) WorkerEnd) (p q r : PortTold) (t u v : ClockTold) (links : ℕ) (end : WorkerEnd)
         → IsFirst first → HasOpened faults handed returned visits given pace misses count before result first left p q t u → (length before ≡ count) × (u.twins ≡ t.twins)
-        → length after ≡ length before → AllRan closed act ns opening t.pace quota before after → links ≡ sum_by (λ (w : Worker S D C Asked Object). w.links) after → end ≡ first_end after
+        → length after ≡ length before → AllRan closed act ns opening stays t.pace quota before after → links ≡ sum_by (λ (w : Worker S D C Asked Object). w.links) after → end ≡ first_end after
         → GivenBack act faults handed returned visits closed given misses opening after left last q r u v → Serves_ last.seen p r t v (Some links) end
     doors_served first left last before after result p q r t u v links end is o all same ran links_are end_is back =
-        let whole = served_whole closed act ns opening t.pace quota first left last before after is o.split same ran back.joined in
-        let each = all_served closed act ns opening t.pace quota before after same o.are_ready ran in
+        let whole = served_whole closed act ns opening stays t.pace quota first left last before after is o.split same ran back.joined in
+        let each = all_served closed act ns opening stays t.pace quota before after same o.are_ready ran in
         record {
           staff = after;
           worked = each.0;
@@ -309,8 +309,8 @@ module _ {S D C : Type 0} (faults handed returned : D → ℕ) (visits : D → O
         → IsFirst first → HasOpened faults handed returned visits given pace misses count ready result first left p q t u → is_fault end ≡ true
         → GivenBack act faults handed returned visits closed given misses opening ready left last q r u v → Serves_ last.seen p r t v None end
     doors_unserved first left last ready result p q r t u v end is o fault back =
-        let whole = idle_whole closed act ns opening t.pace first left last ready is o.split o.are_ready back.joined in
-        let each = all_idle closed act ns opening t.pace ready o.are_ready in
+        let whole = idle_whole closed act ns opening stays t.pace first left last ready is o.split o.are_ready back.joined in
+        let each = all_idle closed act ns opening stays t.pace ready o.are_ready in
         record {
           staff = ready;
           worked = each.0;
@@ -331,10 +331,10 @@ module _ {S D C : Type 0} (faults handed returned : D → ℕ) (visits : D → O
 
     -- the first end that is a fault is counted at the port or at the clock
     pub served_cause : (first left last : Standing Asked Object) (before after : List (Worker S D C Asked Object)) (result : Result (Unit {0}) WorkerEnd) (p q r : PortTold) (t u v : ClockTold) (end : WorkerEnd)
-        → HasOpened faults handed returned visits given pace misses count before result first left p q t u → length after ≡ length before → AllRan closed act ns opening t.pace quota before after → end ≡ first_end after
+        → HasOpened faults handed returned visits given pace misses count before result first left p q t u → length after ≡ length before → AllRan closed act ns opening stays t.pace quota before after → end ≡ first_end after
         → GivenBack act faults handed returned visits closed given misses opening after left last q r u v → HasPortCause end p.faults r.faults t.faults v.faults
     served_cause first left last before after result p q r t u v end o same ran end_is back =
-        let each = all_served closed act ns opening t.pace quota before after same o.are_ready ran in
+        let each = all_served closed act ns opening stays t.pace quota before after same o.are_ready ran in
         record {
           doors_later = omega (arith, o.door_faults, back.door_faults.later);
           clocks_later = omega (arith, o.clock_faults, back.clock_faults.later);

@@ -12,7 +12,7 @@ use Rattle.ob_io.specs.Visits.{Visit, IsVisit, raised}
 use Rattle.ob_server.specs.Exchange.{Call, had, Exchange, fixed, stepped, moment_of, calls_in, moments_of, calls_of}
 use Rattle.ob_http.specs.Laws.{FramingIsOne, EndStays}
 use Rattle.ob_server.specs.Answered.{Answered, Serves, EndsAs, HasEndCause, EndRose}
-use Rattle.ob_server.specs.Working.{ServedLink, EndCounts, IsServed, AreServed, stops_with, MayGoBack, AllGoOn, Post, post, Did, Counts, IsSelection, moments_in, IsFinal, Worked, NextComes, EndComes, WorksWhole}
+use Rattle.ob_server.specs.Working.{ServedLink, EndCounts, IsServed, AreServed, stops_with, Stops, MayGoBack, GoesOn, AllGoOn, Post, post, Did, Counts, IsSelection, moments_in, IsFinal, Worked, NextComes, EndComes, WorksWhole}
 use Rattle.ob_server.specs.declared.end.LinkEnd.{LinkEnd}
 use Rattle.ob_server.specs.declared.end.LinkEnd.TheVariants as ends
 use Rattle.ob_server.specs.declared.worker.WorkerEnd.{WorkerEnd}
@@ -59,9 +59,9 @@ served_then : (ns : Option (List ℕ)) (xs : List ServedLink) (s : ServedLink) �
 served_then ns [] s a b = (b, tt)
 served_then ns (x ∷ xs) s a b = (a.0, served_then ns xs s a.1 b)
 
-goes_then : (xs : List ServedLink) (s : ServedLink) → AllGoOn xs → stops_with s.end ≡ None → MayGoBack s.visit → AllGoOn (xs ++ s ∷ [])
-goes_then [] s a b m = (b, m, tt)
-goes_then (x ∷ xs) s a b m = (a.0, a.1, goes_then xs s a.2 b m)
+goes_then : (stays : Bool) (xs : List ServedLink) (s : ServedLink) → AllGoOn stays xs → GoesOn stays s → AllGoOn stays (xs ++ s ∷ [])
+goes_then stays [] s a b = (b, tt)
+goes_then stays (x ∷ xs) s a b = (a.0, goes_then stays xs s a.1 b)
 
 -- ---- moments
 
@@ -210,25 +210,38 @@ goes_back ns s served goes = by_end s.end served.answered.ends served.counted go
     by_end ends.Budget e c g = inr (inr (inr (inl e.2)))
     by_end ends.Memory e c g = absurd (cc)
 
+-- one after which it goes on, by its end or since it stays
+goes_by : (ns : Option (List ℕ)) (stays : Bool) (s : ServedLink) → IsServed ns s → Stops stays s.end None → GoesOn stays s
+goes_by ns stays s served (inl goes) = inl (goes, goes_back ns s served goes)
+goes_by ns stays s served (inr cut) = inr cut
+
+-- what the test of a link's end answers, said of that end
+pub stopped_by : (stays : Bool) (end end' : LinkEnd) (result : Option WorkerEnd) (stop : WorkerEnd) → end ≡ end' → result ≡ Some stop → Stops stays end' result → stops_with end ≡ Some stop
+stopped_by stays end end' result stop same it stops = ap stops_with same ∙ subst (λ (r : Option WorkerEnd). Stops stays end' r) it stops
+
+pub goes_by_end : (stays : Bool) (end end' : LinkEnd) (result : Option WorkerEnd) → end ≡ end' → result ≡ None → Stops stays end' result → Stops stays end None
+goes_by_end stays end end' result same it stops =
+    subst (λ (e : LinkEnd). Stops stays e None) (sym same) (subst (λ (r : Option WorkerEnd). Stops stays end' r) it stops)
+
 -- ---- a worker
 
 -- The links so far were served, and the worker went on after each.
-pub record Working (ns : Option (List ℕ)) (old new : Post) (links : ℕ) : Type 0 where
+pub record Working (ns : Option (List ℕ)) (stays : Bool) (old new : Post) (links : ℕ) : Type 0 where
   pub before : List ServedLink
   pub served : AreServed ns before
-  pub went_on : AllGoOn before
+  pub went_on : AllGoOn stays before
   pub did : Did old before new
   pub count : links ≡ length before
 
-pub working_none : (ns : Option (List ℕ)) (d : Post) → Working ns d d 0
-working_none ns d = record { before = []; served = tt; went_on = tt; did = did_none d d refl; count = refl }
+pub working_none : (ns : Option (List ℕ)) (stays : Bool) (d : Post) → Working ns stays d d 0
+working_none ns stays d = record { before = []; served = tt; went_on = tt; did = did_none d d refl; count = refl }
 
-module _ (ns : Option (List ℕ)) (old now new : Post) (links : ℕ) (w : Working ns old now links) where
-  pub works_on : (s : ServedLink) → IsServed ns s → Did now (s ∷ []) new → stops_with s.end ≡ None → Working ns old new (links + 1)
+module _ (ns : Option (List ℕ)) (stays : Bool) (old now new : Post) (links : ℕ) (w : Working ns stays old now links) where
+  pub works_on : (s : ServedLink) → IsServed ns s → Did now (s ∷ []) new → Stops stays s.end None → Working ns stays old new (links + 1)
   works_on s served did goes = record {
     before = w.before ++ s ∷ [];
     served = served_then ns w.before s w.served served;
-    went_on = goes_then w.before s w.went_on goes (goes_back ns s served goes);
+    went_on = goes_then stays w.before s w.went_on (goes_by ns stays s served goes);
     did = did_then old now new w.before (s ∷ []) w.did did;
     count = omega (arith, w.count, length-append w.before (s ∷ []));
   }
@@ -247,7 +260,7 @@ module _ (ns : Option (List ℕ)) (old now new : Post) (links : ℕ) (w : Workin
       by_end ends.Budget same e = absurd (cc)
       by_end ends.Memory same e = let is_memory : workers.Memory ≡ stop = cc in subst (λ (x : WorkerEnd). IsFinal (s ∷ []) x) is_memory (s, refl, same)
 
-  pub work_stopped : (s : ServedLink) (stop : WorkerEnd) → IsServed ns s → Did now (s ∷ []) new → stops_with s.end ≡ Some stop → Worked ns old new (links + 1) stop
+  pub work_stopped : (s : ServedLink) (stop : WorkerEnd) → IsServed ns s → Did now (s ∷ []) new → stops_with s.end ≡ Some stop → Worked ns stays old new (links + 1) stop
   work_stopped s stop served did is = record {
     before = w.before;
     final = s ∷ [];
@@ -259,7 +272,7 @@ module _ (ns : Option (List ℕ)) (old now new : Post) (links : ℕ) (w : Workin
     drawn = selects_links ns (w.before ++ s ∷ []) (served_then ns w.before s w.served served);
   }
 
-  pub work_ended : (stop : WorkerEnd) → Did now [] new → IsFinal [] stop → Worked ns old new links stop
+  pub work_ended : (stop : WorkerEnd) → Did now [] new → IsFinal [] stop → Worked ns stays old new links stop
   work_ended stop did final =
       let none : List ServedLink = [] in
       let all : AreServed ns (w.before ++ []) = subst (λ (l : List ServedLink). AreServed ns l) (sym (append-nil w.before)) w.served in
@@ -274,9 +287,9 @@ module _ (ns : Option (List ℕ)) (old now new : Post) (links : ℕ) (w : Workin
         drawn = selects_links ns (w.before ++ []) all;
       }
 
-pub work_had : (ns : Option (List ℕ)) (old now : Post) (links quota : ℕ) → links ≡ quota → Working ns old now links → Worked ns old now quota workers.Quota
-work_had ns old now links quota all w =
-    subst (λ (n : ℕ). Worked ns old now n workers.Quota) all (work_ended ns old now now links w workers.Quota (did_none now now refl) refl)
+pub work_had : (ns : Option (List ℕ)) (stays : Bool) (old now : Post) (links quota : ℕ) → links ≡ quota → Working ns stays old now links → Worked ns stays old now quota workers.Quota
+work_had ns stays old now links quota all w =
+    subst (λ (n : ℕ). Worked ns stays old now n workers.Quota) all (work_ended ns stays old now now links w workers.Quota (did_none now now refl) refl)
 
 -- nothing of it changed
 pub did_nothing : (visits visits' : Option (List Visit)) (handed handed' returned returned' : ℕ) (given : Option (List ℕ)) (calls : List Call) → visits' ≡ visits → handed' ≡ handed → returned' ≡ returned

@@ -63,10 +63,10 @@ module _ {D C : Type 0} (faults handed returned : D → ℕ) (visits : D → Opt
   -- own, served their links. Or none did, since a door, a twin or memory was wanting. They came back, with their doors and
   -- twins. All that the machine was asked is this legal history, which is made of the workers' calls, and of no others.
   pub record ServesDoors {S : Type 0} (act : S → Asked → ℕ → S × Object) (closed : D → Bool) (ns : Option (List ℕ)) (machine : S)
-      (count quota : ℕ) (history : List Call) (port port' : PortTold) (clock clock' : ClockTold) (links : Option ℕ)
+      (count quota : ℕ) (stays : Bool) (history : List Call) (port port' : PortTold) (clock clock' : ClockTold) (links : Option ℕ)
       (end : WorkerEnd) : Type 0 where
     pub staff : List (Worker S D C Asked Object)
-    pub worked : AllByRecursion (HasWorked handed returned visits given pace ns clock.pace) staff
+    pub worked : AllByRecursion (HasWorked handed returned visits given pace ns stays clock.pace) staff
     pub legal : IsLegal act machine history
     pub made : IsMadeOf (map (λ w. w.pass) staff) history
     pub doors : GainsDoors faults handed returned visits closed port.doors (map (λ w. w.door) staff) port'.doors

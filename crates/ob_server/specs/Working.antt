@@ -82,6 +82,11 @@ stops_with ends.ClockFault = Some workers.ClockFault
 stops_with ends.Budget = None
 stops_with ends.Memory = Some workers.Memory
 
+-- whether a link's end brings the worker to its end: want of memory may leave it going, where it stays
+abbrev pub Stops : Bool → LinkEnd → Option WorkerEnd → Type 0
+Stops stays end None = (stops_with end ≡ None) ⊎ ((stays ≡ true) × (end ≡ ends.Memory))
+Stops stays end (Some stop) = stops_with end ≡ Some stop
+
 -- why a worker is done with a link and goes on to the next: nothing is left in it, a request closed it or was refused,
 -- so many bytes were taken, or a fault is counted
 abbrev pub MayGoBack : Visit → Type 0
@@ -91,10 +96,14 @@ MayGoBack v =
     ⊎ (((requests : List Request) × (fault : FrameFault) × (at : ℕ) × Framed v.taken requests (faulted fault at))
     ⊎ ((length v.taken ≡ 2 ^ 40) ⊎ ((0 < v.reads) ⊎ (0 < v.writes)))))
 
--- after each of these links the worker went on, and it was done with the link
-abbrev pub AllGoOn : List ServedLink → Type 0
-AllGoOn [] = ⊤
-AllGoOn (s ∷ served) = (stops_with s.end ≡ None) × MayGoBack s.visit × AllGoOn served
+-- after this link the worker went on: it was done with the link; or memory was wanting, and it stays
+abbrev pub GoesOn : Bool → ServedLink → Type 0
+GoesOn stays s = ((stops_with s.end ≡ None) × MayGoBack s.visit) ⊎ ((stays ≡ true) × (s.end ≡ ends.Memory))
+
+-- after each of these links it did
+abbrev pub AllGoOn : Bool → List ServedLink → Type 0
+AllGoOn stays [] = ⊤
+AllGoOn stays (s ∷ served) = GoesOn stays s × AllGoOn stays served
 
 -- ---- several links
 
@@ -159,11 +168,11 @@ IsFinal final workers.Memory = (s : ServedLink) × (final ≡ s ∷ []) × (s.en
 
 -- The links of one worker were served one after the other, each with its own part of the worker's calls, whose moments
 -- the worker's clock gave.
-pub record Worked (ns : Option (List ℕ)) (old new : Post) (links : ℕ) (end : WorkerEnd) : Type 0 where
+pub record Worked (ns : Option (List ℕ)) (stays : Bool) (old new : Post) (links : ℕ) (end : WorkerEnd) : Type 0 where
   pub before : List ServedLink
   pub final : List ServedLink
   pub served : AreServed ns (before ++ final)
-  pub went_on : AllGoOn before
+  pub went_on : AllGoOn stays before
   pub ended : IsFinal final end
   pub did : Did old (before ++ final) new
   pub count : links ≡ length (before ++ final)
@@ -188,8 +197,8 @@ WorksWhole end doors doors' clocks clocks' =
 -- clocks what is told of its clock.
 pub record WorkerRan {S D C : Type 0} (act : S → Asked → ℕ → S × Object) (visits : D → Option (List Visit))
     (handed returned : D → ℕ) (closed : D → Bool) (doors : D → ℕ) (given : C → Option (List ℕ)) (pace : C → Option Pace)
-    (clocks : C → ℕ) (ns : Option (List ℕ)) (opening : S) (quota : ℕ) (old new : Worker S D C Asked Object) : Type 0 where
-  pub worked : Worked ns
+    (clocks : C → ℕ) (ns : Option (List ℕ)) (opening : S) (quota : ℕ) (stays : Bool) (old new : Worker S D C Asked Object) : Type 0 where
+  pub worked : Worked ns stays
       (post (visits old.door) (handed old.door) (returned old.door) (given old.clock) (mine old.pass))
       (post (visits new.door) (handed new.door) (returned new.door) (given new.clock) (mine new.pass)) new.links new.end
   pub pass : Continues act opening old.pass new.pass
@@ -202,8 +211,8 @@ pub record WorkerRan {S D C : Type 0} (act : S → Asked → ℕ → S × Object
 
 -- All that a worker did since its door and clock were new, where these tell it; its clock goes at this pace.
 pub record HasWorked {S D C : Type 0} (handed returned : D → ℕ) (visits : D → Option (List Visit)) (given : C → Option (List ℕ))
-    (pace : C → Option Pace) (ns : Option (List ℕ)) (goes : Option Pace) (w : Worker S D C Asked Object) : Type 0 where
-  pub worked : Worked ns (post (Some []) 0 0 (Some []) [])
+    (pace : C → Option Pace) (ns : Option (List ℕ)) (stays : Bool) (goes : Option Pace) (w : Worker S D C Asked Object) : Type 0 where
+  pub worked : Worked ns stays (post (Some []) 0 0 (Some []) [])
       (post (visits w.door) (handed w.door) (returned w.door) (given w.clock) (mine w.pass)) w.links w.end
   pub pace_is : pace w.clock ≡ goes
 

@@ -1,5 +1,5 @@
 //! The doors of one port, served by workers over one desk.
-ghost use Rattle.std.specs.Prelude.{◌≡◌, ◌<◌, [], length, option_copied};
+ghost use Rattle.std.specs.Prelude.{◌≡◌, ◌<◌, [], length, is_some, option_copied};
 ghost use Rattle.std.specs.Vec.{vec_capacity};
 ghost use Rattle.ob_machine.specs.History.{after};
 ghost use Rattle.ob_server.specs.GivenBack.{port_told, clock_told};
@@ -16,6 +16,7 @@ use ob_turn::{Desk, Pass};
 use ob_values::Text;
 use std::alloc::Global;
 use std::sync::Wait;
+use std::sync::atomic::AtomicBool;
 use std::thread::Threads;
 
 /// Makes so many workers, each with one share of the pass, a door of the port and a twin of the clock, in the room that
@@ -62,9 +63,11 @@ fn open_workers<M: Machine, P: Port, C: Clock>(
 
 /// How many workers serve the doors of a port, and how many links each of them serves.
 #[derive(Clone, Copy, Drop)]
-pub struct Staff {
+pub struct Staff<'a> {
     pub workers: u32,
     pub quota: u32,
+    /// None: a link for which memory was wanting is a worker's last one. A flag: it is where the flag is false then.
+    pub stays: Option<&'a AtomicBool>,
 }
 
 /// What the service of a port came to.
@@ -93,7 +96,7 @@ fn serve_doors<
     ns: Option<&Text>,
     port: &mut P,
     clock: &mut C,
-    staff: Staff,
+    staff: Staff<'_>,
 ) -> (Option<u64>, WorkerEnd)
 where
     D::L: Send,
@@ -103,7 +106,8 @@ where
     ensures of { pass.new.table ≡ pass.old.table }
     ensures count { length pass.new.numbers ≡ 4294967296 }
     ensures serves { ServesDoors D.faults D.handed D.returned D.visits C.given C.pace C.faults
-        M.act D.is_closed (option_copied ns.entry) desk.now.opening staff.workers staff.quota pass.new.seen
+        M.act D.is_closed (option_copied ns.entry) desk.now.opening
+        staff.entry.workers staff.entry.quota (is_some staff.entry.stays) pass.new.seen
         (port_told (P.faults port.old) (P.opened port.old) (P.returned port.old)
         (P.listens port.old) (P.doors port.old))
         (port_told (P.faults port.new) (P.opened port.new) (P.returned port.new)
@@ -125,7 +129,7 @@ where
         workers,
         links,
         end,
-    } = serve(rt, alloc, desk, ns, workers, staff.quota);
+    } = serve(rt, alloc, desk, ns, workers, staff.quota, staff.stays);
     join_workers(desk, pass, port, clock, workers);
     (Some(links), end)
 }
@@ -146,12 +150,13 @@ pub fn serve_port<
     ns: Option<&Text>,
     port: &mut P,
     clock: &mut C,
-    staff: Staff,
+    staff: Staff<'_>,
 ) -> PortServed<M>
 where
     D::L: Send,
     ensures serves { (history : _) × ServesDoors D.faults D.handed D.returned D.visits C.given C.pace C.faults
-        M.act D.is_closed (option_copied ns.entry) machine staff.workers staff.quota history
+        M.act D.is_closed (option_copied ns.entry) machine
+        staff.entry.workers staff.entry.quota (is_some staff.entry.stays) history
         (port_told (P.faults port.old) (P.opened port.old) (P.returned port.old)
         (P.listens port.old) (P.doors port.old))
         (port_told (P.faults port.new) (P.opened port.new) (P.returned port.new)

@@ -1,9 +1,9 @@
 //! Workers, each of which serves the links of a door, all over one desk.
-ghost use Rattle.std.specs.Prelude.{◌≡◌, ℕ, ◌≤◌, ◌<◌, ◌^◌, length, option_copied, All, slice_index_or, sum_by};
+ghost use Rattle.std.specs.Prelude.{◌≡◌, ℕ, ◌≤◌, ◌<◌, ◌^◌, true, length, is_some, option_copied, All, slice_index_or, sum_by};
 ghost use Rattle.ob_turn.specs.Standing.{mine};
 ghost use Rattle.ob_server.specs.Passes.{Continues};
 ghost use Rattle.ob_server.specs.Working as spec;
-ghost use Rattle.ob_server.specs.Working.{DidNext, Worked, post, NextComes, EndComes, WorkerRan};
+ghost use Rattle.ob_server.specs.Working.{DidNext, Worked, Stops, post, NextComes, EndComes, WorkerRan};
 
 use crate::end::LinkEnd;
 use crate::link::serve_link;
@@ -16,6 +16,7 @@ use ob_turn::{Desk, Pass};
 use ob_values::Text;
 use std::alloc::Global;
 use std::sync::Wait;
+use std::sync::atomic::{AtomicBool, Ordering};
 use std::thread::{Threads, for_each_mut};
 
 /// Why a worker ended.
@@ -110,9 +111,10 @@ impl<M: Machine<Request = Request, Reply = Obj>, D: Door, C: Clock> Worker<M, D,
         desk: &Desk<M>,
         ns: Option<&Text>,
         quota: u32,
+        stays: Option<&AtomicBool>,
     ) -> (u64, WorkerEnd)
         requires { self.old.pass.table ≡ desk.now.table }
-        ensures worked { Worked (option_copied ns.entry)
+        ensures worked { Worked (option_copied ns.entry) (is_some stays.entry)
             (post (D.visits self.old.door) (D.handed self.old.door) (D.returned self.old.door)
             (C.given self.old.clock) (mine self.old.pass))
             (post (D.visits self.new.door) (D.handed self.new.door) (D.returned self.new.door)
@@ -130,7 +132,7 @@ impl<M: Machine<Request = Request, Reply = Obj>, D: Door, C: Clock> Worker<M, D,
         for links in 0..most {
             match self.serve_next(rt, alloc, desk, ns) {
                 Next::Link(end) => {
-                    if let Some(stop) = stops_with(end) {
+                    if let Some(stop) = stops_with(end, stays) {
                         return (links + 1, stop);
                     }
                 }
@@ -142,24 +144,48 @@ impl<M: Machine<Request = Request, Reply = Obj>, D: Door, C: Clock> Worker<M, D,
     }
 
     /// Serves the links of the door, and leaves in the worker how it went.
-    fn run<R: Wait>(&mut self, rt: &R, alloc: Global, desk: &Desk<M>, ns: Option<&Text>, quota: u32)
+    fn run<R: Wait>(
+        &mut self,
+        rt: &R,
+        alloc: Global,
+        desk: &Desk<M>,
+        ns: Option<&Text>,
+        quota: u32,
+        stays: Option<&AtomicBool>,
+    )
         requires { self.old.pass.table ≡ desk.now.table }
         ensures { WorkerRan M.act D.visits D.handed D.returned D.is_closed D.faults
-            C.given C.pace C.faults (option_copied ns.entry) desk.now.opening quota self.old self.new }
+            C.given C.pace C.faults (option_copied ns.entry) desk.now.opening quota (is_some stays.entry) self.old self.new }
     {
-        let (links, end) = self.serve_links(rt, alloc, desk, ns, quota);
+        let (links, end) = self.serve_links(rt, alloc, desk, ns, quota, stays);
         self.links = links;
         self.end = end;
     }
 }
 
+/// Whether a worker goes on after a link for which memory was wanting.
+fn goes_on(stays: Option<&AtomicBool>) -> bool
+    ensures { result ≡ true → is_some stays.entry ≡ true }
+{
+    match stays {
+        Some(flag) => flag.load(Ordering::SeqCst),
+        None => false,
+    }
+}
+
 /// The end of the worker at which a link's end brings it, if it does.
-fn stops_with(end: LinkEnd) -> Option<WorkerEnd>
-    ensures { result ≡ spec.stops_with end }
+fn stops_with(end: LinkEnd, stays: Option<&AtomicBool>) -> Option<WorkerEnd>
+    ensures { Stops (is_some stays.entry) end result }
 {
     match end {
         LinkEnd::ClockFault => Some(WorkerEnd::ClockFault),
-        LinkEnd::Memory => Some(WorkerEnd::Memory),
+        LinkEnd::Memory => {
+            if goes_on(stays) {
+                None
+            } else {
+                Some(WorkerEnd::Memory)
+            }
+        }
         _ => None,
     }
 }
@@ -177,13 +203,14 @@ fn run_workers<
     ns: Option<&Text>,
     workers: &mut [Worker<M, D, C>],
     quota: u32,
+    stays: Option<&AtomicBool>,
 )
 where
     D::L: Send,
     requires { All (λ w. w.pass.table ≡ desk.now.table) workers.old }
     ensures { (k : ℕ) (d : _) → k < length workers.old
         → WorkerRan M.act D.visits D.handed D.returned D.is_closed D.faults C.given C.pace C.faults
-        (option_copied ns.entry) desk.now.opening quota
+        (option_copied ns.entry) desk.now.opening quota (is_some stays.entry)
         (slice_index_or workers.old k d) (slice_index_or workers.new k d) }
 {
     if workers.is_empty() {
@@ -194,7 +221,7 @@ where
         rt,
         workers,
         threads,
-        &|_, worker| worker.run(rt, alloc, desk, ns, quota),
+        &|_, worker| worker.run(rt, alloc, desk, ns, quota, stays),
     );
 }
 
@@ -212,8 +239,8 @@ pub struct Served<M: Machine, D, C> {
 /// Serves the links of each worker's door, each worker in a thread of its own.
 ///
 /// A worker serves one link after the other, and gives each back to its door, until it has had `quota` links, its door
-/// is closed, its door or clock failed or memory was wanting. Where no thread can be started, the caller's does the
-/// work.
+/// is closed, its door or clock failed or memory was wanting. With a flag `stays` it goes on after a link for which memory was
+/// wanting, where the flag is true then. Where no thread can be started, the caller's does the work.
 pub fn serve<
     R: Threads + Wait + Sync,
     M: Machine<Request = Request, Reply = Obj> + Send,
@@ -226,6 +253,7 @@ pub fn serve<
     ns: Option<&Text>,
     workers: Vec<Worker<M, D, C>>,
     quota: u32,
+    stays: Option<&AtomicBool>,
 ) -> Served<M, D, C>
 where
     D::L: Send,
@@ -234,13 +262,13 @@ where
     ensures same { length result.workers.items ≡ length workers.items }
     ensures ran { (k : ℕ) (d : _) → k < length workers.items
         → WorkerRan M.act D.visits D.handed D.returned D.is_closed D.faults C.given C.pace C.faults
-        (option_copied ns.entry) desk.now.opening quota
+        (option_copied ns.entry) desk.now.opening quota (is_some stays.entry)
         (slice_index_or workers.items k d) (slice_index_or result.workers.items k d) }
     ensures links { result.links ≡ sum_by (λ w. w.links) result.workers.items }
     ensures end { result.end ≡ spec.first_end result.workers.items }
 {
     let mut workers = workers;
-    run_workers(rt, alloc, desk, ns, workers.as_mut_slice(), quota);
+    run_workers(rt, alloc, desk, ns, workers.as_mut_slice(), quota, stays);
     let links = total_links(&workers, quota);
     let end = first_end(&workers);
     Served {

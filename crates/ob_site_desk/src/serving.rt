@@ -1,5 +1,5 @@
 //! Links and doors that are served from a site. The calls are those of ob_server; of all that was seen the laws of watches hold.
-ghost use Rattle.std.specs.Prelude.{◌≡◌, option_copied};
+ghost use Rattle.std.specs.Prelude.{◌≡◌, is_some, option_copied};
 ghost use Rattle.ob_io.specs.Links.{inlet};
 ghost use Rattle.ob_machine.specs.History.{after, IsLegal};
 ghost use Rattle.ob_seen_laws.specs.Seen.{KeepsWatches};
@@ -91,13 +91,14 @@ pub fn serve_port<R: Threads + Wait + Sync, D: Door + Send, P: Port<D = D>, C: C
     ns: Option<&Text>,
     port: &mut P,
     clock: &mut C,
-    staff: Staff,
+    staff: Staff<'_>,
 ) -> PortServed<Site>
 where
     D::L: Send,
     ensures sound { IsSoundSite site }
     ensures serves { (history : _) × ServesDoors D.faults D.handed D.returned D.visits C.given C.pace C.faults
-        acts D.is_closed (option_copied ns.entry) site staff.workers staff.quota history
+        acts D.is_closed (option_copied ns.entry) site
+        staff.entry.workers staff.entry.quota (is_some staff.entry.stays) history
         (port_told (P.faults port.old) (P.opened port.old) (P.returned port.old)
         (P.listens port.old) (P.doors port.old))
         (port_told (P.faults port.new) (P.opened port.new) (P.returned port.new)

@@ -81,7 +81,7 @@ fn serves_one<R: Threads + Wait + Sync>(
         workers,
         links,
         end,
-    } = serve(rt, alloc, desk, None, workers, 1);
+    } = serve(rt, alloc, desk, None, workers, 1, None);
     join_workers(desk, pass, port, &mut clock(), workers);
     links == 1 && end == WorkerEnd::Quota
 }

@@ -1,4 +1,4 @@
-use Rattle.std.proofs.Common.{◌≡◌, ◌≤◌, option_copied}
+use Rattle.std.proofs.Common.{◌≡◌, ◌≤◌, is_some, option_copied}
 use Rattle.ob_turn.specs.Standing.{mine}
 use Rattle.ob_server.specs.Passes.{Continues}
 use Rattle.ob_server.specs.Working.{post}
@@ -7,7 +7,7 @@ use Rattle.ob_server.proofs.worker.Worker.serve_links.Given as goal
 
 abbrev pub invariant-loop-links : goal.invariant-loop-links
 invariant-loop-links g l = record {
-  working : Working (option_copied l.ns)
+  working : Working (option_copied l.ns) (is_some l.stays)
       (post (g.D.Door.visits l.fn.self.door) (g.D.Door.handed l.fn.self.door) (g.D.Door.returned l.fn.self.door) (g.C.Clock.given l.fn.self.clock) (mine l.fn.self.pass))
       (post (g.D.Door.visits l.self.door) (g.D.Door.handed l.self.door) (g.D.Door.returned l.self.door) (g.C.Clock.given l.self.clock) (mine l.self.pass)) l.links;
   pass : Continues g.M.Machine.act l.desk.opening l.fn.self.pass l.self.pass;
