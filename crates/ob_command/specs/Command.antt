@@ -22,6 +22,8 @@ pub data Command : Type 0 where
   schedule : (site file : List ℕ) → (at : Option ℕ) → (tick : ℕ) → Command
   -- the site file; where it listens; how many workers there are, and how many links each of them serves
   serve : (site host : List ℕ) → (port workers quota : ℕ) → Command
+  -- the site file and the record's; where it listens; how many workers there are, and how many links each of them serves
+  keep : (site file host : List ℕ) → (port workers quota : ℕ) → Command
   -- the site file; the record's file
   auditing : (site file : List ℕ) → Command
   -- the document's file
@@ -108,6 +110,22 @@ serve_of given =
     then serve_with (operands given) (port_in (operands given)) (number_or 1 64 4 (values (codes "--workers") given)) (number_or 1 1_000_000 1 (values (codes "--quota") given))
     else None
 
+abbrev pub keep_with : (operands : List (List ℕ)) → (port workers quota : Option ℕ) → Option Command
+keep_with (site ∷ (file ∷ (host ∷ (_ ∷ [])))) (Some port) (Some workers) (Some quota) = Some (keep site file host port workers quota)
+keep_with _ _ _ _ = None
+
+-- the fourth operand as a number
+abbrev pub kept_port_in : List (List ℕ) → Option ℕ
+kept_port_in (site ∷ operands) = port_in operands
+kept_port_in [] = None
+
+-- `SITE RECORD HOST PORT [--workers N] [--quota M]`
+abbrev pub keep_of : List Argument → Option Command
+keep_of given =
+    if has_only (codes "--workers" ∷ codes "--quota" ∷ []) given
+    then keep_with (operands given) (kept_port_in (operands given)) (number_or 1 64 4 (values (codes "--workers") given)) (number_or 1 1_000_000 1 (values (codes "--quota") given))
+    else None
+
 abbrev pub check_with : List (List ℕ) → Option Command
 check_with (file ∷ []) = Some (check file)
 check_with _ = None
@@ -180,12 +198,13 @@ named word given =
     else (if bytes_eq word (codes "schedule") then schedule_of given
     else (if bytes_eq word (codes "audit") then auditing_of given
     else (if bytes_eq word (codes "serve") then serve_of given
+    else (if bytes_eq word (codes "keep") then keep_of given
     else (if bytes_eq word (codes "check") then check_of given
     else (if bytes_eq word (codes "watch") then watch_of given
     else (if bytes_eq word (codes "console") then console_of given
     else (if bytes_eq word (codes "storm") then option_map storm (storm_of given)
     else (if bytes_eq word (codes "super") then supervise_of given
-    else None)))))))))
+    else None))))))))))
 
 -- one of the commands above with its arguments; all other words are no command
 abbrev pub command : List (List ℕ) → Option Command

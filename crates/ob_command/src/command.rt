@@ -10,7 +10,7 @@ use crate::client::{Console, Watch, console_of, watch_of};
 use crate::number::{LARGEST_NUMBER, number_between};
 use crate::record::{Audit, audit_of};
 use crate::schedule::{Scheduled, schedule_of};
-use crate::server::{Output, Serve, Stdio, check_of, serve_of, stdio_of};
+use crate::server::{Keep, Output, Serve, Stdio, check_of, keep_of, serve_of, stdio_of};
 use crate::storm::Storm;
 use crate::supervise::{Supervise, supervise_of};
 use crate::text::are_texts;
@@ -27,6 +27,8 @@ pub enum Command<'a> {
     Audit(Audit<'a>),
     /// The requests of links that come to a port are answered from a site file.
     Serve(Serve<'a>),
+    /// They are answered so, and what changes is in the file of a record before anyone is told.
+    Keep(Keep<'a>),
     /// The document of a file is checked and written in its canonical form.
     Check(&'a str),
     /// Objects of a server are watched and written.
@@ -69,6 +71,7 @@ fn storm_of(given: Arguments<'_>) -> Option<Command<'_>>
 /// - `schedule SITE FILE [--at MS] [--tick MS]`
 /// - `audit SITE FILE`
 /// - `serve SITE HOST PORT [--workers N] [--quota M]`
+/// - `keep SITE RECORD HOST PORT [--workers N] [--quota M]`
 /// - `check FILE`
 /// - `watch URL HREF.. [--polls N] [--retry R]`
 /// - `console URL SUBJECT [--polls N] [--ack HREF] [--user NAME]`
@@ -99,6 +102,7 @@ pub fn read_command<'a>(
         "schedule" => Ok(schedule_of(given)),
         "audit" => Ok(audit_of(given)),
         "serve" => Ok(serve_of(given)),
+        "keep" => Ok(keep_of(given)),
         "check" => Ok(check_of(given)),
         "watch" => watch_of(alloc, given),
         "console" => console_of(alloc, given),

@@ -19,6 +19,6 @@ pub use client::{Console, Watch};
 pub use command::{Command, read_command};
 pub use record::Audit;
 pub use schedule::Scheduled;
-pub use server::{Output, Serve, Stdio};
+pub use server::{Keep, Output, Serve, Stdio};
 pub use storm::Storm;
 pub use supervise::Supervise;

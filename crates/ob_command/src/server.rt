@@ -1,6 +1,6 @@
 //! The commands that serve a site, and the one that checks a document.
 ghost use Rattle.std.specs.Prelude.{◌≡◌, option_map};
-ghost use Rattle.ob_command.specs.Command.{stdio_of, serve_of, check_of};
+ghost use Rattle.ob_command.specs.Command.{stdio_of, serve_of, keep_of, check_of};
 ghost use Rattle.ob_command.specs.Words.{arguments_of};
 ghost use Rattle.ob_command.specs.Named.{command_of};
 
@@ -44,6 +44,14 @@ pub struct Serve<'a> {
     pub workers: u8,
     /// How many links each of them serves.
     pub quota: u32,
+}
+
+/// A site that is served at a port, with the file of its record.
+#[derive(Clone, Copy)]
+pub struct Keep<'a> {
+    pub service: Serve<'a>,
+    /// The record's file.
+    pub file: &'a str,
 }
 
 /// The command of the arguments `SITE [--at MS] [--tick MS]`.
@@ -90,6 +98,33 @@ pub(crate) fn serve_of(given: Arguments<'_>) -> Option<Command<'_>>
         workers: workers as u8,
         quota: quota as u32,
     }))
+}
+
+/// The command of the arguments `SITE RECORD HOST PORT [--workers N] [--quota M]`.
+pub(crate) fn keep_of(given: Arguments<'_>) -> Option<Command<'_>>
+    ensures { option_map command_of result ≡ keep_of (arguments_of given.entry) }
+{
+    if !given.has_only(&["--workers", "--quota"]) {
+        return None;
+    }
+    let (site, behind) = given.next_operand()?;
+    let (file, behind) = behind.next_operand()?;
+    let (host, behind) = behind.next_operand()?;
+    let (port, behind) = behind.next_operand()?;
+    if behind.next_operand().is_some() {
+        return None;
+    }
+    let port = number_between(port.as_bytes(), 0, 65_535)?;
+    let workers = given.number_or("--workers", 1, 64, 4)?;
+    let quota = given.number_or("--quota", 1, 1_000_000, 1)?;
+    let service = Serve {
+        site,
+        host,
+        port: port as u16,
+        workers: workers as u8,
+        quota: quota as u32,
+    };
+    Some(Command::Keep(Keep { service, file }))
 }
 
 /// The command of the argument `FILE`.
