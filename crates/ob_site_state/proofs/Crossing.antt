@@ -8,7 +8,7 @@ use Rattle.std.proofs.MapsCrossingOver as sets
 use Rattle.ob_values.proofs.text.Text.TheSendSync as text
 use Rattle.ob_values.specs.contracts.value.Value as value
 use Rattle.ob_object.specs.contracts.head.Slot as slot
-use Rattle.ob_object.proofs.head.Head.TheSendSync as head
+use Rattle.ob_object.proofs.attributes.Attributes.TheSendSync as attributes
 use Rattle.ob_object.proofs.object.Obj.TheLaws.TheKnot as object
 use Rattle.ob_alarms.proofs.board.Alarms.TheSendSync as board
 use Rattle.ob_contracts.proofs.library.Defaults.TheSendSync as defaults
@@ -62,10 +62,10 @@ slot_send =
 
 -- the library and the tree, with the words that are told
 library_send : IsSend (library.the_field).row
-library_send = search (sendable, heap.crosses, maps.crosses, sets.crosses, text.the_send, head.the_send, object.send-Obj, defaults.the_field_send) depth 24
+library_send = search (sendable, heap.crosses, maps.crosses, sets.crosses, text.the_send, attributes.the_send, object.send-Obj, defaults.the_field_send) depth 24
 
 tree_send : IsSend (tree.the_field).row
-tree_send = search (sendable, heap.crosses, maps.crosses, sets.crosses, head.the_send, object.send-Obj) depth 24
+tree_send = search (sendable, heap.crosses, maps.crosses, sets.crosses, attributes.the_send, object.send-Obj) depth 24
 
 told_parts_send : IsSend told_inside.the_row
 told_parts_send =
