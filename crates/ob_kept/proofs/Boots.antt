@@ -38,8 +38,5 @@ module _ {D : Type 0} (told : Type 0) (seen : D → List ℕ) (may_leave : D →
 
 -- what is told of a device once it is taken back
 pub left_of : {D : Type 0} (seen : D → List ℕ) (may_leave : D → List ℕ → Type 0) (moment : D → ℕ) (left_since : D → ℕ → List ℕ → Type 0) (k : Keeping) (device : D) (end next : ℕ) (begun failed : Bool)
-    → IsKept seen may_leave moment left_since k device end next begun failed → IsLeft seen may_leave moment left_since k device
-left_of seen may_leave moment left_since k device end next begun failed is = record {
-  crash = λ c was. ⊎_elim (λ one. inl one) (λ more. inr more.1) (is.crash c was);
-  file = λ c may. ⊎_elim (λ one. inl one) (λ more. inr more.1) (is.file c may);
-}
+    → IsKept seen may_leave moment left_since k device end next begun failed → IsLeft seen may_leave moment left_since k device failed
+left_of seen may_leave moment left_since k device end next begun failed is = record { crash = is.crash; file = is.file }

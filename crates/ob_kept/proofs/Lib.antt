@@ -10,3 +10,4 @@ mod Doing
 mod Boots
 mod Acting
 mod FrontLemmas
+mod Crossing

@@ -152,15 +152,16 @@ ready_kept {D} seen may_leave moment left_since old opened mid new given boot op
     (keeps_on seen may_leave moment left_since old mid new given boot opening now begun durable read redoes opens.bare sound.of_watches.next end
     (settled (run_blocks boot redoes.entries) says) (repaired (run_blocks boot redoes.entries) says))
 
-pub reopens_so : (told : Type 0) (content : Option (List ℕ)) (file : List ℕ) (given boot since : ℕ) (ns ns' : Option (List ℕ)) (opening now : SiteState) (begun : Bool) (k : Keeping)
-    → ns' ≡ ns → k ≡ record { boot = boot; opening = opening; since = since; past = []; now = now } → IsOpenedAt content boot ns opening → (told → Redoes file given boot opening now begun) → IsSoundSite now
-    → Reopens told content file given ns' k
-reopens_so told content file given boot since ns ns' opening now begun k ns_is k_is opens redoes sound =
-    subst (λ (n : Option (List ℕ)). Reopens told content file given n k) (sym ns_is)
-    (subst (λ (x : Keeping). Reopens told content file given ns x) (sym k_is) (record {
+pub reopens_so : (told : Type 0) (content : Option (List ℕ)) (file : List ℕ) (from given boot since : ℕ) (ns ns' : Option (List ℕ)) (opening now : SiteState) (begun : Bool) (k : Keeping)
+    → ns' ≡ ns → k ≡ record { boot = boot; opening = opening; since = since; past = []; now = now } → since ≡ from → IsOpenedAt content boot ns opening → (told → Redoes file given boot opening now begun) → IsSoundSite now
+    → Reopens told content file from given ns' k
+reopens_so told content file from given boot since ns ns' opening now begun k ns_is k_is since_is opens redoes sound =
+    subst (λ (n : Option (List ℕ)). Reopens told content file from given n k) (sym ns_is)
+    (subst (λ (x : Keeping). Reopens told content file from given ns x) (sym k_is) (record {
       opened = opens.opened;
       leads = λ t. let r = redoes t in record { entries = r.entries; says = r.says; legal = r.legal; left_is = r.now_is };
       anew = λ t none. (redoes t).anew none;
+      since_is = since_is;
       past = refl;
       sound = sound;
     }))

@@ -1,9 +1,10 @@
 -- The states that a site which is kept has been in: those in which each call that was done has found it.
 use Rattle.std.specs.Prelude.{◌≡◌, List, [], ◌∷◌, ◌++◌}
-use Rattle.ob_machine.specs.History.{after, left_by}
+use Rattle.ob_machine.specs.History.{IsLegal, after, left_by}
 use Rattle.ob_machine.specs.declared.call.Answer.{Answer}
 use Rattle.ob_machine.specs.declared.call.Answer.TheVariants.{Done, NoMemory}
 use Rattle.ob_object.specs.Object.{Object}
+use Rattle.ob_seen_laws.specs.Seen.{KeepsWatches}
 use Rattle.ob_site_laws.specs.SiteLaws.{Call, acts}
 use Rattle.ob_site_rules.specs.Sites.{SiteState}
 use Rattle.ob_kept.specs.Keeping.{Keeping, kept_act}
@@ -30,3 +31,10 @@ pub record KeepsFronts (k l : Keeping) (calls : List Call) : Type 0 where
 -- so each history of calls leaves it
 abbrev pub EachFrontIsKept : Type 0
 EachFrontIsKept = (k : Keeping) (calls : List Call) → KeepsFronts k (after kept_act k calls) calls
+
+-- What holds of all that a site which is kept was asked: its answers are the site's, one after the other, from the state that it
+-- was in; the laws of watches hold of them; and it has been in the states in which they found it.
+pub record KeepsLaws (k : Keeping) (calls : List Call) (l : Keeping) : Type 0 where
+  pub legal : IsLegal acts k.now calls
+  pub watches : KeepsWatches k.now calls
+  pub fronts : KeepsFronts k l calls

@@ -1,6 +1,7 @@
 -- The machine behind the desk: the site, and what a crash at any moment may leave of it.
-use Rattle.std.specs.Prelude.{◌≡◌, ◌⊎◌, ℕ, ◌≤◌, Bool, true, false, List, [], ◌∷◌, ◌++◌, refl}
+use Rattle.std.specs.Prelude.{◌≡◌, ◌⊎◌, ℕ, ◌≤◌, Bool, true, false, List, [], ◌∷◌, ◌++◌, map, refl}
 use Rattle.std.specs.Coded.{Coded, code_by, coded×, coded_ℕ, coded_list}
+use Rattle.std.specs.declared.snapshot.Snapshot.{Snapshot}
 use Rattle.ob_journal.specs.Journal.{IsSettled}
 use Rattle.ob_object.specs.Object.{Object}
 use Rattle.ob_record.specs.Blocks.{IsBlock}
@@ -9,10 +10,12 @@ use Rattle.ob_record.specs.Runs.{IsRun}
 use Rattle.ob_record.specs.declared.run.Entry.{Entry}
 use Rattle.ob_record_journal.specs.Runs.{run_blocks}
 use Rattle.ob_site.specs.Codes.{site_code}
+use Rattle.ob_site.specs.declared.site.Site.{Site}
 use Rattle.ob_site_rules.specs.declared.request.Request.{Request}
 use Rattle.ob_site_rules.specs.Sites.{SiteState}
 use Rattle.ob_site_laws.specs.SiteLaws.{acts}
 use Rattle.ob_site_lasting.specs.SiteLasting.{IsSiteRestartOf}
+use Rattle.ob_kept.specs.declared.recorder.Recorder.{Recorder}
 use Rattle.ob_kept.specs.Redone.{redone}
 use Rattle.ob_kept.specs.Saying.{LeadsTo}
 
@@ -31,6 +34,13 @@ keeping_code =
     code_by (ℕ × (SiteState × (ℕ × (List SiteState × SiteState))))
     (coded× coded_ℕ (coded× site_code (coded× coded_ℕ (coded× (coded_list site_code) site_code))))
     (λ k. (k.boot, (k.opening, (k.since, (k.past, k.now))))) (λ t. record { boot = t.0; opening = t.1.0; since = t.1.1.0; past = t.1.1.1.0; now = t.1.1.1.1 }) (λ _. refl)
+
+-- so it is seen in its parts: the site, the recorder of its changes, and snapshots, of the opening, of the device as it was then, and
+-- of the site since. moment says the moment of a device.
+abbrev pub kept_of : {D : Type 0} → (moment : D → ℕ) → (site : SiteState) → (recorder : Recorder D) → (opening : Snapshot Site) → (opened : Snapshot D)
+    → (past : List (Snapshot Site)) → Keeping
+kept_of moment site recorder opening opened past =
+    record { boot = recorder.boot; opening = opening.value; since = moment opened.value; past = map (λ s. s.value) past; now = site }
 
 -- what a request at a moment makes of it, and the reply: those of the site
 abbrev pub kept_act : Keeping → Request → ℕ → Keeping × Object
@@ -67,8 +77,8 @@ module _ {D : Type 0} (seen : D → List ℕ) (may_leave : D → List ℕ → Ty
     pub some : (begun ≡ true) → (e : Entry) × (es : List Entry) × (entries ≡ e ∷ es)
 
   -- What a device tells of the files that a crash since the opening might have left: each leads to where the site may go on from
-  -- one of the states that it has been in; or, where the device has failed, from one request more. And of those that one may leave
-  -- now, the same of the state that it is in.
+  -- one of the states that it has been in; or, where a call of the device has failed, from one request more. And of those that one
+  -- may leave now, the same of the state that it is in.
   pub record IsKept (k : Keeping) (device : D) (end next : ℕ) (begun failed : Bool) : Type 0 where
     pub later : k.since ≤ moment device
     pub crash : (c : List ℕ) → left_since device k.since c
@@ -76,8 +86,9 @@ module _ {D : Type 0} (seen : D → List ℕ) (may_leave : D → List ℕ → Ty
     pub file : (c : List ℕ) → may_leave device c → LeavesOf k.boot k.opening c k.now ⊎ ((failed ≡ true) × LeavesMore k.boot k.opening c k.now)
     pub rest : failed ≡ false → IsAtRestAt k.boot k.opening k.now device end next begun
 
-  -- What the device is told to have left in the end: the files of a crash since the opening, and its own.
-  pub record IsLeft (k : Keeping) (device : D) : Type 0 where
+  -- What the device is told to have left in the end: the files of a crash since the opening, and those that one may leave now. They
+  -- lead to one request more only where a call of the device has failed.
+  pub record IsLeft (k : Keeping) (device : D) (failed : Bool) : Type 0 where
     pub crash : (c : List ℕ) → left_since device k.since c
-        → LeavesOneOf k.boot k.opening c (k.past ++ k.now ∷ []) ⊎ LeavesMore k.boot k.opening c k.now
-    pub file : (c : List ℕ) → may_leave device c → LeavesOf k.boot k.opening c k.now ⊎ LeavesMore k.boot k.opening c k.now
+        → LeavesOneOf k.boot k.opening c (k.past ++ k.now ∷ []) ⊎ ((failed ≡ true) × LeavesMore k.boot k.opening c k.now)
+    pub file : (c : List ℕ) → may_leave device c → LeavesOf k.boot k.opening c k.now ⊎ ((failed ≡ true) × LeavesMore k.boot k.opening c k.now)

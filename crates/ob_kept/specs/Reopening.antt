@@ -75,11 +75,13 @@ fault_of_device devices.Failed = faults.Device
 fault_of_device devices.Memory = faults.Memory
 
 -- The site file, where it is told, opens this state at the moment of the record; and the record, where its device tells, leads
--- from it to the state that the site is in. Without an entry the moment is the one that was given.
-pub record Reopens (told : Type 0) (content : Option (List ℕ)) (record_file : List ℕ) (given : ℕ) (ns : Option (List ℕ)) (k : Keeping) : Type 0 where
+-- from it to the state that the site is in. Without an entry the moment is the one that was given. What a crash may have left is
+-- told since the moment of the device that was handed in.
+pub record Reopens (told : Type 0) (content : Option (List ℕ)) (record_file : List ℕ) (since given : ℕ) (ns : Option (List ℕ)) (k : Keeping) : Type 0 where
   pub opened : IfSome content (λ whole. IsSite (site_bytes whole) k.boot ns k.opening)
   pub leads : told → LeadsTo k.boot k.opening record_file k.now
   pub anew : told → Says IsBlock record_file [] → k.boot ≡ given
+  pub since_is : k.since ≡ since
   pub past : k.past ≡ []
   pub sound : IsSoundSite k.now
 

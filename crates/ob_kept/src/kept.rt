@@ -25,19 +25,16 @@ pub struct Kept<D: Device> {
 }
 
 impl<D: Device> Model for Kept<D> {
-    ghost use Rattle.std.specs.Prelude.{map};
-    ghost use Rattle.ob_kept.specs.Keeping.{Keeping, keeping_code};
+    ghost use Rattle.ob_kept.specs.Keeping.{Keeping, keeping_code, kept_of, IsKept};
 
     ghost Value = { Keeping };
 
     ghost coded = { keeping_code };
 
-    ghost use Rattle.ob_kept.specs.Keeping.{IsKept};
-
-    ghost view = { λ k. record { boot = k.recorder.boot; opening = k.opening.value; since = D.moment k.opened.value; past = map (λ s. s.value) k.past.items; now = k.site } };
+    ghost view = { λ k. kept_of D.moment k.site k.recorder k.opening k.opened k.past.items };
 
     ghost invariant = { λ k. D.is_told → IsKept D.seen D.may_leave D.moment D.left_since
-        (record { boot = k.recorder.boot; opening = k.opening.value; since = D.moment k.opened.value; past = map (λ s. s.value) k.past.items; now = k.site })
+        (kept_of D.moment k.site k.recorder k.opening k.opened k.past.items)
         k.recorder.journal.device k.recorder.journal.end k.recorder.next k.recorder.begun k.recorder.failed };
 }
 
@@ -59,17 +56,26 @@ impl<D: Device + Drop> Drop for Kept<D> {
 }
 
 impl<D: Device> Kept<D> {
+    ghost use Rattle.ob_site_laws.specs.SiteLaws.{IsSoundSite};
     ghost use Rattle.ob_kept.specs.Keeping.{IsLeft};
 
+    /// The state that the site is in is sound.
+    pub fn is_sound(&self)
+        ensures { IsSoundSite self.now.now }
+    {
+        self.site.is_sound();
+    }
+
     /// Whether a call of the device has failed. Then each step is refused, and the device is to be opened again.
-    pub fn has_failed(&self) -> bool {
+    pub(crate) fn has_failed(&self) -> bool {
         self.recorder.failed
     }
 
-    /// Takes the device back. Its file leads to a state from which the site may go on from this one; or, where a call of it has
-    /// failed, perhaps from one request more, as do all that a crash since the opening might have left.
-    pub fn into_device(self) -> D
-        ensures { D.is_told → IsLeft D.seen D.may_leave D.moment D.left_since self result }
+    /// Takes the device back, and tells whether a call of it has failed. Its file leads to a state from which the site may go on
+    /// from this one; or, where a call has failed, perhaps from one request more, as do all that a crash since the opening might
+    /// have left.
+    pub fn into_device(self) -> (D, bool)
+        ensures { D.is_told → IsLeft D.seen D.may_leave D.moment D.left_since self result.0 result.1 }
     {
         let Kept {
             site,

@@ -12,9 +12,11 @@ mod laws;
 mod recorder;
 mod redone;
 mod reopening;
+mod serving;
 
 pub use fault::ReopenFault;
 pub use kept::Kept;
 pub use laws::{each_front_is_kept, each_run_keeps_watches, restarts_keep_numbers, watch_gone};
 pub use recorder::Recorder;
 pub use reopening::{Reopened, reopen};
+pub use serving::serve_port;

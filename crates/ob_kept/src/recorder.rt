@@ -53,9 +53,9 @@ impl<D: Device> Recorder<D> {
     ghost use Rattle.ob_times.specs.Times.{IsMoment};
     ghost use Rattle.ob_kept.specs.Recording.{IsReady, Appended, MayHaveAppended, KeptNumbers, MayHaveNumbers, asked_entry, opening_moment};
 
-    /// The device.
-    pub(crate) fn into_device(self) -> D
-        ensures { result ≡ self.journal.device }
+    /// The device, and whether a call of it has failed.
+    pub(crate) fn into_device(self) -> (D, bool)
+        ensures { result ≡ (self.journal.device, self.failed) }
     {
         let Recorder {
             alloc: _,
@@ -63,10 +63,10 @@ impl<D: Device> Recorder<D> {
             boot: _,
             begun: _,
             next: _,
-            failed: _,
+            failed,
         } = self;
         let Journal { device, end: _ } = journal;
-        device
+        (device, failed)
     }
 
     /// The moment of the record, where the line of its opening stands before the next entry.

@@ -272,7 +272,7 @@ pub fn reopen<D: Device, F: Files>(
     requires durable { D.is_told → Only (D.seen device) (D.may_leave device) }
     ensures same { (n : List ℕ) → F.content files.new n ≡ F.content files.old n }
     ensures later { F.faults files.old ≤ F.faults files.new }
-    ensures reopens { IfOk result (λ r. Reopens D.is_told (F.content files.old name.now) (D.seen device) boot r.ns r.kept) }
+    ensures reopens { IfOk result (λ r. Reopens D.is_told (F.content files.old name.now) (D.seen device) (D.moment device) boot r.ns r.kept) }
     ensures refuses { IfErr result (λ r. Refuses D.is_told (F.content files.old name.now) (D.seen device) boot r.1) }
     ensures back { IfErr result (λ r. D.is_told → SaysAsBefore D.moment D.left_since (D.seen device) device r.0) }
     ensures causes { IfErr result (λ r. HasCauses (D.faults device) (D.faults r.0) (F.faults files.old) (F.faults files.new) r.1) }

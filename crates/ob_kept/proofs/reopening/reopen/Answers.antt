@@ -1,4 +1,4 @@
-use Rattle.std.proofs.Common.{ℕ, List, sym, subst}
+use Rattle.std.proofs.Common.{ℕ, List, ap, sym, subst}
 use Rattle.ob_journal.specs.Journal.{Says}
 use Rattle.ob_record.specs.Blocks.{IsBlock}
 use Rattle.ob_kept.proofs.Reopens.{ready_kept, reopens_so, says_through}
@@ -16,8 +16,8 @@ pub returns-in-Ok-repair-clause-reopens : goal.returns-in-Ok-repair-clause-reope
 returns-in-Ok-repair-clause-reopens g c =
     let d = g.D.Device in
     let r = c.in-Ok.ready in
-    reopens_so d.is_told (g.F.Files.content c.args.files.now c.args.name.now) (d.seen c.args.device) c.args.boot r.boot (d.moment c.of-opened.result.value) r.ns c.kept.result.ns r.opening.value r.site r.begun c.kept.result.kept
-    c.kept.ensures.ns c.kept.ensures.kept c.in-Ok.ensures.opened c.in-Ok.ensures.redoes c.in-Ok.ensures.sound
+    reopens_so d.is_told (g.F.Files.content c.args.files.now c.args.name.now) (d.seen c.args.device) (d.moment c.args.device) c.args.boot r.boot (d.moment c.of-opened.result.value) r.ns c.kept.result.ns
+    r.opening.value r.site r.begun c.kept.result.kept c.kept.ensures.ns c.kept.ensures.kept (ap d.moment c.of-opened.ensures) c.in-Ok.ensures.opened c.in-Ok.ensures.redoes c.in-Ok.ensures.sound
 
 pub returns-in-Err-repair-clause-back : goal.returns-in-Err-repair-clause-back
 returns-in-Err-repair-clause-back g c = λ told blocks says.
