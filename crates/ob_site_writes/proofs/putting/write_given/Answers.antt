@@ -3,15 +3,19 @@ use Rattle.ob_object.specs.declared.head.Slot.{Slot}
 use Rattle.ob_object.specs.declared.kind.Kind.{Kind}
 use Rattle.ob_object.specs.Fits.{fits_slot}
 use Rattle.ob_object.specs.Kinds.{same_kind}
+use Rattle.ob_object.specs.Object.{Object}
 use Rattle.ob_contracts.proofs.Fitting.{one_kind}
 use Rattle.ob_history.specs.Records.{is_value_kind, holds_value}
 use Rattle.ob_replies.specs.declared.fault.Fault.{Fault}
 use Rattle.ob_replies.specs.Told as told
-use Rattle.ob_site_rules.specs.Writes.{slot_fault, overfills, value_fault}
+use Rattle.ob_site_rules.specs.Faults.{Fault as SiteFault}
+use Rattle.ob_site_rules.specs.State.{State}
+use Rattle.ob_site_rules.specs.Writes.{slot_fault, overfills, value_fault, written, showing, unless}
 use Rattle.ob_site_written.proofs.Passed.{slot_fits}
 use Rattle.ob_site_written.proofs.Refused.{nothing_of}
 use Rattle.ob_site_state.specs.Kept.{Kept}
 use Rattle.ob_site_written.specs.Fitting.{CanBeWritten}
+use Rattle.ob_site_writes.specs.Stops.{IsDone}
 use Rattle.ob_site_writes.proofs.Fitting.{can_be_written}
 use Rattle.ob_site_writes.proofs.Refused.{same_of}
 use Rattle.ob_site_writes.proofs.putting.write_given.Goals as goal
@@ -31,3 +35,18 @@ show_written-requires-clause-can c =
     subst (λ (x : Kept). CanBeWritten x.plan x.now p o.head.kind c.slot.result.now) (sym c.in_ok-fault.ensures.same)
     (subst (λ (s : Slot). CanBeWritten k.plan k.now p o.head.kind s) (sym c.slot.ensures)
     (can_be_written k.plan k.now p o new.slot c.is_sound.ensures.sound.consistent c.requires.shows fits c.requires.records (λ v. held v fits)))
+
+pub returns-clause-ok : goal.returns-clause-ok
+returns-clause-ok c =
+    let k = c.args.state.now in
+    let t = c.show_written.new.state in
+    let p = c.args.path.now in
+    let o = c.args.object.now in
+    let new = c.args.new.now in
+    let reply = c.in_ok-reply.reply in
+    let right : value_fault k.plan k.now k.time p o.head new ≡ None = sym c.in_ok-fault.ensures.fault ∙ ap (λ (f : Option Fault). option_map told.fault f) c.in_default.is in
+    let made : Kept → Slot → State × Object = λ x s. showing x.plan p o (written x.plan x.time p o s x.now) in
+    let done : IsDone k t (made k new.slot) reply =
+    subst (λ (s : Slot). IsDone k t (made k s) reply) c.slot.ensures
+    (subst (λ (x : Kept). IsDone x t (made x c.slot.result.now) reply) c.in_ok-fault.ensures.same c.in_ok-reply.ensures.ok) in
+    subst (λ (f : Option SiteFault). IsDone k t (unless f k.now (made k new.slot)) reply) (sym right) done
