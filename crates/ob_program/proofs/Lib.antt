@@ -9,6 +9,7 @@ pub mod ScheduleLemmas
 pub mod SuperLemmas
 pub mod ServingLemmas
 pub mod ServeLemmas
+pub mod KeepLemmas
 pub mod ApartLemmas
 pub mod ClientLemmas
 pub mod StormRoot

@@ -1,5 +1,5 @@
 -- The service of a file's site at a port.
-use Rattle.std.proofs.Common.{◌≡◌, ◌≢◌, ℕ, ◌≤◌, Bool, ◌⊎◌, inl, inr, refl, sym, ap, subst, ◌∙◌, arith, List, [], ◌∷◌, Option, Some, None}
+use Rattle.std.proofs.Common.{◌≡◌, ◌≢◌, ℕ, ◌≤◌, Bool, ◌⊎◌, inl, inr, refl, sym, ap, subst, ◌∙◌, arith, List, [], ◌∷◌, Option, Some, None, false}
 use Rattle.std.specs.Prelude.{IfSome}
 use Rattle.ob_io.specs.Faults.{Rose}
 use Rattle.ob_io.specs.Told.{Gains}
@@ -9,7 +9,8 @@ use Rattle.ob_site_file.specs.declared.fault.LoadFault.{LoadFault}
 use Rattle.ob_site_file.specs.declared.fault.LoadFault.TheVariants as faults
 use Rattle.ob_io.specs.Ticks.{Pace}
 use Rattle.ob_io.specs.Visits.{Visit}
-use Rattle.ob_site_laws.specs.SiteLaws.{IsSoundSite}
+use Rattle.ob_seen_laws.specs.Seen.{KeepsWatches}
+use Rattle.ob_site_laws.specs.SiteLaws.{acts, IsSoundSite}
 use Rattle.ob_site_rules.specs.Sites.{SiteState}
 use Rattle.ob_program.specs.declared.serve.ServeEnd.{ServeEnd}
 use Rattle.ob_program.specs.declared.serve.ServeEnd.TheVariants.{Done, Refused, ReadFault, WriteFault, PortFault, ClockFault, Memory}
@@ -64,12 +65,12 @@ module _ {D C : Type 0} (door_faults handed returned : D → ℕ) (visits : D �
   Comes_ held held' writes writes' p p' t t' end = ServeComes door_faults handed returned visits closed given pace misses file host place wanted quota files files' held held' writes writes' p p' t t' end
 
   -- a site was served, or there was no memory to begin
-  pub comes_served : (held held' : Option (List ℕ)) (writes writes' : ℕ) (p p' : PortTold) (t u t' : ClockTold) (boot : ℕ) (opening : SiteState) (ns : Option (List ℕ)) (end : ServeEnd)
+  pub comes_served : (held held' : Option (List ℕ)) (writes writes' : ℕ) (p p' : PortTold) (t u t' : ClockTold) (boot : ℕ) (opening left : SiteState) (ns : Option (List ℕ)) (end : ServeEnd)
       → Gains t.given (boot ∷ []) u.given → u.twins ≡ t.twins → t.faults ≤ u.faults → IfSome file (λ whole. IsSite (site_bytes whole) boot ns opening) → IsSoundSite opening
-      → AtPlace door_faults handed returned visits closed given pace misses opening ns host place wanted quota held held' writes writes' p p' u t' end
+      → AtPlace door_faults handed returned visits closed given pace misses acts opening (KeepsWatches opening) false left ns host place wanted quota held held' writes writes' p p' u t' end
       → Comes_ held held' writes writes' p p' t t' end
-  comes_served held held' writes writes' p p' t u t' boot opening ns end gave twins later opened sound served = record {
-    comes = inr (boot, u, gave, twins, inr (record { ns = ns; opening = opening; opened = opened; sound = sound; served = served }));
+  comes_served held held' writes writes' p p' t u t' boot opening left ns end gave twins later opened sound served = record {
+    comes = inr (boot, u, gave, twins, inr (record { ns = ns; opening = opening; opened = opened; sound = sound; left = left; served = served }));
     rose = rose_from end files files' writes writes' p p' t u t' later served.rose;
   }
 

@@ -12,13 +12,12 @@ use Rattle.ob_server.specs.Port.{HasPortCause, PortRose, ServesDoors}
 use Rattle.ob_server.specs.Working.{is_fault}
 use Rattle.ob_server.specs.declared.worker.WorkerEnd.{WorkerEnd}
 use Rattle.ob_server.specs.declared.worker.WorkerEnd.TheVariants as workers
-use Rattle.ob_seen_laws.specs.Seen.{KeepsWatches}
 use Rattle.ob_site_file.specs.declared.fault.LoadFault.{LoadFault}
-use Rattle.ob_site_laws.specs.SiteLaws.{acts}
-use Rattle.ob_site_rules.specs.Sites.{SiteState}
+use Rattle.ob_object.specs.Object.{Object}
+use Rattle.ob_site_rules.specs.declared.request.Request.{Request as Asked}
 use Rattle.ob_program.specs.declared.serve.ServeEnd.{ServeEnd}
 use Rattle.ob_program.specs.declared.serve.ServeEnd.TheVariants.{Done, Refused, ReadFault, WriteFault, PortFault, ClockFault, Memory}
-use Rattle.ob_program.specs.Serving.{end_of_workers, end_with, listening_text, served_text, Prints, PrintRose, ServeRose, Listened, ServesNone, ServesSite, AtPlace}
+use Rattle.ob_program.specs.Serving.{end_of_workers, end_with, listening_text, served_text, Prints, PrintRose, ServeRose, Listened, ServesNone, ServesMachine, AtPlace}
 
 rose_later : (a b c : ℕ) → a ≤ b → Rose b c → Rose a c
 rose_later a b c le rose = omega arith
@@ -107,18 +106,19 @@ on_err (Err e) P is h = h
 -- ---- at a place
 
 module _ {D C : Type 0} (faults handed returned : D → ℕ) (visits : D → Option (List Visit)) (closed : D → Bool) (given : C → Option (List ℕ)) (pace : C → Option Pace) (misses : C → ℕ)
-    (opening : SiteState) (ns : Option (List ℕ)) (host : List ℕ) (place wanted quota : ℕ) where
-  abbrev At_ : (held held' : Option (List ℕ)) → (writes writes' : ℕ) → (p p' : PortTold) → (t t' : ClockTold) → ServeEnd → Type 0
-  At_ held held' writes writes' p p' t t' end =
-      AtPlace faults handed returned visits closed given pace misses opening ns host place wanted quota held held' writes writes' p p' t t' end
+    {S : Type 0} (act : S → Asked → ℕ → S × Object) (opening : S) (Keeps : List Call → Type 0) (stays : Bool)
+    (ns : Option (List ℕ)) (host : List ℕ) (place wanted quota : ℕ) where
+  abbrev At_ : (left : S) → (held held' : Option (List ℕ)) → (writes writes' : ℕ) → (p p' : PortTold) → (t t' : ClockTold) → ServeEnd → Type 0
+  At_ left held held' writes writes' p p' t t' end =
+      AtPlace faults handed returned visits closed given pace misses act opening Keeps stays left ns host place wanted quota held held' writes writes' p p' t t' end
 
   -- the port couldn't listen
-  pub unlistened : (held : Option (List ℕ)) (writes : ℕ) (p p' : PortTold) (t : ClockTold) → Listened host place p p' → Rose p.faults p'.faults → At_ held held writes writes p p' t t PortFault
+  pub unlistened : (held : Option (List ℕ)) (writes : ℕ) (p p' : PortTold) (t : ClockTold) → Listened host place p p' → Rose p.faults p'.faults → At_ opening held held writes writes p p' t t PortFault
   unlistened held writes p p' t listened rose = record {
     listening = p';
     listened = listened;
     links = None;
-    served = inl (record { port_is = refl; clock_is = refl; none = refl; undone = λ is. cc is });
+    served = inl (record { port_is = refl; clock_is = refl; none = refl; undone = λ is. cc is }, refl);
     prints = prints_none held _ _ (λ is. cc is);
     unheard = λ _. (refl, refl);
     unrefused = λ fault is. cc is;
@@ -128,12 +128,12 @@ module _ {D C : Type 0} (faults handed returned : D → ℕ) (visits : D → Opt
 
   -- that it listens couldn't be printed
   pub unannounced : (held held' : Option (List ℕ)) (writes writes' : ℕ) (p p' : PortTold) (t : ClockTold) (end : ServeEnd) → (listened : Listened host place p p') → listened.failed ≡ false
-      → Prints held held' (listening_text host place) (Some end ≡ None) → PrintRose end writes writes' → writes ≤ writes' → At_ held held' writes writes' p p' t t end
+      → Prints held held' (listening_text host place) (Some end ≡ None) → PrintRose end writes writes' → writes ≤ writes' → At_ opening held held' writes writes' p p' t t end
   unannounced held held' writes writes' p p' t end listened heard prints rose later = record {
     listening = p';
     listened = listened;
     links = None;
-    served = inl (record { port_is = refl; clock_is = refl; none = refl; undone = undone });
+    served = inl (record { port_is = refl; clock_is = refl; none = refl; undone = undone }, refl);
     prints = record { text = prints.text; printed = prints.printed; front = front_longer prints.text (listening_text host place) [] prints.front; all = λ is. absurd (undone is) };
     unheard = λ is. absurd (true≢false (sym is ∙ heard));
     unrefused = λ fault. print_unrefused end writes writes' fault rose;
@@ -145,14 +145,14 @@ module _ {D C : Type 0} (faults handed returned : D → ℕ) (visits : D → Opt
       undone is = subst (λ (x : ServeEnd). PrintRose x writes writes') is rose
 
   -- it listened, that was printed, and then its doors were served
-  pub served_there : (held held' held'' : Option (List ℕ)) (writes writes' writes'' : ℕ) (p q r : PortTold) (t v : ClockTold) (announced reported : Option ServeEnd) (links : Option ℕ) (ends : WorkerEnd) (end : ServeEnd) (left : SiteState)
+  pub served_there : (held held' held'' : Option (List ℕ)) (writes writes' writes'' : ℕ) (p q r : PortTold) (t v : ClockTold) (announced reported : Option ServeEnd) (links : Option ℕ) (ends : WorkerEnd) (end : ServeEnd) (left : S)
       → (listened : Listened host place p q) → listened.failed ≡ false
       → announced ≡ None → Prints held held' (listening_text host place) (announced ≡ None) → writes ≤ writes'
-      → ((history : List Call) × ServesDoors faults handed returned visits given pace misses acts closed ns opening wanted quota false history q r t v links ends × KeepsWatches opening history × (left ≡ after acts opening history))
+      → ((history : List Call) × ServesDoors faults handed returned visits given pace misses act closed ns opening wanted quota stays history q r t v links ends × Keeps history × (left ≡ after act opening history))
       → HasPortCause ends q.faults r.faults t.faults v.faults
       → Prints held' held'' (served_text links) (reported ≡ None) → IfSome reported (λ f. PrintRose f writes' writes'') → writes' ≤ writes'' → end ≡ end_with ends reported
-      → At_ held held'' writes writes'' p r t v end
-  served_there held held' held'' writes writes' writes'' p q r t v announced reported links ends end left listened heard none announces writes_later (history, doors, watches, left_is) cause prints rose writes_last is =
+      → At_ left held held'' writes writes'' p r t v end
+  served_there held held' held'' writes writes' writes'' p q r t v announced reported links ends end left listened heard none announces writes_later (history, doors, keeps, left_is) cause prints rose writes_last is =
       let all : announces.text ≡ listening_text host place = announces.all none in
       let reports : IfSome reported (λ f. PrintRose f writes writes'') = rose_since reported rose in
       let well = λ (e : end ≡ Done). well_reported ends reported writes writes'' reports (sym is ∙ e) in
@@ -164,7 +164,8 @@ module _ {D C : Type 0} (faults handed returned : D → ℕ) (visits : D → Opt
           history = history;
           worker_end = ends;
           doors = doors;
-          watches = watches;
+          keeps = keeps;
+          left_is = left_is;
           well = λ e. well_ends ends ((well e).1);
         });
         prints = record {

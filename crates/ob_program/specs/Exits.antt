@@ -18,3 +18,5 @@ status_of exits.ClockFault = 10
 status_of exits.Budget = 11
 status_of exits.Memory = 12
 status_of exits.Illegal = 13
+status_of exits.IllegalRecord = 13
+status_of exits.RecordFault = 14

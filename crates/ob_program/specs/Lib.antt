@@ -7,6 +7,7 @@ pub mod Reading
 pub mod Stdio
 pub mod Check
 pub mod Serving
+pub mod Keeping
 pub mod Client
 pub mod Storm
 pub mod Audit

@@ -1,6 +1,7 @@
 -- What is told of the outside, before and after a run.
 use Rattle.std.specs.Prelude.{ℕ, Bool, List, Option}
 use Rattle.ob_io.specs.Dials.{Dial, Visit}
+use Rattle.ob_journal.specs.Opened.{Opened}
 -- what is told of a port and of a clock
 pub use Rattle.ob_server.specs.GivenBack.{PortTold, port_told, ClockTold, clock_told}
 
@@ -23,3 +24,12 @@ pub record Dialled : Type 0 where
 
 abbrev pub dialled : Option (List Dial) → Option (List Visit) → Bool → ℕ → Dialled
 dialled dials visits rose faults = record { dials = dials; visits = visits; rose = rose; faults = faults }
+
+-- the devices of records: those that were opened, those that came back, and the count of faults
+pub record DevicesTold (V : Type 0) : Type 0 where
+  pub given : Option (List (Opened V))
+  pub returned : Option (List V)
+  pub faults : ℕ
+
+abbrev pub devices_told : {V : Type 0} → Option (List (Opened V)) → Option (List V) → ℕ → DevicesTold V
+devices_told given returned faults = record { given = given; returned = returned; faults = faults }

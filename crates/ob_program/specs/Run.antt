@@ -7,11 +7,12 @@ use Rattle.ob_io.specs.Ticks.{Pace}
 use Rattle.ob_io.specs.Visits.{Visit}
 use Rattle.ob_program.specs.declared.exit.Exit.{Exit}
 use Rattle.ob_program.specs.declared.exit.Exit.TheVariants as exits
-use Rattle.ob_program.specs.Outside.{Streams, PortTold, Dialled, ClockTold}
+use Rattle.ob_program.specs.Outside.{Streams, DevicesTold, PortTold, Dialled, ClockTold}
 use Rattle.ob_program.specs.Telling.{ErrorsTold}
 use Rattle.ob_program.specs.Stdio.{StdioRan}
 use Rattle.ob_program.specs.Check.{CheckRan}
 use Rattle.ob_program.specs.Serving.{ServeRan}
+use Rattle.ob_program.specs.Keeping.{KeepRan}
 use Rattle.ob_program.specs.Client.{ClientRan}
 use Rattle.ob_program.specs.Storm.{StormRan}
 use Rattle.ob_program.specs.Audit.{AuditRan}
@@ -22,42 +23,48 @@ use Rattle.ob_program.specs.Super.{SuperRan}
 abbrev pub IsUnread : (words : List (List ℕ)) → Exit → (untouched : Type 0) → Type 0
 IsUnread words exit untouched = (exit ≡ exits.Memory) × (commands.is_client words ≡ true) × untouched
 
-module _ {D C : Type 0} (faults handed returned : D → ℕ) (visits : D → Option (List Visit)) (closed : D → Bool) (given : C → Option (List ℕ))
+-- Of devices of records told, seen, may_leave, moment, left_since and failures say what is told of one; of doors and clocks the others.
+module _ {V : Type 0} (told : Type 0) (seen : V → List ℕ) (may_leave : V → List ℕ → Type 0) (moment : V → ℕ)
+    (left_since : V → ℕ → List ℕ → Type 0) (failures : V → ℕ) {D C : Type 0} (faults handed returned : D → ℕ) (visits : D → Option (List Visit)) (closed : D → Bool) (given : C → Option (List ℕ))
     (pace : C → Option Pace) (misses : C → ℕ) where
   -- the command was done
-  abbrev pub Ran : (content : List ℕ → Option (List ℕ)) → (files files' : ℕ) → (s s' : Streams) → (p p' : PortTold) → (d d' : Dialled) → (t t' : ClockTold) → (e e' : ErrorsTold)
+  abbrev pub Ran : (content : List ℕ → Option (List ℕ)) → (files files' : ℕ) → (v v' : DevicesTold V) → (s s' : Streams) → (p p' : PortTold) → (d d' : Dialled) → (t t' : ClockTold) → (e e' : ErrorsTold)
       → Command → Exit → Type 0
-  Ran content files files' s s' p p' d d' t t' e e' (commands.stdio output site at tick) exit =
+  Ran content files files' v v' s s' p p' d d' t t' e e' (commands.stdio output site at tick) exit =
       StdioRan output (content site) at tick files files' s s' t t' e e' exit
-  Ran content files files' s s' p p' d d' t t' e e' (commands.schedule site file at tick) exit =
+  Ran content files files' v v' s s' p p' d d' t t' e e' (commands.schedule site file at tick) exit =
       ScheduledRan (content site) (content file) at tick files files' s s' t t' e e' exit
-  Ran content files files' s s' p p' d d' t t' e e' (commands.serve site host port workers quota) exit =
+  Ran content files files' v v' s s' p p' d d' t t' e e' (commands.serve site host port workers quota) exit =
       ServeRan faults handed returned visits closed given pace misses (content site) host port workers quota files files'
       s.held s'.held s.writes s'.writes p p' t t' e e' exit
-  Ran content files files' s s' p p' d d' t t' e e' (commands.auditing site file) exit =
+  Ran content files files' v v' s s' p p' d d' t t' e e' (commands.keep site file host port workers quota) exit =
+      KeepRan told seen may_leave moment left_since failures faults handed returned visits closed given pace misses (content site) file host port workers quota
+      files files' v v' s.held s'.held s.writes s'.writes p p' t t' e e' exit
+  Ran content files files' v v' s s' p p' d d' t t' e e' (commands.auditing site file) exit =
       AuditRan (content site) (content file) files files' s.held s'.held s.writes s'.writes e e' exit
-  Ran content files files' s s' p p' d d' t t' e e' (commands.check file) exit =
+  Ran content files files' v v' s s' p p' d d' t t' e e' (commands.check file) exit =
       CheckRan (content file) files files' s.held s'.held s.writes s'.writes e e' exit
-  Ran content files files' s s' p p' d d' t t' e e' (commands.watch url hrefs polls retries) exit =
+  Ran content files files' v v' s s' p p' d d' t t' e e' (commands.watch url hrefs polls retries) exit =
       ClientRan (record { url = url; watched = Hrefs hrefs; polls = polls; retries = retries }) s.held s'.held s.writes s'.writes d d' e e' exit
-  Ran content files files' s s' p p' d d' t t' e e' (commands.console url subject polls ack user) exit =
+  Ran content files files' v v' s s' p p' d d' t t' e e' (commands.console url subject polls ack user) exit =
       ClientRan (record { url = url; watched = Alarms subject ack user; polls = polls; retries = 0 }) s.held s'.held s.writes s'.writes d d' e e' exit
-  Ran content files files' s s' p p' d d' t t' e e' (commands.storm asked) exit =
+  Ran content files files' v v' s s' p p' d d' t t' e e' (commands.storm asked) exit =
       StormRan asked s.held s'.held s.writes s'.writes e e' exit
-  Ran content files files' s s' p p' d d' t t' e e' (commands.supervise config rounds) exit =
+  Ran content files files' v v' s s' p p' d d' t t' e e' (commands.supervise config rounds) exit =
       SuperRan (content config) rounds files files' s s' d d' e e' exit
 
 -- the parts of the outside that a command has nothing to do with are as they were
-abbrev pub LeavesAlone : Option Command → (files source sink port dialer clock : Type 0) → Type 0
-LeavesAlone None files source sink port dialer clock = files × source × sink × port × dialer × clock
-LeavesAlone (Some (commands.stdio output site None tick)) files source sink port dialer clock = port × dialer
-LeavesAlone (Some (commands.stdio output site (Some at) tick)) files source sink port dialer clock = port × dialer × clock
-LeavesAlone (Some (commands.schedule site file None tick)) files source sink port dialer clock = port × dialer
-LeavesAlone (Some (commands.schedule site file (Some at) tick)) files source sink port dialer clock = port × dialer × clock
-LeavesAlone (Some (commands.serve site host place workers quota)) files source sink port dialer clock = source × dialer
-LeavesAlone (Some (commands.auditing site file)) files source sink port dialer clock = source × port × dialer × clock
-LeavesAlone (Some (commands.check file)) files source sink port dialer clock = source × port × dialer × clock
-LeavesAlone (Some (commands.watch url hrefs polls retries)) files source sink port dialer clock = files × source × port × clock
-LeavesAlone (Some (commands.console url subject polls ack user)) files source sink port dialer clock = files × source × port × clock
-LeavesAlone (Some (commands.storm asked)) files source sink port dialer clock = files × source × port × dialer × clock
-LeavesAlone (Some (commands.supervise config rounds)) files source sink port dialer clock = port × clock
+abbrev pub LeavesAlone : Option Command → (files devices source sink port dialer clock : Type 0) → Type 0
+LeavesAlone None files devices source sink port dialer clock = files × devices × source × sink × port × dialer × clock
+LeavesAlone (Some (commands.stdio output site None tick)) files devices source sink port dialer clock = devices × port × dialer
+LeavesAlone (Some (commands.stdio output site (Some at) tick)) files devices source sink port dialer clock = devices × port × dialer × clock
+LeavesAlone (Some (commands.schedule site file None tick)) files devices source sink port dialer clock = devices × port × dialer
+LeavesAlone (Some (commands.schedule site file (Some at) tick)) files devices source sink port dialer clock = devices × port × dialer × clock
+LeavesAlone (Some (commands.serve site host place workers quota)) files devices source sink port dialer clock = devices × source × dialer
+LeavesAlone (Some (commands.keep site file host place workers quota)) files devices source sink port dialer clock = source × dialer
+LeavesAlone (Some (commands.auditing site file)) files devices source sink port dialer clock = devices × source × port × dialer × clock
+LeavesAlone (Some (commands.check file)) files devices source sink port dialer clock = devices × source × port × dialer × clock
+LeavesAlone (Some (commands.watch url hrefs polls retries)) files devices source sink port dialer clock = files × devices × source × port × clock
+LeavesAlone (Some (commands.console url subject polls ack user)) files devices source sink port dialer clock = files × devices × source × port × clock
+LeavesAlone (Some (commands.storm asked)) files devices source sink port dialer clock = files × devices × source × port × dialer × clock
+LeavesAlone (Some (commands.supervise config rounds)) files devices source sink port dialer clock = devices × port × clock

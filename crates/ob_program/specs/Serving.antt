@@ -5,6 +5,8 @@ use Rattle.ob_io.specs.Told.{Gains, IsFront}
 use Rattle.ob_io.specs.Ticks.{Pace}
 use Rattle.ob_io.specs.Visits.{Visit}
 use Rattle.ob_load.specs.Loads.{IsSite, OpensSite}
+use Rattle.ob_machine.specs.History.{after}
+use Rattle.ob_object.specs.Object.{Object}
 use Rattle.ob_server.specs.Exchange.{Call}
 use Rattle.ob_server.specs.GivenBack.{PortTold, ClockTold}
 use Rattle.ob_server.specs.Port.{ServesDoors}
@@ -15,6 +17,7 @@ use Rattle.ob_seen_laws.specs.Seen.{KeepsWatches}
 use Rattle.ob_site_file.specs.declared.fault.LoadFault.{LoadFault}
 use Rattle.ob_site_file.specs.declared.fault.LoadFault.TheVariants as faults
 use Rattle.ob_site_laws.specs.SiteLaws.{acts, IsSoundSite}
+use Rattle.ob_site_rules.specs.declared.request.Request.{Request as Asked}
 use Rattle.ob_site_rules.specs.Sites.{SiteState}
 use Rattle.ob_program.specs.declared.exit.Exit.{Exit}
 use Rattle.ob_program.specs.declared.exit.Exit.TheVariants as exits
@@ -123,40 +126,47 @@ pub record ServesNone (p p' : PortTold) (t t' : ClockTold) (links : Option ℕ) 
 -- Of doors, faults, handed, returned, visits and closed say what is told; of clocks given, pace and misses.
 module _ {D C : Type 0} (faults handed returned : D → ℕ) (visits : D → Option (List Visit)) (closed : D → Bool)
     (given : C → Option (List ℕ)) (pace : C → Option Pace) (misses : C → ℕ) where
-  -- The port's doors were served from this state on, by workers of which none goes on where memory was wanting, and the laws of
-  -- watches hold of all that was asked. With a good end every worker had its quota of links, or its door is closed.
-  pub record ServesSite (opening : SiteState) (ns : Option (List ℕ)) (wanted quota : ℕ) (p p' : PortTold) (t t' : ClockTold)
-      (links : Option ℕ) (end : ServeEnd) : Type 0 where
-    pub history : List Call
-    pub worker_end : WorkerEnd
-    pub doors : ServesDoors faults handed returned visits given pace misses acts closed ns opening wanted quota false history
-        p p' t t' links worker_end
-    pub watches : KeepsWatches opening history
-    pub well : end ≡ Done → is_fault worker_end ≡ false
+  -- act s q t is what the request q at the moment t makes of a machine in the state s, and the reply; of what was asked from the
+  -- state that was opened this is to hold.
+  module _ {S : Type 0} (act : S → Asked → ℕ → S × Object) (opening : S) (Keeps : List Call → Type 0) (stays : Bool) where
+    -- The port's doors were served from the machine that was opened, by workers that may go on where memory was wanting or don't,
+    -- and it is left in this state. With a good end every worker
+    -- had its quota of links, or its door is closed.
+    pub record ServesMachine (left : S) (ns : Option (List ℕ)) (wanted quota : ℕ) (p p' : PortTold) (t t' : ClockTold)
+        (links : Option ℕ) (end : ServeEnd) : Type 0 where
+      pub history : List Call
+      pub worker_end : WorkerEnd
+      pub doors : ServesDoors faults handed returned visits given pace misses act closed ns opening wanted quota stays history
+          p p' t t' links worker_end
+      pub keeps : Keeps history
+      pub left_is : left ≡ after act opening history
+      pub well : end ≡ Done → is_fault worker_end ≡ false
 
-  -- The port listened at this place and at no other, and its doors were served; that and the number of links were printed.
-  pub record AtPlace (opening : SiteState) (ns : Option (List ℕ)) (host : List ℕ) (place wanted quota : ℕ)
-      (held held' : Option (List ℕ)) (writes writes' : ℕ) (p p' : PortTold) (t t' : ClockTold) (end : ServeEnd) : Type 0 where
-    pub listening : PortTold
-    pub listened : Listened host place p listening
-    pub links : Option ℕ
-    pub served : ServesNone listening p' t t' links end ⊎ ServesSite opening ns wanted quota listening p' t t' links end
-    pub prints : Prints held held' (listening_text host place ++ served_text links) (end ≡ Done)
-    -- a port that couldn't listen ends it, with nothing printed
-    pub unheard : listened.failed ≡ true → (end ≡ PortFault) × (held' ≡ held)
-    pub unrefused : (fault : LoadFault) → end ≢ Refused fault
-    pub rose : ServeRose end 0 0 writes writes' p p' t t'
-    pub writes_later : writes ≤ writes'
+    -- The port listened at this place and at no other, and its doors were served; that and the number of links were printed.
+    pub record AtPlace (left : S) (ns : Option (List ℕ)) (host : List ℕ) (place wanted quota : ℕ)
+        (held held' : Option (List ℕ)) (writes writes' : ℕ) (p p' : PortTold) (t t' : ClockTold) (end : ServeEnd) : Type 0 where
+      pub listening : PortTold
+      pub listened : Listened host place p listening
+      pub links : Option ℕ
+      pub served : (ServesNone listening p' t t' links end × (left ≡ opening)) ⊎ ServesMachine left ns wanted quota listening p' t t' links end
+      pub prints : Prints held held' (listening_text host place ++ served_text links) (end ≡ Done)
+      -- a port that couldn't listen ends it, with nothing printed
+      pub unheard : listened.failed ≡ true → (end ≡ PortFault) × (held' ≡ held)
+      pub unrefused : (fault : LoadFault) → end ≢ Refused fault
+      pub rose : ServeRose end 0 0 writes writes' p p' t t'
+      pub writes_later : writes ≤ writes'
 
   -- From a sound state of a site it was served. Where the file is told, it is the state that the definition of the opening gives
-  -- for the document that the file's bytes spell and the boot's moment, and the answers have that document's xmlns.
+  -- for the document that the file's bytes spell and the boot's moment, and the answers have that document's xmlns. The laws of
+  -- watches hold of all that was asked.
   pub record ServesFile (file : Option (List ℕ)) (boot : ℕ) (host : List ℕ) (place wanted quota : ℕ)
       (held held' : Option (List ℕ)) (writes writes' : ℕ) (p p' : PortTold) (t t' : ClockTold) (end : ServeEnd) : Type 0 where
     pub ns : Option (List ℕ)
     pub opening : SiteState
     pub opened : IfSome file (λ whole. IsSite (site_bytes whole) boot ns opening)
     pub sound : IsSoundSite opening
-    pub served : AtPlace opening ns host place wanted quota held held' writes writes' p p' t t' end
+    pub left : SiteState
+    pub served : AtPlace acts opening (KeepsWatches opening) false left ns host place wanted quota held held' writes writes' p p' t t' end
 
   -- The clock's next moment is the boot's, where it tells its moments.
   pub record ServeComes (file : Option (List ℕ)) (host : List ℕ) (place wanted quota : ℕ) (files files' : ℕ)

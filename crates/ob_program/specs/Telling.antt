@@ -29,12 +29,15 @@ lead exits.ClockFault = codes "obix: clock fault\n"
 lead exits.Budget = codes "obix: budget\n"
 lead exits.Memory = codes "obix: out of memory\n"
 lead exits.Illegal = []
+lead exits.IllegalRecord = codes "obix: illegal at "
+lead exits.RecordFault = codes "obix: record fault\n"
 
 -- its line goes on with words, and a line feed
 abbrev pub has_words : Exit → Bool
 has_words exits.Refused = true
 has_words exits.Frame = true
 has_words exits.Peer = true
+has_words exits.IllegalRecord = true
 has_words _ = false
 
 -- the line of an exit with these words, if it has some

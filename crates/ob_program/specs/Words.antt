@@ -14,6 +14,8 @@ use Rattle.ob_program.specs.declared.check.CheckEnd.{CheckEnd}
 use Rattle.ob_program.specs.declared.check.CheckEnd.TheVariants as checks
 use Rattle.ob_program.specs.declared.form.FormEnd.{FormEnd}
 use Rattle.ob_program.specs.declared.form.FormEnd.TheVariants as forms
+use Rattle.ob_program.specs.declared.keep.KeepEnd.{KeepEnd}
+use Rattle.ob_program.specs.declared.keep.KeepEnd.TheVariants as keeps
 use Rattle.ob_program.specs.declared.serve.ServeEnd.{ServeEnd}
 use Rattle.ob_program.specs.declared.serve.ServeEnd.TheVariants as serves
 use Rattle.ob_program.specs.declared.stdio.StdioEnd.{StdioEnd}
@@ -41,6 +43,13 @@ form_words form (forms.Shape part) = form ++ (codes " " ++ decimal part)
 abbrev pub serve_words : ServeEnd → List ℕ
 serve_words (serves.Refused fault) = load_words fault
 serve_words _ = []
+
+-- no run has the line or entry at this place; or the reply of this entry isn't the site's
+abbrev pub keep_words : KeepEnd → List ℕ
+keep_words (keeps.Served end) = serve_words end
+keep_words (keeps.NoRecord place) = codes "Record " ++ decimal place
+keep_words (keeps.Illegal entry) = decimal entry
+keep_words keeps.RecordFault = []
 
 abbrev pub check_words : CheckEnd → List ℕ
 check_words (checks.Refused refused) = refusal_words refused

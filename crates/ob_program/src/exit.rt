@@ -26,8 +26,12 @@ pub enum Exit {
     /// 2^40 bytes were taken from the source.
     Budget,
     Memory,
-    /// A record isn't legal.
+    /// A record isn't legal, and that was printed.
     Illegal,
+    /// A record isn't legal from what the site file opens, so no site goes on from it.
+    IllegalRecord,
+    /// The record's file can't be opened, or a call of its device has failed.
+    RecordFault,
 }
 
 impl Exit {
@@ -52,6 +56,8 @@ impl Exit {
             Exit::Budget => 11,
             Exit::Memory => 12,
             Exit::Illegal => 13,
+            Exit::IllegalRecord => 13,
+            Exit::RecordFault => 14,
         }
     }
 }

@@ -2,7 +2,7 @@
 ghost use Rattle.std.specs.Prelude.{◌≡◌, ◌↔◌, ◌⊎◌, ℕ, List, map, string_bytes, None, IfSome};
 ghost use Rattle.ob_command.specs.Command.{command};
 ghost use Rattle.ob_program.specs.Causes.{CauseOf};
-ghost use Rattle.ob_program.specs.Outside.{streams, dialled, port_told, clock_told};
+ghost use Rattle.ob_program.specs.Outside.{streams, dialled, devices_told, port_told, clock_told};
 ghost use Rattle.ob_program.specs.Run.{IsUnread, Ran, LeavesAlone};
 ghost use Rattle.ob_program.specs.Telling.{errors_told, Tells};
 
@@ -10,6 +10,7 @@ use crate::audit::run_audit;
 use crate::check::run_check;
 use crate::client::{console_plan, run_client, watch_plan};
 use crate::exit::Exit;
+use crate::keep::run_keep;
 use crate::schedule::run_schedule;
 use crate::serve::run_serve;
 use crate::stdio::run_stdio;
@@ -18,6 +19,7 @@ use crate::supervise::run_super;
 use crate::telling::tell;
 use ob_command::{Command, read_command};
 use ob_io::{Clock, Dialer, Door, Files, Pair, Port, Sink, Source};
+use ob_journal::Devices;
 use std::alloc::Global;
 use std::sync::Wait;
 use std::thread::Threads;
@@ -28,7 +30,9 @@ use std::thread::Threads;
 /// `record SITE [--at MS] [--tick MS]` asks them of the site in the same way, and writes the record of that run in their place.
 /// `schedule SITE FILE [--at MS] [--tick MS]` is `stdio SITE` whose site also gets the writes of the weekly schedules of a file.
 /// `audit SITE FILE` tells whether the record of a run is legal from a site file.
-/// `serve SITE HOST PORT [--workers N] [--quota M]` answers those of links that come to a port. `check FILE` writes the
+/// `serve SITE HOST PORT [--workers N] [--quota M]` answers those of links that come to a port. `keep SITE RECORD HOST PORT
+/// [--workers N] [--quota M]` answers them so, and what changes of the site is in the record's file before anyone is told; a later
+/// run goes on from there. `check FILE` writes the
 /// canonical text of a file's document, and a line feed. `watch URL HREF.. [--polls N] [--retry R]` and `console URL SUBJECT
 /// [--polls N] [--ack HREF] [--user NAME]` write what a server tells of objects and of alarms. `storm SEED CLIENTS REQUESTS`
 /// asks a site of its own what a seed draws, and writes what it counts in the replies. `super CONFIG [--rounds N]` goes over
@@ -40,6 +44,7 @@ use std::thread::Threads;
 pub fn run<
     R: Threads + Wait + Sync,
     F: Files,
+    V: Devices,
     S: Source,
     K: Sink,
     E: Sink,
@@ -51,6 +56,7 @@ pub fn run<
     alloc: Global,
     words: &[String],
     files: &mut F,
+    devices: &mut V,
     link: &mut Pair<S, K>,
     errors: &mut E,
     port: &mut P,
@@ -58,12 +64,13 @@ pub fn run<
     clock: &mut C,
 ) -> Exit
 where
+    V::D: Send,
     <P::D as Door>::L: Send,
     W::L: Drop,
     // Status 1 comes exactly where the words are no command; but to read a client's words there may be no memory.
     ensures usage { ((result ≡ Exit.Usage) ↔ (command (map string_bytes words.now) ≡ None))
         ⊎ IsUnread (map string_bytes words.now) result ((link.new.sink ≡ link.old.sink) × (dialer.new ≡ dialer.old)) }
-    ensures apart { LeavesAlone (command (map string_bytes words.now)) (files.new ≡ files.old) (link.new.source ≡ link.old.source)
+    ensures apart { LeavesAlone (command (map string_bytes words.now)) (files.new ≡ files.old) (devices.new ≡ devices.old) (link.new.source ≡ link.old.source)
         (link.new.sink ≡ link.old.sink) (port.new ≡ port.old) (dialer.new ≡ dialer.old) (clock.new ≡ clock.old) }
     // Whatever the command is, a fault has its cause in a count.
     ensures cause { CauseOf result (F.faults files.old) (F.faults files.new)
@@ -74,13 +81,17 @@ where
         (dialled (W.dials dialer.old) (W.visits dialer.old) (W.rose dialer.old) (W.faults dialer.old))
         (dialled (W.dials dialer.new) (W.visits dialer.new) (W.rose dialer.new) (W.faults dialer.new))
         (clock_told (C.faults clock.old) (C.given clock.old) (C.pace clock.old) (C.twins clock.old))
-        (clock_told (C.faults clock.new) (C.given clock.new) (C.pace clock.new) (C.twins clock.new)) }
+        (clock_told (C.faults clock.new) (C.given clock.new) (C.pace clock.new) (C.twins clock.new))
+        (V.faults devices.old) (V.faults devices.new) }
     // Whatever the command is, this is told of its end, with the words that its record has.
     ensures told { (words : List ℕ) × Tells (errors_told (E.held errors.old) (E.faults errors.old)) (errors_told (E.held errors.new) (E.faults errors.new)) result words }
     // The command was done, and this is how it ended; but to read a client's words there may be no memory.
     ensures ran { IfSome (command (map string_bytes words.now)) (λ asked.
-        Ran P.D.faults P.D.handed P.D.returned P.D.visits P.D.is_closed C.given C.pace C.faults
+        Ran V.D.is_told V.D.seen V.D.may_leave V.D.moment V.D.left_since V.D.faults
+        P.D.faults P.D.handed P.D.returned P.D.visits P.D.is_closed C.given C.pace C.faults
         (F.content files.old) (F.faults files.old) (F.faults files.new)
+        (devices_told (V.given devices.old) (V.returned devices.old) (V.faults devices.old))
+        (devices_told (V.given devices.new) (V.returned devices.new) (V.faults devices.new))
         (streams (S.left link.old.source) (K.held link.old.sink) (S.faults link.old.source) (K.faults link.old.sink))
         (streams (S.left link.new.source) (K.held link.new.sink) (S.faults link.new.source) (K.faults link.new.sink))
         (port_told (P.faults port.old) (P.opened port.old) (P.returned port.old) (P.listens port.old) (P.doors port.old))
@@ -112,6 +123,17 @@ where
             alloc,
             service,
             files,
+            &mut link.sink,
+            errors,
+            port,
+            clock,
+        ),
+        Command::Keep(kept) => run_keep(
+            rt,
+            alloc,
+            kept,
+            files,
+            devices,
             &mut link.sink,
             errors,
             port,

@@ -1,8 +1,10 @@
 //! `serve`: the requests of links that come to a port, answered by workers from the site of a file.
-ghost use Rattle.std.specs.Prelude.{◌≡◌, ◌≤◌, Some, None, option_copied, IfOk, IfSome, MatchResult};
+ghost use Rattle.std.specs.Prelude.{◌≡◌, ◌≤◌, Some, None, option_copied, IfOk, IfSome, MatchResult, false};
 ghost use Rattle.ob_program.specs.Outside.{port_told, clock_told};
 ghost use Rattle.ob_program.specs.Serving.{listening_text, served_text, end_with, Prints, PrintRose, AtPlace, ServeComes, ServeRan};
 ghost use Rattle.ob_program.specs.Telling.{errors_told};
+ghost use Rattle.ob_seen_laws.specs.Seen.{KeepsWatches};
+ghost use Rattle.ob_site_laws.specs.SiteLaws.{acts};
 
 use crate::exit::Exit;
 use crate::telling::tell;
@@ -39,7 +41,7 @@ impl ServeEnd {
     ghost use Rattle.ob_program.specs.Words.{serve_words};
 
     /// The end that a refusal of a file leads to.
-    fn of_fault(fault: LoadFault) -> ServeEnd
+    pub(crate) fn of_fault(fault: LoadFault) -> ServeEnd
         ensures { result ≡ end_of_load fault }
     {
         match fault {
@@ -68,7 +70,7 @@ impl ServeEnd {
     }
 
     /// The exit that it leads to.
-    fn exit(&self) -> Exit
+    pub(crate) fn exit(&self) -> Exit
         ensures { result ≡ exit_of_serve self.now }
     {
         match self {
@@ -83,7 +85,7 @@ impl ServeEnd {
     }
 
     /// The words that tell it on `errors`, where its line has some.
-    fn words(&self, alloc: Global) -> Result<Vec<u8>, AllocError>
+    pub(crate) fn words(&self, alloc: Global) -> Result<Vec<u8>, AllocError>
         ensures { IfOk result (λ words. words.items ≡ serve_words self.now) }
     {
         match self {
@@ -134,7 +136,12 @@ fn print<K: Sink>(sink: &mut K, line: Result<Vec<u8>, AllocError>) -> Option<Ser
 }
 
 /// Prints where is listened; why it isn't printed, if it isn't.
-fn announce<K: Sink>(alloc: Global, sink: &mut K, host: &str, port: u16) -> Option<ServeEnd>
+pub(crate) fn announce<K: Sink>(
+    alloc: Global,
+    sink: &mut K,
+    host: &str,
+    port: u16,
+) -> Option<ServeEnd>
     ensures prints { Prints (K.held sink.old) (K.held sink.new) (listening_text host.now port) (result ≡ None) }
     ensures rose { IfSome result (λ end. PrintRose end (K.faults sink.old) (K.faults sink.new)) }
     ensures later { K.faults sink.old ≤ K.faults sink.new }
@@ -143,7 +150,7 @@ fn announce<K: Sink>(alloc: Global, sink: &mut K, host: &str, port: u16) -> Opti
 }
 
 /// Prints how many links were served, where the workers began; why it isn't printed, if it isn't.
-fn report<K: Sink>(alloc: Global, sink: &mut K, links: Option<u64>) -> Option<ServeEnd>
+pub(crate) fn report<K: Sink>(alloc: Global, sink: &mut K, links: Option<u64>) -> Option<ServeEnd>
     ensures prints { Prints (K.held sink.old) (K.held sink.new) (served_text links) (result ≡ None) }
     ensures rose { IfSome result (λ end. PrintRose end (K.faults sink.old) (K.faults sink.new)) }
     ensures later { K.faults sink.old ≤ K.faults sink.new }
@@ -155,7 +162,7 @@ fn report<K: Sink>(alloc: Global, sink: &mut K, links: Option<u64>) -> Option<Se
 }
 
 /// The end of the workers, or where they ended well that of the report.
-fn end_with(end: WorkerEnd, reported: Option<ServeEnd>) -> ServeEnd
+pub(crate) fn end_with(end: WorkerEnd, reported: Option<ServeEnd>) -> ServeEnd
     ensures { result ≡ end_with end reported }
 {
     match ServeEnd::of_workers(end) {
@@ -180,7 +187,8 @@ fn serve_site<R: Threads + Wait + Sync, K: Sink, P: Port, C: Clock + Send>(
 ) -> ServeEnd
 where
     <P::D as Door>::L: Send,
-    ensures { AtPlace P.D.faults P.D.handed P.D.returned P.D.visits P.D.is_closed C.given C.pace C.faults site (option_copied ns.entry)
+    ensures { (left : _) × AtPlace P.D.faults P.D.handed P.D.returned P.D.visits P.D.is_closed C.given C.pace C.faults
+        acts site (KeepsWatches site) false left (option_copied ns.entry)
         service.entry.host.now service.entry.port service.entry.workers service.entry.quota
         (K.held sink.old) (K.held sink.new) (K.faults sink.old) (K.faults sink.new)
         (port_told (P.faults port.old) (P.opened port.old) (P.returned port.old) (P.listens port.old) (P.doors port.old))

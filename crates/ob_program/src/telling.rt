@@ -25,6 +25,8 @@ fn lead(exit: Exit) -> &'static str
         Exit::Budget => "obix: budget\n",
         Exit::Memory => "obix: out of memory\n",
         Exit::Illegal => "",
+        Exit::IllegalRecord => "obix: illegal at ",
+        Exit::RecordFault => "obix: record fault\n",
     }
 }
 
@@ -32,7 +34,10 @@ fn lead(exit: Exit) -> &'static str
 fn has_words(exit: Exit) -> bool
     ensures { result ≡ has_words exit }
 {
-    matches!(exit, Exit::Refused | Exit::Frame | Exit::Peer)
+    matches!(
+        exit,
+        Exit::Refused | Exit::Frame | Exit::Peer | Exit::IllegalRecord
+    )
 }
 
 /// The line of an exit that has words.

@@ -13,11 +13,13 @@ pub(crate) enum Part {
     Port,
     Door(u64),
     Dialer,
+    /// The file of the record: the first call opens it, and each byte that is written counts as a call.
+    Record,
     Link(u64),
 }
 
 /// Every part, of twins and doors the first three, of links the first four.
-pub(crate) const PARTS: [Part; 17] = [
+pub(crate) const PARTS: [Part; 18] = [
     Part::Files,
     Part::Source,
     Part::Sink,
@@ -31,6 +33,7 @@ pub(crate) const PARTS: [Part; 17] = [
     Part::Door(1),
     Part::Door(2),
     Part::Dialer,
+    Part::Record,
     Part::Link(0),
     Part::Link(1),
     Part::Link(2),
@@ -57,6 +60,7 @@ impl Part {
             Part::Port => "port",
             Part::Door(_) => "door",
             Part::Dialer => "dialer",
+            Part::Record => "record",
             Part::Link(_) => "link",
         }
     }

@@ -9,6 +9,7 @@ mod mirrors;
 mod outside;
 mod polls;
 mod ran;
+mod records;
 mod runs;
 mod scarce;
 mod sessions;

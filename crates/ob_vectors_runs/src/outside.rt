@@ -4,6 +4,7 @@ ghost use Rattle.std.specs.Prelude.{◌<◌};
 use crate::failing::{Failing, Part, plan, twin_plans};
 use crate::inputs::{Inputs, Turn, failing_call, meant, replies, turn_of};
 use crate::ran::Ran;
+use crate::records::Records;
 use crate::scarce::Scarce;
 use ob_io::{
     Fresh, Gated, MemClock, MemDialer, MemDoor, MemFiles, MemLink, MemPort, MemSink, MemSource,
@@ -70,6 +71,7 @@ impl Words {
 /// The outside, all of it in memory.
 struct Outside {
     files: Scarce<MemFiles>,
+    records: Records,
     link: Pair<MemSource, MemSink>,
     errors: MemSink,
     port: MemPort<Gated<MemLink>>,
@@ -82,6 +84,7 @@ impl Drop for Outside {
     fn drop(self) {
         let Outside {
             files,
+            records,
             link,
             errors,
             port,
@@ -89,6 +92,7 @@ impl Drop for Outside {
             clock,
         } = self;
         drop(files);
+        drop(records);
         drop(link);
         drop(errors);
         drop(port);
@@ -141,6 +145,24 @@ impl Maker<'_> {
         }
     }
 
+    // The file of the record that is kept.
+    fn records(self) -> Records {
+        let bytes = match self.case.inputs {
+            Inputs::Kept { record, doors: _ } => meant(self.alloc, record),
+            _ => Vec::new(self.alloc),
+        };
+        let failing = match self.failing {
+            Some(
+                Failing {
+                    part: Part::Record,
+                    call,
+                },
+            ) => Some(call),
+            _ => None,
+        };
+        Records::new(self.alloc, bytes, failing)
+    }
+
     // The file of a name, with the bytes that a text stands for.
     fn push_file(self, files: &mut Vec<NamedFile>, name: &str, text: &str) {
         let bytes = meant(self.alloc, text);
@@ -154,7 +176,9 @@ impl Maker<'_> {
             Inputs::Source(source)
             | Inputs::Scheduled { source, file: _ }
             | Inputs::Supervised { source, dials: _ } => meant(self.alloc, source),
-            Inputs::Record(_) | Inputs::Doors(_) | Inputs::Dials(_) => Vec::new(self.alloc),
+            Inputs::Record(_) | Inputs::Doors(_) | Inputs::Kept { .. } | Inputs::Dials(_) => {
+                Vec::new(self.alloc)
+            }
         };
         MemSource::new(bytes, self.piece(), self.plan(Part::Source))
     }
@@ -214,6 +238,7 @@ impl Maker<'_> {
     fn port(self, words: &Words) -> MemPort<Gated<MemLink>> {
         let doors = match self.case.inputs {
             Inputs::Doors(text) => self.doors(words, text),
+            Inputs::Kept { record: _, doors } => self.doors(words, doors),
             _ => Vec::new(self.alloc),
         };
         MemPort::new(self.alloc, doors, self.plan(Part::Port))
@@ -259,6 +284,7 @@ impl Maker<'_> {
     fn outside(self, words: &Words) -> Outside {
         Outside {
             files: self.files(),
+            records: self.records(),
             link: Pair {
                 source: self.source(),
                 sink: self.sink(Part::Sink),
@@ -298,6 +324,7 @@ impl Outside {
             alloc,
             words,
             &mut self.files,
+            &mut self.records,
             &mut self.link,
             &mut self.errors,
             &mut self.port,
@@ -342,14 +369,20 @@ impl Outside {
             line: held(alloc, &self.errors),
             output: held(alloc, &self.link.sink),
             links: self.links(alloc),
+            record: copied(alloc, self.records.bytes()),
         }
     }
 }
 
 // The bytes that a sink holds.
 fn held(alloc: Global, sink: &MemSink) -> Vec<u8> {
+    copied(alloc, sink.bytes().unwrap_or(b"untold"))
+}
+
+// These bytes; none where memory is wanting.
+fn copied(alloc: Global, told: &[u8]) -> Vec<u8> {
     let mut bytes = Vec::new(alloc);
-    let _ = bytes.extend_from_slice(sink.bytes().unwrap_or(b"untold"));
+    let _ = bytes.extend_from_slice(told);
     bytes
 }
 

@@ -14,12 +14,14 @@ pub(crate) enum LinkFaults {
     Show,
 }
 
-/// How a run went: its status, what is told on standard error, what is written, and what is written to links.
+/// How a run went: its status, what is told on standard error, what is written, what is written to links, and what the file of
+/// a record has come to.
 pub(crate) struct Ran {
     pub(crate) status: u8,
     pub(crate) line: Vec<u8>,
     pub(crate) output: Vec<u8>,
     pub(crate) links: Vec<u8>,
+    pub(crate) record: Vec<u8>,
 }
 
 impl Drop for Ran {
@@ -30,10 +32,12 @@ impl Drop for Ran {
             line,
             output,
             links,
+            record,
         } = self;
         drop(line);
         drop(output);
         drop(links);
+        drop(record);
     }
 }
 
@@ -53,6 +57,7 @@ impl Ran {
             && self.line.as_slice() == other.line.as_slice()
             && self.output.as_slice() == other.output.as_slice()
             && self.links.as_slice() == other.links.as_slice()
+            && self.record.as_slice() == other.record.as_slice()
     }
 
     // Whether it has a front of what the other one has written, the number behind `served` aside.
@@ -105,6 +110,7 @@ impl Ran {
             Part::Twin(_) => self.is_ended(whole, 10, "obix: clock fault\n"),
             Part::Port => self.is_cut(whole, faults, 9, "obix: port fault\n"),
             Part::Door(_) => self.is_ended(whole, 9, "obix: port fault\n"),
+            Part::Record => self.is_ended(whole, 14, "obix: record fault\n"),
             Part::Dialer | Part::Link(_) => match faults {
                 LinkFaults::End => self.is_cut(whole, faults, 7, "obix: link fault\n"),
                 LinkFaults::Cut => self.is_unanswered(whole),
@@ -114,7 +120,7 @@ impl Ran {
     }
 
     /// Tells it: the status, the line behind a blank if there is one, ` / ` and the output, and behind ` / ` what was written
-    /// to links, if anything was. An error only for want of memory.
+    /// to links, if anything was, and the file of a record, if there is one. An error only for want of memory.
     pub(crate) fn tell(&self, told: &mut String) -> Result<(), AllocError> {
         let status = self.status;
         write!(told, "{status}")?;
@@ -127,6 +133,10 @@ impl Ran {
         if !self.links.is_empty() {
             told.push_str(" / ")?;
         }
-        push_bytes(told, &self.links)
+        push_bytes(told, &self.links)?;
+        if !self.record.is_empty() {
+            told.push_str(" / ")?;
+        }
+        push_bytes(told, &self.record)
     }
 }

@@ -57,6 +57,10 @@ fn command_of(words: &[String]) -> &str {
 fn inputs_of<'a>(command: &str, input: &'a str) -> Inputs<'a> {
     match command {
         "serve" => Inputs::Doors(input),
+        "keep" => {
+            let (record, doors) = two_parts(input);
+            Inputs::Kept { record, doors }
+        }
         "watch" | "console" => Inputs::Dials(input),
         "audit" => Inputs::Record(input),
         "schedule" => {
@@ -74,7 +78,7 @@ fn inputs_of<'a>(command: &str, input: &'a str) -> Inputs<'a> {
 // What a fault of a link does to a run that takes this.
 fn link_faults(inputs: Inputs<'_>) -> LinkFaults {
     match inputs {
-        Inputs::Doors(_) => LinkFaults::Cut,
+        Inputs::Doors(_) | Inputs::Kept { .. } => LinkFaults::Cut,
         Inputs::Supervised { .. } => LinkFaults::Show,
         _ => LinkFaults::End,
     }

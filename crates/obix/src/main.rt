@@ -4,7 +4,7 @@
 
 use ob_io::{Pair, Sink, write_all};
 use ob_program::{Exit, run};
-use ob_system::{DiskFiles, StdSink, StdSource, SystemClock, TcpDialer, TcpPort};
+use ob_system::{DiskDevices, DiskFiles, StdSink, StdSource, SystemClock, TcpDialer, TcpPort};
 use std::alloc::Global;
 use std::env;
 use std::io::ErrorKind;
@@ -59,6 +59,7 @@ fn main(rt: HostRuntime) -> ExitCode {
     let exit = match read_words(&rt, alloc) {
         Ok(words) => {
             let mut files = DiskFiles::new(&rt);
+            let mut devices = DiskDevices::new(&rt);
             let mut link = Pair {
                 source: StdSource::new(rt.stdin()),
                 sink: StdSink::new(rt.stdout()),
@@ -71,6 +72,7 @@ fn main(rt: HostRuntime) -> ExitCode {
                 alloc,
                 &words,
                 &mut files,
+                &mut devices,
                 &mut link,
                 &mut errors,
                 &mut port,

@@ -1,0 +1,77 @@
+//! The file of a record, in memory.
+ghost use Rattle.std.specs.Prelude.{None};
+
+use ob_journal::{Device, DeviceFault, Devices, MemDevice};
+use std::alloc::{AllocError, Global};
+
+/// What opens the one file that there is, whatever its name, and has it back.
+#[derive(Drop)]
+pub(crate) struct Records {
+    alloc: Global,
+    bytes: Vec<u8>,
+    failing: Option<u64>,
+    faults: u64,
+    back: Option<MemDevice>,
+}
+
+impl Records {
+    /// A file with these bytes. At the call of this number it fails: the first is to open it; then each byte that is written
+    /// counts as one, as do each read, cut and sync.
+    pub(crate) fn new(alloc: Global, bytes: Vec<u8>, failing: Option<u64>) -> Records {
+        Records {
+            alloc,
+            bytes,
+            failing,
+            faults: 0,
+            back: None,
+        }
+    }
+
+    /// What the file has come to.
+    pub(crate) fn bytes(&self) -> &[u8] {
+        match &self.back {
+            Some(device) => device.bytes(),
+            None => &self.bytes,
+        }
+    }
+
+    /// Its bytes, and how many may be written before it fails; none, where it can't be opened.
+    fn opened(&self) -> Result<Option<MemDevice>, AllocError> {
+        let left = match self.failing {
+            Some(0) => return Ok(None),
+            Some(call) => call.saturating_sub(1),
+            None => u64::MAX,
+        };
+        let bytes = self.bytes.to_vec(self.alloc)?;
+        Ok(Some(MemDevice::new(self.alloc, bytes, left, b'?')))
+    }
+}
+
+impl Devices for Records {
+    type D = MemDevice;
+
+    ghost faults = { λ s. s.faults };
+
+    ghost given = { λ s. None };
+
+    ghost returned = { λ s. None };
+
+    fn open(&mut self, _: Global, _: &str) -> Result<MemDevice, DeviceFault> {
+        match self.opened()? {
+            Some(device) => Ok(device),
+            None => {
+                self.faults = self.faults.saturating_add(1);
+                Err(DeviceFault::Failed)
+            }
+        }
+    }
+
+    fn back(&mut self, device: MemDevice) -> bool {
+        let has_failed = device.has_failed();
+        if has_failed {
+            self.faults = self.faults.saturating_add(1);
+        }
+        self.back = Some(device);
+        has_failed
+    }
+}
