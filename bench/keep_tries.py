@@ -30,6 +30,7 @@ FAULT = (14, "obix: record fault")
 ADDRESSES = 600_000          # kilobytes of address space, as by `ulimit -v`
 NUMBERS_ROOM = 20_000        # bytes that 100,000 makes may add to a record
 FIRST_LINE = b"obix-record 1"
+SILENCE = 60                 # in seconds, less than a server waits for a client that is silent
 
 
 class Skipped(Exception):
@@ -69,13 +70,15 @@ class Keep:
             raise AssertionError(f"it hasn't ended within {TIME} s") from None
         return self.run.returncode, errors.strip()
 
-    def link(self):
-        return http.client.HTTPConnection("127.0.0.1", self.port, timeout=120)
+    def link(self, timeout=120):
+        return http.client.HTTPConnection("127.0.0.1", self.port, timeout=timeout)
 
     def put(self, link, point, value):
         """Whether a write was answered; False where the link ended in its place."""
         try:
             root = answer(link, "PUT", f"/obix/{point}", f'<int val="{value}"/>')
+        except TimeoutError:
+            raise AssertionError(f"a write of {value} has neither an answer nor an end") from None
         except (OSError, http.client.HTTPException):
             link.close()
             return False
@@ -194,7 +197,7 @@ def few_addresses():
 
 def write_on(server, over, told):
     """Writes of rising values over one kept connection, until it is over."""
-    link, count = server.link(), 0
+    link, count = server.link(2 * TIME), 0
     while not over.is_set():
         if not server.put(link, "p0", count + 1):
             told.append(f"a link that wrote {count + 1} ended")
@@ -212,11 +215,11 @@ def wanting(program, given):
             writer = one.submit(write_on, server, over, told)
             try:
                 for number in range(given.batches):
-                    link = server.link()
+                    link = server.link(2 * TIME)
                     try:
                         asked(link, "POST", "/obix/batch", reads("/obix/", 1_000))
                     except TimeoutError:
-                        raise AssertionError(f"nobody served batch {number + 1} of {given.batches}") from None
+                        raise AssertionError(f"batch {number + 1} of {given.batches} has neither an answer nor an end") from None
                     except (OSError, http.client.HTTPException):
                         ends += 1
                     link.close()
@@ -226,9 +229,12 @@ def wanting(program, given):
                 over.set()
             count = writer.result()
             assert not told, told[0]
-            links = [server.link() for _ in range(workers)]   # all of them are served at once
-            for link in links:
-                must(answer(link, "GET", "/obix/p0").get("val"), str(count), "the value that was written last")
+            links = [server.link(SILENCE) for _ in range(workers)]   # each worker has one
+            for number, link in enumerate(links):
+                try:
+                    must(answer(link, "GET", "/obix/p0").get("val"), str(count), "the value that was written last")
+                except TimeoutError:
+                    raise AssertionError(f"{number} of {workers} workers are left") from None
             [it.close() for it in links]
         with Keep(program, room) as server:
             must(server.value(), count, "the value behind a restart")

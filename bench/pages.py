@@ -95,7 +95,8 @@ class Room:
 
     def here(self, command):
         """The command with this room's ports and places."""
-        for old, new in (*self.ports.items(), ("/etc/obix/", "examples/"), ("/usr/local/bin/obix", f"{self.at}/bin/obix")):
+        for old, new in (*self.ports.items(), ("/etc/obix/", "examples/"), ("/var/lib/obix/", f"{self.at}/"),
+                         ("/usr/local/bin/obix", f"{self.at}/bin/obix")):
             command = command.replace(old, new)
         return command
 
@@ -144,7 +145,7 @@ def judge(told, room, page, command, block):
     missing = next((it for it in re.findall(r"\btools/\S+\.py", text) if not (room.at / it).exists()), None)
     if why or missing:
         return told.skipped(what, why or f"no {missing}")
-    if re.match(r"(\./)?obix serve ", text):
+    if re.match(r"(\./)?obix (serve|keep) ", text):
         first = room.start(text).stdout.readline().strip()
         wanted = room.here(line or "listening 127.0.0.1 8080")
         return told.ok(what) if first == wanted else told.not_ok(what, f"printed {first!r}, not {wanted!r}")
