@@ -21,7 +21,7 @@ fn value_child(alloc: Global, kind: Kind, name: Text, slot: Slot) -> Result<Obj,
     requires { IsTrue (fits_head (value_head kind name slot)) }
     ensures { IfOk result (λ o. o ≡ leaf (value_head kind name slot)) }
 {
-    Obj::with_head(
+    Obj::from_head(
         alloc,
         Head {
             kind,
@@ -126,7 +126,7 @@ fn put_source(alloc: Global, object: &mut Obj, path: &Text) -> Result<(), AllocE
 {
     let name = Text::from_ascii(alloc, "source")?;
     let href = path.copy()?;
-    object.push_last(Obj::with_head(alloc, named_head(Kind::Ref, name, Some(href), None, None))?)
+    object.push_last(Obj::from_head(alloc, named_head(Kind::Ref, name, Some(href), None, None))?)
 }
 
 /// When an alarm was raised, and when it ended.
@@ -181,7 +181,7 @@ fn ack_op(alloc: Global, path: &Text) -> Result<Obj, AllocError>
     let href = path.followed_by(alloc, "ack")?;
     let input = one_word(alloc, "obix:AckAlarmIn")?;
     let output = one_word(alloc, "obix:AckAlarmOut")?;
-    Obj::with_head(
+    Obj::from_head(
         alloc,
         named_head(Kind::Op, name, Some(href), Some(input), Some(output)),
     )
@@ -249,7 +249,7 @@ fn alarm_head(alloc: Global, path: &Text, needs_ack: bool) -> Result<Obj, AllocE
     let href = path.copy()?;
     let is = alarm_words(alloc, needs_ack)?;
     let _words = is.as_slice();
-    Obj::with_head(
+    Obj::from_head(
         alloc,
         Head {
             kind: Kind::Obj,

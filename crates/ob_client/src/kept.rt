@@ -107,7 +107,7 @@ fn dropped_object(alloc: Global, missed: u64) -> Result<Obj, AllocError>
         slot: Slot::Is(Value::Int(missed as i64)),
         facets: Facets::none(),
     };
-    Obj::with_head(alloc, head)
+    Obj::from_head(alloc, head)
 }
 
 // Puts that child into an object without children, where it isn't 0.
@@ -133,7 +133,7 @@ fn feed_without(alloc: Global, feed: &Obj, missed: u64) -> Result<Obj, AllocErro
 {
     let head = feed.head();
     let copy = head.copy()?;
-    let mut bare = Obj::from_head(alloc, copy);
+    let mut bare = Obj::from_attributes(alloc, copy);
     push_dropped(alloc, &mut bare, missed)?;
     Ok(bare)
 }

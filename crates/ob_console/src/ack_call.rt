@@ -84,7 +84,7 @@ fn user_child(alloc: Global, user: &Text) -> Result<Obj, AllocError>
     let mut head = Head::empty(Kind::Str);
     head.name = Some(Text::from_ascii(alloc, "ackUser")?);
     head.slot = Slot::Is(Value::Str(user.copy()?));
-    Obj::with_head(alloc, head)
+    Obj::from_head(alloc, head)
 }
 
 // A list of one word.
@@ -106,7 +106,7 @@ fn ack_in(alloc: Global, user: &Text) -> Result<Obj, AllocError>
 {
     let mut head = Head::empty(Kind::Obj);
     head.is = Some(one_word(alloc)?);
-    let mut input = Obj::with_head(alloc, head)?;
+    let mut input = Obj::from_head(alloc, head)?;
     let child = user_child(alloc, user)?;
     match input.push_new(child) {
         Ok(()) => Ok(input),

@@ -119,7 +119,7 @@ pub enum PutFault<T: Drop> {
 #[tactic(auto, using(crate::proofs::Rows::rows))]
 impl Obj {
     /// An object of attributes that fit its kind, and no children.
-    pub fn from_head(alloc: Global, head: Attributes) -> Obj
+    pub fn from_attributes(alloc: Global, head: Attributes) -> Obj
         requires { IsTrue (fits_head head) }
         ensures { result ≡ record { head = head; inner = none } }
     {
@@ -130,12 +130,12 @@ impl Obj {
     }
 
     /// An object of a head that fits its kind, and no children. It takes memory only for what few objects have.
-    pub fn with_head(alloc: Global, head: Head) -> Result<Obj, AllocError>
+    pub fn from_head(alloc: Global, head: Head) -> Result<Obj, AllocError>
         requires { IsTrue (fits_head head) }
         ensures { IfOk result (λ made. made ≡ record { head = head; inner = none }) }
     {
         let head = Attributes::from_head(alloc, head)?;
-        Ok(Obj::from_head(alloc, head))
+        Ok(Obj::from_attributes(alloc, head))
     }
 
     /// An object of a kind, with nothing else.
@@ -461,7 +461,7 @@ impl Obj {
         ensures err { OnErr result (self.new ≡ self.old) }
     {
         let own = head.copy_with(slot)?;
-        let child = Obj::from_head(*self.children.allocator(), own);
+        let child = Obj::from_attributes(*self.children.allocator(), own);
         match self.push_new(child) {
             Ok(()) => Ok(()),
             Err(_) => Err(AllocError),

@@ -41,7 +41,7 @@ pub fn whole(alloc: Global, head: Attributes, children: Vec<Obj>) -> Result<Obj,
     requires differ { IsTrue (are_new [] children.items) }
     ensures { IfOk result (λ o. o ≡ whole head children.items) }
 {
-    let mut object = Obj::from_head(alloc, head);
+    let mut object = Obj::from_attributes(alloc, head);
     for child in children {
         object.push_last(child)?;
     }
@@ -70,7 +70,7 @@ pub fn valued(alloc: Global, kind: Kind, name: &str, slot: Slot) -> Result<Obj, 
     let mut head = Attributes::empty(alloc, kind);
     head.put_name(Some(name));
     head.put_slot(slot);
-    Ok(Obj::from_head(alloc, head))
+    Ok(Obj::from_attributes(alloc, head))
 }
 
 /// A time as a slot, or null.
@@ -104,7 +104,7 @@ pub fn ref_to(alloc: Global, name: &str, path: Text, is: Contract) -> Result<Obj
     head.put_name(Some(name));
     head.put_href(Some(path));
     head.put_is(Some(words));
-    Ok(Obj::from_head(alloc, head))
+    Ok(Obj::from_attributes(alloc, head))
 }
 
 /// An op at a path, with what it takes and what it gives.
@@ -131,7 +131,7 @@ pub fn op_at(
     if head.put_output(Some(output)).is_err() {
         return Err(AllocError);
     }
-    Ok(Obj::from_head(alloc, head))
+    Ok(Obj::from_attributes(alloc, head))
 }
 
 /// A feed at a path, with the contract of its events and what it takes.
@@ -158,7 +158,7 @@ pub fn feed_at(
     if head.put_input(Some(input)).is_err() {
         return Err(AllocError);
     }
-    Ok(Obj::from_head(alloc, head))
+    Ok(Obj::from_attributes(alloc, head))
 }
 
 /// The object under a name.

@@ -102,5 +102,5 @@ pub fn refusal(alloc: Global, fault: Fault) -> Result<Obj, AllocError>
     if head.put_display(Some(display)).is_err() {
         return Err(AllocError);
     }
-    Ok(Obj::from_head(alloc, head))
+    Ok(Obj::from_attributes(alloc, head))
 }

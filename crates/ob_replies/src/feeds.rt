@@ -43,7 +43,7 @@ pub fn feed_there(alloc: Global, plan: &Plan, path: &Text) -> Result<Obj, AllocE
     if head.put_of(Some(of)).is_err() {
         return Err(AllocError);
     }
-    Ok(Obj::from_head(alloc, head))
+    Ok(Obj::from_attributes(alloc, head))
 }
 
 /// The child that tells how many events rolled off unreported, if there are any.

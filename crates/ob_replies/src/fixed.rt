@@ -27,7 +27,7 @@ pub fn nil(alloc: Global) -> Result<Obj, AllocError>
 {
     let mut head = obj_head(alloc, None, Contract::Nil)?;
     head.put_slot(Slot::Null);
-    Ok(Obj::from_head(alloc, head))
+    Ok(Obj::from_attributes(alloc, head))
 }
 
 /// The site's own text of a name, with the name.

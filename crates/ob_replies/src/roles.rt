@@ -60,7 +60,7 @@ pub fn count_child(alloc: Global, count: u64) -> Result<Obj, AllocError>
     head.put_name(Some(name));
     head.put_slot(Slot::Is(Value::Int(count as i64)));
     head.put_min(Some(Value::Int(0)));
-    Ok(Obj::from_head(alloc, head))
+    Ok(Obj::from_attributes(alloc, head))
 }
 
 /// What the alarm subject has of the alarms, of which there are so many.

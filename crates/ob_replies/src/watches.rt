@@ -58,7 +58,7 @@ fn lease_child(alloc: Global, path: &Text, lease: u64) -> Result<Obj, AllocError
     head.put_min(Some(span(SECOND)));
     head.put_max(Some(span(DAY)));
     head.put_writable(Some(true));
-    Ok(Obj::from_head(alloc, head))
+    Ok(Obj::from_attributes(alloc, head))
 }
 
 /// An op of a watch.

@@ -83,7 +83,7 @@ fn worded<'a>(
     let few = few_given(alloc, known, object, gives)?;
     let given = few.as_ref();
     let names = names_in(alloc, from.as_slice())?;
-    let mut made = Obj::with_head(alloc, thin_head(object, words, gives)?)?;
+    let mut made = Obj::from_head(alloc, thin_head(object, words, gives)?)?;
     for child in object.children() {
         let part = child.head();
         let below = find_over(&names, part);

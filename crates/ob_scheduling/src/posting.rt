@@ -36,7 +36,7 @@ fn value_of(alloc: Global, kind: Kind, slot: &Slot) -> Result<Obj, AllocError>
     let mut head = Attributes::empty(alloc, kind);
     head.put_name(Some(name));
     head.put_slot(slot.copy()?);
-    Ok(Obj::from_head(alloc, head))
+    Ok(Obj::from_attributes(alloc, head))
 }
 
 /// What `writePoint` is called with: an object with the value.

@@ -86,7 +86,7 @@ pub fn own_target(
     };
     let head = target_head(alloc, &contents.ground.view(node))?;
     if head.fits() {
-        Ok(Some(Obj::from_head(alloc, head)))
+        Ok(Some(Obj::from_attributes(alloc, head)))
     } else {
         Ok(None)
     }

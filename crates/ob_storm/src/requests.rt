@@ -99,7 +99,7 @@ fn int_of(alloc: Global, number: u64) -> Obj
 {
     let mut head = Attributes::empty(alloc, Kind::Int);
     head.put_slot(Slot::Is(Value::Int(number as i64)));
-    Obj::from_head(alloc, head)
+    Obj::from_attributes(alloc, head)
 }
 
 // A uri.
@@ -108,7 +108,7 @@ fn uri_of(alloc: Global, text: Text) -> Obj
 {
     let mut head = Attributes::empty(alloc, Kind::Uri);
     head.put_slot(Slot::Is(Value::Uri(text)));
-    Obj::from_head(alloc, head)
+    Obj::from_attributes(alloc, head)
 }
 
 /// To write a value to a point.

@@ -21,7 +21,7 @@ pub(crate) fn err(alloc: Global, words: &str) -> Result<Obj, AllocError>
     if head.put_display(Some(display)).is_err() {
         return Err(AllocError);
     }
-    Ok(Obj::from_head(alloc, head))
+    Ok(Obj::from_attributes(alloc, head))
 }
 
 // An err of a contract.

@@ -19,7 +19,7 @@ fn copy_bare(alloc: Global, object: &Obj) -> Result<Obj, AllocError>
 {
     let own = object.head();
     let head = own.copy_with(own.slot())?;
-    let mut made = Obj::from_head(alloc, head);
+    let mut made = Obj::from_attributes(alloc, head);
     for child in object.children() {
         let copy = copy_bare(alloc, child)?;
         made.push_last(copy)?;
@@ -92,7 +92,7 @@ pub(crate) fn subtree<L>(alloc: Global, followed: &Followed<L>) -> Result<Obj, A
 {
     let upstream = &followed.upstream;
     let head = list_head(alloc, &upstream.name, followed.live.is_some())?;
-    let mut list = Obj::from_head(alloc, head);
+    let mut list = Obj::from_attributes(alloc, head);
     if let Some(live) = &followed.live {
         push_held(alloc, upstream, &live.watch.mirror, &mut list)?;
     }
@@ -118,7 +118,7 @@ pub(crate) fn tree<L>(alloc: Global, all: &[Followed<L>]) -> Result<Obj, AllocEr
 {
     let mut head = Attributes::empty(alloc, Kind::Obj);
     head.put_href(Some(Text::from_ascii(alloc, ROOT)?));
-    let mut root = Obj::from_head(alloc, head);
+    let mut root = Obj::from_attributes(alloc, head);
     for followed in all {
         let list = named_subtree(alloc, followed)?;
         root.push_last(list)?;

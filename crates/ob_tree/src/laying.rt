@@ -17,7 +17,7 @@ fn put_leaf(alloc: Global, into: &mut Vec<Obj>, object: &Obj) -> Result<(), Allo
     ensures { OnOk result (into.new.items ≡ into.old.items ++ leaf object.now.head ∷ []) }
 {
     let head = object.head().copy()?;
-    match into.push(Obj::from_head(alloc, head)) {
+    match into.push(Obj::from_attributes(alloc, head)) {
         Ok(()) => Ok(()),
         Err(_leaf) => Err(AllocError),
     }

@@ -130,7 +130,7 @@ pub(crate) fn grown(
 {
     let head = head_in(leaves, at).copy()?;
     let spot = spot_in(spots, at);
-    let mut made = Obj::from_head(alloc, head);
+    let mut made = Obj::from_attributes(alloc, head);
     let mut next = at + 1;
     for place in 0..spot.len {
         let child = grown(alloc, leaves, spots, next)?;

@@ -64,7 +64,7 @@ impl Open {
         requires { IsTrue (fits_head head) }
         ensures { IfOk result (λ o. o ≡ record { head = head; inner = none }) }
     {
-        match Box::new(alloc, Obj::from_head(alloc, head)) {
+        match Box::new(alloc, Obj::from_attributes(alloc, head)) {
             Ok(obj) => Ok(Open {
                 obj,
                 names: Names::new(alloc),

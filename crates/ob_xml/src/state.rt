@@ -329,7 +329,7 @@ fn end_empty(
         alloc,
         ns,
         outer,
-        Obj::from_head(alloc, Box::into_inner(head)),
+        Obj::from_attributes(alloc, Box::into_inner(head)),
     )
 }
 

@@ -12,7 +12,7 @@ use Rattle.ob_super.proofs.tree.tree.Goals as goal
 
 pub loop-followed-init : goal.loop-followed-init
 loop-followed-init g c =
-    c.from_head-root.ensures
+    c.from_attributes-root.ensures
     ∙ ap (λ (h : Head). let o : Object = record { head = h; inner = none } in o) c.put_href.ensures
     ∙ ap (λ (h : Head). let o : Object = record { head = record h { href = Some c.in_ok-from_ascii.field-0 }; inner = none } in o) c.empty-head.ensures
     ∙ ap (λ (t : Text). let o : Object = record { head = record (empty_head kind.Obj) { href = Some t }; inner = none } in o) c.in_ok-from_ascii.ensures

@@ -3,5 +3,5 @@ use Rattle.ob_object.specs.declared.head.Head.{Head}
 use Rattle.ob_object.specs.Fits.{fits_head}
 use Rattle.ob_tree.proofs.laying.put_leaf.Goals as goal
 
-pub from_head-requires : goal.from_head-requires
-from_head-requires c = subst (λ (h : Head). IsTrue (fits_head h)) (sym (c.in_ok-head.ensures ∙ c.head.ensures.value)) c.head.ensures.fits
+pub from_attributes-requires : goal.from_attributes-requires
+from_attributes-requires c = subst (λ (h : Head). IsTrue (fits_head h)) (sym (c.in_ok-head.ensures ∙ c.head.ensures.value)) c.head.ensures.fits

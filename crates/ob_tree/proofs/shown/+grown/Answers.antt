@@ -17,8 +17,8 @@ spot_in-spot-requires t c =
     let o = object_of (said c.args.leaves.now) c.args.spots.now in
     omega (arith, c.requires.within, count_leaves o c.args.leaves.now c.requires.laid.heads_are, count_spots o c.args.spots.now c.requires.laid.spots_are)
 
-pub from_head-made-requires : goal.from_head-made-requires
-from_head-made-requires t c =
+pub from_attributes-made-requires : goal.from_attributes-made-requires
+from_attributes-made-requires t c =
     let o = object_of (said c.args.leaves.now) c.args.spots.now in
     let here : head_at c.args.at o ≡ Some c.head_in.result.now = ap (λ (l : List Head). slice_get l c.args.at) (sym c.requires.laid.heads_are) ∙ c.head_in.ensures in
     subst (λ (h : Head). IsTrue (fits_head h)) (sym c.in_ok-head.ensures) (head_fits_at o c.head_in.result.now c.args.at c.requires.laid.well_formed here)
@@ -31,7 +31,7 @@ loop-place-init t c = λ p is.
     let here : head_at c.args.at o ≡ Some c.head_in.result.now = ap (λ (l : List Head). slice_get l c.args.at) (sym c.requires.laid.heads_are) ∙ c.head_in.ensures in
     let there : head_at c.args.at o ≡ Some p.head = g.head_is in
     let same : c.head_in.result.now ≡ p.head = cc (here, there) in
-    started p c.args.at c.in_ok-head.head c.from_head-made.result (c.args.at + 1) c.from_head-made.ensures (c.in_ok-head.ensures ∙ same) refl
+    started p c.args.at c.in_ok-head.head c.from_attributes-made.result (c.args.at + 1) c.from_attributes-made.ensures (c.in_ok-head.ensures ∙ same) refl
 
 pub grown-requires : goal.grown-requires
 grown-requires t c =

@@ -8,4 +8,4 @@ use Rattle.ob_xml.proofs.open.Open.new.Goals as goal
 pub invariant_of-result : goal.invariant_of-result
 invariant_of-result c =
     subst (λ (names : NameSet). IsIndex names (children c.in-Ok.obj.value)) (sym c.new-in-Ok.ensures)
-    (subst (λ (o : Object). IsIndex set.empty (children o)) (sym (c.in-Ok.ensures.ok ∙ c.from_head.ensures)) index_none)
+    (subst (λ (o : Object). IsIndex set.empty (children o)) (sym (c.in-Ok.ensures.ok ∙ c.from_attributes.ensures)) index_none)
