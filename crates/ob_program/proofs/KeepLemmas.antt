@@ -194,7 +194,7 @@ module _ {V : Type 0} (told : Type 0) (seen : V → List ℕ) (may_leave : V →
       → Gains t.given (boot ∷ []) booted.given → booted.twins ≡ t.twins → t.faults ≤ booted.faults
       → OpensRecord told seen may_leave moment left_since failures file v opened device → ComesBack opened v' device'
       → KeepsDevice told seen may_leave moment left_since failures faults handed returned visits closed given pace misses content boot host place wanted quota files files'
-          held held' writes writes' p p' booted t' device device' came
+      held held' writes writes' p p' booted t' device device' came
       → EndsBy (failures device') came end → (¬ (failures device' ≡ 0) → Rose v.faults v'.faults)
       → Comes_ held held' writes writes' p p' t t' end
   comes_kept held held' writes writes' p p' t booted t' boot opened device device' came end gave twins later opens back keeps ends broken = record {
