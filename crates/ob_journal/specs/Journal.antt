@@ -1,7 +1,8 @@
 -- What a file says: entries, in order. Each stands behind a line feed, its gate, and counts where the gate is open (10) and
 -- the entry is whole. A closed gate (0) stands behind the last entry, on the disk before anything is written behind it. So a
--- file at rest is the record of a run with a 0 in the place of its last line feed.
-use Rattle.std.specs.Prelude.{◌≡◌, ◌⊎◌, ℕ, ◌+◌, ◌<◌, ◌≤◌, List, [], ◌∷◌, ◌++◌, length, take, drop, codes, Option, Some, None}
+-- file at rest is the record of a run with a 0 in the place of its last line feed. What a crash leaves behind the last entry
+-- that counts is a tail; a file that is made says nothing where something else stands there.
+use Rattle.std.specs.Prelude.{◌≡◌, ◌≢◌, ◌⊎◌, ℕ, ◌+◌, ◌<◌, ◌≤◌, List, [], ◌∷◌, ◌++◌, length, take, drop, codes}
 use Rattle.std.specs.List.{AllByRecursion}
 use Rattle.ob_journal.specs.Device.{Only}
 use Rattle.ob_journal.specs.declared.device.DeviceFault.{DeviceFault}
@@ -50,12 +51,28 @@ module _ (IsEntry : List ℕ → Type 0) where
   abbrev pub NoBlock : List ℕ → Type 0
   NoBlock end = (e rest : List ℕ) → IsEntry e → end ≡ 10 ∷ e ++ rest → ⊥
 
-  -- the file is the first line and these entries, each behind an open gate, and no other entry follows them so
+  -- where an entry stands first, nothing follows it but a closed gate
+  abbrev pub IsLast : List ℕ → Type 0
+  IsLast bytes = (e rest : List ℕ) → IsEntry e → bytes ≡ e ++ rest → (rest ≡ []) ⊎ (rest ≡ 0 ∷ [])
+
+  -- What may stand behind the last entry that counts: all that a crash may leave there, and, behind a byte that is no open gate,
+  -- bytes that no entry stands first in.
+  pub data IsTail (end : List ℕ) : Type 0 where
+    -- nothing: the file was cut there, and its gate isn't written yet
+    nothing : end ≡ [] → IsTail end
+    -- a closed gate, and whatever was being written behind it
+    closed_gate : (rest : List ℕ) → end ≡ 0 ∷ rest → IsTail end
+    -- an open gate alone, which was being closed
+    open_gate : end ≡ 10 ∷ [] → IsTail end
+    -- a gate that was being opened, where the entry is on the disk behind it, or is cut off since; or one that was being closed
+    broken_gate : (gate : ℕ) (behind : List ℕ) → gate ≢ 10 → end ≡ gate ∷ behind → IsLast behind → IsTail end
+
+  -- the file is the first line and these entries, each behind an open gate, and a tail
   pub record Stands (file : List ℕ) (entries : List (List ℕ)) : Type 0 where
     pub end : List ℕ
     pub valid : AllByRecursion IsEntry entries
     pub split : file ≡ front entries ++ end
-    pub none : NoBlock end
+    pub tail : IsTail end
 
   -- what a file says: the entries that stand in it, and none where it isn't made
   abbrev pub Says : List ℕ → List (List ℕ) → Type 0
@@ -76,19 +93,25 @@ module _ (IsEntry : List ℕ → Type 0) where
     pub valid : AllByRecursion IsEntry entries
     pub blocks_are : take n bytes ≡ blocks entries
 
-  -- the first n bytes of the file are the first line and its entries, and no other entry follows them behind an open gate
+  -- the first n bytes of the file are the first line and its entries, and a tail follows them
   pub record IsFront (file : List ℕ) (n : ℕ) : Type 0 where
     pub within : n ≤ length file
     pub entries : List (List ℕ)
     pub valid : AllByRecursion IsEntry entries
     pub front_is : take n file ≡ front entries
-    pub none : NoBlock (drop n file)
+    pub tail : IsTail (drop n file)
 
-  -- the file isn't made, or its entries end there; or it is no journal's, and says nothing
-  abbrev pub Finds : List ℕ → Option Extent → Type 0
-  Finds file (Some Unmade) = IsUnmade file
-  Finds file (Some (Entries end)) = IsFront file end
-  Finds file None = (entries : List (List ℕ)) → Says file entries → ⊥
+  -- the file isn't made, or its entries end there
+  abbrev pub Finds : List ℕ → Extent → Type 0
+  Finds file Unmade = IsUnmade file
+  Finds file (Entries end) = IsFront file end
+
+  -- where the bytes of a file that is made cease to be a journal's
+  pub data IsNoJournalAt (file : List ℕ) (place : ℕ) : Type 0 where
+    -- they don't begin with the first line
+    at_start : place ≡ 0 → (IsUnmade file → ⊥) → ((rest : List ℕ) → file ≡ first_line ++ rest → ⊥) → IsNoJournalAt file place
+    -- the entries end there, and what follows them is neither another entry nor a tail
+    in_tail : (entries : List (List ℕ)) (end : List ℕ) → AllByRecursion IsEntry entries → file ≡ front entries ++ end → place ≡ length (front entries) → NoBlock end → (IsTail end → ⊥) → IsNoJournalAt file place
 
   -- The device's file is these entries at rest, all of it on the disk, and the closed gate stands at this place.
   pub record IsSettled {D : Type 0} (seen : D → List ℕ) (may_leave : D → List ℕ → Type 0) (entries : List (List ℕ)) (device : D) (end : ℕ) : Type 0 where

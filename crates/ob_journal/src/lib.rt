@@ -18,6 +18,6 @@ pub use devices::Devices;
 pub use journal::{AppendFault, Journal, MAX_BYTES};
 pub use laws::one_meaning;
 pub use memory::MemDevice;
-pub use opening::{Extent, find, repair};
+pub use opening::{Extent, NoJournal, find, repair};
 pub use shape::Shape;
 pub use sized::Sized;

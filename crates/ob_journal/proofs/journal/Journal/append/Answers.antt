@@ -66,7 +66,7 @@ returns-in_err-write_at-2-clause-any_moment g c told entries e s is bytes_is =
     let holds = subst (λ f. Holds f (c.args.self.now.end + 1) bytes (g.D.Device.seen c.write_at.new.self)) s.file (c.in_ok-write_at.ensures.written told) in
     let is_staged = written_behind IsEntry entries s.valid c.args.self.now.end s.end_is bytes _ holds in
     let only_staged = subst (λ f. Only f (Leaves c.sync.new.self)) is_staged (c.in_ok-sync.ensures.durable told) in
-    let second = gate_crash IsEntry entries s.valid c.args.self.now.end s.end_is e bytes is bytes_is _ _ only_staged (c.write_at-2.ensures.crash told) in
+    let second = gate_crash IsEntry entries s.valid c.args.self.now.end s.end_is g.met.S.Shape.one_first e bytes is bytes_is _ _ only_staged (c.write_at-2.ensures.crash told) in
     let opened = on c.sync.new.self c.write_at-2.new.self P _ kept (c.write_at-2.ensures.time told) (λ f now. second f now) in
     opened
 
@@ -87,7 +87,7 @@ returns-in_err-sync-2-clause-any_moment g c told entries e s is bytes_is =
     let holds = subst (λ f. Holds f (c.args.self.now.end + 1) bytes (g.D.Device.seen c.write_at.new.self)) s.file (c.in_ok-write_at.ensures.written told) in
     let is_staged = written_behind IsEntry entries s.valid c.args.self.now.end s.end_is bytes _ holds in
     let only_staged = subst (λ f. Only f (Leaves c.sync.new.self)) is_staged (c.in_ok-sync.ensures.durable told) in
-    let second = gate_crash IsEntry entries s.valid c.args.self.now.end s.end_is e bytes is bytes_is _ _ only_staged (c.write_at-2.ensures.crash told) in
+    let second = gate_crash IsEntry entries s.valid c.args.self.now.end s.end_is g.met.S.Shape.one_first e bytes is bytes_is _ _ only_staged (c.write_at-2.ensures.crash told) in
     let opened = on c.sync.new.self c.write_at-2.new.self P _ kept (c.write_at-2.ensures.time told) (λ f now. second f now) in
     let ended = on c.write_at-2.new.self c.sync-2.new.self P _ opened (c.sync-2.ensures.time told) (λ f now. second f (c.sync-2.ensures.crash told f now)) in
     ended
@@ -109,7 +109,7 @@ returns-clause-any_moment g c told entries e s is bytes_is =
     let holds = subst (λ f. Holds f (c.args.self.now.end + 1) bytes (g.D.Device.seen c.write_at.new.self)) s.file (c.in_ok-write_at.ensures.written told) in
     let is_staged = written_behind IsEntry entries s.valid c.args.self.now.end s.end_is bytes _ holds in
     let only_staged = subst (λ f. Only f (Leaves c.sync.new.self)) is_staged (c.in_ok-sync.ensures.durable told) in
-    let second = gate_crash IsEntry entries s.valid c.args.self.now.end s.end_is e bytes is bytes_is _ _ only_staged (c.write_at-2.ensures.crash told) in
+    let second = gate_crash IsEntry entries s.valid c.args.self.now.end s.end_is g.met.S.Shape.one_first e bytes is bytes_is _ _ only_staged (c.write_at-2.ensures.crash told) in
     let opened = on c.sync.new.self c.write_at-2.new.self P _ kept (c.write_at-2.ensures.time told) (λ f now. second f now) in
     let ended = on c.write_at-2.new.self c.sync-2.new.self P _ opened (c.sync-2.ensures.time told) (λ f now. second f (c.sync-2.ensures.crash told f now)) in
     ended
