@@ -47,7 +47,7 @@ unmade_says file is = inr (is, refl)
 
 module _ (file : List ℕ) (end : ℕ) (is : IsFront IsBlock file end) where
   stands_so : (es : List (List ℕ)) → AllByRecursion IsBlock es → take end file ≡ front es → Stands IsBlock file es
-  stands_so es valid same = record { end = drop end file; valid = valid; split = sym (take-append-drop end file) ∙ ap (λ (l : List ℕ). l ++ drop end file) same; none = is.none }
+  stands_so es valid same = record { end = drop end file; valid = valid; split = sym (take-append-drop end file) ∙ ap (λ (l : List ℕ). l ++ drop end file) same; tail = is.tail }
 
   -- nothing stands behind the first line
   pub says_none : end ≡ 13 → Says IsBlock file []

@@ -1,7 +1,7 @@
 -- What a file says of a run: as a journal its entries are the run's blocks.
-use Rattle.std.specs.Prelude.{◌≡◌, ◌≢◌, ℕ, ◌≤◌, List, [], ◌∷◌, ◌++◌, Option, Some, None, Result, IsErrOf}
+use Rattle.std.specs.Prelude.{◌≢◌, ℕ, ◌≤◌, List, [], ◌∷◌, ◌++◌, Option, Some, None, Result, IsErrOf}
 use Rattle.ob_io.specs.Faults.{Rose}
-use Rattle.ob_journal.specs.Journal.{front, Says}
+use Rattle.ob_journal.specs.Journal.{front, Says, IsNoJournalAt}
 use Rattle.ob_record.specs.Blocks.{IsBlock}
 use Rattle.ob_record.specs.Broken.{BreaksAt}
 use Rattle.ob_record.specs.Runs.{Recorded, Records, IsRun}
@@ -36,10 +36,10 @@ UnsaidBy file (faults.Record place) = SaysNoRun file
 UnsaidBy file faults.Failed = ⊥
 UnsaidBy file faults.Memory = Unit {0}
 
--- Where a file ceases to say a run: at its start, where it isn't a journal; or where its entries, with a line feed behind the
--- last, cease to be the record of a run.
+-- Where a file ceases to say a run: where it ceases to be a journal's; or where its entries, with a line feed behind the last,
+-- cease to be the record of a run.
 pub data CeasesAt (file : List ℕ) (place : ℕ) : Type 0 where
-  at_start : place ≡ 0 → ((blocks : List (List ℕ)) → Says IsBlock file blocks → ⊥) → CeasesAt file place
+  no_journal : IsNoJournalAt IsBlock file place → CeasesAt file place
   in_blocks : (blocks : List (List ℕ)) → Says IsBlock file blocks → BreaksAt (front blocks ++ 10 ∷ []) place → CeasesAt file place
 
 -- the place that is told of a file

@@ -1,5 +1,5 @@
 //! What the file of a device says of a run.
-ghost use Rattle.std.specs.Prelude.{◌≡◌, ℕ, List, Some, IfOk, IfErr};
+ghost use Rattle.std.specs.Prelude.{◌≡◌, ℕ, List, IfOk, IfErr};
 ghost use Rattle.ob_journal.specs.Device.{LeavesOnly};
 ghost use Rattle.ob_journal.specs.Journal.{Finds};
 ghost use Rattle.ob_journal.specs.declared.opening.Extent.TheVariants as extent;
@@ -19,7 +19,8 @@ const FIRST_LINE: usize = 13;
 /// Why no run was read of a device.
 #[derive(Clone, Copy, Debug, PartialEq, Eq, Drop, Error)]
 pub enum SayingFault {
-    /// The file says no run. The place is that of the first line or entry that no run has, in bytes from 0.
+    /// The file says no run. The place is where it ceases to be a journal's, or that of the first line or entry that no run
+    /// has, in bytes from 0.
     #[error("Record {place}")]
     Record { place: u64 },
     /// The device refused, and its count of faults rose.
@@ -61,7 +62,7 @@ pub struct Said {
 
 /// The run of the entries that end at this place.
 fn run_to(alloc: Global, mut bytes: Vec<u8>, end: usize) -> Result<Option<Run>, SayingFault>
-    requires { Finds IsBlock bytes.items (Some (extent.Entries end)) }
+    requires { Finds IsBlock bytes.items (extent.Entries end) }
     ensures said { IfOk result (IsSaid bytes.items) }
     ensures none { IfErr result (UnsaidBy bytes.items) }
     ensures place { IfErr result (HasPlace bytes.items) }
@@ -83,13 +84,18 @@ fn run_to(alloc: Global, mut bytes: Vec<u8>, end: usize) -> Result<Option<Run>, 
 
 /// What bytes say.
 fn said_by(alloc: Global, bytes: Vec<u8>) -> Result<Said, SayingFault>
-    ensures extent { IfOk result (λ said. Finds IsBlock bytes.items (Some said.extent)) }
+    ensures extent { IfOk result (λ said. Finds IsBlock bytes.items said.extent) }
     ensures said { IfOk result (λ said. IsSaid bytes.items said.run) }
     ensures none { IfErr result (UnsaidBy bytes.items) }
     ensures place { IfErr result (HasPlace bytes.items) }
 {
-    let Some(found) = find::<Blocks>(&bytes) else {
-        return Err(SayingFault::Record { place: 0 });
+    let found = match find::<Blocks>(&bytes) {
+        Ok(found) => found,
+        Err(fault) => {
+            return Err(SayingFault::Record {
+                place: fault.place as u64,
+            });
+        }
     };
     let run = match found {
         Extent::Unmade => None,
@@ -100,10 +106,10 @@ fn said_by(alloc: Global, bytes: Vec<u8>) -> Result<Said, SayingFault>
 
 /// What the file of a device says of a run. The device is read, and not changed.
 ///
-/// `Record` comes exactly where the file says no run: it isn't the record of one, cut behind any of its entries. Its place is
+/// `Record` comes exactly where the file says no run. Its place is where the file ceases to be a journal's; in a journal it is
 /// that of the first line or entry that no run has.
 pub fn read_said<D: Device>(alloc: Global, device: &mut D) -> Result<Said, SayingFault>
-    ensures extent { D.is_told → IfOk result (λ said. Finds IsBlock (D.seen device.old) (Some said.extent)) }
+    ensures extent { D.is_told → IfOk result (λ said. Finds IsBlock (D.seen device.old) said.extent) }
     ensures said { D.is_told → IfOk result (λ said. IsSaid (D.seen device.old) said.run) }
     ensures none { D.is_told → IfErr result (Unsaid (D.seen device.old)) }
     ensures place { D.is_told → IfErr result (HasPlace (D.seen device.old)) }

@@ -1,4 +1,4 @@
-use Rattle.std.proofs.Common.{ℕ, List, Some, subst}
+use Rattle.std.proofs.Common.{ℕ, List, subst}
 use Rattle.std.specs.Prelude.{IfOk, IfErr}
 use Rattle.ob_journal.specs.Journal.{Finds}
 use Rattle.ob_record.specs.Blocks.{IsBlock}
@@ -8,7 +8,7 @@ use Rattle.ob_record_journal.proofs.saying.read_said.Goals as goal
 
 pub returns-in-Ok-clause-extent : goal.returns-in-Ok-clause-extent
 returns-in-Ok-clause-extent g c told =
-    subst (λ (f : List ℕ). IfOk c.said_by.result (λ said. Finds IsBlock f (Some said.extent))) (c.in-Ok.ensures.bytes told) c.said_by.ensures.extent
+    subst (λ (f : List ℕ). IfOk c.said_by.result (λ said. Finds IsBlock f said.extent)) (c.in-Ok.ensures.bytes told) c.said_by.ensures.extent
 
 pub returns-in-Ok-clause-said : goal.returns-in-Ok-clause-said
 returns-in-Ok-clause-said g c told =
