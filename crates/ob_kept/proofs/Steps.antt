@@ -3,7 +3,7 @@ use Rattle.std.proofs.Common.{◌≡◌, ◌⊎◌, inl, inr, ⊎_elim, ℕ, Boo
 use Rattle.std.specs.List.{AllByRecursion}
 use Rattle.std.proofs.lemmas.List.{map-append}
 use Rattle.ob_encode.specs.Canonical.{canonical_text}
-use Rattle.ob_journal.specs.Journal.{front, Stands, IsBeforeOrAfter, IsSettled, IsAtRest}
+use Rattle.ob_journal.specs.Journal.{front, Stands, closed_gate, IsBeforeOrAfter, IsSettled, IsAtRest}
 use Rattle.ob_machine.specs.History.{entry}
 use Rattle.ob_machine.specs.declared.call.Answer.TheVariants.{Done}
 use Rattle.ob_object.specs.Object.{Object}
@@ -45,7 +45,7 @@ some_more (x ∷ xs) e = (x, xs ++ e ∷ [], refl)
 
 -- a closed gate is none
 shut : (es : List (List ℕ)) → AllByRecursion IsBlock es → (file : List ℕ) → file ≡ front es ++ 0 ∷ [] → Stands IsBlock file es
-shut es valid file is = record { end = 0 ∷ []; valid = valid; split = is; none = λ e rest block same. cc }
+shut es valid file is = record { end = 0 ∷ []; valid = valid; split = is; tail = closed_gate [] refl }
 
 -- ---- states
 

@@ -5,7 +5,7 @@ use std::alloc::{AllocError, AllocFailed};
 /// Why a RECORD gives no site.
 #[derive(Drop)]
 pub enum ReopenFault {
-    /// The file says no run: the first line or entry that no run has begins at this place, in bytes.
+    /// The file says no run, and ceases to at this place, in bytes.
     Record { place: u64 },
     /// The reply that the entry at this place keeps, from 0, isn't the site's: the site file is another.
     Illegal { entry: u64 },

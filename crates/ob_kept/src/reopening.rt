@@ -1,5 +1,5 @@
 //! A site that is opened with its record.
-ghost use Rattle.std.specs.Prelude.{◌≡◌, ◌≤◌, ℕ, List, [], true, false, Some, IfOk, IfErr};
+ghost use Rattle.std.specs.Prelude.{◌≡◌, ◌≤◌, ℕ, List, [], true, false, IfOk, IfErr};
 ghost use Rattle.ob_journal.specs.Device.{LeavesOnly, Only};
 ghost use Rattle.ob_journal.specs.Journal.{Finds};
 ghost use Rattle.ob_record.specs.Blocks.{IsBlock};
@@ -234,7 +234,7 @@ fn read_site<D: Device, F: Files>(
     ensures device_cause { HasReopenCause (D.faults device.old) (D.faults device.new) result }
     ensures opened { IfOk result (λ r. IsOpenedAt (F.content files.old name.now) r.boot r.ns r.opening.value) }
     ensures sound { IfOk result (λ r. IsSoundSite r.site) }
-    ensures extent { D.is_told → IfOk result (λ r. Finds IsBlock (D.seen device.old) (Some r.extent)) }
+    ensures extent { D.is_told → IfOk result (λ r. Finds IsBlock (D.seen device.old) r.extent) }
     ensures redoes { D.is_told → IfOk result (λ r. Redoes (D.seen device.old) boot r.boot r.opening.value r.site r.begun) }
     ensures refused { IfErr result (Refuses D.is_told (F.content files.old name.now) (D.seen device.old) boot) }
     ensures seen { D.is_told → D.seen device.new ≡ D.seen device.old }
