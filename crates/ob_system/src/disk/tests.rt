@@ -23,7 +23,7 @@ fn a_file_is_made_appended_to_and_read_again(rt: HostRuntime) -> Result<(), Fail
     let mut devices = DiskDevices::new(&rt);
     let mut device = devices.open(alloc, NAME)?;
     let bytes = device.read(alloc)?;
-    assert!(rt; find::<Sized>(&bytes) == Some(Extent::Unmade));
+    assert!(rt; find::<Sized>(&bytes) == Ok(Extent::Unmade));
     let end = repair::<DiskFile, Sized>(&mut device, Extent::Unmade)?;
     let mut journal = Journal { device, end };
     journal.append::<Sized>(b"\x01a\0")?;
@@ -39,7 +39,7 @@ fn a_file_is_made_appended_to_and_read_again(rt: HostRuntime) -> Result<(), Fail
     fs::write(&rt, NAME, b"obix-record 1\n\x01a\n\x02b".as_slice())?;
     let mut device = devices.open(alloc, NAME)?;
     let bytes = device.read(alloc)?;
-    assert!(rt; find::<Sized>(&bytes) == Some(Extent::Entries { end: 16 }));
+    assert!(rt; find::<Sized>(&bytes) == Ok(Extent::Entries { end: 16 }));
     let end = repair::<DiskFile, Sized>(&mut device, Extent::Entries { end: 16 })?;
     assert!(rt; end == 16);
     let left = device.read(alloc)?;
