@@ -2,7 +2,7 @@
 ghost use Rattle.std.specs.Prelude.{[]};
 
 use ob_journal::{
-    AppendFault, Device, DeviceFault, Extent, Journal, MemDevice, Sized, find, repair,
+    AppendFault, Device, DeviceFault, Extent, Journal, MemDevice, NoJournal, Sized, find, repair,
 };
 use ob_rows::{
     Asked, Table, number_at, push_bytes, push_meant, push_number, push_words, split_word,
@@ -13,10 +13,10 @@ const FOREVER: u64 = 1 << 40;
 
 /// Journals, whose entries are a byte that says how many bytes follow it:
 ///
-/// `open FILE`: the bytes of a file once it was opened. `cut FILLER`: the numbers of entries that were acknowledged, of two that
-/// were appended to a new file which was cut off after 0, 1, .. 29 bytes and calls, where a torn write is filled up with the
-/// byte of this number. `append END FILE`: what came of appending an entry at an end of a file that can't be written, the end
-/// then, and how far the entries of the file go.
+/// `open FILE`: the bytes of a file once it was opened. `find FILE`: how far its entries go. `cut FILLER`: the numbers of
+/// entries that were acknowledged, of two that were appended to a new file which was cut off after 0, 1, .. 29 bytes and calls,
+/// where a torn write is filled up with the byte of this number. `append END FILE`: what came of appending an entry at an end
+/// of a file that can't be written, the end then, and how far the entries of the file go.
 #[derive(Drop)]
 pub(crate) struct Journals;
 
@@ -85,8 +85,8 @@ fn meant(alloc: Global, said: &str) -> Result<Vec<u8>, AllocError> {
 fn reopen(alloc: Global, device: &mut Untold) -> Result<Option<usize>, DeviceFault> {
     let bytes = device.read(alloc)?;
     match find::<Sized>(&bytes) {
-        Some(extent) => Ok(Some(repair::<Untold, Sized>(device, extent)?)),
-        None => Ok(None),
+        Ok(extent) => Ok(Some(repair::<Untold, Sized>(device, extent)?)),
+        Err(_) => Ok(None),
     }
 }
 
@@ -203,11 +203,11 @@ fn append_word(appended: Result<(), AppendFault>) -> &'static str {
     }
 }
 
-fn tell_extent(extent: Option<Extent>, told: &mut String) -> Result<(), AllocError> {
-    match extent {
-        Some(Extent::Entries { end }) => write!(told, ", entries to {end}"),
-        Some(Extent::Unmade) => told.push_str(", unmade"),
-        None => told.push_str(", no journal's"),
+fn tell_extent(bytes: &[u8], told: &mut String) -> Result<(), AllocError> {
+    match find::<Sized>(bytes) {
+        Ok(Extent::Entries { end }) => write!(told, "entries to {end}"),
+        Ok(Extent::Unmade) => told.push_str("unmade"),
+        Err(NoJournal { place }) => write!(told, "no journal's from {place}"),
     }
 }
 
@@ -220,7 +220,8 @@ fn tell_append(alloc: Global, said: &str, told: &mut String) -> Result<(), Alloc
     let appended = journal.append::<Sized>(b"\x01a\0");
     push_words(told, &[append_word(appended)])?;
     push_number(told, journal.end as u64)?;
-    tell_extent(find::<Sized>(journal.device.inner.bytes()), told)
+    told.push_str(", ")?;
+    tell_extent(journal.device.inner.bytes(), told)
 }
 
 impl Table for Journals {
@@ -228,6 +229,7 @@ impl Table for Journals {
         let (word, said) = split_word(asked.text);
         match word {
             "open" => tell_opened(alloc, said, told),
+            "find" => tell_extent(&meant(alloc, said)?, told),
             "cut" => tell_cuts(alloc, said.parse::<u8>().unwrap_or(0), told),
             "append" => tell_append(alloc, said, told),
             _ => told.push_str("no such row"),
