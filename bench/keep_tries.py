@@ -479,18 +479,34 @@ def ends_of(data):
     return ends
 
 
+def cut_at(data, ends, n):
+    """What the first n bytes of a record are: how many entries they say, and the place that is refused, if one is."""
+    count = sum(end <= n for end in ends)
+    at = ends[count - 1] if count else len(FIRST_LINE)
+    return count, None if n <= max(at + 1, len(FIRST_LINE) + 1) else at
+
+
 def torn(program, given):
-    """The front of a record up to any byte, and one whose last entry isn't whole behind its closed gate."""
+    """The front of a record up to any byte, which is refused where more than an open gate stands behind the entries, and one whose
+    last entry isn't whole, or is, behind a gate that isn't open."""
     with room_of(points_site(1), given.room) as room:
         data = written(program, room, [("p0", value) for value in (1, 2, 3)])
         ends = ends_of(data)
         must(len(ends), 3, "the number of entries")
-        cases = [(data[:n], sum(end <= n for end in ends)) for n in range(len(data) + 1)]
-        gate, size = ends[1], ends[2] - ends[1]
+        cases = [(data[:n], *cut_at(data, ends, n)) for n in range(len(data) + 1)]
+        last, size = ends[1], ends[2] - ends[1]
         for filler in (b"\0", b"\n", b"x"):
-            cases += [(data[:gate] + b"\0" + data[gate + 1:gate + 1 + n] + filler * (size - n), 2) for n in range(0, size + 1, 3)]
-        for content, value in cases:
+            cases += [(data[:last] + b"\0" + data[last + 1:last + 1 + n] + filler * (size - n), 2, None) for n in range(0, size + 1, 3)]
+        cases += [(data[:last] + b"x" + data[last + 1:last + 1 + n], 2, None) for n in range(size + 1)]
+        # no crash leaves these: another gate in the middle, another byte in an entry's line, one behind a closed gate
+        cases += [(data[:ends[0]] + b"x" + data[ends[0] + 1:], 1, ends[0]), (data[:last + 1] + b"x" + data[last + 2:], 2, last),
+                  (data[:last] + b"x" + data[last + 1:] + b"x", 2, last)]
+        for content, value, place in cases:
             write_to(f"{room}/torn", content)
+            if place is not None:
+                must(Keep(program, room, record="torn").ended(), (2, f"obix: refused: Record {place}"), f"the end with {content[-60:]!r}")
+                must(bytes_of(f"{room}/torn"), content, "a refused record")
+                continue
             with Keep(program, room, record="torn", workers=1) as server:
                 must(server.value(), value, f"the value with {content[-60:]!r} at the end of {len(content)} bytes")
             left = bytes_of(f"{room}/torn")
