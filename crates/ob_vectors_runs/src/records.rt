@@ -1,5 +1,5 @@
 //! The file of a record, in memory.
-ghost use Rattle.std.specs.Prelude.{None};
+ghost use Rattle.std.specs.Prelude.{◌≡◌, None, IfOk, IfSome};
 
 use ob_journal::{Device, DeviceFault, Devices, MemDevice};
 use std::alloc::{AllocError, Global};
@@ -36,7 +36,9 @@ impl Records {
     }
 
     /// Its bytes, and how many may be written before it fails; none, where it can't be opened.
-    fn opened(&self) -> Result<Option<MemDevice>, AllocError> {
+    fn opened(&self) -> Result<Option<MemDevice>, AllocError>
+        ensures { IfOk result (λ opened. IfSome opened (λ device. device.faults ≡ 0)) }
+    {
         let left = match self.failing {
             Some(0) => return Ok(None),
             Some(call) => call.saturating_sub(1),
