@@ -36,7 +36,7 @@ fn a_file_is_made_appended_to_and_read_again(rt: HostRuntime) -> Result<(), Fail
     );
 
     // What a crash left behind the gate is cut off.
-    fs::write(&rt, NAME, b"obix-record 1\n\x01a\n\x02b".as_slice())?;
+    fs::write(&rt, NAME, b"obix-record 1\n\x01a\0\x02b".as_slice())?;
     let mut device = devices.open(alloc, NAME)?;
     let bytes = device.read(alloc)?;
     assert!(rt; find::<Sized>(&bytes) == Ok(Extent::Entries { end: 16 }));
