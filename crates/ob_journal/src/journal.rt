@@ -1,5 +1,5 @@
 //! Entries on a device, each on the disk before it is acknowledged.
-ghost use Rattle.std.specs.Prelude.{◌≡◌, ◌↔◌, ◌≤◌, ◌+◌, ◌++◌, [], ◌∷◌, List, ℕ, length, OnOk, IsErrOf};
+ghost use Rattle.std.specs.Prelude.{◌≡◌, ◌↔◌, ◌≤◌, ◌+◌, ◌++◌, [], ◌∷◌, List, ℕ, length, OnOk, OnErr, IsErrOf};
 ghost use Rattle.ob_io.specs.Faults.{Rose};
 ghost use Rattle.ob_journal.specs.Device.{LeavesOnly};
 ghost use Rattle.ob_journal.specs.Journal.{append_fault_of, IsTooLong, IsBeforeOrAfter, IsSettled, IsAtRest};
@@ -64,6 +64,7 @@ impl<D: Device> Journal<D> {
             → LeavesOnly D.moment D.left_since self.old.device self.new.device (IsBeforeOrAfter S.is_entry entries e) }
 
         ensures end { OnOk result (self.new.end ≡ self.old.end + length closed.now) }
+        ensures end_kept { OnErr result (self.new.end ≡ self.old.end) }
         ensures full { IsErrOf result append_fault.Full ↔ IsTooLong self.old.end closed.now }
         ensures untouched { IsErrOf result append_fault.Full → self.new ≡ self.old }
         ensures failed { IsErrOf result append_fault.Failed → Rose (D.faults self.old.device) (D.faults self.new.device) }
