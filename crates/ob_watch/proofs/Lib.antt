@@ -5,5 +5,6 @@ pub mod FeedLemmas
 pub mod MarkLemmas
 pub mod UndoLemmas
 pub mod TableLemmas
+pub mod Unmaking
 pub mod NewsLemmas
 pub mod LawLemmas

@@ -1,12 +1,12 @@
 //! The watches of a site.
-ghost use Rattle.std.specs.Prelude.{◌≡◌, ◌++◌, [], ◌∷◌, cond, count_by, OnOk, is_some, not, None, IfOk, nat_eq, length, max, option_map};
+ghost use Rattle.std.specs.Prelude.{◌≡◌, ℕ, ◌++◌, [], ◌∷◌, cond, count_by, OnOk, is_some, not, None, IfOk, nat_eq, length, max, option_map};
 ghost use Rattle.std.specs.List.{IsDistinct, list_any};
 ghost use Rattle.std.specs.Option.{option_copied};
 ghost use Rattle.indexmap.specs.IndexMap.{IsUnique};
 ghost use Rattle.ob_watching.specs.Tables.{lookup, numbers_of, replace};
 ghost use Rattle.ob_watch.specs.Adding.{AddsAt, Makes, TakesBack};
 ghost use Rattle.ob_watch.specs.Items.{changed_by, marked_anew, one_more, rolled_to};
-ghost use Rattle.ob_watch.specs.Tables.{IsLease, at_number, has_no_place, holding, is_over, lapsed_at, leased_for, live, no_watches, touched_at, watching, with_all_items, without};
+ghost use Rattle.ob_watch.specs.Tables.{IsLease, at_number, has_no_place, holding, is_over, lapsed_at, leased_for, live, no_watches, touched_at, watching, with_all_items, with_new, without, Table};
 ghost use Rattle.ob_watch.specs.Reported.{IsDue, all_reported};
 
 use crate::additions::Additions;
@@ -219,6 +219,17 @@ impl Watches {
                 Ok(number)
             }
             Err(_) => Err(WatchFault::Memory),
+        }
+    }
+
+    /// Takes back the last make, where nothing was asked of the watches since: its watch is gone, and the next make gives its
+    /// number again. It takes no memory.
+    pub fn unmake(&mut self)
+        ensures { (now : ℕ) (before : Table) → self.old ≡ with_new now before → self.new ≡ before }
+    {
+        let number = self.next.saturating_sub(1);
+        if self.map.shift_remove(&number).is_some() {
+            self.next = number;
         }
     }
 
