@@ -3,9 +3,11 @@ use Rattle.std.specs.Prelude.{◌≡◌, ℕ, List}
 use Rattle.std.specs.List.{AllByRecursion}
 use Rattle.ob_object.specs.Object.{Object}
 use Rattle.ob_watching.specs.Tables.{lookup}
-use Rattle.ob_watching.specs.Watches.{acted, on_watch, reply_to, touched}
+use Rattle.ob_watching.specs.Watches.{acted, first_lease, on_watch, reply_to, touched}
 use Rattle.ob_watching.specs.Asked.{NewWatch}
 use Rattle.ob_site_rules.specs.declared.request.Request.{Request}
+use Rattle.ob_site_rules.specs.Computed.{watch_part_object}
+use Rattle.ob_site_rules.specs.Paths.{Whole}
 use Rattle.ob_site_rules.specs.State.{Plan, State}
 use Rattle.ob_tree.specs.Trees.{Stamped}
 use Rattle.ob_site_rules.specs.Watched.{WatchOperation}
@@ -15,7 +17,7 @@ use Rattle.ob_site_state.specs.Contents.{state_in}
 use Rattle.ob_watch.specs.AsRules.{world_of}
 use Rattle.ob_watch.specs.Counted.{of_plan}
 use Rattle.ob_watch.specs.Flags.{flagged, flags_of}
-use Rattle.ob_watch.specs.Tables.{Leased, Table, lapsed_at, live}
+use Rattle.ob_watch.specs.Tables.{Leased, Table, lapsed_at, live, with_new}
 use Rattle.ob_site_watched.specs.Known.{AreKnown}
 
 -- what is known of the items of each watch
@@ -37,3 +39,8 @@ pub record IsDone (plan : Plan) (c : Contents) (now : ℕ) (old new : Table) (n 
 pub record IsMade (plan : Plan) (now : ℕ) (old new : Table) (o : Object) : Type 0 where
   pub watches : (s : State) (t : Stamped) (r : Request) → world_of plan now s t (lapsed_at now new) ≡ (acted (of_plan plan) (world_of plan now s t (lapsed_at now old)) r NewWatch).0
   pub reply : (s : State) (t : Stamped) (r : Request) → o ≡ sent plan (acted (of_plan plan) (world_of plan now s t (lapsed_at now old)) r NewWatch).1
+
+-- One more watch was made, and the reply is what a client reads of it.
+pub record IsOneMore (plan : Plan) (now : ℕ) (old new : Table) (o : Object) : Type 0 where
+  pub table : new ≡ with_new now old
+  pub reply : o ≡ watch_part_object plan old.next first_lease Whole
