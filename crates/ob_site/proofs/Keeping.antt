@@ -11,6 +11,7 @@ use Rattle.ob_watching.specs.Watches.{World, Reply, WatchOf, acted, begun, ended
 use Rattle.ob_site_rules.specs.declared.request.Request.{Request}
 use Rattle.ob_site_rules.specs.Actions.{act_on, act_located, act_itself}
 use Rattle.ob_site_rules.specs.Build.{Path, Text}
+use Rattle.ob_site_rules.specs.Computed.{watch_part_object}
 use Rattle.ob_site_rules.specs.Faults.{TooManyWatches}
 use Rattle.ob_site_rules.specs.Locating.{locate}
 use Rattle.ob_site_rules.specs.Paths.{Whole}
@@ -21,6 +22,7 @@ use Rattle.ob_site_rules.specs.State.{Plan, State, roll}
 use Rattle.ob_site_rules.specs.Watched.{WatchOperation}
 use Rattle.ob_site_state.specs.Kept.{Kept}
 use Rattle.ob_site_state.specs.Stamping.{tree_of}
+use Rattle.ob_site_watched.specs.Answers.{IsMade, IsOneMore}
 use Rattle.ob_site_writes.specs.Stops.{IsDone}
 use Rattle.ob_watch.specs.AsRules.{world_of}
 use Rattle.ob_watch.specs.Counted.{of_plan}
@@ -157,20 +159,37 @@ module _ (k : Kept) (t : Table) (r : Request) where
     pub watch_so : IsBegun k t → l ≡ a → (n : ℕ) (op : WatchOperation) → KeepsNothing below keeps a l (step_of k t r (OneWatch n op))
     watch_so is same n op = asked_so is same n op (lookup n world.watches)
 
-  module _ {K : Type 0} (below : K → ℕ) (may_keep keeps : K → K → Request → ℕ → ℕ → Object → Type 0) (a l : K) where
+  module _ {K : Type 0} (below : K → ℕ) (may_keep : K → K → Request → ℕ → ℕ → Object → Type 0) (a l : K) where
     -- the same where the step is not done
-    pub may_change_so : (m : Kept) (o : Object) → IsBegun k t → IsDone k m acted_on o → (l ≡ a) ⊎ (IsChange m.before m.now r.verb × may_keep a l r m.time t.next o) → MayKeep below may_keep keeps a l (step_of k t r Itself)
+    pub may_change_so : (m : Kept) (o : Object) → IsBegun k t → IsDone k m acted_on o → (l ≡ a) ⊎ (IsChange m.before m.now r.verb × may_keep a l r m.time t.next o) → MayKeep below may_keep a l (step_of k t r Itself)
     may_change_so m o is done (inl same) = inl same
     may_change_so m o is done (inr (change, kept)) = inr (inl (done_so below may_keep a l m o is done change kept))
 
-    pub may_next_so : (l ≡ a) ⊎ KeepsNext below may_keep a l k.plan k.time t r → MayKeep below may_keep keeps a l (step_of k t r NewWatch)
+    pub may_next_so : (l ≡ a) ⊎ KeepsNext below may_keep a l k.plan k.time t r → MayKeep below may_keep a l (step_of k t r NewWatch)
     may_next_so (inl same) = inl same
-    may_next_so (inr next) = inr (inr (inl (next_so below may_keep a l next)))
+    may_next_so (inr next) = inr (inr (next_so below may_keep a l next))
 
-    -- a make was kept, or not, and memory was wanting then
-    pub may_place_so : KeepsPlace below keeps a l k.plan k.time t r → MayKeep below may_keep keeps a l (step_of k t r NewWatch)
-    may_place_so (inl (same, why)) = inl same
-    may_place_so (inr next) = inr (inr (inr (next_so below keeps a l next)))
+-- ---- a make
+
+-- in the words of the state
+pub made_in : (told plan : Plan) (now time : ℕ) (t u : Table) (o : Object) → told ≡ plan → now ≡ time → IsMade told now t u o → IsMade plan time t u o
+made_in told plan now time t u o is same made = subst (λ (p : Plan). IsMade p time t u o) is (subst (λ (n : ℕ). IsMade told n t u o) same made)
+
+-- one that needs no keeping
+pub left_out_so : {K : Type 0} (below : K → ℕ) (keeps : K → K → Request → ℕ → ℕ → Object → Type 0) (a : K) (plan : Plan) (now time : ℕ) (t : Table) (r : Request) → now ≡ time
+    → (has_no_place (lapsed_at now t) ≡ true) ⊎ (t.next + 1 ≤ below a) → KeepsPlace below keeps a a plan time t r
+left_out_so below keeps a plan now time t r same why = inl (refl, subst (λ (n : ℕ). (has_no_place (lapsed_at n t) ≡ true) ⊎ (t.next + 1 ≤ below a)) same why)
+
+-- The request was kept once the watch was made, with the reply that tells of it.
+pub made_next : {K : Type 0} (below : K → ℕ) (keeps : K → K → Request → ℕ → ℕ → Object → Type 0) (a l : K) (told plan : Plan) (now time : ℕ) (t u : Table) (r : Request) (o : Object) (next : ℕ)
+    → told ≡ plan → now ≡ time → (has_no_place (lapsed_at now t) ≡ false) × (below a ≤ t.next) → IsOneMore told now t u o → next ≡ u.next → keeps a l r now next o → KeepsNext below keeps a l plan time t r
+made_next below keeps a l told plan now time t u r o next is same (place, beyond) more next_is kept =
+    subst (λ (n : ℕ). KeepsNext below keeps a l plan n t r) same (record {
+      place = place;
+      beyond = beyond;
+      kept = subst (λ (n : ℕ). keeps a l r now n (watch_part_object plan t.next first_lease Whole)) (next_is ∙ ap (λ (x : Table). x.next) more.table)
+          (subst (λ (x : Object). keeps a l r now next x) (more.reply ∙ ap (λ (p : Plan). watch_part_object p t.next first_lease Whole) is) kept);
+    })
 
 -- ---- a step as the definitions have it
 

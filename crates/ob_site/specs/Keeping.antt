@@ -82,20 +82,19 @@ module _ {K : Type 0} (below : K → ℕ) (keeps : K → K → Request → ℕ �
   KeepsChange k l before now r time next reply =
       ((l ≡ k) × ((now ≡ before) ⊎ (r.verb ≡ Get))) ⊎ (IsChange before now r.verb × keeps k l r time next reply)
 
-  -- It was kept that a watch is about to be made, since there is a place for one, and its number can't have been given.
+  -- A make was kept, since there was a place for one more watch, and its number can't have been given.
   pub record KeepsNext (k l : K) (plan : Plan) (now : ℕ) (t : Table) (r : Request) : Type 0 where
     pub place : has_no_place (lapsed_at now t) ≡ false
     pub beyond : below k ≤ t.next
     pub kept : keeps k l r now (t.next + 1) (watch_part_object plan t.next first_lease Whole)
 
-  -- What a request for a new watch made of its keeper, before the watch is made: nothing, where there is no place for one or its
-  -- number may have been given; or else it was kept.
+  -- What a request for a new watch made of its keeper, of the watches from before it: nothing, where there is no place for one more or
+  -- its number may have been given; or else it was kept.
   abbrev pub KeepsPlace : K → K → Plan → ℕ → Table → Request → Type 0
   KeepsPlace k l plan now t r =
       ((l ≡ k) × ((has_no_place (lapsed_at now t) ≡ true) ⊎ (t.next + 1 ≤ below k))) ⊎ KeepsNext k l plan now t r
 
 -- What a step that was not done, for want of memory or by an error of its keeper, made of it: nothing; or what an error may have
--- left of it; or it had kept a make and memory was wanting then, so that no watch was made.
-abbrev pub MayKeep : {K : Type 0} → (K → ℕ) → (may_keep keeps : K → K → Request → ℕ → ℕ → Object → Type 0) → K → K → Stepping → Type 0
-MayKeep below may_keep keeps k l s =
-    (l ≡ k) ⊎ (KeepsRequest below may_keep k l s ⊎ (KeepsMake below may_keep k l s ⊎ KeepsMake below keeps k l s))
+-- left of it.
+abbrev pub MayKeep : {K : Type 0} → (K → ℕ) → (may_keep : K → K → Request → ℕ → ℕ → Object → Type 0) → K → K → Stepping → Type 0
+MayKeep below may_keep k l s = (l ≡ k) ⊎ (KeepsRequest below may_keep k l s ⊎ KeepsMake below may_keep k l s)

@@ -50,7 +50,7 @@ pub(crate) fn on_itself<K: Keeper>(
     ensures done { IfOk result (IsAnswered state.old state.new watches.old watches.new request.now Itself) }
     ensures err { OnErr result (IsUnanswered state.old state.new watches.old watches.new) }
     ensures keeps { OnOk result (Keeps K.below K.keeps keeper.old keeper.new (step_of state.old watches.old request.now Itself)) }
-    ensures may_keep { OnErr result (MayKeep K.below K.may_keep K.keeps keeper.old keeper.new (step_of state.old watches.old request.now Itself)) }
+    ensures may_keep { OnErr result (MayKeep K.below K.may_keep keeper.old keeper.new (step_of state.old watches.old request.now Itself)) }
 {
     state.is_sound();
     steps_take_none_away();

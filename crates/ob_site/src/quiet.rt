@@ -1,14 +1,13 @@
 //! Requests that leave the state as it is: those to a watch, to the watch service, or to nothing.
-ghost use Rattle.std.specs.Prelude.{◌≡◌, ◌⊎◌, ℕ, ◌+◌, ◌<◌, ◌≤◌, ◌^◌, slice_index, IfOk, OnOk, OnErr};
+ghost use Rattle.std.specs.Prelude.{◌≡◌, ◌⊎◌, ℕ, ◌+◌, ◌<◌, ◌≤◌, ◌^◌, slice_index, IfOk, OnOk, OnErr, MatchBool, false, true};
 ghost use Rattle.ob_watching.specs.Asked.{NewWatch, Nowhere, OneWatch};
 ghost use Rattle.ob_site_rules.specs.declared.request.Request.{Request as Asked};
-ghost use Rattle.ob_watching.specs.Watches.{first_lease};
-ghost use Rattle.ob_site_rules.specs.Computed.{watch_part_object};
-ghost use Rattle.ob_site_rules.specs.Paths.{Whole};
 ghost use Rattle.ob_site_rules.specs.State.{roll};
 ghost use Rattle.ob_site_rules.specs.Watched.{WatchOperation};
-ghost use Rattle.ob_watch.specs.Tables.{lapsed_at};
+ghost use Rattle.ob_watch.specs.Tables.{has_no_place, lapsed_at};
 ghost use Rattle.ob_requests.specs.Targets.{operation_of};
+ghost use Rattle.ob_site_state.specs.declared.contents.Contents.{Contents};
+ghost use Rattle.ob_site_watched.specs.Answers.{AllKnown, IsMade};
 ghost use Rattle.ob_site_watched.specs.Polls.{object_entries, steps_in};
 ghost use Rattle.ob_site.specs.Between.{IsBegun};
 ghost use Rattle.ob_site.specs.Keeping.{Keeps, KeepsNext, KeepsPlace, MayKeep};
@@ -16,13 +15,14 @@ ghost use Rattle.ob_site.specs.Steps.{IsAnswered, IsUnanswered, step_of};
 
 use crate::keeper::Keeper;
 use ob_object::Obj;
-use ob_replies::{Fault, WatchPart, refusal, watch_part};
+use ob_replies::{Fault, refusal};
 use ob_requests::Operation;
 use ob_site_rules::Request;
 use ob_site_state::State;
 use ob_site_watched::{Call, make, on_watch};
 use ob_steps::Steps;
-use ob_watch::{FIRST_LEASE, Watches};
+use ob_times::Moment;
+use ob_watch::Watches;
 use std::alloc::AllocError;
 use std::sync::ledger::Ledger;
 
@@ -63,32 +63,43 @@ pub(crate) fn to_no_watch(state: &mut State, watches: &mut Watches) -> Result<Ob
     Ok(reply)
 }
 
-/// The reply to a make that gives this number.
-fn made_whole(state: &State, number: u64) -> Result<Obj, AllocError>
-    ensures { IfOk result (λ o. o ≡ watch_part_object state.now.plan number first_lease Whole) }
+/// Whether a request for a new watch needs no keeping: there is no place for one more, or its number may have been given by what is
+/// kept.
+fn is_left_out<K: Keeper>(watches: &Watches, keeper: &K, now: Moment) -> bool
+    ensures { MatchBool result ((has_no_place (lapsed_at now watches.now) ≡ true) ⊎ (watches.now.next + 1 ≤ K.below keeper.now))
+        ((has_no_place (lapsed_at now watches.now) ≡ false) × (K.below keeper.now ≤ watches.now.next)) }
 {
-    let whole = WatchPart::Whole;
-    watch_part(state.allocator(), state.plan(), number, FIRST_LEASE, whole)
+    watches.next_number() < keeper.below() || watches.is_full(now)
 }
 
-/// Has a keeper keep a request for a new watch, where there is a place for one and its number isn't kept yet.
-fn keep_make<K: Keeper>(
+/// Makes a watch, if there is a place for one more, and has a keeper keep the request, where it needs keeping. At an error the
+/// watches are as they were: a make that can't be kept is taken back.
+fn make_kept<K: Keeper>(
     state: &State,
-    watches: &Watches,
+    watches: &mut Watches,
     keeper: &mut K,
     request: &Request,
-) -> Result<(), AllocError>
+) -> Result<Obj, AllocError>
     requires ready { K.is_ready keeper.old }
-    ensures done { OnOk result (KeepsPlace K.below K.keeps keeper.old keeper.new state.now.plan state.now.time watches.now request.now) }
-    ensures err { OnErr result ((keeper.new ≡ keeper.old) ⊎ KeepsNext K.below K.may_keep keeper.old keeper.new state.now.plan state.now.time watches.now request.now) }
+    ensures done { IfOk result (IsMade state.now.plan state.now.time watches.old watches.new) }
+    ensures known { (c : Contents) → AllKnown state.now.plan c watches.old → AllKnown state.now.plan c watches.new }
+    ensures same { OnErr result (watches.new ≡ watches.old) }
+    ensures keeps { OnOk result (KeepsPlace K.below K.keeps keeper.old keeper.new state.now.plan state.now.time watches.old request.now) }
+    ensures may_keep { OnErr result ((keeper.new ≡ keeper.old) ⊎ KeepsNext K.below K.may_keep keeper.old keeper.new state.now.plan state.now.time watches.old request.now) }
 {
-    let number = watches.next_number();
     let now = state.time();
-    if number < keeper.below() || watches.is_full(now) {
-        return Ok(());
+    let left_out = is_left_out(watches, keeper, now);
+    let reply = make(state.allocator(), state.plan(), now, watches)?;
+    if left_out {
+        return Ok(reply);
     }
-    let reply = made_whole(state, number)?;
-    keeper.keep(request, now, number + 1, &reply)
+    match keeper.keep(request, now, watches.next_number(), &reply) {
+        Ok(()) => Ok(reply),
+        Err(AllocError) => {
+            watches.unmake();
+            Err(AllocError)
+        }
+    }
 }
 
 /// Makes a watch, if there is a place for one more.
@@ -105,11 +116,10 @@ pub(crate) fn to_service<K: Keeper>(
     ensures done { IfOk result (IsAnswered state.old state.new watches.old watches.new request.now NewWatch) }
     ensures err { OnErr result (IsUnanswered state.old state.new watches.old watches.new) }
     ensures keeps { OnOk result (Keeps K.below K.keeps keeper.old keeper.new (step_of state.old watches.old request.now NewWatch)) }
-    ensures may_keep { OnErr result (MayKeep K.below K.may_keep K.keeps keeper.old keeper.new (step_of state.old watches.old request.now NewWatch)) }
+    ensures may_keep { OnErr result (MayKeep K.below K.may_keep keeper.old keeper.new (step_of state.old watches.old request.now NewWatch)) }
 {
     let _contents = state.contents();
-    keep_make(state, watches, keeper, request)?;
-    let reply = make(state.allocator(), state.plan(), state.time(), watches)?;
+    let reply = make_kept(state, watches, keeper, request)?;
     end_quietly(state, watches);
     Ok(reply)
 }

@@ -88,7 +88,7 @@ impl Site {
         ensures done { IfOk result (λ reply. step locate self.old request.now moment ≡ (self.new, reply)) }
         ensures refused { OnErr result (self.new ≡ self.old) }
         ensures keeps { OnOk result (Keeps K.below K.keeps keeper.old keeper.new (stepping self.old request.now moment)) }
-        ensures may_keep { OnErr result (MayKeep K.below K.may_keep K.keeps keeper.old keeper.new (stepping self.old request.now moment)) }
+        ensures may_keep { OnErr result (MayKeep K.below K.may_keep keeper.old keeper.new (stepping self.old request.now moment)) }
         ensures steps { IfOk result (λ reply. steps.new ≤ steps.old + steps_for 32 (object_entries reply)) }
     {
         step(
@@ -128,9 +128,8 @@ impl Site {
     /// of the site needs. An error for want of memory, or from the keeper, leaves the site as it was.
     ///
     /// The keeper is asked once at most, before anything of the step counts: to keep a request for the site itself that has
-    /// changed it; or a make that can be done, whose number can't have been given by what is kept. What isn't
-    /// kept leaves the site as it was. After it was asked, nothing but a make can fail, for want of memory: then it was kept, and
-    /// no watch is made.
+    /// changed it; or a make that was done, whose number can't have been given by what is kept. What isn't
+    /// kept leaves the site as it was. After it was asked nothing can fail.
     pub fn step_kept<K: Keeper>(
         &mut self,
         keeper: &mut K,
@@ -141,7 +140,7 @@ impl Site {
         ensures done { IfOk result (λ reply. step locate self.old request.now moment ≡ (self.new, reply)) }
         ensures refused { OnErr result (self.new ≡ self.old) }
         ensures keeps { OnOk result (Keeps K.below K.keeps keeper.old keeper.new (stepping self.old request.now moment)) }
-        ensures may_keep { OnErr result (MayKeep K.below K.may_keep K.keeps keeper.old keeper.new (stepping self.old request.now moment)) }
+        ensures may_keep { OnErr result (MayKeep K.below K.may_keep keeper.old keeper.new (stepping self.old request.now moment)) }
     {
         step_by::<Brand, K>(self, keeper, request, moment, Blank::new(1))
     }
@@ -207,7 +206,7 @@ fn step_by<L: Ledger, K: Keeper>(
     ensures done { IfOk result (λ reply. step locate machine.old request.now moment ≡ (machine.new, reply)) }
     ensures refused { OnErr result (machine.new ≡ machine.old) }
     ensures keeps { OnOk result (Keeps K.below K.keeps keeper.old keeper.new (stepping machine.old request.now moment)) }
-    ensures may_keep { OnErr result (MayKeep K.below K.may_keep K.keeps keeper.old keeper.new (stepping machine.old request.now moment)) }
+    ensures may_keep { OnErr result (MayKeep K.below K.may_keep keeper.old keeper.new (stepping machine.old request.now moment)) }
 {
     let mut steps = Steps::<L>::begin(blank);
     machine.step_with(keeper, request, moment, &mut steps)

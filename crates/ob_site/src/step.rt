@@ -47,7 +47,7 @@ fn answer<L: Ledger, K: Keeper>(
     ensures done { IfOk result (IsAnswered state.old state.new watches.old watches.new request.now ((site locate state.old.plan).target request.now)) }
     ensures err { OnErr result (IsUnanswered state.old state.new watches.old watches.new) }
     ensures keeps { OnOk result (Keeps K.below K.keeps keeper.old keeper.new (step_of state.old watches.old request.now ((site locate state.old.plan).target request.now))) }
-    ensures may_keep { OnErr result (MayKeep K.below K.may_keep K.keeps keeper.old keeper.new (step_of state.old watches.old request.now ((site locate state.old.plan).target request.now))) }
+    ensures may_keep { OnErr result (MayKeep K.below K.may_keep keeper.old keeper.new (step_of state.old watches.old request.now ((site locate state.old.plan).target request.now))) }
     ensures steps { IfOk result (λ o. steps.new ≤ steps.old + steps_in state.old.now.tree (object_entries o)) }
 {
     match target(state, request)? {
@@ -75,7 +75,7 @@ pub(crate) fn step<L: Ledger, K: Keeper>(
     ensures refused { OnErr result (site_of state.new watches.new ≡ site_of state.old watches.old) }
     ensures kept { IsSite state.new watches.new }
     ensures keeps { OnOk result (Keeps K.below K.keeps keeper.old keeper.new (stepping (site_of state.old watches.old) request.now moment)) }
-    ensures may_keep { OnErr result (MayKeep K.below K.may_keep K.keeps keeper.old keeper.new (stepping (site_of state.old watches.old) request.now moment)) }
+    ensures may_keep { OnErr result (MayKeep K.below K.may_keep keeper.old keeper.new (stepping (site_of state.old watches.old) request.now moment)) }
     ensures steps { IfOk result (λ o. steps.new ≤ steps.old + steps_for 32 (object_entries o)) }
 {
     make_room(state, watches);

@@ -26,5 +26,5 @@ returns-clause-keeps g c =
 pub returns-in_err-end_step-clause-may_keep : goal.returns-in_err-end_step-clause-may_keep
 returns-in_err-end_step-clause-may_keep g c =
     whatever_err c.from_residual-in_err-end_step.result _
-    (may_change_so c.args.state.now c.args.watches.now c.args.request.now g.K.Keeper.below g.K.Keeper.may_keep g.K.Keeper.keeps c.args.keeper.now c.end_step.new.keeper c.act.new.state c.in_ok-reply.reply
+    (may_change_so c.args.state.now c.args.watches.now c.args.request.now g.K.Keeper.below g.K.Keeper.may_keep c.args.keeper.now c.end_step.new.keeper c.act.new.state c.in_ok-reply.reply
     c.requires.begun c.in_ok-reply.ensures.done c.in_err-end_step.ensures.may_keep)

@@ -1,8 +1,7 @@
-use Rattle.std.proofs.Common.{◌∙◌, refl, sym}
-use Rattle.ob_replies.specs.Plans.{plan as plan_of}
+use Rattle.std.proofs.Common.{refl}
 use Rattle.ob_watching.specs.Asked.{NewWatch}
 use Rattle.ob_site.proofs.Asked.{made_so}
-use Rattle.ob_site.proofs.Keeping.{may_next_so, may_place_so, place_so, whatever_err}
+use Rattle.ob_site.proofs.Keeping.{may_next_so, place_so, whatever_err}
 use Rattle.ob_site.proofs.Known.{kept_through}
 use Rattle.ob_site.proofs.Unchanged.{quietly}
 use Rattle.ob_site.proofs.quiet.to_service.Goals as goal
@@ -11,24 +10,19 @@ pub returns-clause-done : goal.returns-clause-done
 returns-clause-done g c =
     let k = c.args.state.now in
     let t = c.args.watches.now in
-    let u = c.make.new.watches in
+    let u = c.make_kept.new.watches in
     let r = c.args.request.now in
     let cs = c.contents-contents.result.now in
     quietly k c.end_quietly.new.state t u c.end_quietly.new.watches r NewWatch c.in_ok-reply.reply c.requires.begun
-    (made_so k (plan_of c.plan.result.now) c.time.result t u c.in_ok-reply.reply c.plan.ensures c.time.ensures c.in_ok-reply.ensures.done r)
-    (kept_through k (plan_of c.plan.result.now) cs t u c.plan.ensures c.contents-contents.ensures.value c.contents-contents.ensures.stamps c.contents-contents.ensures.steps c.requires.begun.kept (c.make.ensures.known cs))
+    (made_so k k.plan k.time t u c.in_ok-reply.reply refl refl c.in_ok-reply.ensures.done r)
+    (kept_through k k.plan cs t u refl c.contents-contents.ensures.value c.contents-contents.ensures.stamps c.contents-contents.ensures.steps c.requires.begun.kept (c.make_kept.ensures.known cs))
     c.end_quietly.ensures.state c.end_quietly.ensures.watches
 
 pub returns-clause-keeps : goal.returns-clause-keeps
 returns-clause-keeps g c =
-    place_so c.args.state.now c.args.watches.now c.args.request.now g.K.Keeper.below g.K.Keeper.keeps c.args.keeper.now c.keep_make.new.keeper c.requires.begun c.in_ok-keep_make.ensures.done
-
-pub returns-in_err-keep_make-clause-may_keep : goal.returns-in_err-keep_make-clause-may_keep
-returns-in_err-keep_make-clause-may_keep g c =
-    whatever_err c.from_residual.result _
-    (may_next_so c.args.state.now c.args.watches.now c.args.request.now g.K.Keeper.below g.K.Keeper.may_keep g.K.Keeper.keeps c.args.keeper.now c.keep_make.new.keeper c.in_err-keep_make.ensures.err)
+    place_so c.args.state.now c.args.watches.now c.args.request.now g.K.Keeper.below g.K.Keeper.keeps c.args.keeper.now c.make_kept.new.keeper c.requires.begun c.in_ok-reply.ensures.keeps
 
 pub returns-in_err-reply-clause-may_keep : goal.returns-in_err-reply-clause-may_keep
 returns-in_err-reply-clause-may_keep g c =
-    whatever_err c.from_residual-in_err-reply.result _
-    (may_place_so c.args.state.now c.args.watches.now c.args.request.now g.K.Keeper.below g.K.Keeper.may_keep g.K.Keeper.keeps c.args.keeper.now c.keep_make.new.keeper c.in_ok-keep_make.ensures.done)
+    whatever_err c.from_residual.result _
+    (may_next_so c.args.state.now c.args.watches.now c.args.request.now g.K.Keeper.below g.K.Keeper.may_keep c.args.keeper.now c.make_kept.new.keeper c.in_err-reply.ensures.may_keep)

@@ -77,7 +77,7 @@ returns-in-Itself-clause-may_keep g c =
     let r = c.args.request.now in
     let meant = subst (λ (g : Target). IsTarget g ((site locate k.plan).target r)) c.in-Itself.is c.in_ok-target.ensures in
     on_err_weaker c.on_itself.result
-    (subst (λ (x : SiteTarget). MayKeep g.K.Keeper.below g.K.Keeper.may_keep g.K.Keeper.keeps c.args.keeper.now c.on_itself.new.keeper (step_of k c.args.watches.now r x)) (sym meant)) c.on_itself.ensures.may_keep
+    (subst (λ (x : SiteTarget). MayKeep g.K.Keeper.below g.K.Keeper.may_keep c.args.keeper.now c.on_itself.new.keeper (step_of k c.args.watches.now r x)) (sym meant)) c.on_itself.ensures.may_keep
 
 pub returns-in-NewWatch-clause-keeps : goal.returns-in-NewWatch-clause-keeps
 returns-in-NewWatch-clause-keeps g c =
@@ -93,7 +93,7 @@ returns-in-NewWatch-clause-may_keep g c =
     let r = c.args.request.now in
     let meant = subst (λ (g : Target). IsTarget g ((site locate k.plan).target r)) c.in-NewWatch.is c.in_ok-target.ensures in
     on_err_weaker c.to_service.result
-    (subst (λ (x : SiteTarget). MayKeep g.K.Keeper.below g.K.Keeper.may_keep g.K.Keeper.keeps c.args.keeper.now c.to_service.new.keeper (step_of k c.args.watches.now r x)) (sym meant)) c.to_service.ensures.may_keep
+    (subst (λ (x : SiteTarget). MayKeep g.K.Keeper.below g.K.Keeper.may_keep c.args.keeper.now c.to_service.new.keeper (step_of k c.args.watches.now r x)) (sym meant)) c.to_service.ensures.may_keep
 
 pub returns-in-Nowhere-clause-keeps : goal.returns-in-Nowhere-clause-keeps
 returns-in-Nowhere-clause-keeps g c =

@@ -48,6 +48,6 @@ returns-in-Ok-clause-keeps g c =
 
 pub returns-in-Err-clause-may_keep : goal.returns-in-Err-clause-may_keep
 returns-in-Err-clause-may_keep g c =
-    subst (λ (s : Stepping). MayKeep g.K.Keeper.below g.K.Keeper.may_keep g.K.Keeper.keeps c.args.keeper.now c.answer.new.keeper s)
+    subst (λ (s : Stepping). MayKeep g.K.Keeper.below g.K.Keeper.may_keep c.args.keeper.now c.answer.new.keeper s)
     (step_is (site_of c.args.state.now c.args.watches.now) c.make_room.new.state c.begin.new.self c.make_room.new.watches c.args.request.now c.args.moment c.make_room.ensures.same c.begin.ensures)
     c.in-Err.ensures.may_keep

@@ -27,5 +27,5 @@ returns-clause-keeps g c =
 pub returns-clause-may_keep : goal.returns-clause-may_keep
 returns-clause-may_keep g c =
     on_err_weaker c.step.result
-    (subst (λ (st : SiteState). MayKeep g.K.Keeper.below g.K.Keeper.may_keep g.K.Keeper.keeps c.args.keeper.now c.step.new.keeper (stepping st c.args.request.now c.args.moment)) c.self.view_is)
+    (subst (λ (st : SiteState). MayKeep g.K.Keeper.below g.K.Keeper.may_keep c.args.keeper.now c.step.new.keeper (stepping st c.args.request.now c.args.moment)) c.self.view_is)
     c.step.ensures.may_keep
