@@ -22,14 +22,12 @@ use Rattle.ob_site_rules.specs.declared.request.Request.{Request}
 use Rattle.ob_site_rules.specs.Entries.{empty_object}
 use Rattle.ob_site_rules.specs.Sites.{SiteState}
 use Rattle.ob_kept.specs.declared.recorder.Recorder.{Recorder}
-use Rattle.ob_kept.specs.Keeping.{Keeping, LeavesOf, LeavesOneOf, LeavesMore, IsAtRestAt, IsKept}
-use Rattle.ob_kept.specs.Recording.{entry_of, next_block, numbers_entry, Appended, MayHaveAppended, HasKept, MayHaveKept}
+use Rattle.ob_kept.specs.Keeping.{LeavesOf, LeavesOneOf, LeavesMore, IsAtRestAt, IsKept}
+use Rattle.ob_kept.specs.Recording.{entry_of, next_block, numbers_entry, Appended, MayHaveAppended, HasNoRoom, HasKept, MayHaveKept}
 use Rattle.ob_kept.specs.Redone.{kept_reply, more_numbers, numbers_noted, redone}
+use Rattle.ob_kept.proofs.Growing.{keeping}
 use Rattle.ob_kept.proofs.Redoing.{more_restart, still_restart, time_of, redone_restart, redone_reply, redone_next}
 use Rattle.ob_kept.proofs.Steps.{one_more, last_one, led, file_now, rest_of, leaves_either, rest_later}
-
-abbrev pub keeping : ℕ → SiteState → ℕ → List SiteState → SiteState → Keeping
-keeping boot opening since past now = record { boot = boot; opening = opening; since = since; past = past; now = now }
 
 module _ {D : Type 0} (told : Type 0) (seen : D → List ℕ) (may_leave : D → List ℕ → Type 0) (moment : D → ℕ) (left_since : D → ℕ → List ℕ → Type 0)
     (counts_now : (device : D) (t : ℕ) (c : List ℕ) → t ≤ moment device → may_leave device c → left_since device t c)
@@ -37,7 +35,7 @@ module _ {D : Type 0} (told : Type 0) (seen : D → List ℕ) (may_leave : D →
   -- what is told of the device of a recorder
   abbrev pub Told : List SiteState → SiteState → Recorder D → Type 0
   Told past now k =
-      IsKept seen may_leave moment left_since (keeping k.boot opening since past now) k.journal.device k.journal.end k.next k.begun k.failed
+      IsKept seen may_leave moment left_since (keeping k.boot opening since past now k.journal.end k.next k.begun) k.journal.device k.failed
 
   pub told_as : (l : Recorder D) (a b : List SiteState) (st u : SiteState) → a ≡ b → st ≡ u → Told b u l → Told a st l
   told_as l a b st u e f h = subst (λ (x : List SiteState). Told x st l) (sym e) (subst (λ (x : SiteState). Told b x l) (sym f) h)
@@ -83,7 +81,7 @@ module _ {D : Type 0} (told : Type 0) (seen : D → List ℕ) (may_leave : D →
           (subst (λ (b : Bool). IsAtRestAt seen may_leave moment left_since k.boot opening later l.journal.device l.journal.end next b) (sym done.begun) again) in
           let early = h.later in
           let on = leaves.later in
-          subst (λ (boot : ℕ). IsKept seen may_leave moment left_since (keeping boot opening since states later) l.journal.device l.journal.end l.next l.begun l.failed) (sym done.boot)
+          subst (λ (boot : ℕ). IsKept seen may_leave moment left_since (keeping boot opening since states later l.journal.end l.next l.begun) l.journal.device l.failed) (sym done.boot)
           (record {
             later = omega (arith, early, on);
             crash = λ c was. inl (⊎_elim
@@ -102,7 +100,7 @@ module _ {D : Type 0} (told : Type 0) (seen : D → List ℕ) (may_leave : D →
           let on = leaves.later in
           let more : (c : List ℕ) → Leaves c later → (l.failed ≡ true) × LeavesMore k.boot opening c now =
           λ c there. (lost.failed, (r, time, subst (λ (st : SiteState). LeavesOf k.boot opening c st) later_is there)) in
-          subst (λ (boot : ℕ). IsKept seen may_leave moment left_since (keeping boot opening since past now) l.journal.device l.journal.end l.next l.begun l.failed) (sym lost.boot)
+          subst (λ (boot : ℕ). IsKept seen may_leave moment left_since (keeping boot opening since past now l.journal.end l.next l.begun) l.journal.device l.failed) (sym lost.boot)
           (record {
             later = omega (arith, early, on);
             crash = λ c was. ⊎_elim
@@ -172,22 +170,23 @@ module _ {D : Type 0} (told : Type 0) (seen : D → List ℕ) (may_leave : D →
           entry_kept l (numbers_entry left.world.time) empty_object refl refl left (made_restart kept.target kept.made)
           (past ++ now ∷ []) (λ c one. one_more k.boot opening c (past ++ now ∷ []) (left ∷ []) one) (more_numbers k.next) (kept.kept.numbers (omega (arith, beyond, made))) (numbers_is kept.target kept.made)
 
+      -- where the file had no room nothing was done but a note
+      no_room : (e : Entry) → HasNoRoom told seen may_leave moment left_since k l e → Told past now l
+      no_room e none = subst (λ (x : Recorder D). Told past now x) (sym none.noted) h
+
       -- and one that was not
-      pub step_refused : MayKeep (λ (x : Recorder D). x.next) (MayHaveKept told seen may_leave moment left_since) (HasKept told seen may_leave moment left_since) k l (stepping now r asked) → Told past now l
+      pub step_refused : MayKeep (λ (x : Recorder D). x.next) (MayHaveKept told seen may_leave moment left_since) k l (stepping now r asked) → Told past now l
       step_refused (inl same) = subst (λ (x : Recorder D). Told past now x) (sym same) h
       step_refused (inr (inl kept)) =
+          let e = entry_of r left.world.time (acts now r asked).1 in
           ⊎_elim (λ same. subst (λ (x : Recorder D). Told past now x) (sym same) h)
-          (λ lost. entry_lost l (entry_of r left.world.time (acts now r asked).1) (kept_reply r (acts now r asked).1) refl (request_reply kept.target kept.verb) left (request_restart kept.target kept.verb)
-          r asked refl lost)
+          (⊎_elim (no_room e)
+          (λ lost. entry_lost l e (kept_reply r (acts now r asked).1) refl (request_reply kept.target kept.verb) left (request_restart kept.target kept.verb) r asked refl lost))
           (kept.kept.request (few kept.target kept.verb))
-      step_refused (inr (inr (inl kept))) =
+      step_refused (inr (inr kept)) =
           let beyond = kept.beyond in
           let made = kept.made in
+          let e = numbers_entry left.world.time in
           ⊎_elim (λ same. subst (λ (x : Recorder D). Told past now x) (sym same) h)
-          (λ lost. entry_lost l (numbers_entry left.world.time) empty_object refl refl left (made_restart kept.target kept.made) r asked refl lost)
+          (⊎_elim (no_room e) (λ lost. entry_lost l e empty_object refl refl left (made_restart kept.target kept.made) r asked refl lost))
           (kept.kept.numbers (omega (arith, beyond, made)))
-      step_refused (inr (inr (inr kept))) =
-          let beyond = kept.beyond in
-          let made = kept.made in
-          entry_kept l (numbers_entry left.world.time) empty_object refl refl now (more_restart now from rest.restart) past (λ c one. one) (more_numbers k.next)
-          (kept.kept.numbers (omega (arith, beyond, made))) (numbers_is kept.target kept.made)

@@ -1,13 +1,15 @@
+mod Same
 mod RepliesApart
 mod Redoing
 mod Steps
+mod Growing
 mod KeptSteps
 mod Reopens
 mod Reading
 mod Restarts
 mod Appending
 mod Doing
-mod Boots
+mod Left
 mod Acting
 mod FrontLemmas
 mod Crossing

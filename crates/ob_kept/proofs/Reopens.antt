@@ -1,8 +1,8 @@
 -- A site that is opened with its record.
-use Rattle.std.proofs.Common.{◌≡◌, inl, inr, ⊎_elim, ℕ, ◌+◌, ◌≤◌, max, Bool, List, [], ◌∷◌, Option, Some, None, refl, sym, ◌∙◌, ap, subst, arith, le_refl}
+use Rattle.std.proofs.Common.{◌≡◌, inl, inr, ⊎_elim, ℕ, ◌+◌, ◌≤◌, max, Bool, List, [], ◌∷◌, length, Option, Some, None, refl, sym, ◌∙◌, ap, subst, arith, le_refl}
 use Rattle.std.specs.Prelude.{Ok, IfSome}
 use Rattle.ob_journal.specs.Device.{LeavesOnly, Only}
-use Rattle.ob_journal.specs.Journal.{Says, IsSettled}
+use Rattle.ob_journal.specs.Journal.{Says, IsSettled, front}
 use Rattle.ob_object.specs.Object.{Object}
 use Rattle.ob_load.specs.Loads.{IsSite}
 use Rattle.ob_opening.specs.Opening.{opening}
@@ -23,7 +23,7 @@ use Rattle.ob_site_laws.specs.SiteLaws.{IsSoundSite}
 use Rattle.ob_site_lasting.specs.SiteLasting.{IsSiteRestartOf}
 use Rattle.ob_kept.specs.Keeping.{Keeping, LeavesOf, IsAtRestAt}
 use Rattle.ob_kept.specs.Redone.{redone_as, redone}
-use Rattle.ob_kept.specs.Reopening.{site_bytes, IsOpenedAt, Redoes, KeepsOn, Reopens}
+use Rattle.ob_kept.specs.Reopening.{starting, site_bytes, IsOpenedAt, Redoes, KeepsOn, Reopens}
 use Rattle.ob_kept.proofs.Steps.{file_now}
 
 -- ---- no watch stands
@@ -152,10 +152,10 @@ ready_kept {D} seen may_leave moment left_since old opened mid new given boot op
     (keeps_on seen may_leave moment left_since old mid new given boot opening now begun durable read redoes opens.bare sound.of_watches.next end
     (settled (run_blocks boot redoes.entries) says) (repaired (run_blocks boot redoes.entries) says))
 
-pub reopens_so : (told : Type 0) (content : Option (List ℕ)) (file : List ℕ) (from given boot since : ℕ) (ns ns' : Option (List ℕ)) (opening now : SiteState) (begun : Bool) (k : Keeping)
-    → ns' ≡ ns → k ≡ record { boot = boot; opening = opening; since = since; past = []; now = now } → since ≡ from → IsOpenedAt content boot ns opening → (told → Redoes file given boot opening now begun) → IsSoundSite now
-    → Reopens told content file from given ns' k
-reopens_so told content file from given boot since ns ns' opening now begun k ns_is k_is since_is opens redoes sound =
+pub reopens_so : (told : Type 0) (content : Option (List ℕ)) (file : List ℕ) (from given boot since : ℕ) (ns ns' : Option (List ℕ)) (opening now : SiteState) (end : ℕ) (begun : Bool) (k : Keeping)
+    → ns' ≡ ns → k ≡ starting since boot opening now end begun → since ≡ from → IsOpenedAt content boot ns opening → (told → Redoes file given boot opening now begun)
+    → (told → (blocks : List (List ℕ)) → Says IsBlock file blocks → end ≡ length (front blocks)) → IsSoundSite now → Reopens told content file from given ns' k
+reopens_so told content file from given boot since ns ns' opening now end begun k ns_is k_is since_is opens redoes ends sound =
     subst (λ (n : Option (List ℕ)). Reopens told content file from given n k) (sym ns_is)
     (subst (λ (x : Keeping). Reopens told content file from given ns x) (sym k_is) (record {
       opened = opens.opened;
@@ -163,5 +163,7 @@ reopens_so told content file from given boot since ns ns' opening now begun k ns
       anew = λ t none. (redoes t).anew none;
       since_is = since_is;
       past = refl;
+      next_is = refl;
+      end_is = ends;
       sound = sound;
     }))

@@ -3,6 +3,7 @@ pub mod Saying
 pub mod Reading
 pub mod Restarting
 pub mod Recording
+pub mod Room
 pub mod Keeping
 pub mod Fronts
 pub mod Reopening

@@ -1,10 +1,10 @@
 -- What a recorder has done to the file of a record: what a call of it leaves.
-use Rattle.std.specs.Prelude.{◌≡◌, ◌⊎◌, ℕ, ◌<◌, ◌≤◌, Bool, true, false, cond, List, [], ◌∷◌, ◌++◌, Option, Some, None}
+use Rattle.std.specs.Prelude.{◌≡◌, ◌⊎◌, ℕ, ◌+◌, ◌<◌, ◌≤◌, Bool, true, false, cond, List, [], ◌∷◌, ◌++◌, length, Option, Some, None}
 use Rattle.ob_encode.specs.Canonical.{canonical_text}
 use Rattle.ob_object.specs.Object.{Object}
 use Rattle.ob_values.specs.declared.verb.Verb.TheVariants.{Get}
 use Rattle.ob_journal.specs.Device.{LeavesOnly}
-use Rattle.ob_journal.specs.Journal.{IsAtRest, IsBeforeOrAfter, IsSettled}
+use Rattle.ob_journal.specs.Journal.{IsAtRest, IsBeforeOrAfter, IsSettled, IsTooLong}
 use Rattle.ob_record.specs.Blocks.{IsBlock, block_text}
 use Rattle.ob_record.specs.Runs.{IsEntry, parts_of}
 use Rattle.ob_record.specs.declared.run.Entry.{Entry}
@@ -34,6 +34,10 @@ opening_moment boot begun = cond begun None (Some boot)
 abbrev pub next_block : {D : Type 0} → Recorder D → Entry → List ℕ
 next_block k e = block_text (opening_moment k.boot k.begun) (parts_of e)
 
+-- and with the closed gate behind it
+abbrev pub closed_block : {D : Type 0} → Recorder D → Entry → List ℕ
+closed_block k e = next_block k e ++ 0 ∷ []
+
 -- Of a device told says whether anything is; seen, may_leave, moment and left_since say what its file is, and what a crash may
 -- leave.
 module _ {D : Type 0} (told : Type 0) (seen : D → List ℕ) (may_leave : D → List ℕ → Type 0) (moment : D → ℕ) (left_since : D → ℕ → List ℕ → Type 0) where
@@ -46,13 +50,16 @@ module _ {D : Type 0} (told : Type 0) (seen : D → List ℕ) (may_leave : D →
   LeavesBeforeOrAfter k l e = (blocks : List (List ℕ)) → IsSettled IsBlock seen may_leave blocks k.journal.device k.journal.end
       → LeavesOnly moment left_since k.journal.device l.journal.device (IsBeforeOrAfter IsBlock blocks (next_block k e))
 
-  -- An entry that a record can have was appended, and is on the disk.
+  -- An entry that a record can have was appended, for which there was room, and is on the disk.
   pub record Appended (k l : Recorder D) (e : Entry) (next : ℕ) : Type 0 where
     pub valid : IsEntry e
+    pub room : ¬ (IsTooLong k.journal.end (closed_block k e))
     pub boot : l.boot ≡ k.boot
     pub begun : l.begun ≡ true
     pub failed : l.failed ≡ false
+    pub full : l.full ≡ k.full
     pub next_is : l.next ≡ next
+    pub end_is : l.journal.end ≡ k.journal.end + length (closed_block k e)
     pub settled : told → (blocks : List (List ℕ)) → IsSettled IsBlock seen may_leave blocks k.journal.device k.journal.end
         → IsSettled IsBlock seen may_leave (blocks ++ next_block k e ∷ []) l.journal.device l.journal.end
     pub leaves : told → LeavesBeforeOrAfter k l e
@@ -63,8 +70,19 @@ module _ {D : Type 0} (told : Type 0) (seen : D → List ℕ) (may_leave : D →
     pub boot : l.boot ≡ k.boot
     pub begun : l.begun ≡ k.begun
     pub failed : l.failed ≡ true
+    pub full : l.full ≡ k.full
     pub next_is : l.next ≡ k.next
+    pub end_is : l.journal.end ≡ k.journal.end
     pub leaves : told → LeavesBeforeOrAfter k l e
+
+  -- The file has no room for an entry: nothing was done, and that is noted.
+  pub record HasNoRoom (k l : Recorder D) (e : Entry) : Type 0 where
+    pub noted : l ≡ record k { full = true }
+    pub long : IsTooLong k.journal.end (closed_block k e)
+
+  -- After an error nothing was done, for want of memory or of room; or a call of the device has failed.
+  abbrev pub MayHave : Recorder D → Recorder D → Entry → Type 0
+  MayHave k l e = (l ≡ k) ⊎ (HasNoRoom k l e ⊎ MayHaveAppended k l e)
 
   -- a request was kept
   abbrev pub KeptRequest : Recorder D → Recorder D → Request → ℕ → Object → Type 0
@@ -74,10 +92,6 @@ module _ {D : Type 0} (told : Type 0) (seen : D → List ℕ) (may_leave : D →
   abbrev pub KeptNumbers : Recorder D → Recorder D → ℕ → Type 0
   KeptNumbers k l time = Appended k l (numbers_entry time) (more_numbers k.next)
 
-  -- after an error nothing was done, or a call of the device has failed
-  abbrev pub MayHaveNumbers : Recorder D → Recorder D → ℕ → Type 0
-  MayHaveNumbers k l time = (l ≡ k) ⊎ MayHaveAppended k l (numbers_entry time)
-
   -- What a step keeps, after which the next watch has this number: numbers of watches, where it has given one that the record
   -- doesn't say of; or else the request.
   pub record HasKept (k l : Recorder D) (r : Request) (time next : ℕ) (reply : Object) : Type 0 where
@@ -86,5 +100,5 @@ module _ {D : Type 0} (told : Type 0) (seen : D → List ℕ) (may_leave : D →
 
   -- the same after an error
   pub record MayHaveKept (k l : Recorder D) (r : Request) (time next : ℕ) (reply : Object) : Type 0 where
-    pub request : next ≤ k.next → (l ≡ k) ⊎ MayHaveAppended k l (entry_of r time reply)
-    pub numbers : k.next < next → MayHaveNumbers k l time
+    pub request : next ≤ k.next → MayHave k l (entry_of r time reply)
+    pub numbers : k.next < next → MayHave k l (numbers_entry time)

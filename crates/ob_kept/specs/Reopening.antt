@@ -1,10 +1,10 @@
 -- What the opening of a site with a record comes to.
-use Rattle.std.specs.Prelude.{◌≡◌, ◌⊎◌, ℕ, ◌≤◌, Bool, true, false, List, [], ◌∷◌, take, Option, IfSome, Result, IsErrOf}
+use Rattle.std.specs.Prelude.{◌≡◌, ◌⊎◌, ℕ, ◌≤◌, Bool, true, false, List, [], ◌∷◌, length, take, Option, IfSome, Result, IsErrOf}
 use Rattle.ob_io.specs.Faults.{Rose}
 use Rattle.ob_journal.specs.Device.{LeavesOnly}
 use Rattle.ob_journal.specs.declared.device.DeviceFault.{DeviceFault}
 use Rattle.ob_journal.specs.declared.device.DeviceFault.TheVariants as devices
-use Rattle.ob_journal.specs.Journal.{Says}
+use Rattle.ob_journal.specs.Journal.{Says, front}
 use Rattle.ob_load.specs.Loads.{IsSite, IsOutside, RefusesBytes}
 use Rattle.ob_record.specs.Blocks.{IsBlock}
 use Rattle.ob_record.specs.Legal.{IsLegalRun, after_entries}
@@ -76,13 +76,15 @@ fault_of_device devices.Memory = faults.Memory
 
 -- The site file, where it is told, opens this state at the moment of the record; and the record, where its device tells, leads
 -- from it to the state that the site is in. Without an entry the moment is the one that was given. What a crash may have left is
--- told since the moment of the device that was handed in.
+-- told since the moment of the device that was handed in. The closed gate stands behind what the record says.
 pub record Reopens (told : Type 0) (content : Option (List ℕ)) (record_file : List ℕ) (since given : ℕ) (ns : Option (List ℕ)) (k : Keeping) : Type 0 where
   pub opened : IfSome content (λ whole. IsSite (site_bytes whole) k.boot ns k.opening)
   pub leads : told → LeadsTo k.boot k.opening record_file k.now
   pub anew : told → Says IsBlock record_file [] → k.boot ≡ given
   pub since_is : k.since ≡ since
   pub past : k.past ≡ []
+  pub next_is : k.next ≡ k.now.world.next
+  pub end_is : told → (blocks : List (List ℕ)) → Says IsBlock record_file blocks → k.end ≡ length (front blocks)
   pub sound : IsSoundSite k.now
 
 -- why a record gave no site
@@ -117,8 +119,12 @@ pub record HasReopenCause {T : Type 0} (before after : ℕ) (result : Result T R
   pub later : before ≤ after
   pub failed : IsErrOf result faults.Device → Rose before after
 
+-- a site that goes on with its record, whose closed gate stands at this place
+abbrev pub starting : (since boot : ℕ) → (opening now : SiteState) → (end : ℕ) → (begun : Bool) → Keeping
+starting since boot opening now end begun = record { boot = boot; opening = opening; since = since; past = []; now = now; end = end; next = now.world.next; begun = begun }
+
 -- A site that is as its record leaves it: what is owed where it goes on with that record.
 abbrev pub KeepsOn : {D : Type 0} → (seen : D → List ℕ) → (may_leave : D → List ℕ → Type 0) → (moment : D → ℕ) → (left_since : D → ℕ → List ℕ → Type 0)
     → (since boot : ℕ) → (opening now : SiteState) → (device : D) → (end : ℕ) → (begun : Bool) → Type 0
 KeepsOn seen may_leave moment left_since since boot opening now device end begun =
-    IsKept seen may_leave moment left_since (record { boot = boot; opening = opening; since = since; past = []; now = now }) device end now.world.next begun false
+    IsKept seen may_leave moment left_since (starting since boot opening now end begun) device false

@@ -1,11 +1,15 @@
 //! A site that is kept.
+ghost use Rattle.std.specs.Prelude.{◌≡◌, IfOk};
+ghost use Rattle.ob_kept.specs.Keeping.{record_is_full};
+
 use crate::recorder::Recorder;
 use ob_journal::Device;
-use ob_object::Obj;
+use ob_object::{Attributes, Kind, Obj};
 use ob_site::{Machine, Site};
 use ob_site_rules::Request;
 use ob_times::Moment;
-use std::alloc::AllocError;
+use ob_values::Text;
+use std::alloc::{AllocError, Global};
 use std::marker::Model;
 use std::snapshot::Snapshot;
 
@@ -25,6 +29,7 @@ pub struct Kept<D: Device> {
 }
 
 impl<D: Device> Model for Kept<D> {
+    ghost use Rattle.std.specs.Prelude.{◌≡◌, ◌≤◌, false};
     ghost use Rattle.ob_kept.specs.Keeping.{Keeping, keeping_code, kept_of, IsKept};
 
     ghost Value = { Keeping };
@@ -33,9 +38,10 @@ impl<D: Device> Model for Kept<D> {
 
     ghost view = { λ k. kept_of D.moment k.site k.recorder k.opening k.opened k.past.items };
 
-    ghost invariant = { λ k. D.is_told → IsKept D.seen D.may_leave D.moment D.left_since
+    ghost invariant = { λ k. (k.recorder.full ≡ false) × (k.site.world.next ≤ k.recorder.next)
+        × (D.is_told → IsKept D.seen D.may_leave D.moment D.left_since
         (kept_of D.moment k.site k.recorder k.opening k.opened k.past.items)
-        k.recorder.journal.device k.recorder.journal.end k.recorder.next k.recorder.begun k.recorder.failed };
+        k.recorder.journal.device k.recorder.failed) };
 }
 
 impl<D: Device + Drop> Drop for Kept<D> {
@@ -53,6 +59,18 @@ impl<D: Device + Drop> Drop for Kept<D> {
         drop(opened);
         drop(past);
     }
+}
+
+/// What a request is answered for whose entry the file has no room.
+fn refusal(alloc: Global) -> Result<Obj, AllocError>
+    ensures { IfOk result (λ o. o ≡ record_is_full) }
+{
+    let words = Text::from_ascii(alloc, "limit of 1073741824 bytes of record")?;
+    let mut head = Attributes::empty(alloc, Kind::Err);
+    if head.put_display(Some(words)).is_err() {
+        return Err(AllocError);
+    }
+    Ok(Obj::from_attributes(alloc, head))
 }
 
 impl<D: Device> Kept<D> {
@@ -73,7 +91,7 @@ impl<D: Device> Kept<D> {
 
     /// Takes the device back, and tells whether a call of it has failed. Its file leads to a state from which the site may go on
     /// from this one; or, where a call has failed, perhaps from one request more, as do all that a crash since the opening might
-    /// have left.
+    /// have left. Where none has failed, the closed gate is its last byte.
     pub fn into_device(self) -> (D, bool)
         ensures { D.is_told → IsLeft D.seen D.may_leave D.moment D.left_since self result.0 result.1 }
     {
@@ -101,8 +119,9 @@ impl<D: Device> Machine for Kept<D> {
 
     ghost act = { kept_act };
 
-    /// Does one request at a moment, as the site does, and gives the reply once what changes is on the disk. An error for want of
-    /// memory, or where the file has no room, and for good where a call of the device has failed: it leaves the site as it was.
+    /// Does one request at a moment, as the site does, and gives the reply once what changes is on the disk. Where the file has no
+    /// room for that, the request is refused. An error for want of memory, and for good where a
+    /// call of the device has failed. Both leave the site as it was.
     fn step(&mut self, request: &Request, moment: Moment) -> Result<Obj, AllocError> {
         if self.recorder.failed {
             return Err(AllocError);
@@ -113,6 +132,9 @@ impl<D: Device> Machine for Kept<D> {
             Ok(reply) => Ok(reply),
             Err(AllocError) => {
                 let _ = self.past.pop();
+                if self.recorder.take_full() {
+                    return refusal(self.recorder.alloc);
+                }
                 Err(AllocError)
             }
         }

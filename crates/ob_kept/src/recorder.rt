@@ -1,5 +1,5 @@
 //! The file of a record, to which entries are appended.
-ghost use Rattle.std.specs.Prelude.{◌≡◌, ◌⊎◌, None, OnOk, OnErr, IfOk};
+ghost use Rattle.std.specs.Prelude.{◌≡◌, None, OnOk, OnErr, IfOk, false};
 ghost use Rattle.ob_encode.specs.Canonical.{canonical_text};
 ghost use Rattle.ob_kept.specs.Redone.{kept_reply};
 
@@ -15,7 +15,8 @@ use ob_values::{Text, Verb};
 use std::alloc::{AllocError, Global};
 
 /// The file of a record at rest, and what its entries give: the moment of the record, whether it has an entry, and the number of
-/// the next watch there. After a call of the device has failed nothing is appended any more.
+/// the next watch there. After a call of the device has failed nothing is appended any more. An entry for which the file had no room
+/// is noted until the note is taken.
 pub struct Recorder<D: Device> {
     pub(crate) alloc: Global,
     pub(crate) journal: Journal<D>,
@@ -23,6 +24,7 @@ pub struct Recorder<D: Device> {
     pub(crate) begun: bool,
     pub(crate) next: u64,
     pub(crate) failed: bool,
+    pub(crate) full: bool,
 }
 
 impl<D: Device + Drop> Drop for Recorder<D> {
@@ -34,6 +36,7 @@ impl<D: Device + Drop> Drop for Recorder<D> {
             begun: _,
             next: _,
             failed: _,
+            full: _,
         } = self;
         drop(journal);
     }
@@ -51,7 +54,7 @@ fn kept_text(alloc: Global, request: &Request, reply: &Obj) -> Result<Vec<u8>, A
 
 impl<D: Device> Recorder<D> {
     ghost use Rattle.ob_times.specs.Times.{IsMoment};
-    ghost use Rattle.ob_kept.specs.Recording.{IsReady, Appended, MayHaveAppended, KeptNumbers, MayHaveNumbers, asked_entry, opening_moment};
+    ghost use Rattle.ob_kept.specs.Recording.{IsReady, Appended, KeptNumbers, MayHave, asked_entry, numbers_entry, opening_moment};
 
     /// The device, and whether a call of it has failed.
     pub(crate) fn into_device(self) -> (D, bool)
@@ -64,9 +67,20 @@ impl<D: Device> Recorder<D> {
             begun: _,
             next: _,
             failed,
+            full: _,
         } = self;
         let Journal { device, end: _ } = journal;
         (device, failed)
+    }
+
+    /// Whether the file had no room for an entry since this was asked last.
+    pub(crate) fn take_full(&mut self) -> bool
+        ensures full { result ≡ self.old.full }
+        ensures taken { self.new ≡ record self.old { full = false } }
+    {
+        let full = self.full;
+        self.full = false;
+        full
     }
 
     /// The moment of the record, where the line of its opening stands before the next entry.
@@ -79,11 +93,12 @@ impl<D: Device> Recorder<D> {
     }
 
     /// Appends an entry, and gives whether it is on the disk. Where a call of the device fails, it may be there or not, and
-    /// nothing is appended any more. Where there is no room for it, or no record can have it, nothing was done.
+    /// nothing is appended any more. Where there is no room for it, that is noted, and nothing else was done; and where no record can
+    /// have it, nothing was.
     fn append(&mut self, request: &Request, time: Moment, reply: &[u8]) -> Result<(), AllocError>
         requires ready { IsReady D.is_told D.seen D.may_leave D.moment D.left_since self.old }
         ensures done { OnOk result (Appended D.is_told D.seen D.may_leave D.moment D.left_since self.old self.new (asked_entry request.now time reply.now) self.old.next) }
-        ensures err { OnErr result ((self.new ≡ self.old) ⊎ MayHaveAppended D.is_told D.seen D.may_leave D.moment D.left_since self.old self.new (asked_entry request.now time reply.now)) }
+        ensures err { OnErr result (MayHave D.is_told D.seen D.may_leave D.moment D.left_since self.old self.new (asked_entry request.now time reply.now)) }
     {
         let opening = self.opening();
         let Some(block) = write_closed(self.alloc, opening, time, request, reply)? else {
@@ -94,7 +109,10 @@ impl<D: Device> Recorder<D> {
                 self.begun = true;
                 Ok(())
             }
-            Err(AppendFault::Full) => Err(AllocError),
+            Err(AppendFault::Full) => {
+                self.full = true;
+                Err(AllocError)
+            }
             Err(AppendFault::Failed) | Err(AppendFault::Memory) => {
                 self.failed = true;
                 Err(AllocError)
@@ -106,7 +124,7 @@ impl<D: Device> Recorder<D> {
     fn append_numbers(&mut self, time: Moment) -> Result<(), AllocError>
         requires ready { IsReady D.is_told D.seen D.may_leave D.moment D.left_since self.old }
         ensures done { OnOk result (KeptNumbers D.is_told D.seen D.may_leave D.moment D.left_since self.old self.new time) }
-        ensures err { OnErr result (MayHaveNumbers D.is_told D.seen D.may_leave D.moment D.left_since self.old self.new time) }
+        ensures err { OnErr result (MayHave D.is_told D.seen D.may_leave D.moment D.left_since self.old self.new (numbers_entry time)) }
     {
         let request = Request {
             verb: Verb::Get,

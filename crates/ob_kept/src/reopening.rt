@@ -74,7 +74,7 @@ impl Drop for Ready {
 }
 
 impl Ready {
-    ghost use Rattle.ob_kept.specs.Reopening.{KeepsOn};
+    ghost use Rattle.ob_kept.specs.Reopening.{KeepsOn, starting};
 
     /// The site with the record that it keeps, whose closed gate stands at this place.
     fn kept<D: Device>(
@@ -86,7 +86,7 @@ impl Ready {
     ) -> Reopened<D>
         requires { D.is_told → KeepsOn D.seen D.may_leave D.moment D.left_since (D.moment opened.value) self.boot self.opening.value self.site device end self.begun }
         ensures ns { result.ns ≡ self.ns }
-        ensures kept { result.kept ≡ record { boot = self.boot; opening = self.opening.value; since = D.moment opened.value; past = []; now = self.site } }
+        ensures kept { result.kept ≡ starting (D.moment opened.value) self.boot self.opening.value self.site end self.begun }
     {
         let Ready {
             ns,
@@ -104,6 +104,7 @@ impl Ready {
             begun,
             next,
             failed: false,
+            full: false,
         };
         let past = Vec::new(alloc);
         Reopened {

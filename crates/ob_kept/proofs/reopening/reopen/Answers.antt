@@ -17,7 +17,9 @@ returns-in-Ok-repair-clause-reopens g c =
     let d = g.D.Device in
     let r = c.in-Ok.ready in
     reopens_so d.is_told (g.F.Files.content c.args.files.now c.args.name.now) (d.seen c.args.device) (d.moment c.args.device) c.args.boot r.boot (d.moment c.of-opened.result.value) r.ns c.kept.result.ns
-    r.opening.value r.site r.begun c.kept.result.kept c.kept.ensures.ns c.kept.ensures.kept (ap d.moment c.of-opened.ensures) c.in-Ok.ensures.opened c.in-Ok.ensures.redoes c.in-Ok.ensures.sound
+    r.opening.value r.site c.in-Ok-repair.end r.begun c.kept.result.kept c.kept.ensures.ns c.kept.ensures.kept (ap d.moment c.of-opened.ensures) c.in-Ok.ensures.opened c.in-Ok.ensures.redoes
+    (λ told blocks says. (c.in-Ok-repair.ensures.settled told blocks (subst (λ (file : List ℕ). Says IsBlock file blocks) (sym (c.read_site.ensures.seen told)) says)).end_is)
+    c.in-Ok.ensures.sound
 
 pub returns-in-Err-repair-clause-back : goal.returns-in-Err-repair-clause-back
 returns-in-Err-repair-clause-back g c = λ told blocks says.
