@@ -7,3 +7,4 @@ pub mod Reading
 pub mod AuditLaws
 pub mod InPlace
 pub mod BlockLaws
+pub mod Sifts

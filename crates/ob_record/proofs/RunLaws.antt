@@ -87,7 +87,7 @@ module _ (spells : TextSpells) (one : OneDocument) where
   first_of_row : (e : Entry) (es : List Entry) (rest : List ℕ) → flat_map entry_text (e ∷ es) ++ rest ≡ entry_text e ++ (flat_map entry_text es ++ rest)
   first_of_row e es rest = ap (λ (l : List ℕ). l ++ rest) (flat_map-cons entry_text e es) ∙ append_assoc (entry_text e) (flat_map entry_text es) rest
 
-  one_row : (es fs : List Entry) (rest more : List ℕ) → AllByRecursion IsEntry es → AllByRecursion IsEntry fs → BeginsNone rest → BeginsNone more
+  pub one_row : (es fs : List Entry) (rest more : List ℕ) → AllByRecursion IsEntry es → AllByRecursion IsEntry fs → BeginsNone rest → BeginsNone more
       → flat_map entry_text es ++ rest ≡ flat_map entry_text fs ++ more → (es ≡ fs) × (rest ≡ more)
   one_row [] [] rest more x y none last same = (refl, same)
   one_row [] (f ∷ fs) rest more x y none last same = absurd (none f (flat_map entry_text fs ++ more) y.0 (same ∙ first_of_row f fs more))

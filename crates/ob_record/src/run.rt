@@ -103,6 +103,26 @@ impl Run {
         self.len
     }
 
+    /// The bytes of its record.
+    pub fn as_slice(&self) -> &[u8]
+        ensures { result.now ≡ self.now }
+    {
+        &self.record
+    }
+
+    /// A copy. An error only for want of memory.
+    pub fn copy(&self, alloc: Global) -> Result<Run, AllocError>
+        ensures { IfOk result (λ copy. copy ≡ self.now) }
+    {
+        let record = self.record.to_vec(alloc)?;
+        Ok(Run {
+            boot: self.boot,
+            record,
+            first: self.first,
+            len: self.len,
+        })
+    }
+
     /// The bytes of its entries.
     pub(crate) fn entries(&self) -> &[u8]
         ensures { (run : Recorded) → Records self.now run → result.now ≡ flat_map entry_text run.entries }
