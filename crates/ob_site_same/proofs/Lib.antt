@@ -1,2 +1,4 @@
 pub mod Alike
+pub mod Kept
+pub mod Numbered
 pub mod Slots

@@ -5,13 +5,13 @@ use ob_alarms::{Ack, Alarm, Alarms, Event, Num, Turn};
 use ob_values::Text;
 
 /// Whether two numbers are one, of the same kind.
-fn same_number(number: Num, other: Num) -> bool
-    ensures { IsTrue result ↔ (number ≡ other) }
+fn same_number(number: &Num, other: &Num) -> bool
+    ensures { IsTrue result ↔ (number.now ≡ other.now) }
 {
     match (number, other) {
-        (Num::Int(number), Num::Int(other)) => number == other,
+        (Num::Int(number), Num::Int(other)) => *number == *other,
         (Num::Real(number), Num::Real(other)) => number == other,
-        (Num::Int(_), Num::Real(_)) | (Num::Real(_), Num::Int(_)) => false,
+        _ => false,
     }
 }
 
@@ -62,7 +62,7 @@ fn same_alarm(alarm: &Alarm, other: &Alarm) -> bool
     ensures { IsTrue result ↔ (alarm.now ≡ other.now) }
 {
     alarm.rule == other.rule
-        && same_number(alarm.value, other.value)
+        && same_number(&alarm.value, &other.value)
         && same_turn(alarm.raised, other.raised)
         && same_normal(alarm.normal, other.normal)
         && same_ack(&alarm.ack, &other.ack)

@@ -12,11 +12,21 @@ fn is_slot(slot: &Slot, other: &Slot) -> bool
     same_slot(slot, other)
 }
 
+/// Whether two records are of one kind and one time.
+fn is_beside(record: &Record, other: &Record) -> bool
+    ensures { IsTrue result ↔ ((record.now.kind ≡ other.now.kind) × (record.now.time ≡ other.now.time)) }
+{
+    record.kind == other.kind && record.time == other.time
+}
+
 /// Whether two records are one.
 fn same_record(record: &Record, other: &Record) -> bool
     ensures { IsTrue result ↔ (record.now ≡ other.now) }
 {
-    record.kind == other.kind && record.time == other.time && is_slot(&record.slot, &other.slot)
+    if !is_beside(record, other) {
+        return false;
+    }
+    is_slot(&record.slot, &other.slot)
 }
 
 /// The record at a place of two slices, read as one list.
