@@ -6,3 +6,4 @@ pub mod Keeping
 pub mod Steps
 pub mod Ending
 pub mod Worked
+pub mod Bare

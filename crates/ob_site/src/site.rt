@@ -1,5 +1,5 @@
 //! A site.
-ghost use Rattle.std.specs.Prelude.{◌≡◌, ℕ, ◌+◌, ◌<◌, ◌≤◌, IfOk, OnOk, OnErr, option_copied};
+ghost use Rattle.std.specs.Prelude.{◌≡◌, ◌↔◌, ℕ, ◌+◌, ◌<◌, ◌≤◌, IsTrue, IfOk, OnOk, OnErr, option_copied};
 ghost use Rattle.ob_watching.specs.Asked.{OneWatch, PollChanges};
 ghost use Rattle.ob_watching.specs.Watches.{last_number};
 ghost use Rattle.ob_site_rules.specs.Locating.{locate};
@@ -7,13 +7,15 @@ ghost use Rattle.ob_site_rules.specs.Sites.{site, step};
 ghost use Rattle.ob_site_watched.specs.Polls.{object_entries, steps_for};
 ghost use Rattle.ob_site.specs.Keeping.{Keeps, MayKeep, stepping};
 ghost use Rattle.ob_points.specs.Points.{point_at, passes};
+ghost use Rattle.ob_site.specs.Bare.{is_bare};
 
 use crate::keeper::{Keeper, Nobody};
-use crate::points::point;
+use crate::points::{is_bare, point};
 use crate::step::step;
 use ob_machine::Machine;
 use ob_object::Obj;
 use ob_site_rules::Request;
+use ob_site_same::same_state;
 use ob_site_state::State;
 use ob_site_writes::passes;
 use ob_steps::Steps;
@@ -150,6 +152,22 @@ impl Site {
         ensures { option_copied result ≡ point_at self.now.plan self.now.world.site path.now }
     {
         point(&self.state, path)
+    }
+
+    /// Whether a path is that of an own node whose values no history records and no rule looks at: a Put there leaves nothing but
+    /// the value and, where it is a part of a contract, what others inherit of it.
+    pub fn is_bare(&self, path: &Text) -> bool
+        ensures { result ≡ is_bare self.now.plan self.now.world.site path.now }
+    {
+        is_bare(&self.state, path)
+    }
+
+    /// Whether two sites of one plan are the same, apart from their watches and times: their own objects, libraries, logs,
+    /// alarms and events. An error only for want of memory, since the own objects are copied to be compared.
+    pub fn has_same(&self, other: &Site) -> Result<bool, AllocError>
+        ensures { IfOk result (λ yes. self.now.plan ≡ other.now.plan → IsTrue yes ↔ (self.now.world.site ≡ other.now.world.site)) }
+    {
+        same_state(self.state.allocator(), &self.state, &other.state)
     }
 
     /// Whether the tests of a Put on a value let it through to what is shown at a path: its kind, a text too long, below min,
