@@ -1,3 +1,4 @@
 mod Texts
 pub mod Telling
 pub mod Closing
+pub mod Whole

@@ -8,8 +8,10 @@ mod laws;
 mod saying;
 #[cfg(test)]
 mod tests;
+mod writing;
 
 pub use blocks::Blocks;
 pub use closed::write_closed;
 pub use laws::record_at_rest;
 pub use saying::{Said, SayingFault, read_said};
+pub use writing::{WritingFault, write_whole};
