@@ -13,3 +13,4 @@ mod Left
 mod Acting
 mod FrontLemmas
 mod Crossing
+pub mod Shorter

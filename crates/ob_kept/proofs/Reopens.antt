@@ -68,7 +68,7 @@ opened_at content boot ns st left opened left_is sound = record {
 
 -- ---- the record is made ready
 
-itself : (now : SiteState) → now.world.watches ≡ [] → now.world.next ≤ last_number + 1 → IsSiteRestartOf now now
+pub itself : (now : SiteState) → now.world.watches ≡ [] → now.world.next ≤ last_number + 1 → IsSiteRestartOf now now
 itself now none room = record { plan = refl; world = record { site = refl; watches = none; next = le_refl now.world.next; room = room; time = le_refl now.world.time } }
 
 module _ {D : Type 0} (seen : D → List ℕ) (may_leave : D → List ℕ → Type 0) (moment : D → ℕ) (left_since : D → ℕ → List ℕ → Type 0)

@@ -7,3 +7,4 @@ pub mod Room
 pub mod Keeping
 pub mod Fronts
 pub mod Reopening
+pub mod Compacting

@@ -38,3 +38,23 @@ impl<T: Drop> From<AllocFailed<T>> for ReopenFault {
         ReopenFault::Memory
     }
 }
+
+/// Why no shorter record was written.
+#[derive(Drop)]
+pub enum CompactFault {
+    /// The record gives no site.
+    Reopen(ReopenFault),
+    /// The file for the new record has more than 14 bytes: it isn't new, and it was left as it was.
+    Taken,
+}
+
+impl From<ReopenFault> for CompactFault {
+    ghost use Rattle.std.specs.Prelude.{◌≡◌};
+    ghost use Rattle.ob_kept.specs.declared.fault.CompactFault.TheVariants.{Reopen};
+
+    ghost from_gives = { λ fault e. e ≡ Reopen fault };
+
+    fn from(fault: ReopenFault) -> CompactFault {
+        CompactFault::Reopen(fault)
+    }
+}

@@ -48,9 +48,9 @@ impl<D: Device> Reopened<D> {
 }
 
 /// A site as its record leaves it, before the record is made ready for more.
-struct Ready {
+pub(crate) struct Ready {
     ns: Option<Text>,
-    site: Site,
+    pub(crate) site: Site,
     opening: Snapshot<Site>,
     boot: Moment,
     begun: bool,
@@ -121,7 +121,7 @@ impl Ready {
 }
 
 /// The fault that one of reading a record leads to.
-fn of_saying(fault: SayingFault) -> ReopenFault
+pub(crate) fn of_saying(fault: SayingFault) -> ReopenFault
     ensures { result ≡ fault_of_saying fault }
 {
     match fault {
@@ -191,7 +191,7 @@ fn ready_anew<F: Files>(
 }
 
 /// The site that the entries of a run leave.
-fn ready_redone<F: Files>(
+pub(crate) fn ready_redone<F: Files>(
     alloc: Global,
     files: &mut F,
     name: &str,
