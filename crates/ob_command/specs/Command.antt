@@ -26,6 +26,8 @@ pub data Command : Type 0 where
   keep : (site file host : List ℕ) → (port workers quota : ℕ) → Command
   -- the site file; the record's file
   auditing : (site file : List ℕ) → Command
+  -- the site file; the record's file, and that of the new record
+  compacting : (site file new : List ℕ) → Command
   -- the document's file
   check : (file : List ℕ) → Command
   -- the URL of a lobby; what is watched there; how often it is polled, and how many broken polls are mended
@@ -93,6 +95,14 @@ auditing_with _ = None
 -- `SITE FILE`
 abbrev pub auditing_of : List Argument → Option Command
 auditing_of given = if has_only [] given then auditing_with (operands given) else None
+
+abbrev pub compact_with : List (List ℕ) → Option Command
+compact_with (site ∷ (file ∷ (new ∷ []))) = Some (compacting site file new)
+compact_with _ = None
+
+-- `SITE RECORD NEW`
+abbrev pub compact_of : List Argument → Option Command
+compact_of given = if has_only [] given then compact_with (operands given) else None
 
 abbrev pub serve_with : (operands : List (List ℕ)) → (port workers quota : Option ℕ) → Option Command
 serve_with (site ∷ (host ∷ (_ ∷ []))) (Some port) (Some workers) (Some quota) = Some (serve site host port workers quota)
@@ -199,12 +209,13 @@ named word given =
     else (if bytes_eq word (codes "audit") then auditing_of given
     else (if bytes_eq word (codes "serve") then serve_of given
     else (if bytes_eq word (codes "keep") then keep_of given
+    else (if bytes_eq word (codes "compact") then compact_of given
     else (if bytes_eq word (codes "check") then check_of given
     else (if bytes_eq word (codes "watch") then watch_of given
     else (if bytes_eq word (codes "console") then console_of given
     else (if bytes_eq word (codes "storm") then option_map storm (storm_of given)
     else (if bytes_eq word (codes "super") then supervise_of given
-    else None))))))))))
+    else None)))))))))))
 
 -- one of the commands above with its arguments; all other words are no command
 abbrev pub command : List (List ℕ) → Option Command

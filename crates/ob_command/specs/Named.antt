@@ -20,6 +20,7 @@ command_of (variants.Audit audit) = commands.auditing audit.site.now audit.file.
 command_of (variants.Serve service) = commands.serve service.site.now service.host.now service.port service.workers service.quota
 command_of (variants.Keep kept) =
     commands.keep kept.service.site.now kept.file.now kept.service.host.now kept.service.port kept.service.workers kept.service.quota
+command_of (variants.Compact asked) = commands.compacting asked.site.now asked.file.now asked.new.now
 command_of (variants.Check file) = commands.check file.now
 command_of (variants.Watch client) = commands.watch client.url client.hrefs.items client.polls client.retries
 command_of (variants.Console client) = commands.console client.url client.subject client.polls client.ack client.user

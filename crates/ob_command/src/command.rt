@@ -8,7 +8,7 @@ ghost use Rattle.ob_command.specs.Named.{command_of};
 use crate::argument::Arguments;
 use crate::client::{Console, Watch, console_of, watch_of};
 use crate::number::{LARGEST_NUMBER, number_between};
-use crate::record::{Audit, audit_of};
+use crate::record::{Audit, Compact, audit_of, compact_of};
 use crate::schedule::{Scheduled, schedule_of};
 use crate::server::{Keep, Output, Serve, Stdio, check_of, keep_of, serve_of, stdio_of};
 use crate::storm::Storm;
@@ -29,6 +29,8 @@ pub enum Command<'a> {
     Serve(Serve<'a>),
     /// They are answered so, and what changes is in the file of a record before anyone is told.
     Keep(Keep<'a>),
+    /// A shorter record that leads a site file's site to the same is written to a new file.
+    Compact(Compact<'a>),
     /// The document of a file is checked and written in its canonical form.
     Check(&'a str),
     /// Objects of a server are watched and written.
@@ -72,6 +74,7 @@ fn storm_of(given: Arguments<'_>) -> Option<Command<'_>>
 /// - `audit SITE FILE`
 /// - `serve SITE HOST PORT [--workers N] [--quota M]`
 /// - `keep SITE RECORD HOST PORT [--workers N] [--quota M]`
+/// - `compact SITE RECORD NEW`
 /// - `check FILE`
 /// - `watch URL HREF.. [--polls N] [--retry R]`
 /// - `console URL SUBJECT [--polls N] [--ack HREF] [--user NAME]`
@@ -103,6 +106,7 @@ pub fn read_command<'a>(
         "audit" => Ok(audit_of(given)),
         "serve" => Ok(serve_of(given)),
         "keep" => Ok(keep_of(given)),
+        "compact" => Ok(compact_of(given)),
         "check" => Ok(check_of(given)),
         "watch" => watch_of(alloc, given),
         "console" => console_of(alloc, given),

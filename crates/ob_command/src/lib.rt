@@ -17,7 +17,7 @@ mod text;
 
 pub use client::{Console, Watch};
 pub use command::{Command, read_command};
-pub use record::Audit;
+pub use record::{Audit, Compact};
 pub use schedule::Scheduled;
 pub use server::{Keep, Output, Serve, Stdio};
 pub use storm::Storm;

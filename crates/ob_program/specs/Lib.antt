@@ -8,6 +8,7 @@ pub mod Stdio
 pub mod Check
 pub mod Serving
 pub mod Keeping
+pub mod Compact
 pub mod Client
 pub mod Storm
 pub mod Audit

@@ -13,6 +13,7 @@ use Rattle.ob_program.specs.Stdio.{StdioRan}
 use Rattle.ob_program.specs.Check.{CheckRan}
 use Rattle.ob_program.specs.Serving.{ServeRan}
 use Rattle.ob_program.specs.Keeping.{KeepRan}
+use Rattle.ob_program.specs.Compact.{CompactRan}
 use Rattle.ob_program.specs.Client.{ClientRan}
 use Rattle.ob_program.specs.Storm.{StormRan}
 use Rattle.ob_program.specs.Audit.{AuditRan}
@@ -42,6 +43,8 @@ module _ {V : Type 0} (told : Type 0) (seen : V → List ℕ) (may_leave : V →
       files files' v v' s.held s'.held s.writes s'.writes p p' t t' e e' exit
   Ran content files files' v v' s s' p p' d d' t t' e e' (commands.auditing site file) exit =
       AuditRan (content site) (content file) files files' s.held s'.held s.writes s'.writes e e' exit
+  Ran content files files' v v' s s' p p' d d' t t' e e' (commands.compacting site file new) exit =
+      CompactRan told seen may_leave moment left_since failures (content site) file new files files' v v' s.held s'.held s.writes s'.writes e e' exit
   Ran content files files' v v' s s' p p' d d' t t' e e' (commands.check file) exit =
       CheckRan (content file) files files' s.held s'.held s.writes s'.writes e e' exit
   Ran content files files' v v' s s' p p' d d' t t' e e' (commands.watch url hrefs polls retries) exit =
@@ -63,6 +66,7 @@ LeavesAlone (Some (commands.schedule site file (Some at) tick)) files devices so
 LeavesAlone (Some (commands.serve site host place workers quota)) files devices source sink port dialer clock = devices × source × dialer
 LeavesAlone (Some (commands.keep site file host place workers quota)) files devices source sink port dialer clock = source × dialer
 LeavesAlone (Some (commands.auditing site file)) files devices source sink port dialer clock = devices × source × port × dialer × clock
+LeavesAlone (Some (commands.compacting site file new)) files devices source sink port dialer clock = source × port × dialer × clock
 LeavesAlone (Some (commands.check file)) files devices source sink port dialer clock = devices × source × port × dialer × clock
 LeavesAlone (Some (commands.watch url hrefs polls retries)) files devices source sink port dialer clock = files × devices × source × port × clock
 LeavesAlone (Some (commands.console url subject polls ack user)) files devices source sink port dialer clock = files × devices × source × port × clock

@@ -12,6 +12,8 @@ use Rattle.ob_program.specs.declared.audit.AuditEnd.{AuditEnd}
 use Rattle.ob_program.specs.declared.audit.AuditEnd.TheVariants as audits
 use Rattle.ob_program.specs.declared.check.CheckEnd.{CheckEnd}
 use Rattle.ob_program.specs.declared.check.CheckEnd.TheVariants as checks
+use Rattle.ob_program.specs.declared.compact.CompactEnd.{CompactEnd}
+use Rattle.ob_program.specs.declared.compact.CompactEnd.TheVariants as compacts
 use Rattle.ob_program.specs.declared.form.FormEnd.{FormEnd}
 use Rattle.ob_program.specs.declared.form.FormEnd.TheVariants as forms
 use Rattle.ob_program.specs.declared.keep.KeepEnd.{KeepEnd}
@@ -50,6 +52,12 @@ keep_words (keeps.Served end) = serve_words end
 keep_words (keeps.NoRecord place) = codes "Record " ++ decimal place
 keep_words (keeps.Illegal entry) = decimal entry
 keep_words keeps.RecordFault = []
+
+-- the new file isn't new
+abbrev pub compact_words : CompactEnd → List ℕ
+compact_words (compacts.Written counts) = []
+compact_words compacts.Taken = codes "New"
+compact_words (compacts.Ended end) = keep_words end
 
 abbrev pub check_words : CheckEnd → List ℕ
 check_words (checks.Refused refused) = refusal_words refused

@@ -41,7 +41,7 @@ impl KeepEnd {
     ghost use Rattle.ob_program.specs.Words.{keep_words};
 
     /// The end that comes where the record's file can't be opened.
-    fn of_device(fault: DeviceFault) -> KeepEnd
+    pub(crate) fn of_device(fault: DeviceFault) -> KeepEnd
         ensures { result ≡ end_of_device fault }
     {
         match fault {
@@ -51,7 +51,7 @@ impl KeepEnd {
     }
 
     /// The end that comes where no site was opened with its record.
-    fn of_reopen(fault: ReopenFault) -> KeepEnd
+    pub(crate) fn of_reopen(fault: ReopenFault) -> KeepEnd
         ensures { result ≡ end_of_reopen fault }
     {
         match fault {
@@ -75,7 +75,7 @@ impl KeepEnd {
     }
 
     /// The exit that it leads to.
-    fn exit(&self) -> Exit
+    pub(crate) fn exit(&self) -> Exit
         ensures { result ≡ exit_of_keep self.now }
     {
         match self {
@@ -87,7 +87,7 @@ impl KeepEnd {
     }
 
     /// The words that tell it on `errors`, where its line has some.
-    fn words(&self, alloc: Global) -> Result<Vec<u8>, AllocError>
+    pub(crate) fn words(&self, alloc: Global) -> Result<Vec<u8>, AllocError>
         ensures { IfOk result (λ words. words.items ≡ keep_words self.now) }
     {
         match self {

@@ -9,6 +9,7 @@ ghost use Rattle.ob_program.specs.Telling.{errors_told, Tells};
 use crate::audit::run_audit;
 use crate::check::run_check;
 use crate::client::{console_plan, run_client, watch_plan};
+use crate::compact::run_compact;
 use crate::exit::Exit;
 use crate::keep::run_keep;
 use crate::schedule::run_schedule;
@@ -32,7 +33,7 @@ use std::thread::Threads;
 /// `audit SITE FILE` tells whether the record of a run is legal from a site file.
 /// `serve SITE HOST PORT [--workers N] [--quota M]` answers those of links that come to a port. `keep SITE RECORD HOST PORT
 /// [--workers N] [--quota M]` answers them so, and what changes of the site is in the record's file before anyone is told; a later
-/// run goes on from there. `check FILE` writes the
+/// run goes on from there. `compact SITE RECORD NEW` writes a shorter record by which it goes on alike. `check FILE` writes the
 /// canonical text of a file's document, and a line feed. `watch URL HREF.. [--polls N] [--retry R]` and `console URL SUBJECT
 /// [--polls N] [--ack HREF] [--user NAME]` write what a server tells of objects and of alarms. `storm SEED CLIENTS REQUESTS`
 /// asks a site of its own what a seed draws, and writes what it counts in the replies. `super CONFIG [--rounds N]` goes over
@@ -139,6 +140,9 @@ where
             port,
             clock,
         ),
+        Command::Compact(words) => {
+            run_compact(alloc, words, files, devices, &mut link.sink, errors)
+        }
         Command::Check(name) => run_check(alloc, name, files, &mut link.sink, errors),
         Command::Watch(watch) => {
             run_client(alloc, watch_plan(watch), dialer, &mut link.sink, errors)
