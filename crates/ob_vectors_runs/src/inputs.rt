@@ -14,6 +14,8 @@ pub(crate) enum Inputs<'a> {
     Doors(&'a str),
     /// The bytes of the record's file, and the links that come to doors.
     Kept { record: &'a str, doors: &'a str },
+    /// The bytes of the record's file, and those of the file `new`.
+    Compacted { record: &'a str, new: &'a str },
     /// The replies on links that are dialled: ` | ` stands between links, ` ; ` between replies. A reply is its body, of status
     /// 200; or all of its bytes, where it begins with `HTTP/`. `fails N ` before the replies says that this call of the link
     /// fails, reads and writes counted as one, the first being 0.

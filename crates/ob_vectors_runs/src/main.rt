@@ -27,6 +27,7 @@ fn main(rt: HostRuntime) -> io::Result<()> {
     run_rows(&rt, "schedule.rows", texts.as_str())?;
     run_rows(&rt, "serve.rows", texts.as_str())?;
     run_rows(&rt, "keep.rows", texts.as_str())?;
+    run_rows(&rt, "compact.rows", texts.as_str())?;
     run_rows(&rt, "clients.rows", texts.as_str())?;
     run_rows(&rt, "super.rows", texts.as_str())?;
     run(&rt, "sessions.rows", &mut Sessions)?;

@@ -134,6 +134,7 @@ impl Maker<'_> {
         }
         match self.case.inputs {
             Inputs::Record(text) => self.push_file(&mut files, "record", text),
+            Inputs::Compacted { record, new: _ } => self.push_file(&mut files, "record", record),
             Inputs::Scheduled { source: _, file } => {
                 self.push_file(&mut files, "schedules", file);
             }
@@ -145,10 +146,16 @@ impl Maker<'_> {
         }
     }
 
-    // The file of the record that is kept.
+    // The file of the record that is kept, and the new one.
     fn records(self) -> Records {
         let bytes = match self.case.inputs {
-            Inputs::Kept { record, doors: _ } => meant(self.alloc, record),
+            Inputs::Kept { record, doors: _ } | Inputs::Compacted { record, new: _ } => {
+                meant(self.alloc, record)
+            }
+            _ => Vec::new(self.alloc),
+        };
+        let new = match self.case.inputs {
+            Inputs::Compacted { record: _, new } => meant(self.alloc, new),
             _ => Vec::new(self.alloc),
         };
         let failing = match self.failing {
@@ -160,7 +167,7 @@ impl Maker<'_> {
             ) => Some(call),
             _ => None,
         };
-        Records::new(self.alloc, bytes, failing)
+        Records::new(self.alloc, bytes, new, failing)
     }
 
     // The file of a name, with the bytes that a text stands for.
@@ -176,9 +183,11 @@ impl Maker<'_> {
             Inputs::Source(source)
             | Inputs::Scheduled { source, file: _ }
             | Inputs::Supervised { source, dials: _ } => meant(self.alloc, source),
-            Inputs::Record(_) | Inputs::Doors(_) | Inputs::Kept { .. } | Inputs::Dials(_) => {
-                Vec::new(self.alloc)
-            }
+            Inputs::Record(_)
+            | Inputs::Doors(_)
+            | Inputs::Kept { .. }
+            | Inputs::Compacted { .. }
+            | Inputs::Dials(_) => Vec::new(self.alloc),
         };
         MemSource::new(bytes, self.piece(), self.plan(Part::Source))
     }

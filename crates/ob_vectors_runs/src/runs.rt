@@ -61,6 +61,10 @@ fn inputs_of<'a>(command: &str, input: &'a str) -> Inputs<'a> {
             let (record, doors) = two_parts(input);
             Inputs::Kept { record, doors }
         }
+        "compact" => {
+            let (record, new) = two_parts(input);
+            Inputs::Compacted { record, new }
+        }
         "watch" | "console" => Inputs::Dials(input),
         "audit" => Inputs::Record(input),
         "schedule" => {
