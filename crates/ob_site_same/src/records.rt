@@ -13,20 +13,20 @@ fn is_slot(slot: &Slot, other: &Slot) -> bool
 }
 
 /// Whether two records are of one kind and one time.
-fn is_beside(record: &Record, other: &Record) -> bool
-    ensures { IsTrue result ↔ ((record.now.kind ≡ other.now.kind) × (record.now.time ≡ other.now.time)) }
+fn is_beside(entry: &Record, other: &Record) -> bool
+    ensures { IsTrue result ↔ ((entry.now.kind ≡ other.now.kind) × (entry.now.time ≡ other.now.time)) }
 {
-    record.kind == other.kind && record.time == other.time
+    entry.kind == other.kind && entry.time == other.time
 }
 
 /// Whether two records are one.
-fn same_record(record: &Record, other: &Record) -> bool
-    ensures { IsTrue result ↔ (record.now ≡ other.now) }
+fn same_record(entry: &Record, other: &Record) -> bool
+    ensures { IsTrue result ↔ (entry.now ≡ other.now) }
 {
-    if !is_beside(record, other) {
+    if !is_beside(entry, other) {
         return false;
     }
-    is_slot(&record.slot, &other.slot)
+    is_slot(&entry.slot, &other.slot)
 }
 
 /// The record at a place of two slices, read as one list.
