@@ -5,7 +5,7 @@ use Rattle.std.specs.Io.KnownBytes.{IsAtEnd}
 use Rattle.ob_io.specs.Links.{Inlet, Takes}
 use Rattle.ob_io.specs.Told.{Gains, IsFront}
 use Rattle.ob_object.specs.Object.{Object}
-use Rattle.ob_encode.specs.Canonical.{canonical_text}
+use Rattle.ob_encoding.specs.Canonical.{canonical_text}
 use Rattle.ob_grammar.specs.Spelling.{Spells}
 use Rattle.ob_xml.specs.Judged.{fault, Judged}
 use Rattle.ob_xml.specs.declared.refused.Refused.{Refused}

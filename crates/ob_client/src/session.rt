@@ -11,7 +11,7 @@ ghost use Rattle.ob_client.specs.declared.call_fault.CallFault.TheVariants as fa
 
 use crate::call_fault::CallFault;
 use ob_documents::read;
-use ob_encode::encode;
+use ob_encoding::encode;
 use ob_http::{FrameFault, Reply, ReplyFramer, write_request};
 use ob_io::{Link, send};
 use ob_object::Obj;

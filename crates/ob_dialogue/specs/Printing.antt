@@ -1,7 +1,7 @@
 -- What is printed of what is held.
 use Rattle.std.specs.Prelude.{ℕ, codes, List, [], ◌∷◌, ◌++◌, filter, decimal, Option, Some, None, unwrap_or, option_map, slice_get}
 use Rattle.std.specs.Option.{option_map_or}
-use Rattle.ob_encode.specs.Canonical.{canonical_text}
+use Rattle.ob_encoding.specs.Canonical.{canonical_text}
 use Rattle.ob_object.specs.Object.{Object}
 use Rattle.ob_watching.specs.WatchOuts.{Text, Held}
 use Rattle.ob_client.specs.Entries.{is_err, entries_once}

@@ -1,6 +1,6 @@
 -- How it is told why the other side ended a dialogue.
 use Rattle.std.specs.Prelude.{ℕ, List, ◌++◌, codes, decimal, None}
-use Rattle.ob_encode.specs.Canonical.{canonical_text}
+use Rattle.ob_encoding.specs.Canonical.{canonical_text}
 use Rattle.ob_http.specs.declared.fault.FrameFault.{FrameFault}
 use Rattle.ob_http.specs.declared.fault.FrameFault.TheVariants as frames
 use Rattle.ob_xml.specs.Words.{refusal_words}

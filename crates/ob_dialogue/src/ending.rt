@@ -3,7 +3,7 @@ ghost use Rattle.std.specs.Prelude.{◌≡◌, ◌++◌, IfOk, codes, decimal};
 ghost use Rattle.ob_xml.specs.Words.{refusal_words};
 ghost use Rattle.ob_dialogue.specs.Words.{frame_word, peer_words};
 
-use ob_encode::write;
+use ob_encoding::write;
 use ob_http::FrameFault;
 use ob_object::Obj;
 use ob_xml::Refused;

@@ -9,7 +9,7 @@ use crate::plan::Topic;
 use crate::stage::Watching;
 use ob_client::Mirror;
 use ob_console::{Board, BoardFault, print_board};
-use ob_encode::write;
+use ob_encoding::write;
 use ob_object::{Kind, Obj};
 use std::alloc::{AllocError, Global};
 

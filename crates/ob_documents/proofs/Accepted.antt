@@ -23,15 +23,15 @@ use Rattle.ob_object.specs.Kinds.{number, same_kind}
 use Rattle.ob_object.specs.Fits.{fits_head, fits_name}
 use Rattle.ob_object.specs.Object.{Objects, Object, listed, in_row, empty_head, listed-in_row, in_row-listed}
 use Rattle.ob_object.specs.WellFormed.{NamesDiffer, has_name as is_named, named, is_taken, with_child}
-use Rattle.ob_fields.specs.declared.field.TextField.{TextField}
-use Rattle.ob_fields.specs.declared.field.TextField.TheVariants as texts
-use Rattle.ob_fields.specs.declared.field.Field.{Field}
-use Rattle.ob_fields.specs.declared.field.Field.TheVariants as field
-use Rattle.ob_fields.specs.declared.part.Part.{Part}
-use Rattle.ob_fields.specs.declared.part.Part.TheVariants as part
-use Rattle.ob_fields.specs.Kinds.{same, kind_of}
-use Rattle.ob_fields.specs.Fields.{field_of, known}
-use Rattle.ob_fields.specs.Parts.{ReadsPart, put_part}
+use Rattle.ob_encoding.specs.declared.field.TextField.{TextField}
+use Rattle.ob_encoding.specs.declared.field.TextField.TheVariants as texts
+use Rattle.ob_encoding.specs.declared.field.Field.{Field}
+use Rattle.ob_encoding.specs.declared.field.Field.TheVariants as field
+use Rattle.ob_encoding.specs.declared.part.Part.{Part}
+use Rattle.ob_encoding.specs.declared.part.Part.TheVariants as part
+use Rattle.ob_encoding.specs.Kinds.{same, kind_of}
+use Rattle.ob_encoding.specs.Fields.{field_of, known}
+use Rattle.ob_encoding.specs.Parts.{ReadsPart, put_part}
 use Rattle.ob_grammar.specs.Attributes.{has_name, AreDistinct, Says, Tell, NamespaceBy, NamespaceIs}
 use Rattle.ob_grammar.specs.Grammar.{attributes_of, name_of, Element, empty, full, Content, nothing, pause, child, IsMark, AreSkipped, IsDocument}
 use Rattle.ob_grammar.specs.Spelling.{place_behind, Cuts, none as no_more, some, Spells}

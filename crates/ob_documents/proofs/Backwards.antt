@@ -27,12 +27,12 @@ use Rattle.ob_object.specs.Fits.{fits_head}
 use Rattle.ob_object.specs.Object.{Objects, Object, none as no_objects, node, listed, in_row, children, empty_head, listed-in_row, in_row-listed}
 use Rattle.ob_object.specs.WellFormed.{NamesDiffer, is_taken, with_child}
 use Rattle.ob_object.proofs.Names.{NamesDiffer-more}
-use Rattle.ob_fields.specs.declared.field.Field.{Field}
-use Rattle.ob_fields.specs.declared.part.Part.{Part}
-use Rattle.ob_fields.specs.Kinds.{same, plain_kind, timed_kind, or_else, kind_of}
-use Rattle.ob_fields.specs.Fields.{known}
-use Rattle.ob_fields.specs.Parts.{ReadsPart, read_as, put_part}
-use Rattle.ob_encode.specs.Names.{kind_name}
+use Rattle.ob_encoding.specs.declared.field.Field.{Field}
+use Rattle.ob_encoding.specs.declared.part.Part.{Part}
+use Rattle.ob_encoding.specs.Kinds.{same, plain_kind, timed_kind, or_else, kind_of}
+use Rattle.ob_encoding.specs.Fields.{known}
+use Rattle.ob_encoding.specs.Parts.{ReadsPart, read_as, put_part}
+use Rattle.ob_encoding.specs.Names.{kind_name}
 use Rattle.ob_grammar.specs.Attributes.{has_name, AreDistinct, Says, Tell, Describe, NamespaceBy, NamespaceIs}
 use Rattle.ob_grammar.specs.Grammar.{attributes_of, name_of, Element, empty, full, Content, nothing, pause, child, IsMark, AreSkipped, IsDocument}
 use Rattle.ob_grammar.specs.Spelling.{Cuts, none as no_more, some, Spells}

@@ -18,20 +18,20 @@ use Rattle.ob_object.specs.declared.head.Slot.TheVariants as slots
 use Rattle.ob_object.specs.Kinds.{has_of, has_input, has_output}
 use Rattle.ob_object.specs.Words.{is_white, is_word}
 use Rattle.ob_object.specs.Fits.{fits_value, fits_limit, fits_slot, fits_if_there, fits_facets, fits_name, fits_words, fits_lists, fits_head}
-use Rattle.ob_fields.specs.declared.field.TextField.{TextField}
-use Rattle.ob_fields.specs.declared.field.TextField.TheVariants as texts
-use Rattle.ob_fields.specs.declared.field.WordsField.{WordsField}
-use Rattle.ob_fields.specs.declared.field.WordsField.TheVariants as lists
-use Rattle.ob_fields.specs.declared.field.ValueField.{ValueField}
-use Rattle.ob_fields.specs.declared.field.ValueField.TheVariants as reads
-use Rattle.ob_fields.specs.declared.field.Field.{Field}
-use Rattle.ob_fields.specs.declared.field.Field.TheVariants as field
-use Rattle.ob_fields.specs.declared.part.Part.{Part}
-use Rattle.ob_fields.specs.declared.part.Part.TheVariants as part
-use Rattle.ob_fields.specs.Kinds.{same, or_else}
-use Rattle.ob_fields.specs.Fields.{text_field, words_field, value_field, then_read, field_of, applies, known}
-use Rattle.ob_fields.specs.Parts.{read_as, ReadAs, ReadsValue, ReadsLimit, ReadsPart, is_null, put_text, put_words, put_part}
-use Rattle.ob_fields.specs.WordLists.{is_blank, ended, words_from, words_of}
+use Rattle.ob_encoding.specs.declared.field.TextField.{TextField}
+use Rattle.ob_encoding.specs.declared.field.TextField.TheVariants as texts
+use Rattle.ob_encoding.specs.declared.field.WordsField.{WordsField}
+use Rattle.ob_encoding.specs.declared.field.WordsField.TheVariants as lists
+use Rattle.ob_encoding.specs.declared.field.ValueField.{ValueField}
+use Rattle.ob_encoding.specs.declared.field.ValueField.TheVariants as reads
+use Rattle.ob_encoding.specs.declared.field.Field.{Field}
+use Rattle.ob_encoding.specs.declared.field.Field.TheVariants as field
+use Rattle.ob_encoding.specs.declared.part.Part.{Part}
+use Rattle.ob_encoding.specs.declared.part.Part.TheVariants as part
+use Rattle.ob_encoding.specs.Kinds.{same, or_else}
+use Rattle.ob_encoding.specs.Fields.{text_field, words_field, value_field, then_read, field_of, applies, known}
+use Rattle.ob_encoding.specs.Parts.{read_as, ReadAs, ReadsValue, ReadsLimit, ReadsPart, is_null, put_text, put_words, put_part}
+use Rattle.ob_encoding.specs.WordLists.{is_blank, ended, words_from, words_of}
 use Rattle.ob_grammar.specs.Attributes.{has_name, Says, Tell}
 use Rattle.ob_grammar.proofs.Characters.{encode_1, encode_2, encode_3, encode_4}
 use Rattle.ob_grammar.proofs.Pieces.{left, right}

@@ -9,17 +9,17 @@ use Rattle.ob_object.specs.declared.kind.Kind.{Kind}
 use Rattle.ob_object.specs.declared.head.Head.{Head}
 use Rattle.ob_object.specs.declared.head.Slot.TheVariants as slots
 use Rattle.ob_object.specs.Object.{empty_head}
-use Rattle.ob_fields.specs.declared.field.TextField.TheVariants as texts
-use Rattle.ob_fields.specs.declared.field.WordsField.TheVariants as lists
-use Rattle.ob_fields.specs.declared.field.ValueField.TheVariants as reads
-use Rattle.ob_fields.specs.declared.field.Field.{Field}
-use Rattle.ob_fields.specs.declared.field.Field.TheVariants as field
-use Rattle.ob_fields.specs.declared.part.Part.{Part}
-use Rattle.ob_fields.specs.declared.part.Part.TheVariants as part
-use Rattle.ob_fields.specs.Kinds.{same}
-use Rattle.ob_fields.specs.Fields.{known}
-use Rattle.ob_fields.specs.Parts.{ReadAs, ReadsPart, is_null, put_part}
-use Rattle.ob_fields.specs.WordLists.{words_of}
+use Rattle.ob_encoding.specs.declared.field.TextField.TheVariants as texts
+use Rattle.ob_encoding.specs.declared.field.WordsField.TheVariants as lists
+use Rattle.ob_encoding.specs.declared.field.ValueField.TheVariants as reads
+use Rattle.ob_encoding.specs.declared.field.Field.{Field}
+use Rattle.ob_encoding.specs.declared.field.Field.TheVariants as field
+use Rattle.ob_encoding.specs.declared.part.Part.{Part}
+use Rattle.ob_encoding.specs.declared.part.Part.TheVariants as part
+use Rattle.ob_encoding.specs.Kinds.{same}
+use Rattle.ob_encoding.specs.Fields.{known}
+use Rattle.ob_encoding.specs.Parts.{ReadAs, ReadsPart, is_null, put_part}
+use Rattle.ob_encoding.specs.WordLists.{words_of}
 use Rattle.ob_grammar.specs.Attributes.{Says, Tell, Describe, NamespaceBy, NamespaceIs}
 use Rattle.ob_grammar.specs.Carried.{IsTextIfThere, IsWritten, IsHeadCarried}
 use Rattle.ob_documents.proofs.Fitting.{read_ok, same_part}

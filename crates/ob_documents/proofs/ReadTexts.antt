@@ -10,8 +10,8 @@ use Rattle.ob_scan.specs.Expansion.{character_from, behind_line_feed, item_at, E
 use Rattle.ob_scan.proofs.Expanding.{IsCharacter, reference_char, one_character}
 use Rattle.ob_scan.proofs.XmlTexts.{xml_none, xml_both, xml_one, character_xml}
 use Rattle.ob_grammar.proofs.Characters.{encode_1}
-use Rattle.ob_fields.specs.WordLists.{is_blank, ended, words_from, words_of}
-use Rattle.ob_fields.proofs.WordRuns.{chars_xml, xml_more}
+use Rattle.ob_encoding.specs.WordLists.{is_blank, ended, words_from, words_of}
+use Rattle.ob_encoding.proofs.WordRuns.{chars_xml, xml_more}
 
 abbrev Carries : Option (List ℕ × List ℕ) → Type 0
 Carries o = IfSome o (λ x. IsXmlText x.0)

@@ -26,7 +26,7 @@ use Rattle.ob_values.specs.declared.value.Value.TheVariants as value
 use Rattle.ob_values.proofs.PrintedLemmas.{spelled_integer, spelled_real, fits_size}
 use Rattle.ob_object.specs.declared.kind.Kind.{Kind}
 use Rattle.ob_object.specs.declared.kind.Kind.TheVariants as kind
-use Rattle.ob_fields.specs.Parts.{ReadAs, ReadsValue, ReadsLimit}
+use Rattle.ob_encoding.specs.Parts.{ReadAs, ReadsValue, ReadsLimit}
 use Rattle.ob_grammar.specs.Carried.{IsWritten}
 use Rattle.ob_documents.proofs.Fitting.{read_ok, same_value}
 

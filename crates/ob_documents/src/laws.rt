@@ -3,12 +3,12 @@ ghost use Rattle.std.specs.Prelude.{◌≡◌, ◌≤◌, ℕ, List, Option, Som
 ghost use Rattle.ob_object.specs.declared.head.Head.{Head};
 ghost use Rattle.ob_object.specs.Fits.{fits_head};
 ghost use Rattle.ob_object.specs.Object.{Object};
-ghost use Rattle.ob_fields.specs.declared.field.Field.{Field};
-ghost use Rattle.ob_fields.specs.declared.part.Part.{Part};
-ghost use Rattle.ob_fields.specs.Fields.{known};
-ghost use Rattle.ob_fields.specs.Kinds.{same};
-ghost use Rattle.ob_fields.specs.Parts.{ReadsPart, put_part};
-ghost use Rattle.ob_encode.specs.Canonical.{canonical_text};
+ghost use Rattle.ob_encoding.specs.declared.field.Field.{Field};
+ghost use Rattle.ob_encoding.specs.declared.part.Part.{Part};
+ghost use Rattle.ob_encoding.specs.Fields.{known};
+ghost use Rattle.ob_encoding.specs.Kinds.{same};
+ghost use Rattle.ob_encoding.specs.Parts.{ReadsPart, put_part};
+ghost use Rattle.ob_encoding.specs.Canonical.{canonical_text};
 ghost use Rattle.ob_grammar.specs.Carried.{IsCarried, IsTextIfThere};
 ghost use Rattle.ob_documents.specs.Held.{IsHeld, IsShallow};
 ghost use Rattle.ob_grammar.specs.Spelling.{Spells};

@@ -7,8 +7,8 @@ use Rattle.ob_scan.specs.Constructs.{Construct, opening, attribute, tag_end, emp
 use Rattle.ob_object.specs.declared.head.Head.{Head}
 use Rattle.ob_object.specs.Object.{Objects, none, node, Object, listed}
 use Rattle.ob_object.specs.WellFormed.{NamesDiffer}
-use Rattle.ob_encode.specs.Escaped.{escaped}
-use Rattle.ob_encode.specs.Canonical.{attribute_text, attributes, attributes_text, start_text, end_text, row_text, canonical_text}
+use Rattle.ob_encoding.specs.Escaped.{escaped}
+use Rattle.ob_encoding.specs.Canonical.{attribute_text, attributes, attributes_text, start_text, end_text, row_text, canonical_text}
 use Rattle.ob_grammar.specs.Attributes.{Describe}
 use Rattle.ob_grammar.specs.Grammar.{attributes_of, name_of, Element, empty, full, Content, nothing, child}
 use Rattle.ob_grammar.specs.Spelling.{Cuts, none as no_more, some}

@@ -10,12 +10,12 @@ use Rattle.ob_object.specs.declared.kind.Kind.{Kind}
 use Rattle.ob_object.specs.declared.kind.Kind.TheVariants as kind
 use Rattle.ob_object.specs.declared.head.Head.{Head}
 use Rattle.ob_object.specs.Object.{Objects, none, node, Object, empty_head}
-use Rattle.ob_fields.specs.declared.field.Field.{Field}
-use Rattle.ob_fields.specs.declared.part.Part.{Part}
-use Rattle.ob_fields.specs.Kinds.{same, kind_of}
-use Rattle.ob_fields.specs.Fields.{known}
-use Rattle.ob_fields.specs.Parts.{ReadsPart, put_part}
-use Rattle.ob_encode.specs.Names.{kind_name}
+use Rattle.ob_encoding.specs.declared.field.Field.{Field}
+use Rattle.ob_encoding.specs.declared.part.Part.{Part}
+use Rattle.ob_encoding.specs.Kinds.{same, kind_of}
+use Rattle.ob_encoding.specs.Fields.{known}
+use Rattle.ob_encoding.specs.Parts.{ReadsPart, put_part}
+use Rattle.ob_encoding.specs.Names.{kind_name}
 use Rattle.ob_grammar.specs.Attributes.{Says, Tells, Tell, Describe, NamespaceBy, NamespaceIs}
 use Rattle.ob_grammar.specs.Grammar.{attributes_of, name_of, Element, empty, full, Content, nothing, pause, child, IsMark, AreSkipped}
 use Rattle.ob_grammar.specs.Spelling.{place_behind, Cuts, none as no_more, some, Spells}

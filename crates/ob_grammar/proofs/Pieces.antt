@@ -15,8 +15,8 @@ use Rattle.ob_scan.specs.Reading.{is_space, ends_at, run_from, word}
 use Rattle.ob_scan.specs.Constructs.{declares, declared, opening, attribute, tag_end, empty_end, closing, found, end_tag_at, tag_name_at, attribute_at, scan}
 use Rattle.ob_object.specs.declared.kind.Kind.{Kind}
 use Rattle.ob_object.specs.declared.kind.Kind.TheVariants as kind
-use Rattle.ob_encode.specs.Names.{kind_name}
-use Rattle.ob_encode.specs.Escaped.{escaped}
+use Rattle.ob_encoding.specs.Names.{kind_name}
+use Rattle.ob_encoding.specs.Escaped.{escaped}
 use Rattle.ob_grammar.proofs.Characters.{RunsTo}
 use Rattle.ob_grammar.proofs.Texts.{is_ascii, run_ascii, text_back}
 

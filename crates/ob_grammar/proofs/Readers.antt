@@ -8,10 +8,10 @@ use Rattle.ob_object.specs.declared.kind.Kind.TheVariants as kind
 use Rattle.ob_object.specs.declared.status.Status.{Status}
 use Rattle.ob_object.specs.declared.status.Status.TheVariants as status
 use Rattle.ob_object.specs.Fits.{fits_value, fits_limit}
-use Rattle.ob_encode.specs.Names.{status_word}
-use Rattle.ob_fields.specs.Fields.{has_value, has_limit}
-use Rattle.ob_fields.specs.Parts.{ReadsValue, ReadsLimit}
-use Rattle.ob_fields.specs.Statuses.{status_read}
+use Rattle.ob_encoding.specs.Names.{status_word}
+use Rattle.ob_encoding.specs.Fields.{has_value, has_limit}
+use Rattle.ob_encoding.specs.Parts.{ReadsValue, ReadsLimit}
+use Rattle.ob_encoding.specs.Statuses.{status_read}
 
 pub value_read : (k : Kind) (v : Value) → fits_value k v ≡ true → SpellsValue (printed v) v → ReadsValue k (printed v) (Ok v)
 value_read kind.Bool (value.Bool b) e s = (Ok b, s, refl)

@@ -20,10 +20,10 @@ use Rattle.ob_object.specs.Words.{is_word}
 use Rattle.ob_object.specs.Fits.{fits_words, fits_name, fits_lists, fits_slot, fits_facets, fits_head}
 use Rattle.ob_object.specs.Object.{Objects, none, node, Object, empty_head}
 use Rattle.ob_object.specs.WellFormed.{RowIsWellFormed}
-use Rattle.ob_fields.specs.Kinds.{same}
-use Rattle.ob_encode.specs.Names.{status_word}
-use Rattle.ob_encode.specs.Escaped.{escaped}
-use Rattle.ob_encode.specs.Canonical.{joined, null_text, val_text, attributes, canonical_text}
+use Rattle.ob_encoding.specs.Kinds.{same}
+use Rattle.ob_encoding.specs.Names.{status_word}
+use Rattle.ob_encoding.specs.Escaped.{escaped}
+use Rattle.ob_encoding.specs.Canonical.{joined, null_text, val_text, attributes, canonical_text}
 use Rattle.ob_grammar.specs.Attributes.{has_name, AreDistinct, NamespaceBy, NamespaceIs}
 use Rattle.ob_grammar.specs.Spelling.{Spells}
 use Rattle.ob_grammar.specs.Carried.{IsTextIfThere, AreTextsIfThere, IsWrittenIfThere, IsSlotWritten, IsHeadCarried, IsRowCarried, IsCarried}

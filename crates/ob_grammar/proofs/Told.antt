@@ -15,19 +15,19 @@ use Rattle.ob_object.specs.Kinds.{has_of, has_input, has_output}
 use Rattle.ob_object.specs.Words.{is_word}
 use Rattle.ob_object.specs.Fits.{fits_limit, fits_slot, fits_if_there, fits_facets, fits_name, fits_words, fits_lists, fits_head}
 use Rattle.ob_object.specs.Object.{empty_head}
-use Rattle.ob_fields.specs.declared.field.TextField.{TextField}
-use Rattle.ob_fields.specs.declared.field.TextField.TheVariants as texts
-use Rattle.ob_fields.specs.declared.field.WordsField.{WordsField}
-use Rattle.ob_fields.specs.declared.field.WordsField.TheVariants as lists
-use Rattle.ob_fields.specs.declared.field.ValueField.TheVariants as reads
-use Rattle.ob_fields.specs.declared.field.Field.{Field}
-use Rattle.ob_fields.specs.declared.field.Field.TheVariants as field
-use Rattle.ob_fields.specs.declared.part.Part.{Part}
-use Rattle.ob_fields.specs.declared.part.Part.TheVariants as part
-use Rattle.ob_fields.specs.Fields.{field_of, known, has_value, has_limit}
-use Rattle.ob_fields.specs.Parts.{read_as, ReadsPart, put_part}
-use Rattle.ob_encode.specs.Names.{status_word}
-use Rattle.ob_encode.specs.Canonical.{joined, null_text, val_text, attributes}
+use Rattle.ob_encoding.specs.declared.field.TextField.{TextField}
+use Rattle.ob_encoding.specs.declared.field.TextField.TheVariants as texts
+use Rattle.ob_encoding.specs.declared.field.WordsField.{WordsField}
+use Rattle.ob_encoding.specs.declared.field.WordsField.TheVariants as lists
+use Rattle.ob_encoding.specs.declared.field.ValueField.TheVariants as reads
+use Rattle.ob_encoding.specs.declared.field.Field.{Field}
+use Rattle.ob_encoding.specs.declared.field.Field.TheVariants as field
+use Rattle.ob_encoding.specs.declared.part.Part.{Part}
+use Rattle.ob_encoding.specs.declared.part.Part.TheVariants as part
+use Rattle.ob_encoding.specs.Fields.{field_of, known, has_value, has_limit}
+use Rattle.ob_encoding.specs.Parts.{read_as, ReadsPart, put_part}
+use Rattle.ob_encoding.specs.Names.{status_word}
+use Rattle.ob_encoding.specs.Canonical.{joined, null_text, val_text, attributes}
 use Rattle.ob_grammar.specs.Attributes.{Says, Tell}
 use Rattle.ob_grammar.specs.Carried.{AreTextsIfThere, IsWrittenIfThere, IsSlotWritten, IsHeadCarried}
 use Rattle.ob_grammar.proofs.Texts.{text_back}

@@ -11,8 +11,8 @@ use Rattle.std.proofs.lemmas.Bool.Decides.{nat_tests}
 use lib.Utf8.{scalar, scalars}
 use Rattle.ob_values.specs.XmlText.{IsXmlChar, IsXmlText}
 use Rattle.ob_object.specs.Words.{is_white, is_word}
-use Rattle.ob_fields.specs.WordLists.{is_blank, ended, words_from, words_of}
-use Rattle.ob_encode.specs.Canonical.{joined}
+use Rattle.ob_encoding.specs.WordLists.{is_blank, ended, words_from, words_of}
+use Rattle.ob_encoding.specs.Canonical.{joined}
 use Rattle.ob_grammar.proofs.Characters.{encode_1}
 use Rattle.ob_grammar.proofs.Pieces.{left, right}
 

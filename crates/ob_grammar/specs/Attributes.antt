@@ -1,11 +1,11 @@
 -- What the attributes of a tag say of its object.
 use Rattle.std.specs.Prelude.{◌≡◌, ℕ, Bool, true, false, ◌||◌, List, [], ◌∷◌, Option, Some, None, Ok, IsTrue, codes}
 use Rattle.ob_scan.specs.Expansion.{Expands}
-use Rattle.ob_fields.specs.declared.field.Field.{Field}
-use Rattle.ob_fields.specs.declared.part.Part.{Part}
-use Rattle.ob_fields.specs.Kinds.{same}
-use Rattle.ob_fields.specs.Fields.{known}
-use Rattle.ob_fields.specs.Parts.{ReadsPart, put_part}
+use Rattle.ob_encoding.specs.declared.field.Field.{Field}
+use Rattle.ob_encoding.specs.declared.part.Part.{Part}
+use Rattle.ob_encoding.specs.Kinds.{same}
+use Rattle.ob_encoding.specs.Fields.{known}
+use Rattle.ob_encoding.specs.Parts.{ReadsPart, put_part}
 use Rattle.ob_object.specs.declared.kind.Kind.{Kind}
 use Rattle.ob_object.specs.declared.head.Head.{Head}
 use Rattle.ob_object.specs.Fits.{fits_head}

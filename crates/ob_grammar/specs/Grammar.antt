@@ -4,7 +4,7 @@ use Rattle.ob_scan.specs.Constructs.{Construct, opening, attribute, tag_end, emp
 use Rattle.ob_object.specs.declared.head.Head.{Head}
 use Rattle.ob_object.specs.Object.{Objects, none, node, Object, listed}
 use Rattle.ob_object.specs.WellFormed.{NamesDiffer}
-use Rattle.ob_encode.specs.Names.{kind_name}
+use Rattle.ob_encoding.specs.Names.{kind_name}
 use Rattle.ob_grammar.specs.Attributes.{Describe, NamespaceIs}
 
 abbrev pub attributes_of : List (List ℕ × List ℕ) → List Construct

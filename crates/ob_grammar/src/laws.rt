@@ -1,7 +1,7 @@
 //! What holds of every document.
 ghost use Rattle.std.specs.Prelude.{◌≡◌, ℕ, ◌≤◌, List, length, Option};
 ghost use Rattle.ob_object.specs.Object.{Object};
-ghost use Rattle.ob_encode.specs.Canonical.{canonical_text};
+ghost use Rattle.ob_encoding.specs.Canonical.{canonical_text};
 ghost use Rattle.ob_grammar.specs.Carried.{IsCarried};
 ghost use Rattle.ob_grammar.specs.Spelling.{Spells};
 
@@ -16,5 +16,5 @@ pub fn one_document()
     ensures { (bytes : List ℕ) (ns other : Option (List ℕ)) (o p : Object) → Spells bytes ns o → Spells bytes other p → (ns ≡ other) × (o ≡ p) }
 {
     ob_scan::one_text();
-    ob_fields::one_part();
+    ob_encoding::one_part();
 }

@@ -1,6 +1,6 @@
 -- A step of a site that is kept, and what it leaves told of its device.
 use Rattle.std.proofs.Common.{◌≡◌, ◌≢◌, ◌⊎◌, inl, inr, ⊎_elim, ℕ, ◌+◌, ◌≤◌, Bool, true, false, List, [], ◌∷◌, ◌++◌, None, refl, sym, ◌∙◌, ap, subst, arith}
-use Rattle.ob_encode.specs.Canonical.{canonical_text}
+use Rattle.ob_encoding.specs.Canonical.{canonical_text}
 use Rattle.ob_journal.specs.Journal.{IsBeforeOrAfter}
 use Rattle.ob_machine.specs.History.{entry}
 use Rattle.ob_machine.specs.declared.call.Answer.TheVariants.{Done}

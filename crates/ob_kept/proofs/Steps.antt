@@ -2,7 +2,7 @@
 use Rattle.std.proofs.Common.{◌≡◌, ◌⊎◌, inl, inr, ⊎_elim, ℕ, Bool, true, false, List, [], ◌∷◌, ◌++◌, Some, None, refl, sym, ◌∙◌, ap, subst, lit<}
 use Rattle.std.specs.List.{AllByRecursion}
 use Rattle.std.proofs.lemmas.List.{map-append}
-use Rattle.ob_encode.specs.Canonical.{canonical_text}
+use Rattle.ob_encoding.specs.Canonical.{canonical_text}
 use Rattle.ob_journal.specs.Journal.{front, Stands, closed_gate, IsBeforeOrAfter, IsSettled, IsAtRest}
 use Rattle.ob_machine.specs.History.{entry}
 use Rattle.ob_machine.specs.declared.call.Answer.TheVariants.{Done}

@@ -1,6 +1,6 @@
 -- What a recorder has done to the file of a record: what a call of it leaves.
 use Rattle.std.specs.Prelude.{◌≡◌, ◌⊎◌, ℕ, ◌+◌, ◌<◌, ◌≤◌, Bool, true, false, cond, List, [], ◌∷◌, ◌++◌, length, Option, Some, None}
-use Rattle.ob_encode.specs.Canonical.{canonical_text}
+use Rattle.ob_encoding.specs.Canonical.{canonical_text}
 use Rattle.ob_object.specs.Object.{Object}
 use Rattle.ob_values.specs.declared.verb.Verb.TheVariants.{Get}
 use Rattle.ob_journal.specs.Device.{LeavesOnly}

@@ -1,10 +1,10 @@
 //! The file of a record, to which entries are appended.
 ghost use Rattle.std.specs.Prelude.{◌≡◌, None, OnOk, OnErr, IfOk, false};
-ghost use Rattle.ob_encode.specs.Canonical.{canonical_text};
+ghost use Rattle.ob_encoding.specs.Canonical.{canonical_text};
 ghost use Rattle.ob_kept.specs.Redone.{kept_reply};
 
 use crate::redone::{is_batch, more_numbers};
-use ob_encode::encode;
+use ob_encoding::encode;
 use ob_journal::{AppendFault, Device, Journal};
 use ob_object::{Kind, Obj};
 use ob_record_journal::{Blocks, write_closed};

@@ -3,7 +3,7 @@ use Rattle.std.proofs.Common.{ℕ, Bool, true, false, List, [], ◌∷◌, Optio
 use Rattle.std.specs.Prelude.{codes}
 use Rattle.ob_object.specs.declared.kind.Kind.{Kind}
 use Rattle.ob_object.specs.declared.head.Head.{Head}
-use Rattle.ob_fields.specs.Kinds.{same}
+use Rattle.ob_encoding.specs.Kinds.{same}
 use Rattle.ob_grammar.specs.Attributes.{Tells, Tell}
 use Rattle.ob_grammar.specs.Attributes as grammar
 use Rattle.ob_markup.specs.Documents.{AttributesSay, NamespaceBy, NamespaceIs}

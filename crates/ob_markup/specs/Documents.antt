@@ -6,9 +6,9 @@ use Rattle.ob_object.specs.declared.head.Head.{Head}
 use Rattle.ob_object.specs.Object.{Objects, none, node, Object, listed, empty_head}
 use Rattle.ob_object.specs.WellFormed.{NamesDiffer}
 use Rattle.ob_object.specs.Fits.{fits_head}
-use Rattle.ob_fields.specs.Kinds.{same}
-use Rattle.ob_fields.specs.Fields.{known}
-use Rattle.ob_encode.specs.Names.{kind_name}
+use Rattle.ob_encoding.specs.Kinds.{same}
+use Rattle.ob_encoding.specs.Fields.{known}
+use Rattle.ob_encoding.specs.Names.{kind_name}
 use Rattle.ob_grammar.specs.Attributes.{AreDistinct, Says}
 use Rattle.ob_markup.specs.Characters.{IsBlank, IsSpace}
 use Rattle.ob_markup.specs.References.{HasReferences, StandsFor}

@@ -13,7 +13,7 @@ use Rattle.ob_object.specs.declared.head.Slot.TheVariants.{Absent, Is}
 use Rattle.ob_object.specs.declared.head.Head.{Head}
 use Rattle.ob_object.specs.Object.{Objects, empty_head, listed, in_row}
 use Rattle.ob_object.specs.WellFormed.{NamesDiffer, RowIsWellFormed}
-use Rattle.ob_encode.specs.Canonical.{canonical_text}
+use Rattle.ob_encoding.specs.Canonical.{canonical_text}
 use Rattle.ob_grammar.specs.Carried.{IsTextIfThere, AreTextsIfThere, IsWritten, IsSlotWritten, IsHeadCarried, IsRowCarried, IsCarried}
 use Rattle.ob_grammar.specs.Spelling.{Spells}
 use Rattle.ob_grammar.proofs.Spelled.{text_spells}

@@ -2,7 +2,7 @@
 use Rattle.std.proofs.Common.{◌≡◌, ◌≢◌, ◌⊎◌, inl, inr, ℕ, ◌+◌, ◌<◌, List, [], ◌∷◌, ◌++◌, length, take, drop, get_or, Option, Some, None, Ok, refl, sym, ap, subst, ◌∙◌, append_assoc, lit<}
 use Rattle.std.specs.Prelude.{IfSome, IfNone}
 use Rattle.std.proofs.lemmas.List.{take_more, take-append-drop}
-use Rattle.ob_encode.specs.Canonical.{canonical_text}
+use Rattle.ob_encoding.specs.Canonical.{canonical_text}
 use Rattle.ob_machine.specs.declared.call.Answer.{Answer}
 use Rattle.ob_machine.specs.declared.call.Answer.TheVariants as answers
 use Rattle.ob_machine.specs.History.{entry, IsCall, IsLegal, IsAnswer, left_by, after}

@@ -2,7 +2,7 @@
 use Rattle.std.proofs.Common.{◌≡◌, ℕ, ◌≤◌, ◌<◌, ◌^◌, List, length, Option, Some, None, Result, Ok, Err, sym, ap, subst, ◌∙◌}
 use Rattle.std.specs.Prelude.{IfOk, IfSome, IfNone}
 use Rattle.std.specs.declared.alloc.AllocError.{AllocError}
-use Rattle.ob_encode.specs.Canonical.{canonical_text}
+use Rattle.ob_encoding.specs.Canonical.{canonical_text}
 use Rattle.ob_grammar.specs.Carried.{IsCarried}
 use Rattle.ob_grammar.specs.Spelling.{Spells}
 use Rattle.ob_object.specs.Object.{Object}

@@ -2,7 +2,7 @@
 -- `obix-record 1`, the line `boot MS`, and each entry behind the other. Each run has one spelling, and no record spells two.
 use Rattle.std.specs.Prelude.{◌≡◌, ℕ, ◌<◌, ◌≤◌, ◌^◌, List, [], ◌++◌, length, codes, Option, Some, None, IfSome}
 use Rattle.std.specs.List.{flat_map, AllByRecursion}
-use Rattle.ob_encode.specs.Canonical.{canonical_text}
+use Rattle.ob_encoding.specs.Canonical.{canonical_text}
 use Rattle.ob_grammar.specs.Carried.{IsCarried}
 use Rattle.ob_object.specs.Object.{Object}
 use Rattle.ob_times.specs.Times.{IsMoment}

@@ -5,7 +5,7 @@ ghost use Rattle.ob_record.specs.Runs.{Recorded, Records};
 
 use crate::decode::next_entry;
 use crate::run::{Entry, Run, Told};
-use ob_encode::encode;
+use ob_encoding::encode;
 use ob_grammar::{one_document, text_spells};
 use ob_machine::Machine;
 use ob_object::Obj;

@@ -1,7 +1,7 @@
 //! An entry from its parts: target and body are read.
 ghost use Rattle.std.specs.Prelude.{◌≡◌, ◌++◌, true, false, IfOk, IfSome, IfNone, option_map};
 ghost use Rattle.ob_values.specs.XmlText.{IsXmlText};
-ghost use Rattle.ob_encode.specs.Canonical.{canonical_text};
+ghost use Rattle.ob_encoding.specs.Canonical.{canonical_text};
 ghost use Rattle.std.specs.declared.option.Option.{Option};
 ghost use Rattle.ob_object.specs.Object.{Object};
 ghost use Rattle.ob_record.specs.declared.run.Entry.{Entry};
@@ -11,7 +11,7 @@ ghost use Rattle.ob_record.specs.Runs.{body_text, reply_bytes, parts_of, entry_t
 use crate::parts::{Slices, take_parts};
 use crate::run::{Entry, Told};
 use ob_documents::{carried, read};
-use ob_encode::encode;
+use ob_encoding::encode;
 use ob_grammar::{one_document, text_spells};
 use ob_object::Obj;
 use ob_site_rules::Request;

@@ -7,7 +7,7 @@ ghost use Rattle.ob_record.specs.Runs.{body_text, entry_text, head_text, reply_b
 use crate::parts::Slices;
 use crate::run::{Entry, Told};
 use itoa::Buffer;
-use ob_encode::encode;
+use ob_encoding::encode;
 use ob_object::Obj;
 use ob_times::Moment;
 use ob_values::Verb;

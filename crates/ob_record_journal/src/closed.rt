@@ -9,7 +9,7 @@ ghost use Rattle.ob_record.specs.declared.run.Told.TheVariants as told;
 ghost use Rattle.ob_record_journal.specs.Runs.{opening_line};
 
 use ob_documents::{held_carried, is_held};
-use ob_encode::encode;
+use ob_encoding::encode;
 use ob_object::Obj;
 use ob_record::{Entry, Told, write_boot, write_entry};
 use ob_site_rules::Request;

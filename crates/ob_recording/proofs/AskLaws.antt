@@ -6,7 +6,7 @@ use Rattle.std.specs.declared.alloc.AllocError.{AllocError}
 use Rattle.std.specs.List.{flat_map, AllByRecursion}
 use Rattle.std.proofs.lemmas.List.{map-append}
 use Rattle.std.proofs.lemmas.List.Concat.{flat_map-cons, flat_map-append}
-use Rattle.ob_encode.specs.Canonical.{canonical_text}
+use Rattle.ob_encoding.specs.Canonical.{canonical_text}
 use Rattle.ob_http.specs.Request.{Request as Framed}
 use Rattle.ob_io.specs.Told.{Gains, IsFront, Lasts, Sends, Gains-none, Gains-then, Gains-kept}
 use Rattle.ob_machine.specs.declared.call.Answer.{Answer}

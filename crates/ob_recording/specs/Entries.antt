@@ -1,7 +1,7 @@
 -- Requests that are recorded, as entries of a record.
 use Rattle.std.specs.Prelude.{◌≡◌, ℕ, ◌≤◌, List, length, map, Option, Some, None}
 use Rattle.std.specs.List.{flat_map}
-use Rattle.ob_encode.specs.Canonical.{canonical_text}
+use Rattle.ob_encoding.specs.Canonical.{canonical_text}
 use Rattle.ob_grammar.specs.Spelling.{Spells}
 use Rattle.ob_http.specs.Request.{body_limit}
 use Rattle.ob_machine.specs.declared.call.Answer.{Answer}

@@ -2,7 +2,7 @@
 ghost use Rattle.std.specs.Prelude.{IfOk, OnErr};
 ghost use Rattle.ob_recording.specs.Entries.{Replies, Tells, Asked, BodyIsSpelled};
 
-use ob_encode::encode;
+use ob_encoding::encode;
 use ob_machine::Machine;
 use ob_object::Obj;
 use ob_record::{Entry, Told, write_entry};

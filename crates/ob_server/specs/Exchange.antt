@@ -6,7 +6,7 @@ use Rattle.ob_http.specs.declared.answer.StatusLine.TheVariants as lines
 use Rattle.ob_http.specs.Answer.{answer_text}
 use Rattle.ob_http.specs.Request.{Request}
 use Rattle.ob_io.specs.Told.{Gains, Lasts}
-use Rattle.ob_encode.specs.Canonical.{canonical_text}
+use Rattle.ob_encoding.specs.Canonical.{canonical_text}
 use Rattle.ob_object.specs.Object.{Object}
 use Rattle.ob_site_rules.specs.declared.request.Request.{Request as Asked}
 use Rattle.ob_machine.specs.declared.call.Answer.{Answer}

@@ -13,7 +13,7 @@ use crate::end::{Break, LinkEnd, Stop};
 use crate::link::{BUDGET, PIECE, end_at, end_of, read_piece, refuse, write_out};
 use crate::next::{Next, take_next};
 use crate::sort::Sorted;
-use ob_encode::encode;
+use ob_encoding::encode;
 use ob_http::laws::{end_stays, framing_is_one};
 use ob_http::{FrameFault, Framer, StatusLine};
 use ob_io::{Clock, Link};

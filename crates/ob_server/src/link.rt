@@ -16,7 +16,7 @@ ghost use Rattle.ob_server.specs.Passes.{Continues};
 use crate::end::{Break, LinkEnd, Pause, Stop};
 use crate::next::{Next, take_next};
 use crate::sort::Sorted;
-use ob_encode::encode;
+use ob_encoding::encode;
 use ob_http::laws::{end_stays, framing_is_one};
 use ob_http::{FrameFault, Framer, StatusLine, append_answer, refusal_bytes};
 use ob_io::{Clock, Link, send};

@@ -5,8 +5,8 @@ use Rattle.ob_object.specs.declared.kind.Kind.{Kind}
 use Rattle.ob_object.specs.Object.{Objects, none, node, Object}
 use Rattle.ob_scan.specs.declared.piece.Place.{Place}
 use Rattle.ob_scan.specs.Constructs.{Construct, tag_end, empty_end, closing}
-use Rattle.ob_encode.specs.Names.{kind_name}
-use Rattle.ob_encode.specs.Canonical.{attributes, attributes_text, start_text, end_text, row_text, canonical_text}
+use Rattle.ob_encoding.specs.Names.{kind_name}
+use Rattle.ob_encoding.specs.Canonical.{attributes, attributes_text, start_text, end_text, row_text, canonical_text}
 use Rattle.ob_grammar.specs.Attributes.{Describe}
 use Rattle.ob_grammar.specs.Grammar.{Element, empty, full, Content, nothing, pause, child, attributes_of, name_of}
 use Rattle.ob_grammar.specs.Spelling.{Cuts, none as no_cut, some as one_cut, place_behind, Spells}

@@ -12,8 +12,8 @@ use Rattle.ob_scan.specs.Reading.{literal, is_whole}
 use Rattle.ob_scan.specs.Constructs.{digit, base, is_char, then_read, or_read, read_as, number_from, number_at, behind_hash, numeric_at, entity_at, reference_at}
 use Rattle.ob_scan.specs.Expansion.{stop_or, character_from, behind_line_feed, item_at, Expands, nothing, item}
 use Rattle.ob_scan.proofs.Expanding.{IsCharacter, reference_char, one_character, char_scalar, character_utf8}
-use Rattle.ob_encode.specs.Escaped.{escape, escaped}
-use Rattle.ob_encode.proofs.Joining.{escaped-append}
+use Rattle.ob_encoding.specs.Escaped.{escape, escaped}
+use Rattle.ob_encoding.proofs.Joining.{escaped-append}
 use Rattle.ob_size_laws.proofs.Taken.{Costs, literal_cost, literal_costs}
 
 -- ---- what is written for a text

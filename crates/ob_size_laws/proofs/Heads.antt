@@ -7,17 +7,17 @@ use Rattle.ob_object.specs.declared.kind.Kind.{Kind}
 use Rattle.ob_object.specs.declared.head.Head.{Head}
 use Rattle.ob_object.specs.declared.head.Slot.TheVariants as slots
 use Rattle.ob_object.specs.Object.{empty_head}
-use Rattle.ob_fields.specs.declared.field.TextField.TheVariants as texts
-use Rattle.ob_fields.specs.declared.field.WordsField.TheVariants as lists
-use Rattle.ob_fields.specs.declared.field.Field.{Field}
-use Rattle.ob_fields.specs.declared.part.Part.{Part}
-use Rattle.ob_fields.specs.declared.part.Part.TheVariants as part
-use Rattle.ob_fields.specs.Fields.{field_of, known}
-use Rattle.ob_fields.specs.Parts.{ReadsPart, is_null, put_part, nulled}
+use Rattle.ob_encoding.specs.declared.field.TextField.TheVariants as texts
+use Rattle.ob_encoding.specs.declared.field.WordsField.TheVariants as lists
+use Rattle.ob_encoding.specs.declared.field.Field.{Field}
+use Rattle.ob_encoding.specs.declared.part.Part.{Part}
+use Rattle.ob_encoding.specs.declared.part.Part.TheVariants as part
+use Rattle.ob_encoding.specs.Fields.{field_of, known}
+use Rattle.ob_encoding.specs.Parts.{ReadsPart, is_null, put_part, nulled}
 use Rattle.ob_scan.specs.Expansion.{Expands}
-use Rattle.ob_encode.specs.Names.{status_word}
-use Rattle.ob_encode.specs.Escaped.{escaped}
-use Rattle.ob_encode.specs.Canonical.{joined, attribute_text, attributes_text, attributes}
+use Rattle.ob_encoding.specs.Names.{status_word}
+use Rattle.ob_encoding.specs.Escaped.{escaped}
+use Rattle.ob_encoding.specs.Canonical.{joined, attribute_text, attributes_text, attributes}
 use Rattle.ob_grammar.specs.Attributes.{Says, Tell}
 
 -- ---- what is written for a head

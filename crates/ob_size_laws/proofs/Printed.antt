@@ -31,17 +31,17 @@ use Rattle.ob_object.specs.declared.kind.Kind.TheVariants as kind
 use Rattle.ob_object.specs.declared.status.Status.{Status}
 use Rattle.ob_object.specs.declared.status.Status.TheVariants as status
 use Rattle.ob_scan.specs.Expansion.{Expands}
-use Rattle.ob_fields.specs.declared.field.ValueField.TheVariants as reads
-use Rattle.ob_fields.specs.declared.field.Field.TheVariants as field
-use Rattle.ob_fields.specs.declared.part.Part.{Part}
-use Rattle.ob_fields.specs.declared.part.Part.TheVariants as part
-use Rattle.ob_fields.specs.Parts.{read_as, ReadAs, ReadsValue, ReadsLimit}
-use Rattle.ob_fields.specs.Statuses.{status_read}
-use Rattle.ob_fields.specs.WordLists.{is_blank, ended, words_from, words_of}
-use Rattle.ob_encode.specs.Canonical.{joined}
-use Rattle.ob_encode.specs.Names.{status_word}
-use Rattle.ob_encode.specs.Escaped.{escape, escaped}
-use Rattle.ob_encode.proofs.Joining.{escaped-append}
+use Rattle.ob_encoding.specs.declared.field.ValueField.TheVariants as reads
+use Rattle.ob_encoding.specs.declared.field.Field.TheVariants as field
+use Rattle.ob_encoding.specs.declared.part.Part.{Part}
+use Rattle.ob_encoding.specs.declared.part.Part.TheVariants as part
+use Rattle.ob_encoding.specs.Parts.{read_as, ReadAs, ReadsValue, ReadsLimit}
+use Rattle.ob_encoding.specs.Statuses.{status_read}
+use Rattle.ob_encoding.specs.WordLists.{is_blank, ended, words_from, words_of}
+use Rattle.ob_encoding.specs.Canonical.{joined}
+use Rattle.ob_encoding.specs.Names.{status_word}
+use Rattle.ob_encoding.specs.Escaped.{escape, escaped}
+use Rattle.ob_encoding.proofs.Joining.{escaped-append}
 use Rattle.ob_size_laws.proofs.Escapes.{escaped_most, expanded_short, expanded_fits, expanded_utf8}
 use Rattle.ob_size_laws.proofs.Heads.{most, PartsAreShort}
 

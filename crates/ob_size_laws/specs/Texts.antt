@@ -1,7 +1,7 @@
 -- How long the canonical text of an object is beside bytes that spell it.
 use Rattle.std.specs.Prelude.{ℕ, ◌*◌, ◌≤◌, List, length, Option, None}
 use Rattle.ob_object.specs.Object.{Object}
-use Rattle.ob_encode.specs.Canonical.{canonical_text}
+use Rattle.ob_encoding.specs.Canonical.{canonical_text}
 use Rattle.ob_grammar.specs.Spelling.{Spells}
 
 -- at most sixteen times as long: a reference may be longer than what it stands for, and a number be printed with more digits

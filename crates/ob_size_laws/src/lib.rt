@@ -1,7 +1,7 @@
 //! How long the canonical text of an object is beside bytes that spell it.
 //!
 //! The function states a law by its contract and does nothing. What bytes spell which object is said by `ob_grammar`
-//! (`specs/Spelling.antt`), and the canonical text by `ob_encode` (`specs/Canonical.antt`).
+//! (`specs/Spelling.antt`), and the canonical text by `ob_encoding` (`specs/Canonical.antt`).
 #![tactic(auto)]
 
 ghost use Rattle.ob_size_laws.specs.Texts.{TextIsShort};

@@ -1,6 +1,6 @@
 //! Alarms: what a rule makes of values, the status of its source, and the objects of alarms and events.
 use ob_alarms::{AckResult, Alarms, Event, Num, Rule, Turned, What};
-use ob_encode::encode;
+use ob_encoding::encode;
 use ob_object::{Obj, Status};
 use ob_rows::{Asked, Table, number_at, push_number, push_words, text_of, word_at};
 use ob_values::{Dec, Moment, Text, read_dec};

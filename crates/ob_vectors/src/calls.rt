@@ -1,8 +1,7 @@
 //! Calls that may answer want of memory, each with ample memory.
 use ob_contracts::Library;
 use ob_documents::read;
-use ob_encode::{encode, write};
-use ob_fields::{Part, PartFault, read_known, read_part, read_words};
+use ob_encoding::{Part, PartFault, encode, read_known, read_part, read_words, write};
 use ob_object::{Kind, Words};
 use ob_rows::{Asked, Table, push_number, push_words, text_of};
 use ob_scan::{RawFault, expand, plain};

@@ -1,5 +1,5 @@
 //! Objects: what the calls that make and change them answer, and trees as large as a document may make them.
-use ob_encode::encode;
+use ob_encoding::encode;
 use ob_object::{Attributes, Facets, Kind, Obj, PushFault, Slot, Words, WriteFault, check_write};
 use ob_rows::{Asked, Table, push_number};
 use ob_values::{Text, Value};

@@ -1,5 +1,5 @@
 //! Objects and their texts.
-use ob_encode::encode;
+use ob_encoding::encode;
 use ob_object::Obj;
 use ob_rows::push_bytes;
 use ob_values::Text;

@@ -1,7 +1,7 @@
 //! What a mirror holds of a watch: replies that it is given one after the other, and what it holds then.
 use ob_client::{Mirror, MirrorFault};
 use ob_documents::read;
-use ob_encode::encode;
+use ob_encoding::encode;
 use ob_object::Obj;
 use ob_rows::{Asked, Table, push_bytes, push_number, split_word};
 use ob_values::Text;

@@ -1,7 +1,7 @@
 //! What calls over a link answer, one after the other.
 use crate::inputs::{failing_call, replies};
 use ob_client::{CallFault, Session};
-use ob_encode::encode;
+use ob_encoding::encode;
 use ob_io::MemLink;
 use ob_object::Obj;
 use ob_rows::{Asked, Table, push_bytes, split_word};

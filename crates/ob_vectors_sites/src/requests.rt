@@ -1,7 +1,7 @@
 //! Requests on whole sites, worked one after the other, with their replies.
 use crate::sites::open;
 use ob_documents::read;
-use ob_encode::encode;
+use ob_encoding::encode;
 use ob_object::Obj;
 use ob_rows::{Asked, Table, push_bytes, split_word, text_of};
 use ob_site::{Machine, Site};

@@ -12,8 +12,8 @@ use Rattle.ob_object.specs.declared.head.Head.{Head}
 use Rattle.ob_object.specs.Kinds.{same_kind}
 use Rattle.ob_object.specs.Fits.{fits_head}
 use Rattle.ob_object.specs.Object.{Object, empty_head}
-use Rattle.ob_fields.specs.Kinds.{kind_of}
-use Rattle.ob_fields.specs.Parts.{put_part}
+use Rattle.ob_encoding.specs.Kinds.{kind_of}
+use Rattle.ob_encoding.specs.Parts.{put_part}
 use Rattle.ob_xml.specs.declared.doc.Doc.{Doc}
 use Rattle.ob_xml.specs.declared.refused.Why.{Why}
 use Rattle.ob_xml.specs.declared.refused.Why.TheVariants.{Mismatch, Twice, SameName, Value, Deep}

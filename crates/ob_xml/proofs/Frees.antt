@@ -5,11 +5,11 @@ use Rattle.ob_object.specs.declared.head.Head.{Head}
 use Rattle.ob_object.specs.declared.head.Slot.TheVariants as slots
 use Rattle.ob_object.specs.Object.{Object}
 use Rattle.ob_object.specs.WellFormed.{is_taken}
-use Rattle.ob_fields.specs.declared.field.TextField.TheVariants as texts
-use Rattle.ob_fields.specs.declared.field.WordsField.TheVariants as lists
-use Rattle.ob_fields.specs.declared.part.Part.{Part}
-use Rattle.ob_fields.specs.declared.part.Part.TheVariants as part
-use Rattle.ob_fields.specs.Parts.{is_null, put_part}
+use Rattle.ob_encoding.specs.declared.field.TextField.TheVariants as texts
+use Rattle.ob_encoding.specs.declared.field.WordsField.TheVariants as lists
+use Rattle.ob_encoding.specs.declared.part.Part.{Part}
+use Rattle.ob_encoding.specs.declared.part.Part.TheVariants as part
+use Rattle.ob_encoding.specs.Parts.{is_null, put_part}
 use Rattle.ob_xml.specs.Structure.{is_twice}
 
 nulled_free : (b : Bool) (h : Head) (os : List Object) → is_taken h.name os ≡ false → is_taken (put_part (part.Null b) h).name os ≡ false

@@ -15,10 +15,10 @@ use Rattle.ob_xml.specs.declared.doc.Doc.{Doc}
 use Rattle.ob_xml.specs.declared.refused.Why.{Why}
 use Rattle.ob_spelling.specs.declared.fault.ValueFault.{ValueFault}
 use Rattle.ob_object.specs.declared.kind.Kind.{Kind}
-use Rattle.ob_fields.specs.declared.field.Field.{Field}
-use Rattle.ob_fields.specs.declared.part.Part.{Part}
-use Rattle.ob_fields.specs.Fields.{known}
-use Rattle.ob_fields.specs.Parts.{ReadsPart, read_as}
+use Rattle.ob_encoding.specs.declared.field.Field.{Field}
+use Rattle.ob_encoding.specs.declared.part.Part.{Part}
+use Rattle.ob_encoding.specs.Fields.{known}
+use Rattle.ob_encoding.specs.Parts.{ReadsPart, read_as}
 use Rattle.ob_xml.specs.declared.meaning.Said.{Said}
 use Rattle.ob_xml.specs.declared.meaning.Said.TheVariants as said
 use Rattle.ob_xml.specs.Meanings.{Meaning, attribute, Means, ReadsKnown}

@@ -5,9 +5,9 @@ use Rattle.ob_scan.specs.Constructs as constructs
 use Rattle.ob_scan.specs.Expansion.{Expands}
 use Rattle.ob_spelling.specs.declared.fault.ValueFault.{ValueFault}
 use Rattle.ob_object.specs.declared.kind.Kind.{Kind}
-use Rattle.ob_fields.specs.declared.field.Field.{Field}
-use Rattle.ob_fields.specs.Fields.{known}
-use Rattle.ob_fields.specs.Parts.{ReadsPart, ReadAs}
+use Rattle.ob_encoding.specs.declared.field.Field.{Field}
+use Rattle.ob_encoding.specs.Fields.{known}
+use Rattle.ob_encoding.specs.Parts.{ReadsPart, ReadAs}
 use Rattle.ob_xml.specs.declared.meaning.Said.{Said}
 use Rattle.ob_xml.specs.declared.meaning.Said.TheVariants as said
 

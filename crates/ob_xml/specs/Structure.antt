@@ -13,12 +13,12 @@ use Rattle.ob_object.specs.Kinds.{same_kind}
 use Rattle.ob_object.specs.Fits.{fits_head}
 use Rattle.ob_object.specs.Object.{Object, none, children, empty_head}
 use Rattle.ob_object.specs.WellFormed.{is_taken, with_child}
-use Rattle.ob_fields.specs.declared.field.TextField.{TextField}
-use Rattle.ob_fields.specs.declared.field.TextField.TheVariants as texts
-use Rattle.ob_fields.specs.declared.part.Part.{Part}
-use Rattle.ob_fields.specs.declared.part.Part.TheVariants as part
-use Rattle.ob_fields.specs.Kinds.{same, kind_of}
-use Rattle.ob_fields.specs.Parts.{put_part}
+use Rattle.ob_encoding.specs.declared.field.TextField.{TextField}
+use Rattle.ob_encoding.specs.declared.field.TextField.TheVariants as texts
+use Rattle.ob_encoding.specs.declared.part.Part.{Part}
+use Rattle.ob_encoding.specs.declared.part.Part.TheVariants as part
+use Rattle.ob_encoding.specs.Kinds.{same, kind_of}
+use Rattle.ob_encoding.specs.Parts.{put_part}
 use Rattle.ob_xml.specs.declared.doc.Doc.{Doc}
 use Rattle.ob_xml.specs.declared.refused.Why.{Why}
 use Rattle.ob_xml.specs.declared.refused.Why.TheVariants.{Markup, Element, Mismatch, Twice, SameName, Value, Deep}

@@ -9,7 +9,7 @@ pub fn one_verdict()
     ensures { (bytes : List ℕ) (ended : Bool) (v w : Verdict) → Judged bytes ended v → Judged bytes ended w → v ≡ w }
 {
     ob_scan::one_text();
-    ob_fields::one_part();
+    ob_encoding::one_part();
 }
 
 /// The first refused construct of a text is that of every longer one.

@@ -22,5 +22,5 @@ mod words;
 pub use decoder::Decoder;
 pub use doc::Doc;
 pub use laws::{fault_stays, one_verdict};
-pub use ob_encode::{encode, write};
+pub use ob_encoding::{encode, write};
 pub use refused::{Refused, Why};

@@ -7,7 +7,7 @@ ghost use Rattle.ob_object.specs.declared.kind.Kind.{Kind};
 ghost use Rattle.ob_xml.specs.Meanings.{Means, ReadsAttribute};
 ghost use Rattle.ob_xml.specs.Views.{meaning_of, HasMeaning};
 
-use ob_fields::{Field, Part, PartFault, read_known, read_part};
+use ob_encoding::{Field, Part, PartFault, read_known, read_part};
 use ob_object::Kind;
 use ob_scan::{Piece, RawFault, expand};
 use ob_values::{Text, ValueFault};

@@ -2,7 +2,7 @@ use Rattle.std.proofs.Common.{List, ℕ, ◌++◌, ap, ◌∙◌}
 use Rattle.std.specs.Prelude.{codes}
 use Rattle.ob_values.specs.declared.value.Value.TheVariants as value
 use Rattle.ob_values.specs.Spelled.{printed}
-use Rattle.ob_encode.specs.Names.{status_word}
+use Rattle.ob_encoding.specs.Names.{status_word}
 use Rattle.ob_console.specs.Lines.{left_in, slot_text}
 use Rattle.ob_console.proofs.LineLemmas.{five}
 use Rattle.ob_console.proofs.print.put_line.Goals as goal

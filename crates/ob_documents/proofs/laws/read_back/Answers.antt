@@ -1,4 +1,4 @@
-use Rattle.ob_encode.specs.Canonical.{canonical_text}
+use Rattle.ob_encoding.specs.Canonical.{canonical_text}
 use Rattle.ob_documents.proofs.laws.read_back.Goals as goal
 
 pub returns : goal.returns

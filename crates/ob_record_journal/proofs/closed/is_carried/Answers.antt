@@ -1,6 +1,6 @@
 use Rattle.std.proofs.Common.{◌≡◌, ◌≤◌, ℕ, List, None, arith, length, sym, ap, subst}
 use Rattle.std.proofs.lemmas.Bool.{le-leb, leb-true}
-use Rattle.ob_encode.specs.Canonical.{canonical_text}
+use Rattle.ob_encoding.specs.Canonical.{canonical_text}
 use Rattle.ob_record.specs.Runs.{IsBody}
 use Rattle.ob_record_journal.proofs.Closing.{body_shallow, shallow_body}
 use Rattle.ob_record_journal.proofs.closed.is_carried.Goals as goal

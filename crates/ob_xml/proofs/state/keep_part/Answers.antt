@@ -3,7 +3,7 @@ use Rattle.std.specs.Prelude.{reverse}
 use Rattle.ob_object.specs.declared.head.Head.{Head}
 use Rattle.ob_object.specs.Object.{Object}
 use Rattle.ob_object.specs.WellFormed.{is_taken}
-use Rattle.ob_fields.specs.Parts.{put_part}
+use Rattle.ob_encoding.specs.Parts.{put_part}
 use Rattle.ob_xml.specs.Structure.{siblings, is_twice}
 use Rattle.ob_xml.proofs.Frees.{still_free}
 use Rattle.ob_xml.proofs.state.keep_part.Goals as goal

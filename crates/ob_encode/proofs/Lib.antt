@@ -1,4 +1,0 @@
-pub mod Escaping
-pub mod Fronts
-pub mod Joining
-pub mod Writing

@@ -1,5 +1,0 @@
-pub mod Names
-pub mod Escaped
-pub mod Canonical
-pub mod Written
-pub mod Parts

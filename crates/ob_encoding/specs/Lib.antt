@@ -1,0 +1,10 @@
+pub mod Kinds
+pub mod Fields
+pub mod Statuses
+pub mod WordLists
+pub mod Parts
+pub mod Names
+pub mod Escaped
+pub mod Canonical
+pub mod Written
+pub mod Groups

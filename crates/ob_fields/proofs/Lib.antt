@@ -1,2 +1,0 @@
-pub mod WordRuns
-pub mod OneParts
