@@ -16,9 +16,9 @@ ghost use Rattle.ob_ground.specs.Grounds.{AreTold, alone_at, inside_at};
 
 use crate::told::Told;
 use ob_contracts::{Library, View};
+use ob_machine::Steps;
 use ob_object::Slot;
 use ob_standing::Standing;
-use ob_steps::Steps;
 use ob_tree::{NodeId, Tree};
 use ob_values::Text;
 use std::alloc::{AllocError, Global};

@@ -14,13 +14,13 @@ ghost use Rattle.ob_site.specs.Keeping.{Keeps, KeepsNext, KeepsPlace, MayKeep};
 ghost use Rattle.ob_site.specs.Steps.{IsAnswered, IsUnanswered, step_of};
 
 use crate::keeper::Keeper;
+use ob_machine::Steps;
 use ob_object::Obj;
 use ob_replies::{Fault, refusal};
 use ob_requests::Operation;
 use ob_site_rules::Request;
 use ob_site_state::State;
 use ob_site_watched::{Call, make, on_watch};
-use ob_steps::Steps;
 use ob_times::Moment;
 use ob_watch::Watches;
 use std::alloc::AllocError;

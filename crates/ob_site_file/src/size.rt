@@ -12,9 +12,9 @@ ghost use Rattle.ob_site_file.specs.Sizes.{has_text, HasNames, is_fresh, IsCount
 
 use crate::derived::{Counting, Derived, Texts, derived_children};
 use ob_contracts::{Library, telling, told_by};
+use ob_machine::Steps;
 use ob_object::{Attributes, Obj, Words};
 use ob_roles::{Names, find_over, implied_by, names_in};
-use ob_steps::Steps;
 use ob_values::Text;
 use std::alloc::{AllocError, Global};
 use std::collections::BTreeSet;

@@ -11,11 +11,11 @@ ghost use Rattle.ob_site_state.specs.Contents.{state_in};
 ghost use Rattle.ob_site_shown.specs.Readable.{IsReadable};
 ghost use Rattle.ob_site_reads.specs.Watchable.{IsWatchableAt};
 
+use ob_machine::Steps;
 use ob_object::{Kind, Obj};
 use ob_replies::Plan;
 use ob_site_shown::{shown_at, shown_own, shown_own_counted};
 use ob_site_state::Contents;
-use ob_steps::Steps;
 use ob_tree::NodeId;
 use ob_values::Text;
 use std::alloc::{AllocError, Global};

@@ -15,10 +15,10 @@ ghost use Rattle.ob_site_shown.specs.Readable.{IsReadable};
 
 use crate::dressing::dress;
 use crate::owners::shown_derived;
+use ob_machine::Steps;
 use ob_object::Obj;
 use ob_replies::Plan;
 use ob_site_state::Contents;
-use ob_steps::Steps;
 use ob_tree::NodeId;
 use ob_values::Text;
 use std::alloc::{AllocError, Global};

@@ -9,11 +9,11 @@ ghost use Rattle.ob_site_watched.specs.Entries.{all_changes, all_readings, chang
 ghost use Rattle.ob_site_watched.specs.Known.{AreKnown, IsKnown, IsPlacedBy};
 ghost use Rattle.ob_site_watched.specs.Polls.{of_objects, steps_in};
 
+use ob_machine::Steps;
 use ob_object::Obj;
 use ob_replies::{Plan, entry};
 use ob_site_reads::{Since, feed_since, watched_node, watched_node_counted, whole_feed};
 use ob_site_state::Contents;
-use ob_steps::Steps;
 use ob_watch::{Item, Tracked, Watch};
 use std::alloc::{AllocError, Global};
 use std::sync::ledger::Ledger;

@@ -11,9 +11,9 @@ ghost use Rattle.ob_tree.specs.Told.{words_for, AreToldBy};
 
 use crate::spot::Spot;
 use ob_contracts::Library;
+use ob_machine::Steps;
 use ob_object::{Attributes, Obj};
 use ob_standing::{Instead, Standing};
-use ob_steps::Steps;
 use std::alloc::{AllocError, Global};
 use std::collections::BTreeMap;
 use std::sync::ledger::{Blank, Ledger};

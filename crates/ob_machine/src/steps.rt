@@ -1,5 +1,4 @@
 //! Counting steps without taking time or memory for it: what is counted exists in contracts alone.
-#![tactic(auto)]
 
 ghost use Rattle.std.specs.Prelude.{◌≡◌, ℕ, ◌+◌, ◌<◌};
 
