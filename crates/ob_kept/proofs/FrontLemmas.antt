@@ -5,7 +5,7 @@ use Rattle.ob_machine.specs.History.{IsAnswer, IsLegal, after, left_by}
 use Rattle.ob_machine.specs.declared.call.Answer.{Answer}
 use Rattle.ob_machine.specs.declared.call.Answer.TheVariants.{Done, NoMemory}
 use Rattle.ob_object.specs.Object.{Object}
-use Rattle.ob_seen_laws.proofs.Seen.{keeps_watches}
+use Rattle.ob_site_laws.proofs.Seen.{keeps_watches}
 use Rattle.ob_site_laws.specs.SiteLaws.{Call, acts, IsSoundSite}
 use Rattle.ob_site_rules.specs.declared.request.Request.{Request}
 use Rattle.ob_site_rules.specs.Sites.{SiteState}

@@ -4,7 +4,7 @@ use Rattle.ob_machine.specs.History.{IsLegal, after, left_by}
 use Rattle.ob_machine.specs.declared.call.Answer.{Answer}
 use Rattle.ob_machine.specs.declared.call.Answer.TheVariants.{Done, NoMemory}
 use Rattle.ob_object.specs.Object.{Object}
-use Rattle.ob_seen_laws.specs.Seen.{KeepsWatches}
+use Rattle.ob_site_laws.specs.Seen.{KeepsWatches}
 use Rattle.ob_site_laws.specs.SiteLaws.{Call, acts}
 use Rattle.ob_site_rules.specs.Sites.{SiteState}
 use Rattle.ob_kept.specs.Keeping.{Keeping, is_refused, kept_act}

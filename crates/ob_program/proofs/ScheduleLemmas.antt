@@ -15,7 +15,7 @@ use Rattle.ob_schedule.specs.PointRules.{PointRules}
 use Rattle.ob_schedule.specs.Weeks.{Says}
 use Rattle.ob_schedule_rules.specs.Rules.{rules_of}
 use Rattle.ob_scheduling.specs.Scheduled.{ServesScheduled}
-use Rattle.ob_seen_laws.proofs.Seen.{keeps_watches}
+use Rattle.ob_site_laws.proofs.Seen.{keeps_watches}
 use Rattle.ob_server.specs.Complete.{ServesWhole}
 use Rattle.ob_server.specs.declared.end.LinkEnd.{LinkEnd}
 use Rattle.ob_site_file.specs.declared.fault.LoadFault.{LoadFault}

@@ -12,7 +12,7 @@ use Rattle.ob_schedule.specs.PointRules.{PointRules}
 use Rattle.ob_schedule.specs.Weeks.{Says}
 use Rattle.ob_schedule_rules.specs.Rules.{rules_of}
 use Rattle.ob_scheduling.specs.Scheduled.{ServesScheduled}
-use Rattle.ob_seen_laws.specs.Seen.{KeepsWatches}
+use Rattle.ob_site_laws.specs.Seen.{KeepsWatches}
 use Rattle.ob_server.specs.Complete.{IsWellFramed}
 use Rattle.ob_server.specs.declared.end.LinkEnd.{LinkEnd}
 use Rattle.ob_site_laws.specs.SiteLaws.{acts, IsSoundSite}

@@ -13,7 +13,7 @@ use Rattle.ob_server.specs.Port.{ServesDoors}
 use Rattle.ob_server.specs.Working.{is_fault}
 use Rattle.ob_server.specs.declared.worker.WorkerEnd.{WorkerEnd}
 use Rattle.ob_server.specs.declared.worker.WorkerEnd.TheVariants as workers
-use Rattle.ob_seen_laws.specs.Seen.{KeepsWatches}
+use Rattle.ob_site_laws.specs.Seen.{KeepsWatches}
 use Rattle.ob_site_file.specs.declared.fault.LoadFault.{LoadFault}
 use Rattle.ob_site_file.specs.declared.fault.LoadFault.TheVariants as faults
 use Rattle.ob_site_laws.specs.SiteLaws.{acts, IsSoundSite}

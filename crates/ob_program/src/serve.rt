@@ -3,7 +3,7 @@ ghost use Rattle.std.specs.Prelude.{◌≡◌, ◌≤◌, Some, None, option_cop
 ghost use Rattle.ob_program.specs.Outside.{port_told, clock_told};
 ghost use Rattle.ob_program.specs.Serving.{listening_text, served_text, end_with, Prints, PrintRose, AtPlace, ServeComes, ServeRan};
 ghost use Rattle.ob_program.specs.Telling.{errors_told};
-ghost use Rattle.ob_seen_laws.specs.Seen.{KeepsWatches};
+ghost use Rattle.ob_site_laws.specs.Seen.{KeepsWatches};
 ghost use Rattle.ob_site_laws.specs.SiteLaws.{acts};
 
 use crate::exit::Exit;

@@ -4,7 +4,7 @@ ghost use Rattle.ob_io.specs.Ticks.{last_moment};
 ghost use Rattle.ob_io.specs.Faults.{Rose};
 ghost use Rattle.ob_io.specs.Links.{inlet};
 ghost use Rattle.ob_recording.specs.Recording.{RecordsRun};
-ghost use Rattle.ob_seen_laws.specs.Seen.{KeepsWatches};
+ghost use Rattle.ob_site_laws.specs.Seen.{KeepsWatches};
 ghost use Rattle.ob_server.specs.Alone.{ServesAlone};
 ghost use Rattle.ob_server.specs.Answered.{HasEndCause};
 ghost use Rattle.ob_site_laws.specs.SiteLaws.{acts, IsSoundSite};

@@ -2,7 +2,7 @@
 ghost use Rattle.std.specs.Prelude.{◌≡◌, is_some, option_copied};
 ghost use Rattle.ob_io.specs.Links.{inlet};
 ghost use Rattle.ob_machine.specs.History.{after, IsLegal};
-ghost use Rattle.ob_seen_laws.specs.Seen.{KeepsWatches};
+ghost use Rattle.ob_site_laws.specs.Seen.{KeepsWatches};
 ghost use Rattle.ob_server.specs.Alone.{ServesAlone};
 ghost use Rattle.ob_server.specs.Answered.{Serves, HasEndCause};
 ghost use Rattle.ob_server.specs.Complete.{ServesWhole};

@@ -16,8 +16,8 @@ use Rattle.ob_site_rules.specs.Sites.{SiteState}
 use Rattle.ob_site_laws.specs.SiteLaws.{acts, of_plan, Call, TellsEvents, IsSoundSite}
 use Rattle.ob_site_laws.proofs.Lawful.{lawful}
 use Rattle.ob_site_laws.proofs.SiteHistories.{stays, gone_for_good}
-use Rattle.ob_seen_laws.specs.Seen.{KeepsWatches}
-use Rattle.ob_seen_laws.proofs.Seen.{keeps_watches}
+use Rattle.ob_site_laws.specs.Seen.{KeepsWatches}
+use Rattle.ob_site_laws.proofs.Seen.{keeps_watches}
 use Rattle.ob_lasting.proofs.Histories.{all_at, first_run, history_back, run_cut, history_cut, kept_after, later_starts}
 use Rattle.ob_lasting.proofs.Gone.{act_next, sound_restart, made_next}
 use Rattle.ob_site_lasting.specs.SiteLasting.{IsSiteRestartOf, KeepsNumbers, Run, IsSiteHistory, StartsSound, SiteCutOff, EachRunKeepsWatches, IsGoneIn, GoneOverRestarts}

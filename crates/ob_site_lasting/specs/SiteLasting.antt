@@ -12,7 +12,7 @@ use Rattle.ob_site_rules.specs.declared.request.Request.{Request}
 use Rattle.ob_site_rules.specs.State.{Plan}
 use Rattle.ob_site_rules.specs.Sites.{SiteState}
 use Rattle.ob_site_laws.specs.SiteLaws.{acts, of_plan, Call, IsSoundSite}
-use Rattle.ob_seen_laws.specs.Seen.{KeepsWatches}
+use Rattle.ob_site_laws.specs.Seen.{KeepsWatches}
 use Rattle.ob_lasting.specs.Lasting.{IsRestartOf, IsApart, DoneAgain, DoneAgainFurther}
 use Rattle.ob_lasting.specs.Records.{Request as TheRequest, Noted, calls_of, notes_of, renewed, replayed, IsRecorded}
 use Rattle.ob_lasting.specs.Runs.{Segment, IsAtMoment, GoesOn, IsHistoryWithRestarts}

@@ -13,3 +13,4 @@ pub mod AllSince
 pub mod Endless
 pub mod SiteHistories
 pub mod SinceRows
+pub mod Seen

@@ -1,2 +1,3 @@
 pub mod SiteLaws
 pub mod SinceRows
+pub mod Seen

@@ -1,5 +1,5 @@
 use Rattle.std.proofs.Common.{option_copied, sym, ◌∙◌, false}
-use Rattle.ob_seen_laws.specs.Seen.{KeepsWatches}
+use Rattle.ob_site_laws.specs.Seen.{KeepsWatches}
 use Rattle.ob_site_laws.specs.SiteLaws.{acts}
 use Rattle.ob_program.proofs.ServingLemmas.{unlistened, unannounced, served_there, on_err}
 use Rattle.ob_program.proofs.serve.serve_site.Goals as goal

@@ -1,6 +1,6 @@
 use Rattle.std.proofs.Common.{ℕ, List, Option, subst}
 use Rattle.ob_io.specs.Links.{inlet}
-use Rattle.ob_seen_laws.specs.Seen.{KeepsWatches}
+use Rattle.ob_site_laws.specs.Seen.{KeepsWatches}
 use Rattle.ob_server.specs.Alone.{ServesAlone}
 use Rattle.ob_site_laws.specs.SiteLaws.{acts}
 use Rattle.ob_program.proofs.stdio.answer_site.Goals as goal

@@ -1,4 +1,4 @@
-use Rattle.ob_seen_laws.proofs.Seen.{keeps_watches}
+use Rattle.ob_site_laws.proofs.Seen.{keeps_watches}
 use Rattle.ob_site_desk.proofs.serving.serve_alone.Goals as goal
 
 pub returns-clause-serves : goal.returns-clause-serves

@@ -1,5 +1,5 @@
 use denote.Param.Send.{sendable}
-use Rattle.ob_seen_laws.proofs.Seen.{keeps_watches}
+use Rattle.ob_site_laws.proofs.Seen.{keeps_watches}
 use Rattle.ob_site.proofs.Crossing.{site_send}
 use Rattle.ob_site_desk.proofs.serving.serve_port.Goals as goal
 
