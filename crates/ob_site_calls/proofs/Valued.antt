@@ -20,8 +20,8 @@ use Rattle.ob_tree.specs.Laid.{heads, heads_of, head_at, paths}
 use Rattle.ob_tree.specs.Paths.{place_of}
 use Rattle.ob_tree.specs.Shown.{part_at, standing_at}
 use Rattle.ob_tree.proofs.Changing.{length-heads, got_left, got_right}
-use Rattle.ob_tree_bridges.specs.OwnTree.{own_shown_at}
-use Rattle.ob_tree_bridges.proofs.Owned.{own_trees_tell, part_there}
+use Rattle.ob_shown_laws.specs.OwnTree.{own_shown_at}
+use Rattle.ob_shown_laws.proofs.Owned.{own_trees_tell, part_there}
 use Rattle.ob_site_state.proofs.Noting.{head_there}
 use Rattle.ob_site_written.proofs.Taking.{node_within}
 use Rattle.ob_site_writes.proofs.Nowhere.{is_there}

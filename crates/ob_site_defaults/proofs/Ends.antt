@@ -21,9 +21,9 @@ use Rattle.ob_tree.specs.Trees.{Stamped}
 use Rattle.ob_tree.specs.LastTouch.{Begins, done}
 use Rattle.ob_tree.proofs.Lasting.{last_touches_stamp}
 use Rattle.ob_tree.proofs.Within.{place_within}
-use Rattle.ob_tree_bridges.specs.Following.{is_same_watched}
-use Rattle.ob_tree_bridges.proofs.Owned.{part_there, own_trees_tell_changes, same_count}
-use Rattle.ob_tree_bridges.proofs.Followed.{part_less, stamps_follow}
+use Rattle.ob_shown_laws.specs.Following.{is_same_watched}
+use Rattle.ob_shown_laws.proofs.Owned.{part_there, own_trees_tell_changes, same_count}
+use Rattle.ob_shown_laws.proofs.Followed.{part_less, stamps_follow}
 use Rattle.ob_default_laws.specs.Defaults.{with_library, is_same}
 use Rattle.ob_default_laws.proofs.Either.{changes_are_either, given_itself}
 use Rattle.ob_default_laws.proofs.Reached.{defaults_stand, values_back}

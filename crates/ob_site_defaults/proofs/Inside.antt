@@ -16,7 +16,7 @@ use Rattle.ob_tree.specs.Laid.{head_at, paths}
 use Rattle.ob_tree.specs.Paths.{place_of, first_twice}
 use Rattle.ob_tree.specs.Shown.{row as row_of, part_at, handed_at, standing_at}
 use Rattle.ob_tree.proofs.Within.{place_within}
-use Rattle.ob_tree_bridges.proofs.Owned.{part_there, round}
+use Rattle.ob_shown_laws.proofs.Owned.{part_there, round}
 use Rattle.ob_site_state.proofs.Noting.{head_there}
 use Rattle.ob_default_laws.specs.Defaults.{with_library, is_same}
 use Rattle.ob_default_laws.proofs.Reached.{defaults_reach}

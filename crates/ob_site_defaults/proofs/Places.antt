@@ -8,7 +8,7 @@ use Rattle.ob_site_rules.specs.Shown.{node_path}
 use Rattle.ob_shown_laws.proofs.Touches.{bytes_itself}
 use Rattle.ob_tree.specs.Laid.{heads_of, head_at, paths}
 use Rattle.ob_tree.specs.Paths.{is_path, place_of, first_twice}
-use Rattle.ob_tree_bridges.proofs.Places.{has, has-append, in_parts, apart}
+use Rattle.ob_shown_laws.proofs.Places.{has, has-append, in_parts, apart}
 
 got_map : {A B : Type 0} (f : A → B) (xs : List A) (n : ℕ) (x : A) → slice_get xs n ≡ Some x → slice_get (map f xs) n ≡ Some (f x)
 got_map f [] n x e = absurd cc

@@ -13,7 +13,7 @@ use Rattle.ob_shown_laws.proofs.Reaching.{status_off}
 use Rattle.ob_tree.specs.Laid.{head_at}
 use Rattle.ob_tree.specs.Shown.{row, part_at, handed_at}
 use Rattle.ob_tree.proofs.Growing.{first, grows_for}
-use Rattle.ob_tree_bridges.specs.OwnTree.{own_shown_at}
+use Rattle.ob_shown_laws.specs.OwnTree.{own_shown_at}
 use Rattle.ob_site_defaults.proofs.Numbered.{ChildAt, child_at, part_within}
 
 some_same : {a b : Object} → Some a ≡ Some b → a ≡ b

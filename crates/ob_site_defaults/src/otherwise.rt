@@ -5,7 +5,7 @@ ghost use Rattle.ob_contracts.specs.Inherit.{Contracts};
 ghost use Rattle.ob_tree.specs.Laid.{paths};
 ghost use Rattle.ob_tree.specs.Paths.{first_twice};
 ghost use Rattle.ob_tree.specs.Shown.{standing_at};
-ghost use Rattle.ob_tree_bridges.specs.OwnTree.{own_shown_at};
+ghost use Rattle.ob_shown_laws.specs.OwnTree.{own_shown_at};
 ghost use Rattle.ob_standing.specs.Contexts.{comes_to};
 ghost use Rattle.ob_standing.specs.Standings.{context};
 ghost use Rattle.ob_replies.specs.Plans.{plan as plan_of};

@@ -23,7 +23,7 @@ use Rattle.ob_shown_laws.proofs.Numbering.{number_there}
 use Rattle.ob_shown_laws.proofs.Reaching.{at-paths}
 use Rattle.ob_tree.specs.Laid.{paths}
 use Rattle.ob_tree.specs.Paths.{place_of}
-use Rattle.ob_tree_bridges.proofs.Places.{place_at}
+use Rattle.ob_shown_laws.proofs.Places.{place_at}
 use Rattle.ob_site_state.specs.declared.change.Change.{Change}
 use Rattle.ob_site_state.specs.Changes.{rewound, CanRewind, AreTold}
 use Rattle.ob_site_state.specs.Kept.{keys, IsSoundFor}

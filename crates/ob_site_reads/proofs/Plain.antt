@@ -18,8 +18,8 @@ use Rattle.ob_shown_laws.specs.Changed.{is_watchable}
 use Rattle.ob_shown_laws.specs.Own.{dressed_own}
 use Rattle.ob_tree.specs.Laid.{head_at}
 use Rattle.ob_tree.specs.Shown.{handed_at, part_at, standing_at}
-use Rattle.ob_tree_bridges.specs.OwnTree.{own_shown_at}
-use Rattle.ob_tree_bridges.proofs.Owned.{part_there}
+use Rattle.ob_shown_laws.specs.OwnTree.{own_shown_at}
+use Rattle.ob_shown_laws.proofs.Owned.{part_there}
 use Rattle.ob_site_reads.specs.Watchable.{IsWatchableAt}
 
 -- statuses and what is inherited leave the kind

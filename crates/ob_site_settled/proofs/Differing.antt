@@ -14,7 +14,7 @@ use Rattle.ob_tree.specs.Laid.{heads_of, head_at, paths}
 use Rattle.ob_tree.specs.Paths.{place_of}
 use Rattle.ob_tree.specs.Shown.{handed_at, standing_at}
 use Rattle.ob_tree.proofs.Within.{place_within}
-use Rattle.ob_tree_bridges.proofs.Owned.{own_trees_tell, own_trees_tell_changes}
+use Rattle.ob_shown_laws.proofs.Owned.{own_trees_tell, own_trees_tell_changes}
 use Rattle.ob_opened.specs.Laws.{Apart}
 use Rattle.ob_site_rules.specs.Build.{Path, number_slot}
 use Rattle.ob_site_rules.specs.State.{Plan, Log, State, at, is_among, is_path, numbered_from, rolled, rolled_logs, roll}

@@ -11,9 +11,9 @@ use Rattle.ob_shown_laws.specs.Changed.{PathsDiffer}
 use Rattle.ob_tree.specs.Trees.{Stamped}
 use Rattle.ob_tree.specs.LastTouch.{Begins, Touches, done, all_done}
 use Rattle.ob_tree.proofs.Within.{place_within}
-use Rattle.ob_tree_bridges.specs.Following.{is_same_watched}
-use Rattle.ob_tree_bridges.proofs.Owned.{same_count}
-use Rattle.ob_tree_bridges.proofs.Followed.{stamps_follow}
+use Rattle.ob_shown_laws.specs.Following.{is_same_watched}
+use Rattle.ob_shown_laws.proofs.Owned.{same_count}
+use Rattle.ob_shown_laws.proofs.Followed.{stamps_follow}
 use Rattle.ob_site_state.proofs.Noting.{got_there, head_there}
 use Rattle.ob_site_state.proofs.Stepping.{rooted}
 use Rattle.ob_watch.specs.declared.item.Tracked.{Tracked}

@@ -13,7 +13,7 @@ use Rattle.ob_tree.specs.Laid.{paths, head_at}
 use Rattle.ob_tree.specs.Paths.{place_of}
 use Rattle.ob_tree.specs.Trees.{Stamped}
 use Rattle.ob_site_state.specs.Stamping.{after_step}
-use Rattle.ob_tree_bridges.specs.Following.{AreNumbers, is_same_watched}
+use Rattle.ob_shown_laws.specs.Following.{AreNumbers, is_same_watched}
 use Rattle.ob_watching.specs.Watches.{settled}
 use Rattle.ob_watch.specs.declared.item.Tracked.{Tracked}
 use Rattle.ob_watch.specs.declared.item.Tracked.TheVariants as tracked

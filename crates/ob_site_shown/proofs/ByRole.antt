@@ -15,8 +15,8 @@ use Rattle.ob_shown_laws.specs.OwnShown.{IsNotDerived}
 use Rattle.ob_tree.specs.Laid.{paths, head_at}
 use Rattle.ob_tree.specs.Paths.{place_of}
 use Rattle.ob_tree.specs.Shown.{standing_at}
-use Rattle.ob_tree_bridges.specs.OwnTree.{own_shown_at}
-use Rattle.ob_tree_bridges.proofs.Owned.{own_trees_tell}
+use Rattle.ob_shown_laws.specs.OwnTree.{own_shown_at}
+use Rattle.ob_shown_laws.proofs.Owned.{own_trees_tell}
 use Rattle.ob_site_shown.specs.Deriving.{IsOff, IsOffBelow, IsAmong, ShownOr}
 use Rattle.ob_site_shown.specs.Parents.{IsParent}
 use Rattle.ob_site_shown.proofs.Slashes.{at_parent, no_parent}

@@ -14,8 +14,8 @@ use Rattle.ob_shown_laws.specs.Own.{dressed_own}
 use Rattle.ob_tree.specs.Children.{named_from, child_at}
 use Rattle.ob_tree.specs.Laid.{head_at, leaf}
 use Rattle.ob_tree.specs.Shown.{part_at, standing_at}
-use Rattle.ob_tree_bridges.specs.OwnTree.{own_shown_at}
-use Rattle.ob_tree_bridges.proofs.Owned.{part_there}
+use Rattle.ob_shown_laws.specs.OwnTree.{own_shown_at}
+use Rattle.ob_shown_laws.proofs.Owned.{part_there}
 use Rattle.ob_site_shown.proofs.OwnHeads.{leaf_there}
 
 some_mapped : {A B : Type 0} (f : A → B) (o : Option A) → is_some (option_map f o) ≡ is_some o

@@ -15,7 +15,7 @@ use Rattle.ob_shown_laws.specs.OwnShown.{IsNotDerived}
 use Rattle.ob_shown_laws.proofs.Touches.{bytes_itself, or_left, or_right}
 use Rattle.ob_shown_laws.proofs.Looking.{at_path}
 use Rattle.ob_shown_laws.proofs.Numbering.{number_there}
-use Rattle.ob_tree_bridges.proofs.Places.{place_at}
+use Rattle.ob_shown_laws.proofs.Places.{place_at}
 use Rattle.ob_site_shown.specs.Deriving.{IsOff, IsOffBelow}
 use Rattle.ob_site_shown.specs.Parents.{has_slash}
 

@@ -16,7 +16,7 @@ use Rattle.ob_shown_laws.specs.Own.{dressed_own}
 use Rattle.ob_tree.specs.Laid.{head_at, leaf as leaf_of, paths}
 use Rattle.ob_tree.specs.Paths.{place_of}
 use Rattle.ob_tree.specs.Shown.{effective_in, handed_at, standing_at}
-use Rattle.ob_tree_bridges.proofs.Owned.{own_trees_tell, part_there}
+use Rattle.ob_shown_laws.proofs.Owned.{own_trees_tell, part_there}
 use Rattle.ob_site_shown.specs.Targets.{target, target_head}
 
 -- the head of an object that is lent without its children

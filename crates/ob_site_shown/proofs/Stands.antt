@@ -12,8 +12,8 @@ use Rattle.ob_shown_laws.specs.Own.{dressed_own}
 use Rattle.ob_tree.specs.Laid.{paths}
 use Rattle.ob_tree.specs.Paths.{place_of}
 use Rattle.ob_tree.specs.Shown.{part_at, standing_at}
-use Rattle.ob_tree_bridges.specs.OwnTree.{own_shown_at}
-use Rattle.ob_tree_bridges.proofs.Owned.{own_trees_tell}
+use Rattle.ob_shown_laws.specs.OwnTree.{own_shown_at}
+use Rattle.ob_shown_laws.proofs.Owned.{own_trees_tell}
 
 some_same : {a b : Object} → Some a ≡ Some b → a ≡ b
 some_same e = cc

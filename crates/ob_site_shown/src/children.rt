@@ -6,7 +6,7 @@ ghost use Rattle.ob_replies.specs.Plans.{plan as plan_of};
 ghost use Rattle.ob_site_rules.specs.Build.{child};
 ghost use Rattle.ob_site_state.specs.Contents.{state_in};
 ghost use Rattle.ob_site_shown.specs.Readable.{IsReadable};
-ghost use Rattle.ob_tree_bridges.specs.OwnTree.{own_shown_at};
+ghost use Rattle.ob_shown_laws.specs.OwnTree.{own_shown_at};
 
 use crate::roles::derived;
 use ob_object::find_named;

@@ -9,7 +9,7 @@ ghost use Rattle.ob_replies.specs.Plans.{plan as plan_of};
 ghost use Rattle.ob_site_rules.specs.Build.{Path};
 ghost use Rattle.ob_site_rules.specs.Shown.{shown};
 ghost use Rattle.ob_shown_laws.specs.Own.{dressed_own};
-ghost use Rattle.ob_tree_bridges.specs.OwnTree.{own_shown_at};
+ghost use Rattle.ob_shown_laws.specs.OwnTree.{own_shown_at};
 ghost use Rattle.ob_site_state.specs.Contents.{state_in};
 ghost use Rattle.ob_site_shown.specs.Readable.{IsReadable};
 

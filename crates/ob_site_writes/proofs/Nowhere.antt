@@ -19,7 +19,7 @@ use Rattle.ob_tree.specs.Laid.{paths}
 use Rattle.ob_tree.specs.Paths.{place_of}
 use Rattle.ob_tree.specs.Shown.{row}
 use Rattle.ob_tree.specs.declared.node.NodeId.{NodeId}
-use Rattle.ob_tree_bridges.proofs.Places.{place_at}
+use Rattle.ob_shown_laws.proofs.Places.{place_at}
 use Rattle.ob_site_written.specs.Parts.{contracts_in}
 use Rattle.ob_site_state.specs.Kept.{Kept}
 use Rattle.ob_site_written.proofs.Contracted.{contracts_some, contracts_none}

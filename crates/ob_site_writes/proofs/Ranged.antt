@@ -12,8 +12,8 @@ use Rattle.ob_site_rules.specs.State.{Plan, State}
 use Rattle.ob_site_rules.specs.Writes.{has_child, ranged}
 use Rattle.ob_tree.specs.Laid.{paths}
 use Rattle.ob_tree.specs.Paths.{place_of}
-use Rattle.ob_tree_bridges.specs.OwnTree.{own_shown_at}
-use Rattle.ob_tree_bridges.proofs.Owned.{own_trees_tell}
+use Rattle.ob_shown_laws.specs.OwnTree.{own_shown_at}
+use Rattle.ob_shown_laws.proofs.Owned.{own_trees_tell}
 use Rattle.ob_site_writes.proofs.Nowhere.{is_there}
 
 has_if : (n : Text) (q : Option Object) (has : Bool) → option_map (λ (o : Object). is_some (child n o)) q ≡ Some has → has ≡ has_child n q

@@ -15,7 +15,7 @@ use Rattle.ob_tree.proofs.Contexts.{From, top, below, from}
 use Rattle.ob_tree.proofs.Growing.{grows}
 use Rattle.ob_tree.proofs.Named.{child_within}
 use Rattle.ob_tree.proofs.Touched.{parents, parent_in, parent_behind}
-use Rattle.ob_tree_bridges.specs.Contracted.{is_within, is_inside}
+use Rattle.ob_shown_laws.specs.Contracted.{is_within, is_inside}
 use Rattle.ob_site_written.proofs.Named.{Lies, lies_first, lies_rest, lies_in}
 
 -- What an object in a child of the root is in: the root, where it is that child itself, and else an object in that child.

@@ -15,8 +15,8 @@ use Rattle.ob_tree.specs.Paths.{place_of, first_twice}
 use Rattle.ob_tree.specs.Shown.{row, part_at}
 use Rattle.ob_tree.proofs.Growing.{grows}
 use Rattle.ob_tree.proofs.Named.{child_within}
-use Rattle.ob_tree_bridges.specs.Contracted.{is_within, is_inside}
-use Rattle.ob_tree_bridges.proofs.Bridging.{nodes_numbered}
+use Rattle.ob_shown_laws.specs.Contracted.{is_within, is_inside}
+use Rattle.ob_shown_laws.proofs.Bridging.{nodes_numbered}
 use Rattle.ob_site_written.specs.Parts.{contracts_in}
 use Rattle.ob_site_written.proofs.Named.{child_is, child_not}
 

@@ -5,7 +5,7 @@ use Rattle.ob_object.specs.declared.head.Slot.{Slot}
 use Rattle.ob_object.specs.Object.{Object}
 use Rattle.ob_tree.specs.Laid.{changed, paths}
 use Rattle.ob_tree.specs.Paths.{place_of, first_twice}
-use Rattle.ob_tree_bridges.proofs.Bridging.{slot_is_set}
+use Rattle.ob_shown_laws.proofs.Bridging.{slot_is_set}
 use Rattle.ob_site_rules.specs.Build.{Path}
 use Rattle.ob_site_rules.specs.State.{with_board}
 use Rattle.ob_site_rules.specs.Writes.{with_slot, library_after, recorded, board_after, write}

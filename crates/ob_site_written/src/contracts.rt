@@ -8,7 +8,7 @@ ghost use Rattle.ob_contracts.specs.Standard.{with_added, standard};
 ghost use Rattle.ob_tree.specs.Children.{child_at};
 ghost use Rattle.ob_tree.specs.Laid.{paths};
 ghost use Rattle.ob_tree.specs.Paths.{place_of, first_twice};
-ghost use Rattle.ob_tree_bridges.specs.Contracted.{is_inside};
+ghost use Rattle.ob_shown_laws.specs.Contracted.{is_inside};
 ghost use Rattle.ob_site_rules.specs.Build.{Path, child};
 ghost use Rattle.ob_site_rules.specs.Shown.{node_of};
 ghost use Rattle.ob_site_rules.specs.Writes.{site_contracts, is_in_contract, library_after};

@@ -8,7 +8,7 @@ use Rattle.ob_standing.specs.Standings.{context}
 use Rattle.ob_standing.specs.Contexts.{comes_to}
 use Rattle.ob_tree.specs.Laid.{paths}
 use Rattle.ob_tree.specs.Paths.{place_of}
-use Rattle.ob_tree_bridges.specs.OwnTree.{own_shown_at}
+use Rattle.ob_shown_laws.specs.OwnTree.{own_shown_at}
 use Rattle.ob_site_shown.proofs.Stands.{stands, shows}
 use Rattle.ob_site_shown.proofs.shown.shown_own_counted.Goals as goal
 

@@ -10,7 +10,7 @@ use Rattle.ob_site_state.specs.Contents.{state_in}
 use Rattle.ob_tree.specs.Laid.{paths}
 use Rattle.ob_tree.specs.Paths.{place_of}
 use Rattle.ob_tree.specs.Trees.{Stamped}
-use Rattle.ob_tree_bridges.specs.OwnTree.{own_shown_at}
+use Rattle.ob_shown_laws.specs.OwnTree.{own_shown_at}
 use Rattle.ob_site_writes.proofs.Ranged.{node_told, nothing_has}
 use Rattle.ob_site_writes.proofs.value.node_has.Goals as goal
 

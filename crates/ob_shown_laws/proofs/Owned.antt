@@ -24,8 +24,8 @@ use Rattle.ob_tree.specs.Paths.{place_of}
 use Rattle.ob_tree.specs.Shown.{row, part_in, part_at, handed, handed_in, handed_at, standing_at}
 use Rattle.ob_tree.proofs.Changing.{length-heads, got_left, got_right}
 use Rattle.ob_tree.proofs.Contexts.{heads_row}
-use Rattle.ob_tree_bridges.specs.OwnTree.{own_shown_at, OwnTreesTell, OwnTreesTellChanges}
-use Rattle.ob_tree_bridges.proofs.Places.{place_at}
+use Rattle.ob_shown_laws.specs.OwnTree.{own_shown_at, OwnTreesTell, OwnTreesTellChanges}
+use Rattle.ob_shown_laws.proofs.Places.{place_at}
 
 -- an object that stands so
 abbrev standing : Context → Object → Standing

@@ -18,8 +18,8 @@ use Rattle.ob_shown_laws.proofs.Looking.{looking}
 use Rattle.ob_shown_laws.proofs.OwnStanding.{own_is_enough}
 use Rattle.ob_tree.specs.Shown.{row, part_in, part_at, handed_at, standing_at}
 use Rattle.ob_tree.proofs.Lasting.{last_touches_stamp}
-use Rattle.ob_tree_bridges.specs.Following.{AreNumbers, is_same_watched, StampsFollow}
-use Rattle.ob_tree_bridges.proofs.Owned.{same_count, part_there, own_found, not_derived, round}
+use Rattle.ob_shown_laws.specs.Following.{AreNumbers, is_same_watched, StampsFollow}
+use Rattle.ob_shown_laws.proofs.Owned.{same_count, part_there, own_found, not_derived, round}
 
 -- an object of a number is there in a row of the same objects, with as many parts
 part_alike : (os qs : Objects) (n : ℕ) (x : Object) → DifferInSlots os qs → part_in n os ≡ Some x → (y : Object) × (part_in n qs ≡ Some y) × (parts y ≡ parts x)

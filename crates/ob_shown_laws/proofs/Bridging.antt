@@ -20,8 +20,8 @@ use Rattle.ob_shown_laws.proofs.Numbering.{Found, Here, Below, Behind, found, nu
 use Rattle.ob_tree.specs.Shown.{row, part_in, at_top, handed, handed_in, effective_in, shown_at}
 use Rattle.ob_tree.specs.Laid.{heads, changed_in, changed}
 use Rattle.ob_tree.specs.Paths.{place_of, first_twice}
-use Rattle.ob_tree_bridges.specs.Bridges.{TreeShows, PathsAreDifferent, SlotIsSet, NodesAreNumbered}
-use Rattle.ob_tree_bridges.proofs.Places.{row_paths, paths_by_row, number_place, place_at, has, has-append, in_parts, apart}
+use Rattle.ob_shown_laws.specs.Bridges.{TreeShows, PathsAreDifferent, SlotIsSet, NodesAreNumbered}
+use Rattle.ob_shown_laws.proofs.Places.{row_paths, paths_by_row, number_place, place_at, has, has-append, in_parts, apart}
 
 numbered_shown : (r : HandedDown) (n : ℕ) (os : Objects) → option_map effective (numbered n r os) ≡ option_map (effective_in (handed_in r n os)) (part_in n os)
 numbered_shown r n none = refl

@@ -16,9 +16,9 @@ use Rattle.ob_tree.specs.Laid.{paths}
 use Rattle.ob_tree.specs.Paths.{place_of, first_twice}
 use Rattle.ob_tree.specs.Shown.{row, part_in, part_at}
 use Rattle.ob_tree.proofs.Growing.{Grows, grows_for}
-use Rattle.ob_tree_bridges.specs.Contracted.{nodes_from, nodes_in, nodes_below, is_within, is_inside, ContractsAreNumbered}
-use Rattle.ob_tree_bridges.proofs.Bridging.{nodes_numbered}
-use Rattle.ob_tree_bridges.proofs.Followed.{part_less}
+use Rattle.ob_shown_laws.specs.Contracted.{nodes_from, nodes_in, nodes_below, is_within, is_inside, ContractsAreNumbered}
+use Rattle.ob_shown_laws.proofs.Bridging.{nodes_numbered}
+use Rattle.ob_shown_laws.proofs.Followed.{part_less}
 
 -- a node is found in a row exactly where it is in it
 some_either : (a b : Option Object) → is_some (or_else a b) ≡ (is_some a || is_some b)

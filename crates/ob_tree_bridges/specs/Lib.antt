@@ -1,4 +1,0 @@
-pub mod Bridges
-pub mod OwnTree
-pub mod Following
-pub mod Contracted
