@@ -7,7 +7,7 @@ use Rattle.ob_shown_laws.specs.Alike.{row, DifferInSlots}
 use Rattle.ob_site_rules.specs.State.{Plan, State}
 use Rattle.ob_tree.specs.declared.node.NodeId.{NodeId}
 use Rattle.ob_tree.specs.Trees.{Stamped}
-use Rattle.ob_own_laws.specs.Watched.{IsOwnAt}
+use Rattle.ob_marks_laws.specs.Watched.{IsOwnAt}
 use Rattle.ob_watch.specs.declared.item.Tracked.{Tracked}
 use Rattle.ob_watch.specs.declared.item.Tracked.TheVariants as tracked
 use Rattle.ob_watch.specs.declared.item.Item.{Item}

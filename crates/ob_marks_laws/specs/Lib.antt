@@ -1,3 +1,4 @@
+pub mod Watched
 pub mod Stamps
 pub mod Tables
 pub mod Items

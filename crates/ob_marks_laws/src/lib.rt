@@ -1,12 +1,17 @@
-//! What holds of the stamps of a tree and of the items of all watches goes on holding from step to step.
+//! What a site finds to be a watched object is one of its own nodes, and what holds of the stamps of a tree and of the
+//! items of all watches goes on holding from step to step.
 //!
 //! Each function states laws by its contract and does nothing.
 #![tactic(auto)]
+
+mod watched;
 
 ghost use Rattle.ob_marks_laws.specs.Anew.{FlagsStayAnew};
 ghost use Rattle.ob_marks_laws.specs.Items.{CountsStayAnew, MarksStayPast, OwnItemsStay, OwnNodesStay};
 ghost use Rattle.ob_marks_laws.specs.Stamps.{StampsArePast};
 ghost use Rattle.ob_marks_laws.specs.Tables.{TablesKeepCounts, TablesKeepMarks};
+
+pub use watched::{own_nodes_stay, watched_are_own};
 
 /// No stamp of a tree is of a step to come: of one just built, after each step, and when steps are counted anew.
 pub fn stamps_are_past()

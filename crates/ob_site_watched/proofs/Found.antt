@@ -8,7 +8,7 @@ use Rattle.ob_history.specs.declared.records.Filter.{Filter}
 use Rattle.ob_watching.specs.Asked.{ObjectAt, FeedAt, Refuses}
 use Rattle.ob_watching.specs.Sites.{Site}
 use Rattle.ob_watching.specs.Watches.{Item as Flagged, add_found, added, count}
-use Rattle.ob_own_laws.specs.Watched.{IsOwnFound}
+use Rattle.ob_marks_laws.specs.Watched.{IsOwnFound}
 use Rattle.ob_site_rules.specs.Build.{Path, Text}
 use Rattle.ob_site_rules.specs.Faults.{err}
 use Rattle.ob_site_rules.specs.Locating.{locate}

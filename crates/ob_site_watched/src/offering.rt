@@ -2,15 +2,15 @@
 ghost use Rattle.std.specs.Prelude.{◌≡◌, IfOk};
 ghost use Rattle.ob_replies.specs.Plans.{plan as plan_of};
 ghost use Rattle.ob_replies.specs.Told as told;
-ghost use Rattle.ob_own_laws.specs.Watched.{IsOwnFound};
+ghost use Rattle.ob_marks_laws.specs.Watched.{IsOwnFound};
 ghost use Rattle.ob_site_places.specs.Complete.{IsComplete};
 ghost use Rattle.ob_site_state.specs.Contents.{state_in};
 ghost use Rattle.ob_watch.specs.Marks.{AreStampsPast};
 ghost use Rattle.ob_requests.specs.Calls.{found as found_of};
 ghost use Rattle.ob_site_watched.specs.Offered.{IsFor, IsOffered, refused_entry};
 
+use ob_marks_laws::watched_are_own;
 use ob_object::Obj;
-use ob_own_laws::watched_are_own;
 use ob_replies::{Fault, Plan, entry, refusal};
 use ob_requests::{Asked, Found};
 use ob_site_reads::{count_at, found};

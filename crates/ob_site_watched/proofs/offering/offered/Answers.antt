@@ -1,6 +1,6 @@
 use Rattle.std.proofs.Common.{sym, subst}
 use Rattle.ob_replies.specs.Plans.{plan as plan_of}
-use Rattle.ob_own_laws.specs.Watched.{IsOwnFound}
+use Rattle.ob_marks_laws.specs.Watched.{IsOwnFound}
 use Rattle.ob_site_state.specs.Contents.{state_in}
 use Rattle.ob_requests.specs.Calls.{found as found_of}
 use Rattle.ob_site_watched.specs.Offered.{IsFor}

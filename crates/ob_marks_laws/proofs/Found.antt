@@ -31,8 +31,8 @@ use Rattle.ob_shown_laws.proofs.Undressing.{own_there}
 use Rattle.ob_tree.specs.Laid.{heads, heads_of}
 use Rattle.ob_tree.specs.Paths.{place_of}
 use Rattle.ob_tree.proofs.Contexts.{heads_row}
-use Rattle.ob_own_laws.specs.Watched.{IsOwnFound, AllWatchedAreOwn}
-use Rattle.ob_own_laws.proofs.Calls.{call_found, derived_calls, is_node, computed_free}
+use Rattle.ob_marks_laws.specs.Watched.{IsOwnFound, AllWatchedAreOwn}
+use Rattle.ob_marks_laws.proofs.Calls.{call_found, derived_calls, is_node, computed_free}
 
 -- the first of these heads that is of a node of a path
 abbrev first_of : Path → List Head → Option Head

@@ -1,9 +1,8 @@
 //! What a site finds to be a watched object is one of its own nodes.
 //!
 //! Each function states a law by its contract and does nothing.
-#![tactic(auto)]
 
-ghost use Rattle.ob_own_laws.specs.Watched.{AllWatchedAreOwn, OwnNodesStay};
+ghost use Rattle.ob_marks_laws.specs.Watched.{AllWatchedAreOwn, OwnNodesStay};
 
 /// Whatever text a watch asks for, what is found to be a watched object is an own node of the site, and it can be
 /// watched: of every plan and every state. The nodes that roles derive are ops and feeds, which aren't watched as

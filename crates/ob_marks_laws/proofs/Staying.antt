@@ -11,7 +11,7 @@ use Rattle.ob_shown_laws.specs.Changed.{is_watchable}
 use Rattle.ob_tree.specs.Laid.{heads, heads_of, head_at}
 use Rattle.ob_tree.specs.Paths.{place_of}
 use Rattle.ob_tree.proofs.Contexts.{heads_row}
-use Rattle.ob_own_laws.specs.Watched.{OwnNodesStay}
+use Rattle.ob_marks_laws.specs.Watched.{OwnNodesStay}
 
 -- what heads say beside their slots is the same
 module _ {A : Type 0} (f : Head → A) (same : (h k : Head) → without_slot h ≡ without_slot k → f h ≡ f k) where
