@@ -22,9 +22,9 @@ use Rattle.ob_site_rules.specs.Actions.{is_post, put_at, act_at, is_left_out, it
 use Rattle.ob_site_rules.specs.Watched.{SiteTarget}
 use Rattle.ob_shown_laws.specs.Alike.{row, DifferInSlots, paths_of}
 use Rattle.ob_shown_laws.proofs.Owning.{steps_alike}
-use Rattle.ob_given_laws.specs.Given.{IsMade}
-use Rattle.ob_given_laws.proofs.Slotted.{differ_slotted}
-use Rattle.ob_given_laws.proofs.Steps.{slots_then, paths_recorded, made_written}
+use Rattle.ob_step_laws.specs.Given.{IsMade}
+use Rattle.ob_step_laws.proofs.Slotted.{differ_slotted}
+use Rattle.ob_step_laws.proofs.Steps.{slots_then, paths_recorded, made_written}
 use Rattle.ob_site_laws.specs.SiteLaws.{of_plan, acts}
 use Rattle.ob_watching.specs.Asked.{Itself, Nowhere, NewWatch, OneWatch, Told, Refused}
 use Rattle.ob_watching.specs.Sites.{Site}

@@ -15,7 +15,7 @@ use Rattle.ob_site_rules.specs.Writes.{site_contracts}
 use Rattle.ob_shown_laws.specs.Alike.{row, DifferInValues}
 use Rattle.ob_shown_laws.specs.Changed.{PathsDiffer}
 use Rattle.ob_shown_laws.proofs.Owning.{steps_alike}
-use Rattle.ob_given_laws.specs.Given.{IsMade, PointsHaveValues}
+use Rattle.ob_step_laws.specs.Given.{IsMade, PointsHaveValues}
 use Rattle.ob_site_laws.specs.SiteLaws.{Call, acts}
 use Rattle.ob_schedule_laws.specs.InForce.{left, KeepsContracts}
 use Rattle.ob_schedule_laws.proofs.Following.{step_follows}

@@ -41,7 +41,7 @@ use Rattle.ob_shown_laws.specs.Changed.{PathsDiffer}
 use Rattle.ob_shown_laws.specs.Own.{dressed_own}
 use Rattle.ob_standing.specs.Contexts.{comes_to}
 use Rattle.ob_shown_laws.proofs.Reaching.{status_off}
-use Rattle.ob_given_laws.proofs.Slotted.{kind_given}
+use Rattle.ob_step_laws.proofs.Slotted.{kind_given}
 use Rattle.ob_weekly.specs.declared.schedule.Schedule.{Schedule}
 use Rattle.ob_schedule_laws.specs.InForce.{left, KeepsContracts, IsWanting, shown_slot}
 use Rattle.ob_schedule_laws.proofs.Ends.{isnt_make, no_watch}

@@ -9,7 +9,7 @@ use Rattle.ob_site_rules.specs.Shown.{node_of, dressed, shown}
 use Rattle.ob_shown_laws.specs.Alike.{row}
 use Rattle.ob_shown_laws.specs.Changed.{PathsDiffer}
 use Rattle.ob_shown_laws.proofs.Owning.{steps_alike}
-use Rattle.ob_default_laws.proofs.Reached.{values_back}
+use Rattle.ob_step_laws.proofs.Reached.{values_back}
 use Rattle.ob_schedule_laws.specs.InForce.{slot_at, shown_slot}
 use Rattle.ob_schedule_laws.proofs.Shows.{IsShown, shown_at, slot_stays}
 use Rattle.ob_schedule_laws.proofs.Leaving.{IsReady, Stands, ready_then}

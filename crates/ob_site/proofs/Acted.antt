@@ -8,7 +8,7 @@ use Rattle.ob_watching.specs.Asked.{Itself}
 use Rattle.ob_watching.specs.Tables.{numbers_of}
 use Rattle.ob_watching.specs.Watches.{TrackedOf, ItemOf, WatchOf, World, ended}
 use Rattle.ob_watching.specs.Watches as rules
-use Rattle.ob_given_laws.specs.Given.{TakesNoneAway, StepsTakeNoneAway}
+use Rattle.ob_step_laws.specs.Given.{TakesNoneAway, StepsTakeNoneAway}
 use Rattle.ob_site_rules.specs.declared.request.Request.{Request}
 use Rattle.ob_site_rules.specs.Actions.{act_itself}
 use Rattle.ob_site_rules.specs.Build.{Path, Text}

@@ -5,7 +5,7 @@ use Rattle.ob_history.specs.declared.records.Filter.{Filter}
 use Rattle.ob_tree.specs.LastTouch.{Begins, done}
 use Rattle.ob_tree.specs.Trees.{Stamped}
 use Rattle.ob_watching.specs.Watches.{WatchOf, World}
-use Rattle.ob_given_laws.specs.Given.{TakesNoneAway}
+use Rattle.ob_step_laws.specs.Given.{TakesNoneAway}
 use Rattle.ob_marks_laws.specs.Tables.{AllItems}
 use Rattle.ob_marks_laws.proofs.Keeping.{all_weaker, table_keeps}
 use Rattle.ob_marks_laws.proofs.Stamping.{stamps_are_past}

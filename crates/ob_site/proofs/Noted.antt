@@ -11,7 +11,7 @@ use Rattle.ob_alarms.specs.declared.alarm.Alarm.{Alarm}
 use Rattle.ob_alarms.specs.declared.alarm.Event.{Event}
 use Rattle.ob_contracts.specs.Inherit.{Contracts}
 use Rattle.ob_contracts.specs.Standard.{standard, with_added}
-use Rattle.ob_given_laws.specs.Given.{IsMade}
+use Rattle.ob_step_laws.specs.Given.{IsMade}
 use Rattle.ob_site_laws.proofs.Same.{tells_slot}
 use Rattle.ob_site_rules.specs.Build.{Path}
 use Rattle.ob_site_rules.specs.Sameness.{same_slot}

@@ -1,7 +1,7 @@
 -- An opened site is sound, and a step keeps it so.
 use Rattle.std.proofs.Common.{arith, ◌≡◌, ℕ, [], ◌∷◌, replicate, refl, sym, ap, subst}
 use Rattle.ob_object.specs.Object.{Object, parts}
-use Rattle.ob_given_laws.proofs.Opening.{opens_points}
+use Rattle.ob_step_laws.proofs.Opening.{opens_points}
 use Rattle.ob_machine.specs.History.{entry}
 use Rattle.ob_machine.specs.declared.call.Answer.TheVariants.{Done}
 use Rattle.ob_marks_laws.proofs.Stamping.{stamps_are_past}

@@ -12,13 +12,13 @@ ghost use Rattle.ob_site.specs.Steps.{IsAnswered, IsUnanswered, step_of};
 
 use crate::ending::end_step;
 use crate::keeper::Keeper;
-use ob_given_laws::steps_take_none_away;
 use ob_object::Obj;
 use ob_replies::refusal;
 use ob_site_calls::act_itself;
 use ob_site_rules::Request;
 use ob_site_state::State;
 use ob_site_writes::Stop;
+use ob_step_laws::steps_take_none_away;
 use ob_watch::Watches;
 use std::alloc::AllocError;
 

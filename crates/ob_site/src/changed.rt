@@ -2,7 +2,7 @@
 ghost use Rattle.std.specs.Prelude.{◌≡◌, ◌≢◌, MatchBool};
 ghost use Rattle.std.specs.List.{find, list_any};
 ghost use Rattle.std.specs.Option.{option_copied};
-ghost use Rattle.ob_given_laws.specs.Given.{IsMade};
+ghost use Rattle.ob_step_laws.specs.Given.{IsMade};
 ghost use Rattle.ob_site_rules.specs.State.{roll};
 ghost use Rattle.ob_site.specs.Noted as noted;
 

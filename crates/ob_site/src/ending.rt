@@ -2,7 +2,7 @@
 ghost use Rattle.std.specs.Prelude.{◌≡◌, ◌≢◌, ◌⊎◌, All, ◌<◌, ◌-◌, ◌^◌, map, OnOk, OnErr, MatchBool};
 ghost use Rattle.ob_values.specs.declared.verb.Verb.TheVariants.{Get};
 ghost use Rattle.ob_object.specs.Object.{parts};
-ghost use Rattle.ob_given_laws.specs.Given.{IsMade, TakesNoneAway};
+ghost use Rattle.ob_step_laws.specs.Given.{IsMade, TakesNoneAway};
 ghost use Rattle.ob_site_defaults.specs.Ended.{EndsAll};
 ghost use Rattle.ob_site_feeds.specs.News.{IsNews};
 ghost use Rattle.ob_site.specs.Between.{AreKept};

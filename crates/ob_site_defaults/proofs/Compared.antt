@@ -28,8 +28,8 @@ use Rattle.ob_tree.specs.Shown.{part_at, handed_at, standing_at}
 use Rattle.ob_tree.proofs.Within.{place_within}
 use Rattle.ob_shown_laws.proofs.Owned.{part_there, own_found, not_derived}
 use Rattle.ob_site_state.proofs.Noting.{head_there}
-use Rattle.ob_default_laws.specs.Defaults.{with_library, is_same}
-use Rattle.ob_default_laws.proofs.Either.{as_watched, plain_or, shape, as_shape, watched_at, roles_library}
+use Rattle.ob_step_laws.specs.Defaults.{with_library, is_same}
+use Rattle.ob_step_laws.proofs.Either.{as_watched, plain_or, shape, as_shape, watched_at, roles_library}
 use Rattle.ob_site_defaults.specs.Otherwise.{IsOtherwise}
 use Rattle.ob_site_defaults.specs.Watched.{can_be_watched}
 use Rattle.ob_site_defaults.proofs.Places.{placed_at, node_there}

@@ -24,9 +24,9 @@ use Rattle.ob_tree.proofs.Within.{place_within}
 use Rattle.ob_shown_laws.specs.Following.{is_same_watched}
 use Rattle.ob_shown_laws.proofs.Owned.{part_there, own_trees_tell_changes, same_count}
 use Rattle.ob_shown_laws.proofs.Followed.{part_less, stamps_follow}
-use Rattle.ob_default_laws.specs.Defaults.{with_library, is_same}
-use Rattle.ob_default_laws.proofs.Either.{changes_are_either, given_itself}
-use Rattle.ob_default_laws.proofs.Reached.{defaults_stand, values_back}
+use Rattle.ob_step_laws.specs.Defaults.{with_library, is_same}
+use Rattle.ob_step_laws.proofs.Either.{changes_are_either, given_itself}
+use Rattle.ob_step_laws.proofs.Reached.{defaults_stand, values_back}
 use Rattle.ob_site_state.specs.Stamping.{after_step}
 use Rattle.ob_site_state.proofs.Noting.{got_there, head_there}
 use Rattle.ob_site_state.proofs.Stepping.{rooted}

@@ -18,8 +18,8 @@ use Rattle.ob_tree.specs.Shown.{row as row_of, part_at, handed_at, standing_at}
 use Rattle.ob_tree.proofs.Within.{place_within}
 use Rattle.ob_shown_laws.proofs.Owned.{part_there, round}
 use Rattle.ob_site_state.proofs.Noting.{head_there}
-use Rattle.ob_default_laws.specs.Defaults.{with_library, is_same}
-use Rattle.ob_default_laws.proofs.Reached.{defaults_reach}
+use Rattle.ob_step_laws.specs.Defaults.{with_library, is_same}
+use Rattle.ob_step_laws.proofs.Reached.{defaults_reach}
 use Rattle.ob_site_defaults.specs.Otherwise.{IsOtherwise}
 use Rattle.ob_site_defaults.specs.Watched.{can_be_watched}
 use Rattle.ob_site_defaults.proofs.Numbered.{part_within}

@@ -8,8 +8,8 @@ use Rattle.ob_site_rules.specs.Shown.{dressed}
 use Rattle.ob_shown_laws.specs.Alike.{row, DifferInValues}
 use Rattle.ob_shown_laws.specs.Changed.{PathsDiffer}
 use Rattle.ob_tree.specs.declared.node.NodeId.{NodeId}
-use Rattle.ob_default_laws.specs.Defaults.{with_library}
-use Rattle.ob_given_laws.specs.Given.{TakesNoneAway}
+use Rattle.ob_step_laws.specs.Defaults.{with_library}
+use Rattle.ob_step_laws.specs.Given.{TakesNoneAway}
 use Rattle.ob_site_state.specs.declared.change.Change.{Change}
 use Rattle.ob_site_state.specs.Changes.{rewound, CanRewind, AreTold}
 use Rattle.ob_site_state.specs.Kept.{Kept}

@@ -5,7 +5,7 @@ use Rattle.ob_site_rules.specs.State.{Plan, State, roll}
 use Rattle.ob_site_rules.specs.Shown.{dressed}
 use Rattle.ob_shown_laws.specs.Alike.{row, DifferInValues}
 use Rattle.ob_shown_laws.specs.Changed.{PathsDiffer}
-use Rattle.ob_default_laws.specs.Defaults.{DifferInDefaults, StayGiven, with_library}
+use Rattle.ob_step_laws.specs.Defaults.{DifferInDefaults, StayGiven, with_library}
 use Rattle.ob_tree.specs.Trees.{Stamped}
 use Rattle.ob_watch.specs.Tables.{Table}
 use Rattle.ob_site_state.specs.Kept.{Kept}

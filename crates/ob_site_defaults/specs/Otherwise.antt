@@ -11,7 +11,7 @@ use Rattle.ob_tree.specs.Laid.{paths}
 use Rattle.ob_tree.specs.Paths.{place_of, first_twice}
 use Rattle.ob_tree.specs.Shown.{part_at}
 use Rattle.ob_shown_laws.specs.OwnTree.{own_shown_at}
-use Rattle.ob_default_laws.specs.Defaults.{with_library, is_same}
+use Rattle.ob_step_laws.specs.Defaults.{with_library, is_same}
 
 -- the object of a number is a node of which a watch shows something else with another library
 abbrev pub IsOtherwise : Plan → State → Contracts → ℕ → Type 0

@@ -10,7 +10,7 @@ ghost use Rattle.ob_standing.specs.Contexts.{comes_to};
 ghost use Rattle.ob_standing.specs.Standings.{context};
 ghost use Rattle.ob_replies.specs.Plans.{plan as plan_of};
 ghost use Rattle.ob_site_rules.specs.State.{Plan as SitePlan, State as SiteState};
-ghost use Rattle.ob_default_laws.specs.Defaults.{with_library};
+ghost use Rattle.ob_step_laws.specs.Defaults.{with_library};
 ghost use Rattle.ob_site_state.specs.Contents.{state_in};
 ghost use Rattle.ob_site_shown.specs.Readable.{IsReadable};
 ghost use Rattle.ob_site_defaults.specs.Otherwise.{AreOtherwise, AreOtherwiseBelow, AreShown};

@@ -5,7 +5,7 @@ ghost use Rattle.ob_site_rules.specs.State.{roll};
 ghost use Rattle.ob_site_rules.specs.Shown.{dressed};
 ghost use Rattle.ob_shown_laws.specs.Alike.{row, DifferInValues};
 ghost use Rattle.ob_shown_laws.specs.Changed.{PathsDiffer};
-ghost use Rattle.ob_given_laws.specs.Given.{TakesNoneAway};
+ghost use Rattle.ob_step_laws.specs.Given.{TakesNoneAway};
 ghost use Rattle.ob_site_settled.specs.Telling.{ended_in_values};
 ghost use Rattle.ob_site_defaults.specs.Ended.{EndsAll};
 

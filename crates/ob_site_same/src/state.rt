@@ -1,6 +1,6 @@
 //! Whether two states are the same.
 ghost use Rattle.std.specs.Prelude.{◌≡◌, ◌↔◌, ◌<◌, length, IsTrue, IfOk};
-ghost use Rattle.ob_given_laws.specs.Given.{IsMade};
+ghost use Rattle.ob_step_laws.specs.Given.{IsMade};
 ghost use Rattle.ob_site_same.specs.Logs.{SameLogAt};
 
 use crate::alarms::same_board;

@@ -23,7 +23,7 @@ use Rattle.ob_site_rules.specs.Shown.{node_path, rule_of, with_status, with_stat
 use Rattle.ob_site_laws.proofs.Same.{tells_slot, tells_option, tells_status}
 use Rattle.ob_shown_laws.specs.Alike.{DifferInValues}
 use Rattle.ob_shown_laws.specs.Changed.{differs, head_in, same_values, same_log, same_derived, start_slot, end_slot}
-use Rattle.ob_default_laws.specs.Defaults.{with_library}
+use Rattle.ob_step_laws.specs.Defaults.{with_library}
 use Rattle.ob_site_state.specs.declared.change.Change.{Change}
 use Rattle.ob_site_state.specs.Changes.{cut, rewound, CanRewind, AreTold}
 use Rattle.ob_site_state.specs.Kept.{keys, IsSoundFor}

@@ -21,7 +21,7 @@ use Rattle.ob_site_rules.specs.Sameness.{same_status}
 use Rattle.ob_site_rules.specs.Shown.{rule_of}
 use Rattle.ob_shown_laws.specs.Alike.{DifferInValues}
 use Rattle.ob_shown_laws.specs.Changed.{head_in, same_values, same_log}
-use Rattle.ob_default_laws.specs.Defaults.{with_library}
+use Rattle.ob_step_laws.specs.Defaults.{with_library}
 use Rattle.ob_site_state.specs.declared.change.Change.{Change}
 use Rattle.ob_site_state.specs.declared.change.Change.TheVariants as change
 use Rattle.ob_site_state.specs.Changes.{cut, rewound, CanRewind, AreTold}

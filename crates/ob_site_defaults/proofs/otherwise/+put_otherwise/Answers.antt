@@ -3,7 +3,7 @@ use Rattle.std.specs.Prelude.{slice_get}
 use Rattle.ob_object.specs.Object.{children, parts}
 use Rattle.ob_contracts.proofs.At.{fewer_parts}
 use Rattle.ob_tree.specs.declared.node.NodeId.{NodeId}
-use Rattle.ob_default_laws.specs.Defaults.{with_library}
+use Rattle.ob_step_laws.specs.Defaults.{with_library}
 use Rattle.ob_site_defaults.specs.Otherwise.{AreOtherwiseBelow}
 use Rattle.ob_site_defaults.proofs.Found.{numbers_of}
 use Rattle.ob_site_defaults.proofs.Walked.{passed_over, all_same, is_put, item_at, was_within, is_within, child_are_shown, child_ends, counted, next_child, all_gone_through}

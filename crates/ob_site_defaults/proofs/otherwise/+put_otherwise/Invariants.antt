@@ -3,7 +3,7 @@ use Rattle.ob_object.specs.Object.{count, parts}
 use Rattle.ob_contracts.specs.Inherit.{Contracts}
 use Rattle.ob_site_rules.specs.State.{Plan, State}
 use Rattle.ob_tree.proofs.Growing.{first}
-use Rattle.ob_default_laws.specs.Defaults.{with_library}
+use Rattle.ob_step_laws.specs.Defaults.{with_library}
 use Rattle.ob_site_defaults.specs.Otherwise.{AreOtherwiseBelow, AreShown}
 use Rattle.ob_site_defaults.proofs.Found.{numbers_of}
 use Rattle.ob_site_defaults.proofs.otherwise.+put_otherwise.Given as goal

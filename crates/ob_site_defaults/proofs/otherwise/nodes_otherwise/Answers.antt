@@ -3,7 +3,7 @@ use Rattle.ob_object.specs.Object.{Object, parts}
 use Rattle.ob_replies.specs.Plans.{plan as plan_of}
 use Rattle.ob_tree.specs.Shown.{part_at}
 use Rattle.ob_tree.specs.Trees.{Stamped}
-use Rattle.ob_default_laws.specs.Defaults.{with_library}
+use Rattle.ob_step_laws.specs.Defaults.{with_library}
 use Rattle.ob_site_state.specs.Contents.{state_in}
 use Rattle.ob_site_defaults.proofs.Found.{within_all}
 use Rattle.ob_site_defaults.proofs.Walked.{same_root, root_walked}

@@ -1,3 +1,0 @@
-pub mod Unslotted
-pub mod Either
-pub mod Reached

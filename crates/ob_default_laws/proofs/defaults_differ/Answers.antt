@@ -1,5 +1,0 @@
-use Rattle.ob_default_laws.proofs.Unslotted.{defaults_differ}
-use Rattle.ob_default_laws.proofs.defaults_differ.Goals as goal
-
-pub returns : goal.returns
-returns c = defaults_differ

@@ -1,5 +1,0 @@
-use Rattle.ob_default_laws.proofs.Reached.{defaults_reach}
-use Rattle.ob_default_laws.proofs.defaults_reach.Goals as goal
-
-pub returns : goal.returns
-returns c = defaults_reach

@@ -1,5 +1,0 @@
-use Rattle.ob_default_laws.proofs.Either.{defaults_settle}
-use Rattle.ob_default_laws.proofs.defaults_settle.Goals as goal
-
-pub returns : goal.returns
-returns c = defaults_settle

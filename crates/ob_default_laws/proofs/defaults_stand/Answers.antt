@@ -1,5 +1,0 @@
-use Rattle.ob_default_laws.proofs.Reached.{defaults_stand}
-use Rattle.ob_default_laws.proofs.defaults_stand.Goals as goal
-
-pub returns : goal.returns
-returns c = defaults_stand

@@ -1,3 +1,0 @@
-pub mod Slotted
-pub mod Steps
-pub mod Opening

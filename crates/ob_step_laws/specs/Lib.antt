@@ -1,0 +1,4 @@
+pub mod Defaults
+pub mod Reaching
+pub mod Given
+pub mod Opening
