@@ -17,22 +17,22 @@ use Rattle.ob_opening.specs.declared.roles.Roles.{Roles}
 use Rattle.ob_opening.specs.Roles.{no_roles, all_roles, is_dropped, holds_contracts, role_at, worded_contracts}
 use Rattle.ob_opening.specs.Opening.{standard_words}
 use Rattle.ob_opening.specs.Loading.{Part, row_of, kept_root, kept_row, parts_of, paths_in, listed_path, derived_paths, is_computed, taken_twice, path_of, histories_in, subjects, root_lobby, opened}
-use Rattle.ob_opened.specs.Laws.{Apart, row_paths}
-use Rattle.ob_opened.proofs.Lists.{each_first, each_second, each_more, each_two}
-use Rattle.ob_opened.proofs.Once.{or_first, or_second, or_none, cond_none, taken_once}
-use Rattle.ob_opened.proofs.OneKind.{among_append, apart_first, apart_second, apart_not, listed_is}
-use Rattle.ob_opened.proofs.Fit.{Fit, all_fit}
-use Rattle.ob_opened.proofs.Walk.{part_here, root_parts, none_dropped}
-use Rattle.ob_opened.proofs.Kept.{part_paths, root_paths, root_apart, same_self, unless, Under, under_same, under_both}
-use Rattle.ob_opened.proofs.Found.{IsNodeIf, IsTold, all_told}
-use Rattle.ob_opened.proofs.Roled.{is_lobby, is_point, is_history, is_subject, IsPlaced, all_placed, none_lobby, root_placed}
-use Rattle.ob_opened.proofs.Flags.{IsOneAtMost, Tells, lobby_flag, history_flag, subject_flag}
-use Rattle.ob_opened.proofs.Counts.{log_of}
-use Rattle.ob_opened.proofs.Begins.{Begins, begins}
-use Rattle.ob_opened.proofs.Inverted.{Opens, all_good, one_subject}
+use Rattle.ob_consistent_laws.specs.Laws.{Apart, row_paths}
+use Rattle.ob_consistent_laws.proofs.Lists.{each_first, each_second, each_more, each_two}
+use Rattle.ob_consistent_laws.proofs.Once.{or_first, or_second, or_none, cond_none, taken_once}
+use Rattle.ob_consistent_laws.proofs.OneKind.{among_append, apart_first, apart_second, apart_not, listed_is}
+use Rattle.ob_consistent_laws.proofs.Fit.{Fit, all_fit}
+use Rattle.ob_consistent_laws.proofs.Walk.{part_here, root_parts, none_dropped}
+use Rattle.ob_consistent_laws.proofs.Kept.{part_paths, root_paths, root_apart, same_self, unless, Under, under_same, under_both}
+use Rattle.ob_consistent_laws.proofs.Found.{IsNodeIf, IsTold, all_told}
+use Rattle.ob_consistent_laws.proofs.Roled.{is_lobby, is_point, is_history, is_subject, IsPlaced, all_placed, none_lobby, root_placed}
+use Rattle.ob_consistent_laws.proofs.Flags.{IsOneAtMost, Tells, lobby_flag, history_flag, subject_flag}
+use Rattle.ob_consistent_laws.proofs.Counts.{log_of}
+use Rattle.ob_consistent_laws.proofs.Begins.{Begins, begins}
+use Rattle.ob_consistent_laws.proofs.Inverted.{Opens, all_good, one_subject}
 use Rattle.ob_shown_laws.specs.Changed.{is_in, PathsDiffer}
 use Rattle.ob_shown_laws.proofs.Owning.{path_off}
-use Rattle.ob_consistent_laws.specs.Opened.{OpensApart}
+use Rattle.ob_consistent_laws.specs.Apart.{OpensApart}
 
 -- nodes whose paths are apart differ in their paths
 in_among : (p : Path) (r : Objects) → is_in p r ≡ is_among p (row_paths r)

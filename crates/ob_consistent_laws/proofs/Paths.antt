@@ -12,7 +12,7 @@ use Rattle.ob_shown_laws.specs.Alike.{row, without_slot, DifferInSlots}
 use Rattle.ob_shown_laws.specs.Changed.{PathsDiffer}
 use Rattle.ob_shown_laws.proofs.Touches.{differ_alike}
 use Rattle.ob_shown_laws.proofs.Reaching.{roles_alike}
-use Rattle.ob_consistent_laws.specs.Consistent.{paths_of, StepsKeepPaths}
+use Rattle.ob_consistent_laws.specs.Stays.{paths_of, StepsKeepPaths}
 
 differ_itself : (os : Objects) → DifferInSlots os os
 differ_itself none = tt

@@ -15,8 +15,8 @@ use Rattle.ob_plain_state.specs.States.{NamesAreFree, NodesAre, IsOfKindAt}
 use Rattle.ob_plain_state.proofs.Keeping.{names_of, NamesDiffer-same, NamesAreFree-same, rolled_counted, keys-rolled}
 use Rattle.ob_plain_state.proofs.Slots.{taken_whatever}
 use Rattle.ob_plain_state.proofs.Kept.{unslotted-with_slot, is_in, in_row_there}
-use Rattle.ob_opened.specs.Consistent.{IsConsistent}
-use Rattle.ob_consistent_laws.specs.Consistent.{StepsStayConsistent}
+use Rattle.ob_consistent_laws.specs.Consistent.{IsConsistent}
+use Rattle.ob_consistent_laws.specs.Stays.{StepsStayConsistent}
 
 -- a head with another slot, or not
 slot_path : (b : Bool) (h : Head) (slot : Slot) → node_path (cond b (record h { slot = slot }) h) ≡ node_path h

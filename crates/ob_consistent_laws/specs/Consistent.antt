@@ -1,42 +1,27 @@
--- What a step leaves of a consistent state is consistent.
-use Rattle.std.specs.Prelude.{◌≡◌, List, map}
-use Rattle.ob_object.specs.declared.head.Slot.{Slot}
-use Rattle.ob_contracts.specs.Inherit.{Contracts}
-use Rattle.ob_alarms.specs.Changes.{State as Board}
+-- What a state of a site owes its plan, over the definitions' own plans and states.
+use Rattle.std.specs.Prelude.{◌≡◌, ◌↔◌, true, IsTrue, Some, is_some}
+use Rattle.ob_object.specs.declared.kind.Kind.{Kind}
+use Rattle.ob_object.specs.Object.{none, node}
+use Rattle.ob_contracts.specs.Standard.{standard}
 use Rattle.ob_site_rules.specs.Build.{Path}
-use Rattle.ob_site_rules.specs.State.{Plan, Log, State, with_board, roll}
-use Rattle.ob_site_rules.specs.Shown.{dressed}
-use Rattle.ob_site_rules.specs.Writes.{with_slot}
-use Rattle.ob_shown_laws.specs.Alike.{row}
-use Rattle.ob_shown_laws.specs.Changed.{PathsDiffer}
-use Rattle.ob_plain_state.specs.States.{AreCounted}
-use Rattle.ob_opened.specs.Consistent.{IsConsistent}
+use Rattle.ob_site_rules.specs.State.{Plan, State, is_among, board}
+use Rattle.ob_site_rules.specs.Shown.{node_of}
+use Rattle.ob_site_rules.specs.Writes.{site_contracts}
+use Rattle.ob_plain_state.specs.States.{NamesAreFree, NodesAre, AreTaken, AreCounted, limits_fit, rule_at, state_of, unspared, IsOf}
+use Rattle.ob_plain_state.specs.declared.state.State as value
 
--- the paths of histories
-abbrev pub paths_of : List (Path × Log) → List Path
-paths_of ls = map (λ l. l.0) ls
+-- What the roles of a node derive finds its names free; nodes at one path are of one kind, and numbers of it are held against
+-- limits of it; each point is a node; the built-in library takes the site's contracts; and the events of each history can be
+-- counted.
+pub record IsConsistent (plan : Plan) (s : State) : Type 0 where
+  pub names_free : NamesAreFree plan s (node s.tree.head s.tree.inner none)
+  pub kind_at : Path → Kind
+  pub kinds : NodesAre kind_at (node s.tree.head s.tree.inner none)
+  pub limits : (p : Path) → IsTrue (limits_fit (kind_at p) (rule_at plan (Some p)))
+  pub points : (p : Path) → is_among p plan.points ≡ true → IsTrue (is_some (node_of p s.tree))
+  pub taken : AreTaken standard (site_contracts s.tree)
+  pub counted : AreCounted s.logs
 
--- Each part that a step changes keeps what a state owes its plan: a slot, the logs of its histories, the library, the alarms,
--- and the records that roll off.
-pub record StaysConsistent (plan : Plan) (s : State) : Type 0 where
-  pub slot : (p : Path) (slot : Slot) → IsConsistent plan (record s { tree = with_slot p slot s.tree })
-  pub logs : (ls : List (Path × Log)) → paths_of ls ≡ paths_of s.logs → AreCounted ls → IsConsistent plan (record s { logs = ls })
-  pub library : (lib : Contracts) → IsConsistent plan (record s { library = lib })
-  pub board : (b : Board) → IsConsistent plan (with_board s b)
-  pub rolls : IsConsistent plan (roll s)
-
--- law: of every consistent state
-abbrev pub StepsStayConsistent : Type 0
-StepsStayConsistent = (plan : Plan) (s : State) → IsConsistent plan s → StaysConsistent plan s
-
--- No part that a step changes gives two nodes one path, those that roles derive among them.
-pub record PathsStay (plan : Plan) (s : State) : Type 0 where
-  pub slot : (p : Path) (slot : Slot) → PathsDiffer (row (dressed plan (record s { tree = with_slot p slot s.tree })))
-  pub logs : (ls : List (Path × Log)) → paths_of ls ≡ paths_of s.logs → PathsDiffer (row (dressed plan (record s { logs = ls })))
-  pub library : (lib : Contracts) → PathsDiffer (row (dressed plan (record s { library = lib })))
-  pub board : (b : Board) → PathsDiffer (row (dressed plan (with_board s b)))
-  pub rolls : PathsDiffer (row (dressed plan (roll s)))
-
--- law: of every state no two of whose nodes have one path
-abbrev pub StepsKeepPaths : Type 0
-StepsKeepPaths = (plan : Plan) (s : State) → PathsDiffer (row (dressed plan s)) → PathsStay plan s
+-- A `State` whose alarms are those of the plan's rules and root owes its plan what it should exactly where it is consistent.
+abbrev pub ConsistentIsOwed : Type 0
+ConsistentIsOwed = (plan : Plan) (s : value.State) → unspared s.board ≡ board plan (state_of s) → IsOf plan s ↔ IsConsistent plan (state_of s)

@@ -1,2 +1,6 @@
+pub mod Laws
 pub mod Consistent
-pub mod Opened
+pub mod Opens
+pub mod Ordered
+pub mod Stays
+pub mod Apart

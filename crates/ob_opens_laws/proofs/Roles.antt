@@ -20,15 +20,15 @@ use Rattle.ob_opening.specs.declared.roles.Roles.{Roles}
 use Rattle.ob_opening.specs.Roles.{no_roles, all_roles}
 use Rattle.ob_opening.specs.Opening.{standard_words}
 use Rattle.ob_opening.specs.Loading.{Part, row_of, kept_root, parts_of, path_of, listed_path, items_of, source_ref, node_there, is_number_kind, own_number, truth_in, child_of, rule_from, rule_on, rule_in, subjects, opened}
-use Rattle.ob_opened.specs.Laws.{row_paths}
-use Rattle.ob_opened.proofs.Lists.{each_flat_map, each_filter_map, each_more}
-use Rattle.ob_opened.proofs.OneKind.{among_append, listed_is, or_true}
-use Rattle.ob_opened.proofs.Kept.{part_paths, root_paths, same_self}
-use Rattle.ob_opened.proofs.Fit.{all_fit}
-use Rattle.ob_opened.proofs.Found.{IsNodeIf}
-use Rattle.ob_opened.proofs.Roled.{is_subject, IsPlaced, all_placed}
-use Rattle.ob_opened.proofs.Begins.{Begins, begins, words_of}
-use Rattle.ob_opened.proofs.Inverted.{Opens}
+use Rattle.ob_consistent_laws.specs.Laws.{row_paths}
+use Rattle.ob_consistent_laws.proofs.Lists.{each_flat_map, each_filter_map, each_more}
+use Rattle.ob_consistent_laws.proofs.OneKind.{among_append, listed_is, or_true}
+use Rattle.ob_consistent_laws.proofs.Kept.{part_paths, root_paths, same_self}
+use Rattle.ob_consistent_laws.proofs.Fit.{all_fit}
+use Rattle.ob_consistent_laws.proofs.Found.{IsNodeIf}
+use Rattle.ob_consistent_laws.proofs.Roled.{is_subject, IsPlaced, all_placed}
+use Rattle.ob_consistent_laws.proofs.Begins.{Begins, begins, words_of}
+use Rattle.ob_consistent_laws.proofs.Inverted.{Opens}
 use Rattle.ob_opens_laws.specs.Roles.{OpensRoles}
 
 no_rule : (r : PointRule) → None ≡ Some r → ⊥

@@ -7,7 +7,7 @@ use Rattle.jiff.specs.Words.{plain_zone}
 use Rattle.ob_machine.specs.History.{after, IsLegal}
 use Rattle.ob_machine.proofs.HistoryLemmas.{after-snoc, legal_back}
 use Rattle.ob_object.specs.declared.head.Slot.{Slot}
-use Rattle.ob_opened.proofs.Opened.{opens_consistent, opens_counted}
+use Rattle.ob_consistent_laws.proofs.Opened.{opens_consistent, opens_counted}
 use Rattle.ob_consistent_laws.proofs.Apart.{opens_apart}
 use Rattle.ob_step_laws.proofs.Opening.{opens_points}
 use Rattle.ob_schedule.specs.Forms.{is_written}

@@ -9,7 +9,7 @@ use Rattle.ob_site_rules.specs.Places.{FeedOf, event_places}
 use Rattle.ob_site_rules.specs.Posts.{kept_in, records_of}
 use Rattle.ob_site_rules.specs.State.{Plan, Log, State, at, is_among}
 use Rattle.ob_site_rules.specs.Watched.{gone_in}
-use Rattle.ob_opened.specs.Laws.{Apart}
+use Rattle.ob_consistent_laws.specs.Laws.{Apart}
 use Rattle.ob_shown_laws.proofs.Touches.{bytes_itself, or_left, or_right}
 use Rattle.ob_site_state.specs.declared.change.Change.{Change}
 use Rattle.ob_site_state.specs.declared.change.Change.TheVariants as change

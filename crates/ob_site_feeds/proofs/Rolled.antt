@@ -12,7 +12,7 @@ use Rattle.ob_site_rules.specs.Watched.{gone_in, gone_at}
 use Rattle.ob_shown_laws.proofs.Touches.{bytes_itself}
 use Rattle.ob_site_state.specs.declared.change.Change.{Change}
 use Rattle.ob_site_state.specs.declared.change.Change.TheVariants as change
-use Rattle.ob_opened.specs.Laws.{Apart}
+use Rattle.ob_consistent_laws.specs.Laws.{Apart}
 use Rattle.ob_site_state.specs.Changes.{cut, with_log, rewound, CanRewind, AreTold}
 use Rattle.ob_site_state.specs.Kept.{keys}
 use Rattle.ob_site_state.proofs.Noting.{got_there}

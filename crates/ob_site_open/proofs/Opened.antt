@@ -19,12 +19,12 @@ use Rattle.ob_site_laws.proofs.Rolling.{rolls_once}
 use Rattle.ob_opening.specs.Opening.{opening}
 use Rattle.ob_plain_state.specs.States.{AreCounted, entry_of}
 use Rattle.ob_plain_state.proofs.Keeping.{rolled_counted}
-use Rattle.ob_opened.specs.Consistent.{IsConsistent}
-use Rattle.ob_opened.specs.Laws.{Apart}
-use Rattle.ob_opened.specs.Opens.{IsOpened}
-use Rattle.ob_opened.specs.Ordered.{IsBy, IsOrdered}
-use Rattle.ob_opened.proofs.Opened.{opens_consistent}
-use Rattle.ob_opened.proofs.Ordered.{opens_ordered}
+use Rattle.ob_consistent_laws.specs.Consistent.{IsConsistent}
+use Rattle.ob_consistent_laws.specs.Laws.{Apart}
+use Rattle.ob_consistent_laws.specs.Opens.{IsOpened}
+use Rattle.ob_consistent_laws.specs.Ordered.{IsBy, IsOrdered}
+use Rattle.ob_consistent_laws.proofs.Opened.{opens_consistent}
+use Rattle.ob_consistent_laws.proofs.Ordered.{opens_ordered}
 use Rattle.ob_shown_laws.specs.Alike.{row}
 use Rattle.ob_shown_laws.specs.Changed.{PathsDiffer}
 use Rattle.ob_consistent_laws.proofs.Apart.{opens_apart}

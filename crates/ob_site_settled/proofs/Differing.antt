@@ -15,7 +15,7 @@ use Rattle.ob_tree.specs.Paths.{place_of}
 use Rattle.ob_tree.specs.Shown.{handed_at, standing_at}
 use Rattle.ob_tree.proofs.Within.{place_within}
 use Rattle.ob_shown_laws.proofs.Owned.{own_trees_tell, own_trees_tell_changes}
-use Rattle.ob_opened.specs.Laws.{Apart}
+use Rattle.ob_consistent_laws.specs.Laws.{Apart}
 use Rattle.ob_site_rules.specs.Build.{Path, number_slot}
 use Rattle.ob_site_rules.specs.State.{Plan, Log, State, at, is_among, is_path, numbered_from, rolled, rolled_logs, roll}
 use Rattle.ob_site_rules.specs.Sameness.{same_slot, same_option, same_status}

@@ -11,7 +11,7 @@ use Rattle.ob_alarms.specs.States.{status_of}
 use Rattle.ob_tree.specs.Laid.{head_at, paths}
 use Rattle.ob_tree.specs.Paths.{place_of}
 use Rattle.ob_tree.specs.Shown.{standing_at}
-use Rattle.ob_opened.specs.Laws.{Apart}
+use Rattle.ob_consistent_laws.specs.Laws.{Apart}
 use Rattle.ob_site_rules.specs.Build.{Path}
 use Rattle.ob_site_rules.specs.State.{Plan, PointRule, Log, State, is_path, numbered_from, roll}
 use Rattle.ob_site_rules.specs.Sameness.{same_status}

@@ -3,7 +3,7 @@ use Rattle.std.proofs.Common.{◌≡◌, ℕ, zero, suc, Bool, true, false, cond
 use Rattle.std.specs.Prelude.{slice_get, option_and_then, find}
 use Rattle.std.specs.Str.{bytes_eq}
 use Rattle.std.proofs.lemmas.Slice.Eq.{bytes_eq-Decides}
-use Rattle.ob_opened.specs.Laws.{Apart}
+use Rattle.ob_consistent_laws.specs.Laws.{Apart}
 use Rattle.ob_site_rules.specs.Build.{Path}
 use Rattle.ob_site_rules.specs.State.{Plan, Log, at, is_among, is_path}
 use Rattle.ob_site_rules.specs.Writes.{records_from}

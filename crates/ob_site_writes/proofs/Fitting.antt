@@ -28,7 +28,7 @@ use Rattle.ob_site_rules.specs.Writes.{number_in, records_from}
 use Rattle.ob_plain_state.specs.States.{NodesAre, IsOfKindAt, limits_fit, rule_in, is_int}
 use Rattle.ob_plain_state.specs.Fitting.{NodesTake, TakesIfRule}
 use Rattle.ob_plain_state.proofs.ShownKinds.{shown_kind}
-use Rattle.ob_opened.specs.Consistent.{IsConsistent}
+use Rattle.ob_consistent_laws.specs.Consistent.{IsConsistent}
 use Rattle.ob_site_written.specs.Fitting.{CanBeWritten}
 
 -- the kind of a value is one that has values

@@ -21,18 +21,18 @@ use Rattle.ob_opening.specs.declared.roles.Roles.{Roles}
 use Rattle.ob_opening.specs.Roles.{no_roles, roles_there, holds_contracts, row_roles, all_roles, role_at}
 use Rattle.ob_opening.specs.Opening.{standard_words}
 use Rattle.ob_opening.specs.Loading.{Part, row_of, kept_root, kept_row, parts_of, paths_in, path_of, taken_twice, opened}
-use Rattle.ob_opened.specs.Laws.{Apart, row_paths, kind_or_obj}
-use Rattle.ob_opened.proofs.Lists.{each_two, each_more}
-use Rattle.ob_opened.proofs.Once.{taken_once}
-use Rattle.ob_opened.proofs.OneKind.{apart_are_of_one_kind}
-use Rattle.ob_opened.proofs.Walk.{Walks, each_part, root_kept}
-use Rattle.ob_opened.proofs.Kept.{root_apart}
-use Rattle.ob_opened.proofs.Fit.{all_fit}
-use Rattle.ob_opened.proofs.Found.{IsNodeIf}
-use Rattle.ob_opened.proofs.Roled.{is_point, IsPlaced, all_placed}
-use Rattle.ob_opened.proofs.Rules.{IsKind, parts_kinds}
-use Rattle.ob_opened.proofs.Begins.{Begins, begins, words_of}
-use Rattle.ob_opened.proofs.Inverted.{Opens}
+use Rattle.ob_consistent_laws.specs.Laws.{Apart, row_paths, kind_or_obj}
+use Rattle.ob_consistent_laws.proofs.Lists.{each_two, each_more}
+use Rattle.ob_consistent_laws.proofs.Once.{taken_once}
+use Rattle.ob_consistent_laws.proofs.OneKind.{apart_are_of_one_kind}
+use Rattle.ob_consistent_laws.proofs.Walk.{Walks, each_part, root_kept}
+use Rattle.ob_consistent_laws.proofs.Kept.{root_apart}
+use Rattle.ob_consistent_laws.proofs.Fit.{all_fit}
+use Rattle.ob_consistent_laws.proofs.Found.{IsNodeIf}
+use Rattle.ob_consistent_laws.proofs.Roled.{is_point, IsPlaced, all_placed}
+use Rattle.ob_consistent_laws.proofs.Rules.{IsKind, parts_kinds}
+use Rattle.ob_consistent_laws.proofs.Begins.{Begins, begins, words_of}
+use Rattle.ob_consistent_laws.proofs.Inverted.{Opens}
 use Rattle.ob_step_laws.specs.Opening.{OpensPoints}
 
 -- the roles from a number on begin with those
