@@ -6,7 +6,7 @@ use Rattle.ob_io.specs.Ticks.{last_moment, pace_of, AreFirstOf}
 use Rattle.ob_io.specs.Told.{Gains}
 use Rattle.ob_command.specs.declared.server.Output.{Output}
 use Rattle.ob_command.specs.declared.server.Output.TheVariants.{Answers, Record}
-use Rattle.ob_recording.specs.Recording.{RecordsRun}
+use Rattle.ob_record.specs.Recording.{RecordsRun}
 use Rattle.ob_server.specs.Alone.{ServesAlone}
 use Rattle.ob_server.specs.declared.end.LinkEnd.{LinkEnd}
 use Rattle.ob_server.specs.declared.end.LinkEnd.TheVariants as ends

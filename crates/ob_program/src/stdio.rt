@@ -3,7 +3,7 @@ ghost use Rattle.std.specs.Prelude.{◌≡◌, ◌≤◌, min, length, IsSome, I
 ghost use Rattle.ob_io.specs.Ticks.{last_moment};
 ghost use Rattle.ob_io.specs.Faults.{Rose};
 ghost use Rattle.ob_io.specs.Links.{inlet};
-ghost use Rattle.ob_recording.specs.Recording.{RecordsRun};
+ghost use Rattle.ob_record.specs.Recording.{RecordsRun};
 ghost use Rattle.ob_site_laws.specs.Seen.{KeepsWatches};
 ghost use Rattle.ob_server.specs.Alone.{ServesAlone};
 ghost use Rattle.ob_server.specs.Answered.{HasEndCause};
@@ -24,7 +24,7 @@ use ob_dialogue::frame_word;
 use ob_http::FrameFault;
 use ob_io::{Clock, Files, Link, Pair, Sink, Source, Ticker};
 use ob_load::{LoadFault, Loaded, load, opened_is_not_refused};
-use ob_recording::record_run;
+use ob_record::record_run;
 use ob_server::LinkEnd;
 use ob_site_desk::serve_alone;
 use ob_times::Moment;

@@ -8,3 +8,7 @@ pub mod AuditLaws
 pub mod InPlace
 pub mod BlockLaws
 pub mod Sifts
+pub mod BodyLaws
+pub mod AskLaws
+pub mod LinkLaws
+pub mod RecordedRuns

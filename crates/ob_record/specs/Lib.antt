@@ -6,3 +6,5 @@ pub mod Sifted
 pub mod Legal
 pub mod Rows
 pub mod Reading
+pub mod Entries
+pub mod Recording

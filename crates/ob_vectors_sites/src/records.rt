@@ -4,8 +4,7 @@ use crate::audits::{
 };
 use crate::dialogue::Dialogue;
 use crate::sites::{Opening, site_of};
-use ob_record::{Run, read_record};
-use ob_recording::record_run;
+use ob_record::{Run, read_record, record_run};
 use ob_rows::{Asked, Table, asked_of, push_meant, split_word, text_of};
 use ob_site::Site;
 use ob_times::Moment;

@@ -1,7 +1,7 @@
 use Rattle.std.proofs.Common.{◌≡◌, ◌≤◌}
 use Rattle.ob_io.specs.Links.{inlet}
-use Rattle.ob_recording.proofs.LinkLaws.{Going}
-use Rattle.ob_recording.proofs.link.record_link.Given as goal
+use Rattle.ob_record.proofs.LinkLaws.{Going}
+use Rattle.ob_record.proofs.link.record_link.Given as goal
 
 abbrev pub invariant-pieces : goal.invariant-pieces
 invariant-pieces g l = record {

@@ -17,8 +17,8 @@ use Rattle.ob_server.specs.declared.end.LinkEnd.{LinkEnd}
 use Rattle.ob_server.proofs.ServeLemmas.{ends_unstarted}
 use Rattle.ob_site_rules.specs.declared.request.Request.{Request}
 use Rattle.ob_times.specs.Times.{IsMoment}
-use Rattle.ob_recording.specs.Entries.{told_of, entries_of, run_of, calls_text, IsOwn}
-use Rattle.ob_recording.specs.Recording.{IsWhole, Asks, RecordsLink, WritesRun, RecordsRun}
+use Rattle.ob_record.specs.Entries.{told_of, entries_of, run_of, calls_text, IsOwn}
+use Rattle.ob_record.specs.Recording.{IsWhole, Asks, RecordsLink, WritesRun, RecordsRun}
 
 -- calls that a record can tell have entries that it can have
 own_entries : (calls : List Call) → AllByRecursion IsOwn calls → AllByRecursion IsEntry (entries_of calls)

@@ -2,9 +2,9 @@ use Rattle.std.proofs.Common.{◌∙◌, ℕ, List, Option, subst}
 use Rattle.ob_io.specs.Told.{Gains, IsFront}
 use Rattle.ob_server.specs.Exchange.{SortsTo}
 use Rattle.ob_server.specs.declared.end.Break.TheVariants as breaks
-use Rattle.ob_recording.proofs.AskLaws.{one_early, one_fixed, one_wanting, one_told, one_cut}
-use Rattle.ob_recording.proofs.BodyLaws.{asked_spelled}
-use Rattle.ob_recording.proofs.link.record_one.Goals as goal
+use Rattle.ob_record.proofs.AskLaws.{one_early, one_fixed, one_wanting, one_told, one_cut}
+use Rattle.ob_record.proofs.BodyLaws.{asked_spelled}
+use Rattle.ob_record.proofs.link.record_one.Goals as goal
 
 pub returns-in_default-clause-records : goal.returns-in_default-clause-records
 returns-in_default-clause-records g c = λ request sorts closes few.

@@ -1,6 +1,6 @@
 use Rattle.std.proofs.Common.{◌≡◌, ◌≤◌, length}
-use Rattle.ob_recording.proofs.LinkLaws.{Holding}
-use Rattle.ob_recording.proofs.link.record_held.Given as goal
+use Rattle.ob_record.proofs.LinkLaws.{Holding}
+use Rattle.ob_record.proofs.link.record_held.Given as goal
 
 abbrev pub invariant-next : goal.invariant-next
 invariant-next g l = record {

@@ -1,8 +1,8 @@
 use Rattle.std.proofs.Common.{◌==◌, ◌∙◌, refl, ap, arith, ℕ}
 use Rattle.ob_io.specs.Links.{inlet}
 use Rattle.ob_server.proofs.ServeLemmas.{stop_cause, pause_cause, stop_along, pause_along, cause_as}
-use Rattle.ob_recording.proofs.LinkLaws.{going_none, going_held, link_as, link_held, link_stopped, link_paused, link_budget, link_ended, link_fed, link_unstarted}
-use Rattle.ob_recording.proofs.link.record_link.Goals as goal
+use Rattle.ob_record.proofs.LinkLaws.{going_none, going_held, link_as, link_held, link_stopped, link_paused, link_budget, link_ended, link_fed, link_unstarted}
+use Rattle.ob_record.proofs.link.record_link.Goals as goal
 
 pub pieces-init : goal.pieces-init
 pieces-init g c = record {

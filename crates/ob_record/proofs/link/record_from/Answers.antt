@@ -1,8 +1,8 @@
 use Rattle.std.proofs.Common.{◌∙◌, ℕ, List, Option, subst}
 use Rattle.ob_io.specs.Told.{Gains, IsFront, Gains-none}
 use Rattle.ob_times.specs.Times.{IsMoment}
-use Rattle.ob_recording.proofs.RunLaws.{run_wanting, run_cut, run_recorded}
-use Rattle.ob_recording.proofs.link.record_from.Goals as goal
+use Rattle.ob_record.proofs.RecordedRuns.{run_wanting, run_cut, run_recorded}
+use Rattle.ob_record.proofs.link.record_from.Goals as goal
 
 pub returns-in_default-clause-records : goal.returns-in_default-clause-records
 returns-in_default-clause-records g c =

@@ -1,11 +1,11 @@
 //! One request, asked of the machine and told as an entry of a record.
 ghost use Rattle.std.specs.Prelude.{IfOk, OnErr};
-ghost use Rattle.ob_recording.specs.Entries.{Replies, Tells, Asked, BodyIsSpelled};
+ghost use Rattle.ob_record.specs.Entries.{Replies, Tells, Asked, BodyIsSpelled};
 
+use crate::{Entry, Told, write_entry};
 use ob_encoding::encode;
 use ob_machine::Machine;
 use ob_object::Obj;
-use ob_record::{Entry, Told, write_entry};
 use ob_site_rules::Request;
 use ob_times::Moment;
 use ob_values::Bytes;

@@ -27,8 +27,8 @@ use Rattle.ob_server.specs.declared.sort.Sorted.{Sorted}
 use Rattle.ob_server.specs.declared.sort.Sorted.TheVariants.{Step, Fixed}
 use Rattle.ob_server.proofs.ExchangeLemmas.{breaks_early, breaks_inside, lasts_more}
 use Rattle.ob_site_rules.specs.declared.request.Request.{Request}
-use Rattle.ob_recording.specs.Entries.{entry_of, entries_of, calls_text, Replies, IsOwn, own_call, Tells, Asked}
-use Rattle.ob_recording.specs.Recording.{IsDone, Asks, RecordsOne}
+use Rattle.ob_record.specs.Entries.{entry_of, entries_of, calls_text, Replies, IsOwn, own_call, Tells, Asked}
+use Rattle.ob_record.specs.Recording.{IsDone, Asks, RecordsOne}
 
 pub calls_text_then : (xs ys : List Call) → calls_text (xs ++ ys) ≡ calls_text xs ++ calls_text ys
 calls_text_then xs ys = ap (λ (es : List Entry). flat_map entry_text es) (map-append entry_of xs ys) ∙ flat_map-append entry_text (entries_of xs) (entries_of ys)

@@ -14,7 +14,7 @@ use Rattle.ob_site_rules.specs.declared.request.Request.{Request}
 use Rattle.ob_values.specs.declared.verb.Verb.{Verb}
 use Rattle.ob_record.specs.Runs.{IsBody}
 use Rattle.ob_size_laws.proofs.Texts.{text_is_short}
-use Rattle.ob_recording.specs.Entries.{BodyIsSpelled}
+use Rattle.ob_record.specs.Entries.{BodyIsSpelled}
 
 -- an object that a document with an xmlns carries, is carried without one
 plainly : (ns : Option (List ℕ)) (o : Object) → IsCarried ns o → IsCarried None o

@@ -1,8 +1,8 @@
 use Rattle.std.proofs.Common.{◌≢◌, rules, refl, ◌∙◌, arith}
 use Rattle.ob_http.specs.declared.fault.FrameFault.TheVariants as faults
 use Rattle.ob_server.proofs.HeldLemmas.{sorts_some, sorts_none, next_first, next_closes, next_goes_on, next_size, next_place, next_shorter, next_refused, break_along}
-use Rattle.ob_recording.proofs.LinkLaws.{holding_none, holding_more, held_nothing, held_asked, held_broke, held_memory, held_refused}
-use Rattle.ob_recording.proofs.link.record_held.Goals as goal
+use Rattle.ob_record.proofs.LinkLaws.{holding_none, holding_more, held_nothing, held_asked, held_broke, held_memory, held_refused}
+use Rattle.ob_record.proofs.link.record_held.Goals as goal
 
 pub next-init : goal.next-init
 next-init g c = record { holding = holding_none _ _ _ _ _; pace = refl; left = refl; took = refl; reads = refl; writes = omega arith; clocks = omega arith }

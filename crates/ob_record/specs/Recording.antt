@@ -17,7 +17,7 @@ use Rattle.ob_server.specs.declared.end.LinkEnd.TheVariants as ends
 use Rattle.ob_server.specs.declared.end.Stop.{Stop}
 use Rattle.ob_server.specs.declared.end.Stop.TheVariants as stops
 use Rattle.ob_site_rules.specs.declared.request.Request.{Request}
-use Rattle.ob_recording.specs.Entries.{IsOwn, calls_text, entries_of, run_of}
+use Rattle.ob_record.specs.Entries.{IsOwn, calls_text, entries_of, run_of}
 
 -- a request was recorded
 abbrev pub IsDone : Result (Unit {0}) Break → Type 0

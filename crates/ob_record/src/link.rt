@@ -5,15 +5,15 @@ ghost use Rattle.ob_http.specs.Request.{Request as Framed, body_limit};
 ghost use Rattle.ob_server.specs.Exchange.{SortsTo};
 ghost use Rattle.ob_server.specs.Answered.{HasBreakCause, HasStopCause, HasEndCause};
 ghost use Rattle.ob_server.specs.Complete.{ServesWhole};
-ghost use Rattle.ob_recording.specs.Recording.{RecordsOne, RecordsHeld, RecordsLink, RecordsRun};
+ghost use Rattle.ob_record.specs.Recording.{RecordsOne, RecordsHeld, RecordsLink, RecordsRun};
 
 use crate::asking::ask_entry;
+use crate::write_boot;
 use ob_http::laws::{end_stays, framing_is_one};
 use ob_http::{FrameFault, Framer};
 use ob_io::{Clock, Link, send};
 use ob_machine::Machine;
 use ob_object::Obj;
-use ob_record::write_boot;
 use ob_server::{Break, LinkEnd, Next, Sorted, Stop, end_at, end_of, read_piece, take_next};
 use ob_site_rules::Request;
 use ob_times::Moment;

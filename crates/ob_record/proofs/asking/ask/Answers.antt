@@ -1,7 +1,7 @@
 use Rattle.std.proofs.Common.{subst}
 use Rattle.ob_times.specs.Times.{IsMoment}
-use Rattle.ob_recording.proofs.AskLaws.{on_err, asked_once}
-use Rattle.ob_recording.proofs.asking.ask.Goals as goal
+use Rattle.ob_record.proofs.AskLaws.{on_err, asked_once}
+use Rattle.ob_record.proofs.asking.ask.Goals as goal
 
 pub returns-clause-wanting : goal.returns-clause-wanting
 returns-clause-wanting g c =

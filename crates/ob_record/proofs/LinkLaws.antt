@@ -23,8 +23,8 @@ use Rattle.ob_server.proofs.ExchangeLemmas.{went_none, went_sent}
 use Rattle.ob_server.proofs.HeldLemmas.{Answering, answering_none, one_more, nothing_held, asked_end, broke_between, broke_at, refused_next}
 use Rattle.ob_server.proofs.ServeLemmas.{Serving, Resting, serving_none, serving_along, held_answered, ends_of, ends_at, ends_budget, ends_unstarted, fed, serves_as}
 use Rattle.ob_site_rules.specs.declared.request.Request.{Request}
-use Rattle.ob_recording.specs.Recording.{IsDone, IsUnbroken, IsWhole, Asks, RecordsOne, RecordsHeld, RecordsLink}
-use Rattle.ob_recording.proofs.AskLaws.{asks_none, asks_less, asks_then, asks_held, one_behind, behind_calls}
+use Rattle.ob_record.specs.Recording.{IsDone, IsUnbroken, IsWhole, Asks, RecordsOne, RecordsHeld, RecordsLink}
+use Rattle.ob_record.proofs.AskLaws.{asks_none, asks_less, asks_then, asks_held, one_behind, behind_calls}
 
 module _ {S : Type 0} (act : S → Request → ℕ → S × Object) where
   -- ---- the requests that a framer holds

@@ -1,8 +1,8 @@
 use Rattle.std.proofs.Common.{◌≡◌, ◌<◌, ◌^◌, ◌∙◌, ℕ, List, length, subst, sym, arith}
 use Rattle.ob_times.specs.Times.{IsMoment}
-use Rattle.ob_recording.proofs.AskLaws.{on_err, asked_once, entries_made}
-use Rattle.ob_recording.proofs.BodyLaws.{spelled_body}
-use Rattle.ob_recording.proofs.asking.ask_entry.Goals as goal
+use Rattle.ob_record.proofs.AskLaws.{on_err, asked_once, entries_made}
+use Rattle.ob_record.proofs.BodyLaws.{spelled_body}
+use Rattle.ob_record.proofs.asking.ask_entry.Goals as goal
 
 pub returns-clause-tells : goal.returns-clause-tells
 returns-clause-tells g c = λ spelled.

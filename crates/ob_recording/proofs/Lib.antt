@@ -1,4 +1,0 @@
-pub mod BodyLaws
-pub mod AskLaws
-pub mod LinkLaws
-pub mod RunLaws
