@@ -6,7 +6,7 @@ use Rattle.ob_io.specs.Links.{Inlet, Takes}
 use Rattle.ob_io.specs.Told.{Gains, IsFront}
 use Rattle.ob_object.specs.Object.{Object}
 use Rattle.ob_encoding.specs.Canonical.{canonical_text}
-use Rattle.ob_grammar.specs.Spelling.{Spells}
+use Rattle.ob_documents.specs.Spelling.{Spells}
 use Rattle.ob_xml.specs.Judged.{fault, Judged}
 use Rattle.ob_xml.specs.declared.refused.Refused.{Refused}
 use Rattle.ob_xml.specs.declared.refused.Why.{Why}

@@ -5,7 +5,7 @@ use Rattle.ob_io.specs.Dials.{Dial, Visit}
 use Rattle.ob_io.specs.Faults.{Rose}
 use Rattle.ob_io.specs.Told.{Gains}
 use Rattle.ob_object.specs.Object.{Object}
-use Rattle.ob_grammar.specs.Spelling.{Spells}
+use Rattle.ob_documents.specs.Spelling.{Spells}
 use Rattle.ob_xml.specs.declared.refused.Why.{Why}
 use Rattle.ob_xml.specs.Judged.{Verdict, fault, document, Judged}
 use Rattle.ob_http.specs.Reply.{Response, ReplyStands}

@@ -6,7 +6,7 @@ ghost use Rattle.ob_dialogue.specs.Completes.{DialoguesComplete};
 pub fn completes()
     ensures { DialoguesComplete }
 {
-    ob_grammar::one_document();
+    ob_documents::one_document();
     ob_xml::one_verdict();
     ob_documents::only();
 }

@@ -32,12 +32,12 @@ use Rattle.ob_encoding.specs.declared.part.Part.TheVariants as part
 use Rattle.ob_encoding.specs.Kinds.{same, kind_of}
 use Rattle.ob_encoding.specs.Fields.{field_of, known}
 use Rattle.ob_encoding.specs.Parts.{ReadsPart, put_part}
-use Rattle.ob_grammar.specs.Attributes.{has_name, AreDistinct, Says, Tell, NamespaceBy, NamespaceIs}
-use Rattle.ob_grammar.specs.Grammar.{attributes_of, name_of, Element, empty, full, Content, nothing, pause, child, IsMark, AreSkipped, IsDocument}
-use Rattle.ob_grammar.specs.Spelling.{place_behind, Cuts, none as no_more, some, Spells}
-use Rattle.ob_grammar.proofs.One.{kind_back}
+use Rattle.ob_documents.specs.Attributes.{has_name, AreDistinct, Says, Tell, NamespaceBy, NamespaceIs}
+use Rattle.ob_documents.specs.Grammar.{attributes_of, name_of, Element, empty, full, Content, nothing, pause, child, IsMark, AreSkipped, IsDocument}
+use Rattle.ob_documents.specs.Spelling.{place_behind, Cuts, none as no_more, some, Spells}
+use Rattle.ob_documents.proofs.One.{kind_back}
 use Rattle.ob_documents.proofs.Fitting.{same_true, known_parts, no_name, fit_parts, fit_whole, same_part, part_keeps, IsNoNamePart, no_name_part, kind_stays, tell_name}
-use Rattle.ob_grammar.proofs.Spelled.{neither_left, neither_right}
+use Rattle.ob_documents.proofs.SpelledTexts.{neither_left, neither_right}
 use Rattle.ob_xml.specs.declared.doc.Doc.{Doc}
 use Rattle.ob_xml.specs.declared.refused.Why.{Why}
 use Rattle.ob_xml.specs.declared.refused.Why.TheVariants as causes

@@ -33,10 +33,10 @@ use Rattle.ob_encoding.specs.Kinds.{same, plain_kind, timed_kind, or_else, kind_
 use Rattle.ob_encoding.specs.Fields.{known}
 use Rattle.ob_encoding.specs.Parts.{ReadsPart, read_as, put_part}
 use Rattle.ob_encoding.specs.Names.{kind_name}
-use Rattle.ob_grammar.specs.Attributes.{has_name, AreDistinct, Says, Tell, Describe, NamespaceBy, NamespaceIs}
-use Rattle.ob_grammar.specs.Grammar.{attributes_of, name_of, Element, empty, full, Content, nothing, pause, child, IsMark, AreSkipped, IsDocument}
-use Rattle.ob_grammar.specs.Spelling.{Cuts, none as no_more, some, Spells}
-use Rattle.ob_grammar.proofs.Spelled.{neither_left, neither_right}
+use Rattle.ob_documents.specs.Attributes.{has_name, AreDistinct, Says, Tell, Describe, NamespaceBy, NamespaceIs}
+use Rattle.ob_documents.specs.Grammar.{attributes_of, name_of, Element, empty, full, Content, nothing, pause, child, IsMark, AreSkipped, IsDocument}
+use Rattle.ob_documents.specs.Spelling.{Cuts, none as no_more, some, Spells}
+use Rattle.ob_documents.proofs.SpelledTexts.{neither_left, neither_right}
 use Rattle.ob_documents.proofs.Fitting.{same_true, kind_stays}
 use Rattle.ob_xml.proofs.Frees.{still_free}
 use Rattle.ob_xml.proofs.Ends.{NotEnd, not_whole, only_at_end}

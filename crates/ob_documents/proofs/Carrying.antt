@@ -5,9 +5,9 @@ use Rattle.ob_scan.specs.Constructs.{Construct}
 use Rattle.ob_object.specs.Fits.{fits_head}
 use Rattle.ob_object.specs.Object.{Objects, Object, listed}
 use Rattle.ob_object.specs.WellFormed.{NamesDiffer, RowIsWellFormed}
-use Rattle.ob_grammar.specs.Carried.{IsHeadCarried, IsRowCarried, IsCarried}
-use Rattle.ob_grammar.specs.Grammar.{Element, empty, full, Content, nothing, pause, child}
-use Rattle.ob_grammar.specs.Spelling.{Spells}
+use Rattle.ob_documents.specs.Carried.{IsHeadCarried, IsRowCarried, IsCarried}
+use Rattle.ob_documents.specs.Grammar.{Element, empty, full, Content, nothing, pause, child}
+use Rattle.ob_documents.specs.Spelling.{Spells}
 use Rattle.ob_documents.proofs.ReadHeads.{described, namespace_carried}
 
 record IsElementCarried (level : ℕ) (o : Object) : Type 0 where

@@ -32,10 +32,10 @@ use Rattle.ob_encoding.specs.Kinds.{same, or_else}
 use Rattle.ob_encoding.specs.Fields.{text_field, words_field, value_field, then_read, field_of, applies, known}
 use Rattle.ob_encoding.specs.Parts.{read_as, ReadAs, ReadsValue, ReadsLimit, ReadsPart, is_null, put_text, put_words, put_part}
 use Rattle.ob_encoding.specs.WordLists.{is_blank, ended, words_from, words_of}
-use Rattle.ob_grammar.specs.Attributes.{has_name, Says, Tell}
-use Rattle.ob_grammar.proofs.Characters.{encode_1, encode_2, encode_3, encode_4}
-use Rattle.ob_grammar.proofs.Pieces.{left, right}
-use Rattle.ob_grammar.proofs.Spelled.{neither_left, neither_right}
+use Rattle.ob_documents.specs.Attributes.{has_name, Says, Tell}
+use Rattle.ob_documents.proofs.Characters.{encode_1, encode_2, encode_3, encode_4}
+use Rattle.ob_documents.proofs.Pieces.{left, right}
+use Rattle.ob_documents.proofs.SpelledTexts.{neither_left, neither_right}
 
 -- ---- names
 

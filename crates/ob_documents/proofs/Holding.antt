@@ -3,7 +3,7 @@ use Rattle.std.proofs.Common.{◌≡◌, ℕ, suc, zero, ◌+◌, ◌<◌, ◌�
 use Rattle.std.specs.Prelude.{get_or}
 use Rattle.std.specs.List.{AllByRecursion}
 use Rattle.ob_object.specs.Object.{Objects, none, node, Object, count, parts, in_row, listed, in_row-listed}
-use Rattle.ob_grammar.specs.Carried.{IsTextIfThere, IsHeadCarried, IsRowCarried, IsCarried}
+use Rattle.ob_documents.specs.Carried.{IsTextIfThere, IsHeadCarried, IsRowCarried, IsCarried}
 use Rattle.ob_documents.specs.Held.{IsHeld, IsRowHeld, IsShallow}
 
 row_carried : (level : ℕ) (row : Objects) → IsRowHeld row → IsShallow level row → IsRowCarried level row

@@ -1,3 +1,13 @@
+pub mod Characters
+pub mod Texts
+pub mod Pieces
+pub mod Cutting
+pub mod Words
+pub mod Readers
+pub mod Ascii
+pub mod Told
+pub mod SpelledTexts
+pub mod One
 pub mod Fitting
 pub mod ReadTexts
 pub mod Written

@@ -20,8 +20,8 @@ use Rattle.ob_encoding.specs.Kinds.{same}
 use Rattle.ob_encoding.specs.Fields.{known}
 use Rattle.ob_encoding.specs.Parts.{ReadAs, ReadsPart, is_null, put_part}
 use Rattle.ob_encoding.specs.WordLists.{words_of}
-use Rattle.ob_grammar.specs.Attributes.{Says, Tell, Describe, NamespaceBy, NamespaceIs}
-use Rattle.ob_grammar.specs.Carried.{IsTextIfThere, IsWritten, IsHeadCarried}
+use Rattle.ob_documents.specs.Attributes.{Says, Tell, Describe, NamespaceBy, NamespaceIs}
+use Rattle.ob_documents.specs.Carried.{IsTextIfThere, IsWritten, IsHeadCarried}
 use Rattle.ob_documents.proofs.Fitting.{read_ok, same_part}
 use Rattle.ob_documents.proofs.ReadTexts.{expands_xml, words_xml}
 use Rattle.ob_documents.proofs.Written.{int_written, value_written, limit_written}

@@ -9,7 +9,7 @@ use Rattle.ob_scan.specs.Constructs.{is_char, then_read, reference_at}
 use Rattle.ob_scan.specs.Expansion.{character_from, behind_line_feed, item_at, Expands, nothing, item}
 use Rattle.ob_scan.proofs.Expanding.{IsCharacter, reference_char, one_character}
 use Rattle.ob_scan.proofs.XmlTexts.{xml_none, xml_both, xml_one, character_xml}
-use Rattle.ob_grammar.proofs.Characters.{encode_1}
+use Rattle.ob_documents.proofs.Characters.{encode_1}
 use Rattle.ob_encoding.specs.WordLists.{is_blank, ended, words_from, words_of}
 use Rattle.ob_encoding.proofs.WordRuns.{chars_xml, xml_more}
 

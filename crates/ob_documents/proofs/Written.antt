@@ -27,7 +27,7 @@ use Rattle.ob_values.proofs.PrintedLemmas.{spelled_integer, spelled_real, fits_s
 use Rattle.ob_object.specs.declared.kind.Kind.{Kind}
 use Rattle.ob_object.specs.declared.kind.Kind.TheVariants as kind
 use Rattle.ob_encoding.specs.Parts.{ReadAs, ReadsValue, ReadsLimit}
-use Rattle.ob_grammar.specs.Carried.{IsWritten}
+use Rattle.ob_documents.specs.Carried.{IsWritten}
 use Rattle.ob_documents.proofs.Fitting.{read_ok, same_value}
 
 truth_written : (b : Bool) → IsWritten (value.Bool b)

@@ -2,7 +2,7 @@
 use Rattle.std.specs.Prelude.{ℕ, suc, ◌<◌}
 use Rattle.ob_object.specs.Object.{Objects, none, node, Object}
 use Rattle.ob_object.specs.WellFormed.{IsWellFormed}
-use Rattle.ob_grammar.specs.Carried.{IsHeadCarried}
+use Rattle.ob_documents.specs.Carried.{IsHeadCarried}
 
 -- objects, at whatever depth, whose texts and values a document can carry
 abbrev pub IsRowHeld : Objects → Type 0

@@ -1,1 +1,5 @@
+pub mod Attributes
+pub mod Grammar
+pub mod Spelling
+pub mod Carried
 pub mod Held

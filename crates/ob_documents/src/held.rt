@@ -3,7 +3,7 @@ ghost use Rattle.std.specs.Option.{option_copied};
 ghost use Rattle.std.specs.Prelude.{option_map};
 ghost use Rattle.ob_values.specs.declared.value.Value.TheVariants.{Int};
 ghost use Rattle.ob_object.specs.Object.{in_row};
-ghost use Rattle.ob_grammar.specs.Carried.{AreTextsIfThere, IsHeadCarried, IsSlotWritten, IsTextIfThere, IsWritten, IsWrittenIfThere};
+ghost use Rattle.ob_documents.specs.Carried.{AreTextsIfThere, IsHeadCarried, IsSlotWritten, IsTextIfThere, IsWritten, IsWrittenIfThere};
 ghost use Rattle.ob_documents.specs.Held.{IsHeld, IsRowHeld};
 
 use ob_object::{Attributes, Obj, Slot, Words};

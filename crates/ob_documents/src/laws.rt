@@ -9,9 +9,9 @@ ghost use Rattle.ob_encoding.specs.Fields.{known};
 ghost use Rattle.ob_encoding.specs.Kinds.{same};
 ghost use Rattle.ob_encoding.specs.Parts.{ReadsPart, put_part};
 ghost use Rattle.ob_encoding.specs.Canonical.{canonical_text};
-ghost use Rattle.ob_grammar.specs.Carried.{IsCarried, IsTextIfThere};
+ghost use Rattle.ob_documents.specs.Carried.{IsCarried, IsTextIfThere};
 ghost use Rattle.ob_documents.specs.Held.{IsHeld, IsShallow};
-ghost use Rattle.ob_grammar.specs.Spelling.{Spells};
+ghost use Rattle.ob_documents.specs.Spelling.{Spells};
 ghost use Rattle.ob_xml.specs.declared.doc.Doc.{Doc};
 ghost use Rattle.ob_xml.specs.Judged.{document, Judged};
 
@@ -34,7 +34,7 @@ pub fn spelled()
 pub fn read_back()
     ensures { (ns : Option (List ℕ)) (o : Object) → IsCarried ns o → length (canonical_text ns o) ≤ 16_777_216 → Judged (canonical_text ns o) true (document (record { ns = ns; root = o })) }
 {
-    ob_grammar::text_spells();
+    crate::text_spells();
     only();
 }
 

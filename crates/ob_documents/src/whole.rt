@@ -1,7 +1,7 @@
 //! Whole documents.
 ghost use Rattle.std.specs.Prelude.{◌≡◌, ◌≢◌, ℕ, List, Option, Err, true, IfOk, IfErr};
 ghost use Rattle.ob_object.specs.Object.{Object};
-ghost use Rattle.ob_grammar.specs.Spelling.{Spells};
+ghost use Rattle.ob_documents.specs.Spelling.{Spells};
 ghost use Rattle.ob_xml.specs.declared.refused.Why.TheVariants.{Memory};
 ghost use Rattle.ob_xml.specs.Decoding.{IsCause};
 

@@ -1,7 +1,7 @@
 -- A record with fewer entries that leads a site to the same.
 use Rattle.std.proofs.Common.{◌≡◌, inl, inr, ℕ, ◌+◌, ◌≤◌, Bool, true, false, List, [], ◌∷◌, length, Option, Some, None, refl, sym, ◌∙◌, ap, subst, arith}
 use Rattle.std.specs.Prelude.{◌↔◌, IfSome, IsTrue, Result, Ok, Err, IsErrOf}
-use Rattle.ob_grammar.specs.Spelling.{Spells}
+use Rattle.ob_documents.specs.Spelling.{Spells}
 use Rattle.ob_io.specs.Faults.{Rose}
 use Rattle.ob_journal.specs.Journal.{Says, OneMeaning}
 use Rattle.ob_load.specs.Loads.{IsSite}

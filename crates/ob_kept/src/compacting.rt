@@ -9,7 +9,7 @@ ghost use Rattle.ob_kept.specs.Reopening.{HasFileCause, Unready};
 use crate::choice::{Covered, LastPuts};
 use crate::fault::{CompactFault, ReopenFault};
 use crate::reopening::{Ready, of_saying, ready_redone};
-use ob_grammar::one_document;
+use ob_documents::one_document;
 use ob_io::Files;
 use ob_journal::{Device, Extent, one_meaning};
 use ob_record::{Run, one_run};

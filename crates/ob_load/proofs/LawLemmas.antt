@@ -1,7 +1,7 @@
 -- Bytes that open a site aren't refused.
 use Rattle.std.proofs.Common.{◌≡◌, ℕ, Bool, true, List, Option, Ok, Err, Result, sym, ap, subst, ◌∙◌}
 use Rattle.ob_object.specs.Object.{Object}
-use Rattle.ob_grammar.specs.Spelling.{Spells}
+use Rattle.ob_documents.specs.Spelling.{Spells}
 use Rattle.ob_xml.specs.Judged.{Verdict, document, fault, Judged}
 use Rattle.ob_xml.specs.declared.doc.Doc.{Doc}
 use Rattle.ob_site_rules.specs.Sites.{SiteState}

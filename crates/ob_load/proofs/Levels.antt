@@ -1,7 +1,7 @@
 -- A document has at most 32 levels.
 use Rattle.std.proofs.Common.{ℕ, suc, ◌+◌, ◌≤◌, List, Option, arith}
 use Rattle.ob_object.specs.Object.{Objects, none, node, Object}
-use Rattle.ob_grammar.specs.Carried.{IsRowCarried, IsCarried}
+use Rattle.ob_documents.specs.Carried.{IsRowCarried, IsCarried}
 use Rattle.ob_site.specs.Between.{IsShallow}
 use Rattle.ob_tree.specs.Depths.{levels}
 

@@ -1,7 +1,7 @@
 -- What a site file opens, or why it opens nothing.
 use Rattle.std.specs.Prelude.{◌≡◌, ℕ, List, Option, true, Ok}
 use Rattle.ob_object.specs.Object.{Object}
-use Rattle.ob_grammar.specs.Spelling.{Spells}
+use Rattle.ob_documents.specs.Spelling.{Spells}
 use Rattle.ob_xml.specs.Judged.{Judged, fault}
 use Rattle.ob_site_rules.specs.Sites.{SiteState}
 use Rattle.ob_opening.specs.Opening.{opening}

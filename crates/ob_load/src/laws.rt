@@ -7,5 +7,5 @@ pub fn opened_is_not_refused()
 {
     ob_documents::only();
     ob_xml::one_verdict();
-    ob_grammar::one_document();
+    ob_documents::one_document();
 }

@@ -1,6 +1,6 @@
 //! The document that a file holds.
 ghost use Rattle.std.specs.Prelude.{◌≡◌, ℕ, List, take, IfOk, IfErr, IfSome};
-ghost use Rattle.ob_grammar.specs.Spelling.{Spells};
+ghost use Rattle.ob_documents.specs.Spelling.{Spells};
 ghost use Rattle.ob_site.specs.Between.{IsShallow};
 ghost use Rattle.ob_load.specs.Causes.{HasLoadCause};
 ghost use Rattle.ob_load.specs.Loads.{IsOutside, IsUnspelled};

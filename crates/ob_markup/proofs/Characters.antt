@@ -8,7 +8,7 @@ use Rattle.ob_values.specs.XmlText.{IsXmlChar, IsXmlText}
 use Rattle.ob_scan.specs.declared.character.Progress.{Progress}
 use Rattle.ob_scan.specs.declared.character.Progress.TheVariants.{Whole}
 use Rattle.ob_scan.specs.Characters.{after_byte}
-use Rattle.ob_grammar.proofs.Characters.{Walk, Sort, tab, line_feed, return, quote, ampersand, less_than, plain, wide, sort_of}
+use Rattle.ob_documents.proofs.Characters.{Walk, Sort, tab, line_feed, return, quote, ampersand, less_than, plain, wide, sort_of}
 use Rattle.ob_markup.proofs.Walks.{Chars}
 
 walk_chars : (p : Progress) (bytes more : List ℕ) → Walk p bytes → Chars Whole more → Chars p (bytes ++ more)

@@ -9,11 +9,11 @@ use Rattle.ob_scan.specs.Constructs as scanned
 use Rattle.ob_object.specs.declared.head.Head.{Head}
 use Rattle.ob_object.specs.Object.{Objects, none, node, Object, listed, empty_head}
 use Rattle.ob_object.specs.WellFormed.{NamesDiffer}
-use Rattle.ob_grammar.specs.Attributes.{Describe}
-use Rattle.ob_grammar.specs.Grammar.{attributes_of, name_of, IsMark, AreSkipped}
-use Rattle.ob_grammar.specs.Grammar as grammar
-use Rattle.ob_grammar.specs.Spelling.{place_behind, Cuts, Spells}
-use Rattle.ob_grammar.specs.Spelling as spelling
+use Rattle.ob_documents.specs.Attributes.{Describe}
+use Rattle.ob_documents.specs.Grammar.{attributes_of, name_of, IsMark, AreSkipped}
+use Rattle.ob_documents.specs.Grammar as grammar
+use Rattle.ob_documents.specs.Spelling.{place_behind, Cuts, Spells}
+use Rattle.ob_documents.specs.Spelling as spelling
 use Rattle.ob_markup.specs.Characters.{is_white, is_name_byte, IsBlank, IsSpace}
 use Rattle.ob_markup.specs.Markup.{Instruction, Declaration, print_attribute, EndTag, print_end_tag, IsEndTag}
 use Rattle.ob_markup.specs.Pieces.{Piece, print_piece, IsPiece, RefersWell, StandsAt, EndsName, EndsSpace, MayFollow}

@@ -4,8 +4,8 @@ use Rattle.std.specs.Prelude.{codes}
 use Rattle.ob_object.specs.declared.kind.Kind.{Kind}
 use Rattle.ob_object.specs.declared.head.Head.{Head}
 use Rattle.ob_encoding.specs.Kinds.{same}
-use Rattle.ob_grammar.specs.Attributes.{Tells, Tell}
-use Rattle.ob_grammar.specs.Attributes as grammar
+use Rattle.ob_documents.specs.Attributes.{Tells, Tell}
+use Rattle.ob_documents.specs.Attributes as grammar
 use Rattle.ob_markup.specs.Documents.{AttributesSay, NamespaceBy, NamespaceIs}
 use Rattle.ob_markup.proofs.Values.{value_stands, value_expands}
 

@@ -8,11 +8,11 @@ use Rattle.ob_scan.specs.Constructs.{Construct, found, scan}
 use Rattle.ob_scan.specs.Constructs as scanned
 use Rattle.ob_object.specs.declared.head.Head.{Head}
 use Rattle.ob_object.specs.Object.{Objects, Object}
-use Rattle.ob_grammar.specs.Attributes.{Describe, NamespaceIs}
-use Rattle.ob_grammar.specs.Grammar.{attributes_of, name_of, IsMark, AreSkipped}
-use Rattle.ob_grammar.specs.Grammar as grammar
-use Rattle.ob_grammar.specs.Spelling.{place_behind, Cuts, Spells}
-use Rattle.ob_grammar.specs.Spelling as spelling
+use Rattle.ob_documents.specs.Attributes.{Describe, NamespaceIs}
+use Rattle.ob_documents.specs.Grammar.{attributes_of, name_of, IsMark, AreSkipped}
+use Rattle.ob_documents.specs.Grammar as grammar
+use Rattle.ob_documents.specs.Spelling.{place_behind, Cuts, Spells}
+use Rattle.ob_documents.specs.Spelling as spelling
 use Rattle.ob_markup.specs.Characters.{IsBlank}
 use Rattle.ob_markup.specs.Markup.{Declaration, print_declaration, IsDeclaration, IsTagName, EndTag, print_end_tag, IsEndTag}
 use Rattle.ob_markup.specs.Pieces.{Piece, print_piece, IsPiece, RefersWell, StandsAt, HasForm}

@@ -14,7 +14,7 @@ use Rattle.ob_scan.specs.Expansion.{stop_or, character_from, behind_line_feed, i
 use Rattle.ob_scan.specs.Expansion as expansion
 use Rattle.ob_scan.proofs.Expanding.{Holds, IsCharacter, one_character}
 use Rattle.ob_scan.proofs.XmlTexts.{xml_char}
-use Rattle.ob_grammar.proofs.Characters.{Walk, walk_item, Sort, tab as is_tab, line_feed as is_line_feed, return, quote, ampersand as is_ampersand, less_than as is_less_than, plain, wide, sort_of}
+use Rattle.ob_documents.proofs.Characters.{Walk, walk_item, Sort, tab as is_tab, line_feed as is_line_feed, return, quote, ampersand as is_ampersand, less_than as is_less_than, plain, wide, sort_of}
 use Rattle.ob_markup.specs.References.{Reference, print_reference, Item, character, tab, line_feed, carriage_return, line_end, reference, print_item, item_text, is_replaced, IsItem, MayPrecede, AreItems, print_items, StandsFor}
 use Rattle.ob_markup.specs.Scanning.{ValuesStand}
 use Rattle.ob_markup.proofs.References.{reference_ok, print_is, reference_again}

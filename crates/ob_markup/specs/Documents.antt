@@ -9,7 +9,7 @@ use Rattle.ob_object.specs.Fits.{fits_head}
 use Rattle.ob_encoding.specs.Kinds.{same}
 use Rattle.ob_encoding.specs.Fields.{known}
 use Rattle.ob_encoding.specs.Names.{kind_name}
-use Rattle.ob_grammar.specs.Attributes.{AreDistinct, Says}
+use Rattle.ob_documents.specs.Attributes.{AreDistinct, Says}
 use Rattle.ob_markup.specs.Characters.{IsBlank, IsSpace}
 use Rattle.ob_markup.specs.References.{HasReferences, StandsFor}
 use Rattle.ob_markup.specs.Markup.{print_comment, IsComment, Instruction, print_instruction, IsInstruction, Declaration, print_declaration, IsDeclaration, IsTagName, Attribute, print_attribute, IsAttribute, EndTag, print_end_tag, IsEndTag}

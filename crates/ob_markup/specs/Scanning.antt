@@ -9,7 +9,7 @@ use Rattle.ob_scan.specs.Constructs.{Construct, Scanned, found, more, refused, s
 use Rattle.ob_scan.specs.Constructs as scanned
 use Rattle.ob_scan.specs.Expansion.{Expands}
 use Rattle.ob_object.specs.Object.{Object}
-use Rattle.ob_grammar.specs.Spelling.{Spells}
+use Rattle.ob_documents.specs.Spelling.{Spells}
 use Rattle.ob_xml.specs.declared.refused.Why.{Why as Cause}
 use Rattle.ob_xml.specs.Judged.{document, fault, Judged}
 use Rattle.ob_markup.specs.Characters.{IsBlank, is_white, print_equals}

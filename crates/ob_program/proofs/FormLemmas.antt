@@ -1,7 +1,7 @@
 -- The document that a file of a form of its own spells.
 use Rattle.std.proofs.Common.{◌≡◌, ℕ, true, List, Option, Result, Ok, Err, refl, ap}
 use Rattle.std.specs.Prelude.{IfSome}
-use Rattle.ob_grammar.specs.Spelling.{Spells}
+use Rattle.ob_documents.specs.Spelling.{Spells}
 use Rattle.ob_object.specs.Object.{Object}
 use Rattle.ob_xml.specs.Judged.{Judged, document}
 use Rattle.ob_xml.specs.declared.doc.Doc.{Doc}

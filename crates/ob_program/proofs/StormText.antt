@@ -14,9 +14,9 @@ use Rattle.ob_object.specs.declared.head.Head.{Head}
 use Rattle.ob_object.specs.Object.{Objects, empty_head, listed, in_row}
 use Rattle.ob_object.specs.WellFormed.{NamesDiffer, RowIsWellFormed}
 use Rattle.ob_encoding.specs.Canonical.{canonical_text}
-use Rattle.ob_grammar.specs.Carried.{IsTextIfThere, AreTextsIfThere, IsWritten, IsSlotWritten, IsHeadCarried, IsRowCarried, IsCarried}
-use Rattle.ob_grammar.specs.Spelling.{Spells}
-use Rattle.ob_grammar.proofs.Spelled.{text_spells}
+use Rattle.ob_documents.specs.Carried.{IsTextIfThere, AreTextsIfThere, IsWritten, IsSlotWritten, IsHeadCarried, IsRowCarried, IsCarried}
+use Rattle.ob_documents.specs.Spelling.{Spells}
+use Rattle.ob_documents.proofs.SpelledTexts.{text_spells}
 use Rattle.ob_site_rules.specs.Build.{valued, number_slot, ref_to}
 use Rattle.ob_storm.specs.Site.{site_of, site_text}
 use Rattle.ob_program.proofs.StormRoot.{point_href, point, points, history, alarms, root}

@@ -1,7 +1,7 @@
 -- What the supervision of the servers of a config comes to, and what that says of the exit.
 use Rattle.std.proofs.Common.{◌≡◌, ◌≢◌, ◌⊎◌, ◌≤◌, ◌<◌, ◌^◌, ◌∙◌, ℕ, true, List, [], length, Option, Some, None, Result, Ok, Err, refl, sym, ap, subst, arith, inl, inr}
 use Rattle.std.specs.Prelude.{codes, IfSome, Contains}
-use Rattle.ob_grammar.specs.Spelling.{Spells}
+use Rattle.ob_documents.specs.Spelling.{Spells}
 use Rattle.ob_io.specs.Faults.{Rose}
 use Rattle.ob_object.specs.Object.{Object}
 use Rattle.ob_server.specs.Complete.{ServesWhole, IsWellFramed}

@@ -2,7 +2,7 @@
 use Rattle.std.specs.Prelude.{◌≡◌, ◌⊎◌, ⊤, ℕ, true, List, [], ◌∷◌, ◌++◌, IfSome}
 use Rattle.std.specs.declared.option.Option.{Option}
 use Rattle.ob_encoding.specs.Canonical.{canonical_text}
-use Rattle.ob_grammar.specs.Spelling.{Spells}
+use Rattle.ob_documents.specs.Spelling.{Spells}
 use Rattle.ob_io.specs.Faults.{Rose}
 use Rattle.ob_io.specs.Told.{Gains, IsFront}
 use Rattle.ob_xml.specs.declared.doc.Doc.{Doc}

@@ -3,8 +3,8 @@ use Rattle.std.proofs.Common.{◌≡◌, ℕ, ◌≤◌, ◌<◌, ◌^◌, List,
 use Rattle.std.specs.Prelude.{IfOk, IfSome, IfNone}
 use Rattle.std.specs.declared.alloc.AllocError.{AllocError}
 use Rattle.ob_encoding.specs.Canonical.{canonical_text}
-use Rattle.ob_grammar.specs.Carried.{IsCarried}
-use Rattle.ob_grammar.specs.Spelling.{Spells}
+use Rattle.ob_documents.specs.Carried.{IsCarried}
+use Rattle.ob_documents.specs.Spelling.{Spells}
 use Rattle.ob_object.specs.Object.{Object}
 use Rattle.ob_times.specs.Times.{IsMoment}
 use Rattle.ob_values.specs.XmlText.{IsXmlText}

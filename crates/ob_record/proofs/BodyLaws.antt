@@ -1,7 +1,7 @@
 -- The bodies of requests that go to the site.
 use Rattle.std.proofs.Common.{◌≡◌, ℕ, ◌≤◌, Bool, true, false, ◌&&◌, List, length, Option, Some, None, sym, subst, inl, inr, arith, MatchBool}
 use Rattle.ob_documents.proofs.Carrying.{carried}
-use Rattle.ob_grammar.specs.Carried.{IsCarried}
+use Rattle.ob_documents.specs.Carried.{IsCarried}
 use Rattle.ob_http.specs.declared.answer.StatusLine.TheVariants.{BadMedia}
 use Rattle.ob_http.specs.declared.media.Media.{Media}
 use Rattle.ob_http.specs.Request.{Request as Framed, body_limit}

@@ -4,7 +4,7 @@ use Rattle.std.specs.List.{flat_map, AllByRecursion}
 use Rattle.std.proofs.lemmas.List.Concat.{flat_map-cons}
 use Rattle.std.proofs.lemmas.Option.{some_pair_parts, same_Some}
 use Rattle.ob_encoding.specs.Canonical.{canonical_text}
-use Rattle.ob_grammar.specs.Spelling.{Spells}
+use Rattle.ob_documents.specs.Spelling.{Spells}
 use Rattle.ob_object.specs.Object.{Object}
 use Rattle.ob_spelling.specs.DigitRun.{digits_front, after_digits}
 use Rattle.ob_times.specs.Times.{IsMoment}

@@ -3,7 +3,7 @@
 use Rattle.std.specs.Prelude.{◌≡◌, ℕ, ◌<◌, ◌≤◌, ◌^◌, List, [], ◌++◌, length, codes, Option, Some, None, IfSome}
 use Rattle.std.specs.List.{flat_map, AllByRecursion}
 use Rattle.ob_encoding.specs.Canonical.{canonical_text}
-use Rattle.ob_grammar.specs.Carried.{IsCarried}
+use Rattle.ob_documents.specs.Carried.{IsCarried}
 use Rattle.ob_object.specs.Object.{Object}
 use Rattle.ob_times.specs.Times.{IsMoment}
 use Rattle.ob_values.specs.XmlText.{IsXmlText}

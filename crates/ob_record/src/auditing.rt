@@ -5,8 +5,8 @@ ghost use Rattle.ob_record.specs.Runs.{Recorded, Records};
 
 use crate::decode::next_entry;
 use crate::run::{Entry, Run, Told};
+use ob_documents::{one_document, text_spells};
 use ob_encoding::encode;
-use ob_grammar::{one_document, text_spells};
 use ob_machine::Machine;
 use ob_object::Obj;
 use ob_site_rules::Request;

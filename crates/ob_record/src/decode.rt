@@ -10,9 +10,8 @@ ghost use Rattle.ob_record.specs.Runs.{body_text, reply_bytes, parts_of, entry_t
 
 use crate::parts::{Slices, take_parts};
 use crate::run::{Entry, Told};
-use ob_documents::{carried, read};
+use ob_documents::{carried, one_document, read, text_spells};
 use ob_encoding::encode;
-use ob_grammar::{one_document, text_spells};
 use ob_object::Obj;
 use ob_site_rules::Request;
 use ob_times::Moment;

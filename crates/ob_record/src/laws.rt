@@ -2,7 +2,7 @@
 ghost use Rattle.ob_record.specs.Rows.{WorkedRows};
 ghost use Rattle.ob_record.specs.Broken.{OneRun, OneFault, SpelledIsUnbroken};
 
-use ob_grammar::{one_document, text_spells};
+use ob_documents::{one_document, text_spells};
 
 /// No bytes are the record of two runs.
 pub fn one_run()

@@ -4,7 +4,7 @@ ghost use Rattle.std.specs.List.{flat_map};
 ghost use Rattle.ob_record.specs.Runs.{Recorded, Records, IsRecord, entry_text};
 
 use crate::decode::next_entry;
-use ob_grammar::{one_document, text_spells};
+use ob_documents::{one_document, text_spells};
 use ob_site_rules::Request;
 use ob_times::Moment;
 use ob_values::Bytes;

@@ -6,7 +6,7 @@ ghost use Rattle.ob_record.specs.Sifted.{IsSifted};
 use crate::decode::next_entry;
 use crate::run::Run;
 use crate::write::write_boot;
-use ob_grammar::{one_document, text_spells};
+use ob_documents::{one_document, text_spells};
 use ob_site_rules::Request;
 use std::alloc::{AllocError, Global};
 

@@ -4,7 +4,7 @@ use Rattle.std.proofs.lemmas.List.{take_at}
 use Rattle.std.specs.Prelude.{get_or}
 use Rattle.ob_object.specs.Object.{Object, Objects, none, node, in_row, listed, in_row-listed}
 use Rattle.ob_encoding.specs.Canonical.{canonical_text}
-use Rattle.ob_grammar.specs.Carried.{IsCarried, IsRowCarried, IsTextIfThere}
+use Rattle.ob_documents.specs.Carried.{IsCarried, IsRowCarried, IsTextIfThere}
 use Rattle.ob_documents.specs.Held.{IsHeld, IsShallow}
 use Rattle.ob_site_rules.specs.declared.request.Request.{Request}
 use Rattle.ob_times.specs.Times.{IsMoment}

@@ -10,7 +10,7 @@ use Rattle.ob_values.specs.XmlText.{IsXmlChar, IsXmlText}
 use Rattle.ob_values.specs.declared.fault.TextFault.TheVariants as texts
 use Rattle.ob_values.specs.declared.verb.Verb.{Verb}
 use Rattle.ob_object.specs.Object.{Object}
-use Rattle.ob_grammar.specs.Spelling.{Spells}
+use Rattle.ob_documents.specs.Spelling.{Spells}
 use Rattle.ob_http.specs.declared.media.Media.{Media}
 use Rattle.ob_xml.specs.declared.doc.Doc.{Doc}
 use Rattle.ob_xml.specs.declared.refused.Refused.{Refused}

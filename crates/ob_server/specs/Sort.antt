@@ -10,7 +10,7 @@ use Rattle.ob_values.specs.declared.fault.TextFault.{TextFault}
 use Rattle.ob_values.specs.declared.fault.TextFault.TheVariants as texts
 use Rattle.ob_values.specs.declared.verb.Verb.{Verb}
 use Rattle.ob_values.specs.declared.verb.Verb.TheVariants.{Get, Put, Post}
-use Rattle.ob_grammar.specs.Spelling.{Spells}
+use Rattle.ob_documents.specs.Spelling.{Spells}
 use Rattle.ob_xml.specs.declared.refused.Refused.{Refused}
 use Rattle.ob_xml.specs.declared.refused.Why.TheVariants as causes
 use Rattle.ob_xml.specs.Judged.{Judged, fault}

@@ -7,9 +7,9 @@ use Rattle.ob_scan.specs.declared.piece.Place.{Place}
 use Rattle.ob_scan.specs.Constructs.{Construct, tag_end, empty_end, closing}
 use Rattle.ob_encoding.specs.Names.{kind_name}
 use Rattle.ob_encoding.specs.Canonical.{attributes, attributes_text, start_text, end_text, row_text, canonical_text}
-use Rattle.ob_grammar.specs.Attributes.{Describe}
-use Rattle.ob_grammar.specs.Grammar.{Element, empty, full, Content, nothing, pause, child, attributes_of, name_of}
-use Rattle.ob_grammar.specs.Spelling.{Cuts, none as no_cut, some as one_cut, place_behind, Spells}
+use Rattle.ob_documents.specs.Attributes.{Describe}
+use Rattle.ob_documents.specs.Grammar.{Element, empty, full, Content, nothing, pause, child, attributes_of, name_of}
+use Rattle.ob_documents.specs.Spelling.{Cuts, none as no_cut, some as one_cut, place_behind, Spells}
 use Rattle.ob_size_laws.specs.Sizes.{sizes}
 use Rattle.ob_size_laws.proofs.Taken.{construct_fits}
 use Rattle.ob_size_laws.proofs.Heads.{weight, weighs, empty_weight, tag_size, PartsAreShort, tell_grows}

@@ -18,7 +18,7 @@ use Rattle.ob_scan.specs.Expansion.{Expands}
 use Rattle.ob_encoding.specs.Names.{status_word}
 use Rattle.ob_encoding.specs.Escaped.{escaped}
 use Rattle.ob_encoding.specs.Canonical.{joined, attribute_text, attributes_text, attributes}
-use Rattle.ob_grammar.specs.Attributes.{Says, Tell}
+use Rattle.ob_documents.specs.Attributes.{Says, Tell}
 
 -- ---- what is written for a head
 

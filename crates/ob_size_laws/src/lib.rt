@@ -1,6 +1,6 @@
 //! How long the canonical text of an object is beside bytes that spell it.
 //!
-//! The function states a law by its contract and does nothing. What bytes spell which object is said by `ob_grammar`
+//! The function states a law by its contract and does nothing. What bytes spell which object is said by `ob_documents`
 //! (`specs/Spelling.antt`), and the canonical text by `ob_encoding` (`specs/Canonical.antt`).
 #![tactic(auto)]
 

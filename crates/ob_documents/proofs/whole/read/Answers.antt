@@ -1,7 +1,7 @@
 use Rattle.std.proofs.Common.{◌≢◌, ℕ, List, [], true, Option, Result, sym, subst}
 use Rattle.std.specs.Prelude.{IfErr}
 use Rattle.ob_object.specs.Object.{Object}
-use Rattle.ob_grammar.specs.Spelling.{Spells}
+use Rattle.ob_documents.specs.Spelling.{Spells}
 use Rattle.ob_xml.specs.declared.doc.Doc.{Doc}
 use Rattle.ob_xml.specs.declared.refused.Refused.{Refused}
 use Rattle.ob_xml.specs.declared.refused.Why.TheVariants.{Memory}

@@ -1,6 +1,6 @@
 use Rattle.std.proofs.Common.{◌≡◌, ℕ, List, Option, sym, ap, subst}
 use Rattle.std.specs.Prelude.{IfSome}
-use Rattle.ob_grammar.specs.Spelling.{Spells}
+use Rattle.ob_documents.specs.Spelling.{Spells}
 use Rattle.ob_object.specs.Object.{Object}
 use Rattle.ob_program.proofs.FormLemmas.{spells_file}
 use Rattle.ob_program.proofs.ScheduleLemmas.{scheduled_if_ok, none_if_err}

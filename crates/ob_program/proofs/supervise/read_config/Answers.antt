@@ -1,6 +1,6 @@
 use Rattle.std.proofs.Common.{List, ℕ, Option, sym, subst}
 use Rattle.std.specs.Prelude.{IfSome}
-use Rattle.ob_grammar.specs.Spelling.{Spells}
+use Rattle.ob_documents.specs.Spelling.{Spells}
 use Rattle.ob_object.specs.Object.{Object}
 use Rattle.ob_program.specs.Super.{FollowsNone}
 use Rattle.ob_program.specs.declared.form.FormEnd.{FormEnd}

@@ -24,16 +24,16 @@ use Rattle.ob_encoding.specs.Kinds.{same}
 use Rattle.ob_encoding.specs.Names.{status_word}
 use Rattle.ob_encoding.specs.Escaped.{escaped}
 use Rattle.ob_encoding.specs.Canonical.{joined, null_text, val_text, attributes, canonical_text}
-use Rattle.ob_grammar.specs.Attributes.{has_name, AreDistinct, NamespaceBy, NamespaceIs}
-use Rattle.ob_grammar.specs.Spelling.{Spells}
-use Rattle.ob_grammar.specs.Carried.{IsTextIfThere, AreTextsIfThere, IsWrittenIfThere, IsSlotWritten, IsHeadCarried, IsRowCarried, IsCarried}
-use Rattle.ob_grammar.proofs.Characters.{encode_1}
-use Rattle.ob_grammar.proofs.Texts.{text_back}
-use Rattle.ob_grammar.proofs.Pieces.{left, right}
-use Rattle.ob_grammar.proofs.Cutting.{present, AreWritable, IsReadable, IsRowReadable, document_cut}
-use Rattle.ob_grammar.proofs.Ascii.{printed_xml}
-use Rattle.ob_grammar.proofs.Words.{joined_xml}
-use Rattle.ob_grammar.proofs.Told.{stages_tell, told}
+use Rattle.ob_documents.specs.Attributes.{has_name, AreDistinct, NamespaceBy, NamespaceIs}
+use Rattle.ob_documents.specs.Spelling.{Spells}
+use Rattle.ob_documents.specs.Carried.{IsTextIfThere, AreTextsIfThere, IsWrittenIfThere, IsSlotWritten, IsHeadCarried, IsRowCarried, IsCarried}
+use Rattle.ob_documents.proofs.Characters.{encode_1}
+use Rattle.ob_documents.proofs.Texts.{text_back}
+use Rattle.ob_documents.proofs.Pieces.{left, right}
+use Rattle.ob_documents.proofs.Cutting.{present, AreWritable, IsReadable, IsRowReadable, document_cut}
+use Rattle.ob_documents.proofs.Ascii.{printed_xml}
+use Rattle.ob_documents.proofs.Words.{joined_xml}
+use Rattle.ob_documents.proofs.Told.{stages_tell, told}
 
 -- ---- each attribute has a name and a text that can be written
 

@@ -28,13 +28,13 @@ use Rattle.ob_encoding.specs.Fields.{field_of, known, has_value, has_limit}
 use Rattle.ob_encoding.specs.Parts.{read_as, ReadsPart, put_part}
 use Rattle.ob_encoding.specs.Names.{status_word}
 use Rattle.ob_encoding.specs.Canonical.{joined, null_text, val_text, attributes}
-use Rattle.ob_grammar.specs.Attributes.{Says, Tell}
-use Rattle.ob_grammar.specs.Carried.{AreTextsIfThere, IsWrittenIfThere, IsSlotWritten, IsHeadCarried}
-use Rattle.ob_grammar.proofs.Texts.{text_back}
-use Rattle.ob_grammar.proofs.Pieces.{left, right}
-use Rattle.ob_grammar.proofs.Cutting.{present, AreWritable}
-use Rattle.ob_grammar.proofs.Words.{words_back}
-use Rattle.ob_grammar.proofs.Readers.{value_read, has_value_of, limit_read, has_limit_of, status_back}
+use Rattle.ob_documents.specs.Attributes.{Says, Tell}
+use Rattle.ob_documents.specs.Carried.{AreTextsIfThere, IsWrittenIfThere, IsSlotWritten, IsHeadCarried}
+use Rattle.ob_documents.proofs.Texts.{text_back}
+use Rattle.ob_documents.proofs.Pieces.{left, right}
+use Rattle.ob_documents.proofs.Cutting.{present, AreWritable}
+use Rattle.ob_documents.proofs.Words.{words_back}
+use Rattle.ob_documents.proofs.Readers.{value_read, has_value_of, limit_read, has_limit_of, status_back}
 
 -- what each attribute that is there makes of what was said before it, one after another
 abbrev pub Stages : Kind → List (List ℕ × Option (List ℕ)) → Head → Head → Type 0

@@ -9,11 +9,11 @@ use Rattle.ob_object.specs.Object.{Objects, none, node, Object, listed}
 use Rattle.ob_object.specs.WellFormed.{NamesDiffer}
 use Rattle.ob_encoding.specs.Escaped.{escaped}
 use Rattle.ob_encoding.specs.Canonical.{attribute_text, attributes, attributes_text, start_text, end_text, row_text, canonical_text}
-use Rattle.ob_grammar.specs.Attributes.{Describe}
-use Rattle.ob_grammar.specs.Grammar.{attributes_of, name_of, Element, empty, full, Content, nothing, child}
-use Rattle.ob_grammar.specs.Spelling.{Cuts, none as no_more, some}
-use Rattle.ob_grammar.specs.Carried.{IsTextIfThere}
-use Rattle.ob_grammar.proofs.Pieces.{is_written_name, attribute_is_found, Follows, opening_is_found, first_opening_is_found, closing_is_found, kind_is_written}
+use Rattle.ob_documents.specs.Attributes.{Describe}
+use Rattle.ob_documents.specs.Grammar.{attributes_of, name_of, Element, empty, full, Content, nothing, child}
+use Rattle.ob_documents.specs.Spelling.{Cuts, none as no_more, some}
+use Rattle.ob_documents.specs.Carried.{IsTextIfThere}
+use Rattle.ob_documents.proofs.Pieces.{is_written_name, attribute_is_found, Follows, opening_is_found, first_opening_is_found, closing_is_found, kind_is_written}
 
 -- the attributes that are there, ats they are written
 abbrev pub present : List (List ℕ × Option (List ℕ)) → List (List ℕ × List ℕ)

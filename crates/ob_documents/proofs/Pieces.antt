@@ -17,8 +17,8 @@ use Rattle.ob_object.specs.declared.kind.Kind.{Kind}
 use Rattle.ob_object.specs.declared.kind.Kind.TheVariants as kind
 use Rattle.ob_encoding.specs.Names.{kind_name}
 use Rattle.ob_encoding.specs.Escaped.{escaped}
-use Rattle.ob_grammar.proofs.Characters.{RunsTo}
-use Rattle.ob_grammar.proofs.Texts.{is_ascii, run_ascii, text_back}
+use Rattle.ob_documents.proofs.Characters.{RunsTo}
+use Rattle.ob_documents.proofs.Texts.{is_ascii, run_ascii, text_back}
 
 -- a run stops at the first byte that ends it
 pub run_again : (ends : Ends) (progress : Progress) (bytes : List ℕ) (b : ℕ) (rest : List ℕ) → RunsTo ends progress bytes → ends_at ends b ≡ true → run_from ends progress (bytes ++ (b ∷ rest)) ≡ Ok (bytes, b ∷ rest)

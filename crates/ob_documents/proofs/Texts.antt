@@ -14,7 +14,7 @@ use Rattle.ob_scan.specs.Reading.{ends_at}
 use Rattle.ob_scan.specs.Constructs.{then_read, reference_at, bad_reference}
 use Rattle.ob_scan.specs.Expansion.{character_from, behind_line_feed, item_at, Expands, nothing, item}
 use Rattle.ob_encoding.specs.Escaped.{escape, escaped}
-use Rattle.ob_grammar.proofs.Characters.{RunsTo, Walk, walk_item, walk_runs, AreHigh, CharWalk, IsPlain, Sort, tab, line_feed, return, quote, ampersand, less_than, plain, wide, sort_of}
+use Rattle.ob_documents.proofs.Characters.{RunsTo, Walk, walk_item, walk_runs, AreHigh, CharWalk, IsPlain, Sort, tab, line_feed, return, quote, ampersand, less_than, plain, wide, sort_of}
 
 -- ---- bytes of ASCII
 

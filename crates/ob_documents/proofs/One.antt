@@ -16,9 +16,9 @@ use Rattle.ob_encoding.specs.Kinds.{same, kind_of}
 use Rattle.ob_encoding.specs.Fields.{known}
 use Rattle.ob_encoding.specs.Parts.{ReadsPart, put_part}
 use Rattle.ob_encoding.specs.Names.{kind_name}
-use Rattle.ob_grammar.specs.Attributes.{Says, Tells, Tell, Describe, NamespaceBy, NamespaceIs}
-use Rattle.ob_grammar.specs.Grammar.{attributes_of, name_of, Element, empty, full, Content, nothing, pause, child, IsMark, AreSkipped}
-use Rattle.ob_grammar.specs.Spelling.{place_behind, Cuts, none as no_more, some, Spells}
+use Rattle.ob_documents.specs.Attributes.{Says, Tells, Tell, Describe, NamespaceBy, NamespaceIs}
+use Rattle.ob_documents.specs.Grammar.{attributes_of, name_of, Element, empty, full, Content, nothing, pause, child, IsMark, AreSkipped}
+use Rattle.ob_documents.specs.Spelling.{place_behind, Cuts, none as no_more, some, Spells}
 
 abbrev pub OneText : Type 0
 OneText = (raw text other : List ℕ) → Expands raw text → Expands raw other → text ≡ other

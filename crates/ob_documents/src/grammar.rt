@@ -2,8 +2,8 @@
 ghost use Rattle.std.specs.Prelude.{◌≡◌, ℕ, ◌≤◌, List, length, Option};
 ghost use Rattle.ob_object.specs.Object.{Object};
 ghost use Rattle.ob_encoding.specs.Canonical.{canonical_text};
-ghost use Rattle.ob_grammar.specs.Carried.{IsCarried};
-ghost use Rattle.ob_grammar.specs.Spelling.{Spells};
+ghost use Rattle.ob_documents.specs.Carried.{IsCarried};
+ghost use Rattle.ob_documents.specs.Spelling.{Spells};
 
 /// The canonical text of an object spells the object, where it has at most 16,777,216 bytes and the object at most 32
 /// levels, and each text and value in it is one that XML can carry.

@@ -5,7 +5,7 @@ use Rattle.ob_object.specs.declared.head.Head.{Head}
 use Rattle.ob_object.specs.Object.{Objects, none, node, Object, listed}
 use Rattle.ob_object.specs.WellFormed.{NamesDiffer}
 use Rattle.ob_encoding.specs.Names.{kind_name}
-use Rattle.ob_grammar.specs.Attributes.{Describe, NamespaceIs}
+use Rattle.ob_documents.specs.Attributes.{Describe, NamespaceIs}
 
 abbrev pub attributes_of : List (List ℕ × List ℕ) → List Construct
 attributes_of = map (λ a. attribute a.0 a.1)

@@ -4,7 +4,7 @@ use Rattle.ob_scan.specs.declared.piece.Place.{Place}
 use Rattle.ob_scan.specs.declared.piece.Place.TheVariants.{Start, Marked, Between, InTag}
 use Rattle.ob_scan.specs.Constructs.{Construct, opening, attribute, tag_end, empty_end, closing, skipped, ending, mark, found, scan}
 use Rattle.ob_object.specs.Object.{Object}
-use Rattle.ob_grammar.specs.Grammar.{IsDocument}
+use Rattle.ob_documents.specs.Grammar.{IsDocument}
 
 -- where the construct behind this one stands
 abbrev pub place_behind : Construct → Place

@@ -19,7 +19,7 @@ use Rattle.ob_values.specs.Integer.{IsInteger}
 use Rattle.ob_values.specs.Real.{RealParts, IsMantissa, IsExponent, IsReal}
 use Rattle.ob_values.specs.Spelled.{printed, SpellsValue}
 use Rattle.ob_values.specs.XmlText.{IsXmlChar, IsXmlText}
-use Rattle.ob_grammar.proofs.Characters.{encode_1}
+use Rattle.ob_documents.proofs.Characters.{encode_1}
 
 -- from space to ~, or white space
 abbrev pub is_ascii : ℕ → Bool

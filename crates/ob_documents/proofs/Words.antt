@@ -13,8 +13,8 @@ use Rattle.ob_values.specs.XmlText.{IsXmlChar, IsXmlText}
 use Rattle.ob_object.specs.Words.{is_white, is_word}
 use Rattle.ob_encoding.specs.WordLists.{is_blank, ended, words_from, words_of}
 use Rattle.ob_encoding.specs.Canonical.{joined}
-use Rattle.ob_grammar.proofs.Characters.{encode_1}
-use Rattle.ob_grammar.proofs.Pieces.{left, right}
+use Rattle.ob_documents.proofs.Characters.{encode_1}
+use Rattle.ob_documents.proofs.Pieces.{left, right}
 
 xml_scalar : (c : ℕ) → IsXmlChar c → scalar c ≡ true
 xml_scalar c (inl h) = grind (arith, nat_tests)

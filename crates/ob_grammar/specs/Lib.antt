@@ -1,4 +1,0 @@
-pub mod Attributes
-pub mod Grammar
-pub mod Spelling
-pub mod Carried
