@@ -13,7 +13,7 @@ import shutil
 import sys
 
 top, copy = map(pathlib.Path, sys.argv[1:])
-needs = {"ob_bench": "ob_alarms ob_contracts ob_encode ob_history ob_http ob_object ob_turn ob_values ob_times ob_xml".split()}
+needs = {"ob_bench": "ob_alarms ob_contracts ob_encoding ob_history ob_http ob_object ob_turn ob_values ob_times ob_xml".split()}
 for line in (top / "crates.txt").read_text().splitlines():
     name, colon, libraries = line.partition("#")[0].partition(":")
     if colon:

@@ -10,4 +10,4 @@ ours=$("$work/ob_bench" encode)
 peer=$("$work/peer")
 awk -v o="$ours" -v p="$peer" 'BEGIN {
   split(o, a, " "); split(p, b, " ")
-  printf "ob_encode %d bytes %.0f MB/s\nRust std  %d bytes %.0f MB/s\nratio of times %.2f\n", a[1], a[1] * 1000 / a[2], b[1], b[1] * 1000 / b[2], a[2] / b[2] }'
+  printf "ob_encoding %d bytes %.0f MB/s\nRust std  %d bytes %.0f MB/s\nratio of times %.2f\n", a[1], a[1] * 1000 / a[2], b[1], b[1] * 1000 / b[2], a[2] / b[2] }'
