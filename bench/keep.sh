@@ -3,7 +3,7 @@
 # moment under eight clients, each with a model of what it was answered, and every fourth time once more while it starts; links
 # for which memory is wanting; a full disk, and a file that may not grow; each call of the record's file failing, and a kill at
 # each (by strace); a RECORD that can't be opened, that another server has, that is no record, or that another site file had;
-# copies of RECORD made while it is written; RECORD torn at each byte; that an answer comes behind its syncs (by strace). Then it
+# copies of RECORD made while it is written; a shorter record by `obix compact`, also of the one of the kills; RECORD torn at each byte; that an answer comes behind its syncs (by strace). Then it
 # measures a write, makes and deletes of watches, and a restart. A kill takes nothing from the system's cache: what a disk keeps
 # when the power fails isn't tried. Ends with 1 where a try isn't as it must be.
 # usage: bench/keep.sh [--kills N] [--batches N] [--copies N] [--entries N] [--watches N] [--room FOLDER] [--only TEXT]

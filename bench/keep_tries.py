@@ -177,10 +177,55 @@ def killed(program, given):
                 booted = at
                 if kill < given.kills:
                     loaded(server, clients, draw.uniform(0.02, 0.5))
-        size = os.path.getsize(f"{room}/record")
+        size, told = os.path.getsize(f"{room}/record"), compacted(program, room)
+        with Keep(program, room, record="short", port=port) as server:
+            must(look(server, clients, numbers), booted, "serverBootTime of the shorter record")
     writes, done, undone = (sum(getattr(it, name) for it in clients) for name in ("writes", "done", "undone"))
     return (f"{given.kills} kills and {starts} while it started; {writes:,} writes acknowledged, none lost; of {done + undone} that "
-            f"weren't answered {done} were done; {len(numbers.given):,} watches, no number twice; a record of {size:,} bytes")
+            f"weren't answered {done} were done; {len(numbers.given):,} watches, no number twice; a record of {size:,} bytes; {told}, and all of it is there")
+
+
+# ---- a shorter record
+
+
+def compact(program, room, record="record", new="short"):
+    """Its status, and what it printed or said."""
+    words = [program, "compact", f"{room}/site.xml", f"{room}/{record}", f"{room}/{new}"]
+    run = subprocess.run(words, capture_output=True, text=True, timeout=TIME)
+    return run.returncode, run.stdout or run.stderr.strip()
+
+
+def compacted(program, room):
+    """The line of one that goes well; the old record stays."""
+    data = bytes_of(f"{room}/record")
+    status, line = compact(program, room)
+    assert status == 0 and re.fullmatch(r"compacted \d+ of \d+\n", line), f"ended with {status}, {line!r}"
+    must(bytes_of(f"{room}/record"), data, "the old record behind it")
+    return line.strip()
+
+
+def shorter(program, given):
+    """Of many writes to plain points the last ones stay, and nothing is written over; a record that is in use has none."""
+    points, writes = 50, min(given.entries, 20_000)
+    with room_of(points_site(points), given.room) as room:
+        with Keep(program, room) as server:
+            piped(server, [framed("PUT", f"/obix/p{k % points}", f'<int val="{k + 1}"/>') for k in range(writes)])
+            must(compact(program, room), FAULT, "the end while a server has it")
+            values = [server.value(f"p{point}") for point in range(points)]
+        must(sorted(os.listdir(room)), ["record", "site.xml"], "what is in the folder")
+        began = time.time()
+        must(compact(program, room), (0, f"compacted {points} of {writes}\n"), "what is printed")
+        took, data = time.time() - began, bytes_of(f"{room}/short")
+        with Keep(program, room, record="short") as server:
+            must([server.value(f"p{point}") for point in range(points)], values, "the values of the shorter record")
+        must(bytes_of(f"{room}/short"), data, "the shorter record behind a start")
+        must(compact(program, room), (2, "obix: refused: New"), "the end with a new file that is there")
+        must(bytes_of(f"{room}/short"), data, "that file")
+        must(compact(program, room, "none", "other"), (3, "obix: read fault"), "the end without a record")
+        must(sorted(os.listdir(room)), ["record", "short", "site.xml"], "what is in the folder then")
+        write_to(f"{room}/damaged", b"O" + bytes_of(f"{room}/record")[1:])
+        must(compact(program, room, "damaged", "other"), (2, "obix: refused: Record 0"), "the end with a damaged record")
+        return f"{points} of {writes:,} entries, {len(data):,} of {os.path.getsize(f'{room}/record'):,} bytes, in {took:.2f} s"
 
 
 # ---- want of memory
@@ -618,7 +663,7 @@ def main():
     tries = [("killed under eight clients", killed), ("links for which memory is wanting", wanting), ("a full disk", full_disk),
              ("a file that may not grow", small_file),
              ("each call failing, and a kill at each", each_call), ("a record that can't be opened", unopened), ("a second server", second_server),
-             ("what is no record", no_record), ("another site file", another_site), ("copies while it is written", copies),
+             ("what is no record", no_record), ("another site file", another_site), ("copies while it is written", copies), ("a shorter record", shorter),
              ("torn at each byte", torn), ("answers behind their syncs", traced),
              ("figures: a write", a_write), ("figures: watches", watches), ("figures: a restart", restart)]
     for name, run in tries:
