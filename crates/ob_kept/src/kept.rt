@@ -84,6 +84,13 @@ impl<D: Device> Kept<D> {
         self.site.is_sound();
     }
 
+    /// The site, as it is now.
+    pub fn site(&self) -> &Site
+        ensures { result.now ≡ self.now.now }
+    {
+        &self.site
+    }
+
     /// Whether a call of the device has failed. Then each step is refused, and the device is to be opened again.
     pub(crate) fn has_failed(&self) -> bool {
         self.recorder.failed
