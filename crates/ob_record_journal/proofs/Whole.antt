@@ -2,12 +2,12 @@
 use Rattle.std.proofs.Common.{◌≡◌, inl, ℕ, ◌+◌, ◌-◌, ◌≤◌, List, [], ◌∷◌, ◌++◌, length, take, drop, Option, Some, None, refl, sym, ◌∙◌, ap, subst, arith, append-nil, length-append}
 use Rattle.std.proofs.Math.Seq.{take-append_seam}
 use Rattle.std.proofs.lemmas.List.{drop_all}
+use Rattle.std.specs.Prelude.{Result, Ok, Err, IfOk}
 use Rattle.std.specs.List.{AllByRecursion, flat_map}
 use Rattle.ob_journal.specs.Device.{Holds}
-use Rattle.ob_journal.specs.Journal.{front, at_rest, blocks, first_line, Says}
-use Rattle.ob_journal.proofs.Crash.{rest_stands}
+use Rattle.ob_journal.specs.Journal.{front, at_rest, blocks, first_line, Says, closed_gate}
 use Rattle.ob_record.specs.Blocks.{IsBlock}
-use Rattle.ob_record.specs.Runs.{Recorded, Records, IsRun, boot_line, entry_text, head_text, run_text}
+use Rattle.ob_record.specs.Runs.{Recorded, Records, IsEntry, IsRun, boot_line, entry_text, head_text, run_text}
 use Rattle.ob_record.specs.Runs as runs
 use Rattle.ob_record.specs.declared.run.Entry.{Entry}
 use Rattle.ob_record_journal.specs.Runs.{run_blocks, RecordAtRest}
@@ -16,24 +16,25 @@ use Rattle.ob_record_journal.specs.Writing.{IsWhole, SaysRecord}
 
 -- ---- what it says
 
-pub says_none : Says IsBlock (at_rest []) []
-says_none = inl (rest_stands IsBlock [] tt (length (front [])) refl)
+-- a file at rest says its entries
+rest_says : (es : List (List ℕ)) → AllByRecursion IsBlock es → Says IsBlock (at_rest es) es
+rest_says es valid = inl (record { end = 0 ∷ []; valid = valid; split = refl; tail = closed_gate [] refl })
 
 all_blocks : RecordAtRest → (run : Recorded) → IsRun run → AllByRecursion IsBlock (run_blocks run.boot run.entries)
 all_blocks law run is = go run.entries is.entries
   where
-    go : (es : List Entry) → AllByRecursion _ es → AllByRecursion IsBlock (run_blocks run.boot es)
+    go : (es : List Entry) → AllByRecursion IsEntry es → AllByRecursion IsBlock (run_blocks run.boot es)
     go [] valid = tt
     go (e ∷ es) valid = (law run.boot e es (record { boot = is.boot; entries = valid })).blocks
 
 pub says_run : RecordAtRest → (run : Recorded) → IsRun run → SaysRun (at_rest (run_blocks run.boot run.entries)) run.boot run.entries
 says_run law run is = record {
   valid = is;
-  blocks = inl (rest_stands IsBlock (run_blocks run.boot run.entries) (all_blocks law run is) (length (front (run_blocks run.boot run.entries))) refl);
+  blocks = rest_says (run_blocks run.boot run.entries) (all_blocks law run is);
 }
 
 pub whole_says : RecordAtRest → (text : Option (List ℕ)) (file : List ℕ) → IsWhole text file → SaysRecord file text
-whole_says law None file whole = subst (λ (f : List ℕ). Says IsBlock f []) (sym whole) says_none
+whole_says law None file whole = subst (λ (f : List ℕ). Says IsBlock f []) (sym whole) (rest_says [] tt)
 whole_says law (Some text) file whole = λ run records.
     subst (λ (f : List ℕ). SaysRun f run.boot run.entries) (sym (whole run records)) (says_run law run records.valid)
 
@@ -58,7 +59,7 @@ pub whole_some : RecordAtRest → (run : Recorded) (record_text : List ℕ) → 
     → take (length record_text - 1) record_text ++ 0 ∷ [] ≡ at_rest (run_blocks run.boot run.entries)
 whole_some law run record_text records some = go run.entries records.valid.entries some records.text
   where
-    go : (es : List Entry) → AllByRecursion _ es → (length es ≡ 0 → ⊥) → record_text ≡ run_text (record { boot = run.boot; entries = es })
+    go : (es : List Entry) → AllByRecursion IsEntry es → (length es ≡ 0 → ⊥) → record_text ≡ run_text (record { boot = run.boot; entries = es })
         → take (length record_text - 1) record_text ++ 0 ∷ [] ≡ at_rest (run_blocks run.boot es)
     go [] valid some text = absurd (some refl)
     go (e ∷ es) valid some text =
@@ -84,3 +85,9 @@ rest_long es =
 pub written_whole : (old text new : List ℕ) → length old ≤ 14 → 14 ≤ length text → Holds old 0 text new → new ≡ text
 written_whole old text new short long holds =
     holds ∙ ap (λ (l : List ℕ). text ++ l) (drop_all (0 + length text) old (omega (arith, short, long))) ∙ append-nil text
+
+-- ---- what a call gives
+
+pub whole_if : {V E : Type 0} (r : Result V E) (items : V → List ℕ) (run : Option (List ℕ)) (text : List ℕ) → IfOk r (λ v. items v ≡ text) → IsWhole run text → IfOk r (λ v. IsWhole run (items v))
+whole_if (Ok v) items run text is whole = subst (λ (l : List ℕ). IsWhole run l) (sym is) whole
+whole_if (Err e) items run text is whole = tt

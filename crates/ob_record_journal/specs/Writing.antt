@@ -32,6 +32,11 @@ Unwritten file faults.Taken = 14 < length file
 Unwritten file faults.Failed = Unit {0}
 Unwritten file faults.Memory = Unit {0}
 
+-- A file that isn't new is left as it was: a read gives the same, and a crash leaves nothing else.
+pub record LeavesOld {D : Type 0} (seen : D → List ℕ) (may_leave : D → List ℕ → Type 0) (old new : D) : Type 0 where
+  pub seen_is : 14 < length (seen old) → seen new ≡ seen old
+  pub crash : 14 < length (seen old) → (c : List ℕ) → may_leave new c → may_leave old c
+
 -- The count of faults hasn't fallen, and the device refused only where it rose.
 pub record HasWritingCause {T : Type 0} (before after : ℕ) (result : Result T WritingFault) : Type 0 where
   pub later : before ≤ after

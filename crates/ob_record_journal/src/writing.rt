@@ -1,7 +1,7 @@
 //! A record that is written as a whole.
 ghost use Rattle.std.specs.Prelude.{◌≡◌, ◌≤◌, length, option_copied, IfOk, OnOk, IfErr};
 ghost use Rattle.ob_journal.specs.Device.{Only};
-ghost use Rattle.ob_record_journal.specs.Writing.{HasWritingCause, IsWhole, SaysRecord, Unwritten};
+ghost use Rattle.ob_record_journal.specs.Writing.{HasWritingCause, IsWhole, LeavesOld, SaysRecord, Unwritten};
 
 use crate::laws::record_at_rest;
 use ob_journal::{Device, DeviceFault};
@@ -93,6 +93,7 @@ pub fn write_whole<D: Device>(
     ensures says { D.is_told → OnOk result (SaysRecord (D.seen device.new) (option_copied run.entry)) }
     ensures durable { D.is_told → OnOk result (Only (D.seen device.new) (D.may_leave device.new)) }
     ensures unwritten { D.is_told → IfErr result (Unwritten (D.seen device.old)) }
+    ensures old { D.is_told → LeavesOld D.seen D.may_leave device.old device.new }
     ensures cause { HasWritingCause (D.faults device.old) (D.faults device.new) result }
 {
     record_at_rest();
