@@ -3,7 +3,8 @@ ghost use Rattle.std.specs.Prelude.{◌≡◌, ℕ, List, IfOk, IfErr, OnOk, IsT
 ghost use Rattle.ob_journal.specs.Device.{LeavesOnly, Only};
 ghost use Rattle.ob_record.specs.Runs.{Recorded, Records};
 ghost use Rattle.ob_record.specs.Sifted.{IsSifted};
-ghost use Rattle.ob_kept.specs.Compacting.{fault_of_writing, HasCompactCause, IsAlike, IsCompacted, IsUncompacted, IsUntried, is_illegal, LeavesAlike, SaysCompacted};
+ghost use Rattle.ob_record_journal.specs.Writing.{LeavesOld};
+ghost use Rattle.ob_kept.specs.Compacting.{HasCompactCause, IsAlike, IsCompacted, IsUncompacted, IsUntried, is_illegal, LeavesAlike, SaysCompacted};
 ghost use Rattle.ob_kept.specs.Reopening.{HasFileCause, Unready};
 
 use crate::choice::{Covered, LastPuts};
@@ -11,9 +12,9 @@ use crate::fault::{CompactFault, ReopenFault};
 use crate::reopening::{Ready, of_saying, ready_redone};
 use ob_documents::one_document;
 use ob_io::Files;
-use ob_journal::{Device, Extent, one_meaning};
+use ob_journal::{Device, Extent};
 use ob_record::{Run, one_run};
-use ob_record_journal::{Blocks, Said, WritingFault, read_said, write_whole};
+use ob_record_journal::{Said, read_said, write_whole};
 use ob_site::Site;
 use std::alloc::{AllocError, Global};
 
@@ -105,17 +106,6 @@ fn compact_run<F: Files>(
     }
 }
 
-/// The fault that one of writing a record leads to.
-fn of_writing(fault: WritingFault) -> CompactFault
-    ensures { result ≡ fault_of_writing fault }
-{
-    match fault {
-        WritingFault::Taken => CompactFault::Taken,
-        WritingFault::Failed => CompactFault::Reopen(ReopenFault::Device),
-        WritingFault::Memory => CompactFault::Reopen(ReopenFault::Memory),
-    }
-}
-
 /// Writes a record with fewer entries to a new file, one of at most 14 bytes: a site goes on by it as by the record of the device,
 /// which is read and not changed. It is without each Put to a path that a later entry puts to, where that is the path of a
 /// node whose values no history records and no rule looks at. What is left is done again and compared with what the whole record
@@ -134,33 +124,29 @@ pub fn compact<D: Device, F: Files>(
     ensures says { D.is_told → IfOk result (λ c. SaysCompacted (F.content files.old name.now) (D.seen device.old) (D.seen fresh.new) c.before c.after) }
     ensures durable { D.is_told → OnOk result (Only (D.seen fresh.new) (D.may_leave fresh.new)) }
     ensures refused { IfErr result (IsUncompacted D.is_told (F.content files.old name.now) (D.seen device.old) (D.seen fresh.old)) }
+    ensures old { D.is_told → LeavesOld D.seen D.may_leave fresh.old fresh.new }
     ensures seen { D.is_told → D.seen device.new ≡ D.seen device.old }
     ensures any_moment { D.is_told → LeavesOnly D.moment D.left_since device.old device.new (D.may_leave device.old) }
     ensures cause { HasCompactCause (D.faults device.old) (D.faults device.new) (D.faults fresh.old) (D.faults fresh.new)
         (F.faults files.old) (F.faults files.new) result }
 {
-    one_meaning::<Blocks>();
     one_run();
     let Said { extent: _, run } = match read_said(alloc, device) {
         Ok(said) => said,
         Err(fault) => return Err(CompactFault::Reopen(of_saying(fault))),
     };
     let Some(run) = run else {
-        return match write_whole(alloc, fresh, None) {
-            Ok(()) => Ok(Compacted {
-                before: 0,
-                after: 0,
-            }),
-            Err(fault) => Err(of_writing(fault)),
-        };
+        write_whole(alloc, fresh, None)?;
+        return Ok(Compacted {
+            before: 0,
+            after: 0,
+        });
     };
     run.is_record();
     let shorter = compact_run(alloc, files, name, &run)?;
-    match write_whole(alloc, fresh, Some(&shorter)) {
-        Ok(()) => Ok(Compacted {
-            before: run.len(),
-            after: shorter.len(),
-        }),
-        Err(fault) => Err(of_writing(fault)),
-    }
+    write_whole(alloc, fresh, Some(&shorter))?;
+    Ok(Compacted {
+        before: run.len(),
+        after: shorter.len(),
+    })
 }

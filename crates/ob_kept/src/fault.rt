@@ -1,5 +1,6 @@
 //! Why a RECORD gives no site.
 use ob_load::LoadFault;
+use ob_record_journal::WritingFault;
 use std::alloc::{AllocError, AllocFailed};
 
 /// Why a RECORD gives no site.
@@ -56,5 +57,20 @@ impl From<ReopenFault> for CompactFault {
 
     fn from(fault: ReopenFault) -> CompactFault {
         CompactFault::Reopen(fault)
+    }
+}
+
+impl From<WritingFault> for CompactFault {
+    ghost use Rattle.std.specs.Prelude.{◌≡◌};
+    ghost use Rattle.ob_kept.specs.Compacting.{fault_of_writing};
+
+    ghost from_gives = { λ fault e. e ≡ fault_of_writing fault };
+
+    fn from(fault: WritingFault) -> CompactFault {
+        match fault {
+            WritingFault::Taken => CompactFault::Taken,
+            WritingFault::Failed => CompactFault::Reopen(ReopenFault::Device),
+            WritingFault::Memory => CompactFault::Reopen(ReopenFault::Memory),
+        }
     }
 }
