@@ -31,7 +31,7 @@ use Rattle.ob_site_rules.specs.State.{Plan}
 use Rattle.ob_kept.specs.declared.fault.CompactFault.TheVariants as faults
 use Rattle.ob_kept.specs.declared.fault.ReopenFault.{ReopenFault}
 use Rattle.ob_kept.specs.declared.fault.ReopenFault.TheVariants as reopens
-use Rattle.ob_kept.specs.Compacting.{GoesOnBy, Compacts, IsCompacted, LeavesAlike, IsAlike, IsUntried, IsUncompacted, HasCompactCause, fault_of_writing, is_illegal, SaysCompacted, none, some}
+use Rattle.ob_kept.specs.Compacting.{GoesOnBy, Compacts, IsCompacted, LeavesAlike, LeavesFresh, IsAlike, IsUntried, IsUncompacted, HasCompactCause, fault_of_writing, is_illegal, SaysCompacted, none, some}
 use Rattle.ob_kept.specs.Redone.{redone_as, redone}
 use Rattle.ob_kept.specs.Reopening.{fault_of_saying, site_bytes, HasFileCause, IsOpenedAt, IsRedone, Unopened, Unready}
 use Rattle.ob_kept.proofs.Reading.{refuses_said, refuses_saying}
@@ -194,6 +194,20 @@ pub uncompacted_writing : (told : Type 0) (content : Option (List ℕ)) (file ne
 uncompacted_writing told content file new writings.Taken unwritten = unwritten
 uncompacted_writing told content file new writings.Failed unwritten = tt
 uncompacted_writing told content file new writings.Memory unwritten = tt
+
+-- nothing is written where none is
+pub fresh_reopen : {D : Type 0} (device : D) (fault : ReopenFault) → LeavesFresh device device (faults.Reopen fault)
+fresh_reopen device (reopens.Record place) = refl
+fresh_reopen device (reopens.Illegal entry) = refl
+fresh_reopen device (reopens.Site why) = refl
+fresh_reopen device reopens.Device = tt
+fresh_reopen device reopens.Memory = tt
+
+-- and no fault of writing is one of the record
+pub fresh_writing : {D : Type 0} (old new : D) (why : WritingFault) → LeavesFresh old new (fault_of_writing why)
+fresh_writing old new writings.Taken = tt
+fresh_writing old new writings.Failed = tt
+fresh_writing old new writings.Memory = tt
 
 -- ---- causes
 

@@ -87,6 +87,13 @@ abbrev pub IsUncompacted : (told : Type 0) → (content : Option (List ℕ)) →
 IsUncompacted told content file new (faults.Reopen fault) = Refuses told content file 0 fault
 IsUncompacted told content file new faults.Taken = told → 14 < length new
 
+-- Where the record gives no site, the device of the new file is as it was.
+abbrev pub LeavesFresh : {D : Type 0} → (old new : D) → CompactFault → Type 0
+LeavesFresh old new (faults.Reopen (reopens.Record place)) = new ≡ old
+LeavesFresh old new (faults.Reopen (reopens.Illegal entry)) = new ≡ old
+LeavesFresh old new (faults.Reopen (reopens.Site why)) = new ≡ old
+LeavesFresh old new _ = Unit {0}
+
 -- The counts haven't fallen, and devices or files refused only where theirs rose: of the device of the record and that of the new
 -- one, and of files.
 pub record HasCompactCause {T : Type 0} (device device' new new' files files' : ℕ) (result : Result T CompactFault) : Type 0 where

@@ -4,7 +4,7 @@ ghost use Rattle.ob_journal.specs.Device.{LeavesOnly, Only};
 ghost use Rattle.ob_record.specs.Runs.{Recorded, Records};
 ghost use Rattle.ob_record.specs.Sifted.{IsSifted};
 ghost use Rattle.ob_record_journal.specs.Writing.{LeavesOld};
-ghost use Rattle.ob_kept.specs.Compacting.{HasCompactCause, IsAlike, IsCompacted, IsUncompacted, IsUntried, is_illegal, LeavesAlike, SaysCompacted};
+ghost use Rattle.ob_kept.specs.Compacting.{HasCompactCause, IsAlike, IsCompacted, IsUncompacted, IsUntried, is_illegal, LeavesAlike, LeavesFresh, SaysCompacted};
 ghost use Rattle.ob_kept.specs.Reopening.{HasFileCause, Unready};
 
 use crate::choice::{Covered, LastPuts};
@@ -124,6 +124,7 @@ pub fn compact<D: Device, F: Files>(
     ensures says { D.is_told → IfOk result (λ c. SaysCompacted (F.content files.old name.now) (D.seen device.old) (D.seen fresh.new) c.before c.after) }
     ensures durable { D.is_told → OnOk result (Only (D.seen fresh.new) (D.may_leave fresh.new)) }
     ensures refused { IfErr result (IsUncompacted D.is_told (F.content files.old name.now) (D.seen device.old) (D.seen fresh.old)) }
+    ensures fresh { IfErr result (LeavesFresh fresh.old fresh.new) }
     ensures old { D.is_told → LeavesOld D.seen D.may_leave fresh.old fresh.new }
     ensures seen { D.is_told → D.seen device.new ≡ D.seen device.old }
     ensures any_moment { D.is_told → LeavesOnly D.moment D.left_since device.old device.new (D.may_leave device.old) }
