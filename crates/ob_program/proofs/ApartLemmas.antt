@@ -1,7 +1,7 @@
 -- What a command has nothing to do with.
 use Rattle.std.proofs.Common.{◌≡◌, ℕ, List, Option, Some, None, refl, subst}
 use Rattle.std.specs.Prelude.{IsSome}
-use Rattle.ob_command.specs.Command.{Command, stdio, schedule, auditing, serve, keep, check, watch, console, storm, supervise}
+use Rattle.ob_command.specs.Command.{Command, stdio, schedule, auditing, serve, keep, compacting, check, watch, console, storm, supervise}
 use Rattle.ob_command.specs.declared.server.Output.{Output}
 use Rattle.ob_program.specs.Run.{LeavesAlone}
 
@@ -32,6 +32,7 @@ module _ (files devices source sink port dialer clock : Type 0) where
   all_apart (Some (serve site host place workers quota)) f v s k p d c = (v, s, d)
   all_apart (Some (keep site file host place workers quota)) f v s k p d c = (s, d)
   all_apart (Some (auditing site file)) f v s k p d c = (v, s, p, d, c)
+  all_apart (Some (compacting site file new)) f v s k p d c = (s, p, d, c)
   all_apart (Some (check file)) f v s k p d c = (v, s, p, d, c)
   all_apart (Some (watch url hrefs polls retries)) f v s k p d c = (f, v, s, p, c)
   all_apart (Some (console url subject polls ack user)) f v s k p d c = (f, v, s, p, c)

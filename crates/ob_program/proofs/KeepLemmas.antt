@@ -121,6 +121,21 @@ module _ {V : Type 0} (told : Type 0) (seen : V → List ℕ) (may_leave : V →
 
 -- ---- completeness
 
+-- a site file that opens a site isn't what is refused
+pub not_site : (told : Type 0) (content : Option (List ℕ)) (law : OpenedIsNotRefused) (whole : List ℕ) (record_file : List ℕ) (boot : ℕ) (fault : LoadFault) (why : ReopenFault) → content ≡ Some whole → OpensSite (site_bytes whole)
+    → Served (serves.Refused fault) ≡ end_of_reopen why → Refuses told content record_file boot why → ⊥
+not_site told content law whole record_file boot fault (reopens.Record place) is opens same refuses = cc
+not_site told content law whole record_file boot fault (reopens.Illegal entry) is opens same refuses = cc
+not_site told content law whole record_file boot fault (reopens.Site other) is opens same (at, refused, says) =
+    let unserved : IsUnserved content at (serves.Refused fault) = subst (λ (e : ServeEnd). IsUnserved content at e) (served_is same) (unserved_refused other content at refused) in
+    let why = subst (λ (c : Option (List ℕ)). IsUnserved c at (serves.Refused fault)) is unserved in
+    why.1 (law (site_bytes whole) opens at fault why.0)
+  where
+    served_is : {a b : ServeEnd} → Served a ≡ Served b → b ≡ a
+    served_is same = cc
+not_site told content law whole record_file boot fault reopens.Device is opens same refuses = cc
+not_site told content law whole record_file boot fault reopens.Memory is opens same refuses = cc
+
 module _ {V : Type 0} (told : Type 0) (seen : V → List ℕ) (may_leave : V → List ℕ → Type 0) (moment : V → ℕ)
     (left_since : V → ℕ → List ℕ → Type 0) (failures : V → ℕ) {D C : Type 0} (faults handed returned : D → ℕ) (visits : D → Option (List Visit))
     (closed : D → Bool) (given : C → Option (List ℕ)) (pace : C → Option Pace) (misses : C → ℕ)
@@ -129,21 +144,6 @@ module _ {V : Type 0} (told : Type 0) (seen : V → List ℕ) (may_leave : V →
   Comes_ held held' writes writes' p p' t t' end =
       KeepComes told seen may_leave moment left_since failures faults handed returned visits closed given pace misses content file host place wanted quota
       files files' v v' held held' writes writes' p p' t t' end
-
-  -- a site file that opens a site isn't what is refused
-  not_site : (law : OpenedIsNotRefused) (whole : List ℕ) (record_file : List ℕ) (boot : ℕ) (fault : LoadFault) (why : ReopenFault) → content ≡ Some whole → OpensSite (site_bytes whole)
-      → Served (serves.Refused fault) ≡ end_of_reopen why → Refuses told content record_file boot why → ⊥
-  not_site law whole record_file boot fault (reopens.Record place) is opens same refuses = cc
-  not_site law whole record_file boot fault (reopens.Illegal entry) is opens same refuses = cc
-  not_site law whole record_file boot fault (reopens.Site other) is opens same (at, refused, says) =
-      let unserved : IsUnserved content at (serves.Refused fault) = subst (λ (e : ServeEnd). IsUnserved content at e) (served_is same) (unserved_refused other content at refused) in
-      let why = subst (λ (c : Option (List ℕ)). IsUnserved c at (serves.Refused fault)) is unserved in
-      why.1 (law (site_bytes whole) opens at fault why.0)
-    where
-      served_is : {a b : ServeEnd} → Served a ≡ Served b → b ≡ a
-      served_is same = cc
-  not_site law whole record_file boot fault reopens.Device is opens same refuses = cc
-  not_site law whole record_file boot fault reopens.Memory is opens same refuses = cc
 
   device_refuses_none : (fault : LoadFault) (why : DeviceFault) → Served (serves.Refused fault) ≡ end_of_device why → ⊥
   device_refuses_none fault devices.Failed same = cc
@@ -163,7 +163,7 @@ module _ {V : Type 0} (told : Type 0) (seen : V → List ℕ) (may_leave : V →
           | inr (opened, device, device', came, opens_it, back, keeps, ends) ↦ elim ends [
             | inl (failed, end_is) ↦ (let no : Served (serves.Refused fault) ≡ RecordFault = end_is in absurd (cc))
             | inr (whole_device, end_is) ↦ elim keeps.comes [
-              | inl (untouched, unkept) ↦ not_site law whole (seen device) boot fault unkept.fault is opens (end_is ∙ unkept.end_is) unkept.refuses
+              | inl (untouched, unkept) ↦ not_site told content law whole (seen device) boot fault unkept.fault is opens (end_is ∙ unkept.end_is) unkept.refuses
               | inr (served, failed, came_is, serves_it) ↦ refuses_none served failed fault serves_it.at.unrefused (served_is (end_is ∙ came_is))
             ]
           ]

@@ -10,6 +10,7 @@ pub mod SuperLemmas
 pub mod ServingLemmas
 pub mod ServeLemmas
 pub mod KeepLemmas
+pub mod CompactLemmas
 pub mod ApartLemmas
 pub mod ClientLemmas
 pub mod StormRoot

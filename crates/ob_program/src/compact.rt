@@ -12,6 +12,7 @@ use ob_command::Compact;
 use ob_io::{FileFault, Files, Sink, write_all};
 use ob_journal::Devices;
 use ob_kept::{CompactFault, Compacted, compact};
+use ob_load::opened_is_not_refused;
 use std::alloc::{AllocError, Global};
 
 /// How it ended.
@@ -173,6 +174,7 @@ pub(crate) fn run_compact<F: Files, V: Devices, K: Sink, E: Sink>(
         (K.held sink.old) (K.held sink.new) (K.faults sink.old) (K.faults sink.new)
         (errors_told (E.held errors.old) (E.faults errors.old)) (errors_told (E.held errors.new) (E.faults errors.new)) result }
 {
+    opened_is_not_refused();
     let end = compact_site(alloc, words, files, devices, sink);
     let exit = end.exit();
     tell(alloc, errors, exit, end.words(alloc));
