@@ -1,7 +1,7 @@
 -- The writing of a shorter record of a site.
-use Rattle.std.proofs.Common.{◌≡◌, ◌≢◌, ◌⊎◌, inl, inr, ℕ, ◌≤◌, refl, sym, ap, subst, ◌∙◌, arith, le_refl, append-nil, List, [], Option, Some, None, Result, Ok, Err}
+use Rattle.std.proofs.Common.{◌≡◌, ◌⊎◌, inl, inr, ℕ, ◌≤◌, refl, sym, ap, subst, ◌∙◌, arith, le_refl, List, [], Option, Some, None, Result, Ok, Err}
 use Rattle.std.specs.Prelude.{IfSome, IfOk, IfErr, OnOk}
-use Rattle.ob_io.specs.Faults.{Rose, HasCause}
+use Rattle.ob_io.specs.Faults.{Rose}
 use Rattle.ob_io.specs.Told.{Gains-none, IsFront, Sends}
 use Rattle.ob_journal.specs.Device.{LeavesOnly, Only}
 use Rattle.ob_journal.specs.declared.device.DeviceFault.{DeviceFault}
@@ -14,8 +14,8 @@ use Rattle.ob_kept.specs.declared.fault.ReopenFault.TheVariants as reopens
 use Rattle.ob_load.specs.Loads.{OpenedIsNotRefused, OpensSite}
 use Rattle.ob_site_file.specs.declared.fault.LoadFault.{LoadFault}
 use Rattle.ob_site_file.specs.declared.fault.LoadFault.TheVariants as loads
-use Rattle.ob_program.specs.Compact.{CompactComes, CompactRan, CompactRose, CompactsDevices, CompactsFile, CompactsInto, EndsWith, IsOfFiles, IsWritten, OpensNone, RoseSoFar, compact_text, end_of_compact, exit_of_compact}
-use Rattle.ob_program.specs.Keeping.{ComesBack, OpensRecord, end_of_device, end_of_reopen}
+use Rattle.ob_program.specs.Compact.{CompactComes, CompactRan, CompactRose, CompactsDevices, CompactsFile, CompactsInto, EndsWith, IsOfFiles, OpensNone, RoseSoFar, compact_text, end_of_compact, exit_of_compact}
+use Rattle.ob_program.specs.Keeping.{ComesBack, OpensRecord, end_of_device}
 use Rattle.ob_program.specs.Outside.{DevicesTold}
 use Rattle.ob_program.specs.Serving.{Prints, end_of_load}
 use Rattle.ob_program.specs.Stdio.{site_bytes}

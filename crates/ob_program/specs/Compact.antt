@@ -1,5 +1,5 @@
 -- What the writing of a shorter record of a site comes to.
-use Rattle.std.specs.Prelude.{◌≡◌, ◌⊎◌, ⊤, ℕ, ◌≤◌, List, [], ◌∷◌, ◌++◌, codes, decimal, Option, IfSome, Result, Ok, Err, IfOk, IfErr}
+use Rattle.std.specs.Prelude.{◌≡◌, ◌⊎◌, ⊤, ℕ, ◌≤◌, List, ◌++◌, codes, decimal, Option, IfSome, Result, Ok, Err, IfOk, IfErr}
 use Rattle.ob_io.specs.Faults.{Rose}
 use Rattle.ob_journal.specs.Device.{LeavesOnly, Only}
 use Rattle.ob_journal.specs.declared.device.DeviceFault.{DeviceFault}
@@ -19,8 +19,7 @@ use Rattle.ob_program.specs.declared.compact.CompactEnd.TheVariants.{Written, Ta
 use Rattle.ob_program.specs.declared.exit.Exit.{Exit}
 use Rattle.ob_program.specs.declared.exit.Exit.TheVariants as exits
 use Rattle.ob_program.specs.declared.keep.KeepEnd.{KeepEnd}
-use Rattle.ob_program.specs.declared.keep.KeepEnd.TheVariants.{Served, NoRecord, Illegal, RecordFault}
-use Rattle.ob_program.specs.declared.serve.ServeEnd.{ServeEnd}
+use Rattle.ob_program.specs.declared.keep.KeepEnd.TheVariants.{Served, RecordFault}
 use Rattle.ob_program.specs.declared.serve.ServeEnd.TheVariants as serves
 
 abbrev pub exit_of_compact : CompactEnd → Exit
