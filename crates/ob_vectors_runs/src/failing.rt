@@ -15,11 +15,13 @@ pub(crate) enum Part {
     Dialer,
     /// The file of the record: the first call opens it, and each byte that is written counts as a call.
     Record,
+    /// The file of a new record, in the same way.
+    New,
     Link(u64),
 }
 
 /// Every part, of twins and doors the first three, of links the first four.
-pub(crate) const PARTS: [Part; 18] = [
+pub(crate) const PARTS: [Part; 19] = [
     Part::Files,
     Part::Source,
     Part::Sink,
@@ -34,6 +36,7 @@ pub(crate) const PARTS: [Part; 18] = [
     Part::Door(2),
     Part::Dialer,
     Part::Record,
+    Part::New,
     Part::Link(0),
     Part::Link(1),
     Part::Link(2),
@@ -61,6 +64,7 @@ impl Part {
             Part::Door(_) => "door",
             Part::Dialer => "dialer",
             Part::Record => "record",
+            Part::New => "new",
             Part::Link(_) => "link",
         }
     }

@@ -4,7 +4,7 @@ ghost use Rattle.std.specs.Prelude.{◌<◌};
 use crate::failing::{Failing, Part, plan, twin_plans};
 use crate::inputs::{Inputs, Turn, failing_call, meant, replies, turn_of};
 use crate::ran::Ran;
-use crate::records::Records;
+use crate::records::{RecordFile, Records};
 use crate::scarce::Scarce;
 use ob_io::{
     Fresh, Gated, MemClock, MemDialer, MemDoor, MemFiles, MemLink, MemPort, MemSink, MemSource,
@@ -146,28 +146,26 @@ impl Maker<'_> {
         }
     }
 
-    // The file of the record that is kept, and the new one.
-    fn records(self) -> Records {
-        let bytes = match self.case.inputs {
-            Inputs::Kept { record, doors: _ } | Inputs::Compacted { record, new: _ } => {
-                meant(self.alloc, record)
-            }
-            _ => Vec::new(self.alloc),
-        };
-        let new = match self.case.inputs {
-            Inputs::Compacted { record: _, new } => meant(self.alloc, new),
-            _ => Vec::new(self.alloc),
-        };
+    // The file of these bytes, of which a call fails where this is the part that does.
+    fn record_file(self, part: Part, text: &str) -> RecordFile {
         let failing = match self.failing {
-            Some(
-                Failing {
-                    part: Part::Record,
-                    call,
-                },
-            ) => Some(call),
+            Some(failing) if failing.part == part => Some(failing.call),
             _ => None,
         };
-        Records::new(self.alloc, bytes, new, failing)
+        RecordFile {
+            bytes: meant(self.alloc, text),
+            failing,
+        }
+    }
+
+    // The file of the record, and the new one.
+    fn records(self) -> Records {
+        let (record, new) = match self.case.inputs {
+            Inputs::Kept { record, doors: _ } => (record, None),
+            Inputs::Compacted { record, new } => (record, Some(self.record_file(Part::New, new))),
+            _ => ("", None),
+        };
+        Records::new(self.alloc, self.record_file(Part::Record, record), new)
     }
 
     // The file of a name, with the bytes that a text stands for.

@@ -110,7 +110,7 @@ impl Ran {
             Part::Twin(_) => self.is_ended(whole, 10, "obix: clock fault\n"),
             Part::Port => self.is_cut(whole, faults, 9, "obix: port fault\n"),
             Part::Door(_) => self.is_ended(whole, 9, "obix: port fault\n"),
-            Part::Record => self.is_cut(whole, faults, 14, "obix: record fault\n"),
+            Part::Record | Part::New => self.is_cut(whole, faults, 14, "obix: record fault\n"),
             Part::Dialer | Part::Link(_) => match faults {
                 LinkFaults::End => self.is_cut(whole, faults, 7, "obix: link fault\n"),
                 LinkFaults::Cut => self.is_unanswered(whole),

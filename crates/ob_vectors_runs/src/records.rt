@@ -4,47 +4,17 @@ ghost use Rattle.std.specs.Prelude.{◌≡◌, None, IfOk, IfSome};
 use ob_journal::{Device, DeviceFault, Devices, MemDevice};
 use std::alloc::{AllocError, Global};
 
-/// What opens the record's file and the one that is named `new`, and has them back.
+/// A file before a run: its bytes, and the number of the call that fails, if one is to. The first opens it; then each byte that is
+/// written counts as a call, as do each read, cut and sync.
 #[derive(Drop)]
-pub(crate) struct Records {
-    alloc: Global,
-    bytes: Vec<u8>,
-    new: Vec<u8>,
-    failing: Option<u64>,
-    faults: u64,
-    back: Option<MemDevice>,
+pub(crate) struct RecordFile {
+    pub(crate) bytes: Vec<u8>,
+    pub(crate) failing: Option<u64>,
 }
 
-impl Records {
-    /// A record's file with these bytes, and a file `new` with those. At the call of this number it fails: the first is to open it; then each byte that is written
-    /// counts as one, as do each read, cut and sync. Each
-    /// file counts for itself.
-    pub(crate) fn new(
-        alloc: Global,
-        bytes: Vec<u8>,
-        new: Vec<u8>,
-        failing: Option<u64>,
-    ) -> Records {
-        Records {
-            alloc,
-            bytes,
-            new,
-            failing,
-            faults: 0,
-            back: None,
-        }
-    }
-
-    /// What the file has come to that came back first: `new`, where it was opened.
-    pub(crate) fn bytes(&self) -> &[u8] {
-        match &self.back {
-            Some(device) => device.bytes(),
-            None => &self.bytes,
-        }
-    }
-
-    /// Its bytes, and how many may be written before it fails; none, where it can't be opened.
-    fn opened(&self, name: &str) -> Result<Option<MemDevice>, AllocError>
+impl RecordFile {
+    /// The file; none, where it can't be opened.
+    fn opened(&self, alloc: Global) -> Result<Option<MemDevice>, AllocError>
         ensures { IfOk result (λ opened. IfSome opened (λ device. device.faults ≡ 0)) }
     {
         let left = match self.failing {
@@ -52,12 +22,54 @@ impl Records {
             Some(call) => call.saturating_sub(1),
             None => u64::MAX,
         };
-        let bytes = if name == "new" {
-            self.new.to_vec(self.alloc)?
-        } else {
-            self.bytes.to_vec(self.alloc)?
-        };
-        Ok(Some(MemDevice::new(self.alloc, bytes, left, b'?')))
+        let bytes = self.bytes.to_vec(alloc)?;
+        Ok(Some(MemDevice::new(alloc, bytes, left, b'?')))
+    }
+}
+
+/// What opens the file of a record, and the one that is named `new` where there is one, and has them back, that one first.
+#[derive(Drop)]
+pub(crate) struct Records {
+    alloc: Global,
+    record: RecordFile,
+    new: Option<RecordFile>,
+    is_new_open: bool,
+    faults: u64,
+    back: Option<MemDevice>,
+}
+
+impl Records {
+    /// The file of a record; and the one of a new record, if there is one.
+    pub(crate) fn new(alloc: Global, record: RecordFile, new: Option<RecordFile>) -> Records {
+        Records {
+            alloc,
+            record,
+            new,
+            is_new_open: false,
+            faults: 0,
+            back: None,
+        }
+    }
+
+    /// What the new file has come to; or that of the record, where there is no new one.
+    pub(crate) fn bytes(&self) -> &[u8] {
+        if let Some(device) = &self.back {
+            return device.bytes();
+        }
+        match &self.new {
+            Some(new) => &new.bytes,
+            None => &self.record.bytes,
+        }
+    }
+
+    /// The file of a name; none, where it can't be opened.
+    fn opened(&self, name: &str) -> Result<Option<MemDevice>, AllocError>
+        ensures { IfOk result (λ opened. IfSome opened (λ device. device.faults ≡ 0)) }
+    {
+        match &self.new {
+            Some(new) if name == "new" => new.opened(self.alloc),
+            _ => self.record.opened(self.alloc),
+        }
     }
 }
 
@@ -72,7 +84,10 @@ impl Devices for Records {
 
     fn open(&mut self, _: Global, name: &str) -> Result<MemDevice, DeviceFault> {
         match self.opened(name)? {
-            Some(device) => Ok(device),
+            Some(device) => {
+                self.is_new_open = name == "new";
+                Ok(device)
+            }
             None => {
                 self.faults = self.faults.saturating_add(1);
                 Err(DeviceFault::Failed)
@@ -85,9 +100,10 @@ impl Devices for Records {
         if has_failed {
             self.faults = self.faults.saturating_add(1);
         }
-        if self.back.is_none() {
+        if self.is_new_open || self.new.is_none() {
             self.back = Some(device);
         }
+        self.is_new_open = false;
         has_failed
     }
 }
