@@ -12,6 +12,7 @@ use Rattle.ob_kept.specs.declared.fault.CompactFault.{CompactFault}
 use Rattle.ob_kept.specs.declared.fault.CompactFault.TheVariants as faults
 use Rattle.ob_kept.specs.declared.fault.ReopenFault.TheVariants as reopens
 use Rattle.ob_load.specs.Loads.{OpenedIsNotRefused, OpensSite}
+use Rattle.ob_record_journal.specs.Writing.{LeavesOld}
 use Rattle.ob_site_file.specs.declared.fault.LoadFault.{LoadFault}
 use Rattle.ob_site_file.specs.declared.fault.LoadFault.TheVariants as loads
 use Rattle.ob_program.specs.Compact.{CompactComes, CompactRan, CompactRose, CompactsDevices, CompactsFile, CompactsInto, EndsWith, IsOfFiles, OpensNone, RoseSoFar, compact_text, end_of_compact, exit_of_compact}
@@ -183,13 +184,13 @@ module _ {V : Type 0} (told : Type 0) (seen : V → List ℕ) (may_leave : V →
   -- it was opened, and came back
   pub into_done : (name : List ℕ) (files files' : ℕ) (v v' opened : DevicesTold V) (old old' device device' : V) (came : Result Compacted CompactFault) (result : Result Compacted CompactEnd)
       → (told → seen old' ≡ seen old) → (told → LeavesOnly moment left_since old old' (may_leave old)) → Opens_ name v opened device → ComesBack opened v' device'
-      → Devices_ old device device' came → HasCompactCause (failures old) (failures old') (failures device) (failures device') files files' came
+      → Devices_ old device device' came → (told → LeavesOld seen may_leave device device') → HasCompactCause (failures old) (failures old') (failures device) (failures device') files files' came
       → EndsWith (failures device') came result → (¬ (failures device' ≡ 0) → Rose v.faults v'.faults) → (v.faults ≤ v'.faults) ⊎ Rose v.faults v'.faults
       → Into_ name files files' v v' old old' result
-  into_done name files files' v v' opened old old' device device' came result stays any_moment opens back made cause ends broken later = record {
+  into_done name files files' v v' opened old old' device device' came result stays any_moment opens back made old_file cause ends broken later = record {
     stays = stays;
     any_moment = any_moment;
-    comes = inr (opened, device, device', came, opens, back, made, ends);
+    comes = inr (opened, device, device', came, opens, back, made, old_file, ends);
     rose = into_rose files files' (failures device) (failures device') v v' old old' came result ends opens.fresh cause broken;
     files_later = cause.files_later;
     later = (later, cause.device_later);
@@ -340,7 +341,7 @@ module _ {V : Type 0} (told : Type 0) (seen : V → List ℕ) (may_leave : V →
     unrefused_into law whole f f' u u' old old' fault result is opens end_is into =
         elim into.comes [
           | inl (why, came_is, given, returned) ↦ device_refuses_none fault why (err_is end_is came_is)
-          | inr (opened, device, device', came, opens_it, back, made, ends) ↦ elim ends [
+          | inr (opened, device, device', came, opens_it, back, made, old_file, ends) ↦ elim ends [
             | inl (failed, came_is) ↦ (let no : Ended (Served (serves.Refused fault)) ≡ Ended RecordFault = err_is end_is came_is in absurd (cc))
             | inr (good, what) ↦ elim what [
               | inl (counts, came_is, ok_is) ↦ not_ok end_is ok_is

@@ -8,6 +8,7 @@ use Rattle.ob_kept.specs.declared.compacting.Compacted.{Compacted}
 use Rattle.ob_kept.specs.declared.fault.CompactFault.{CompactFault}
 use Rattle.ob_kept.specs.declared.fault.CompactFault.TheVariants as faults
 use Rattle.ob_load.specs.Loads.{OpensSite}
+use Rattle.ob_record_journal.specs.Writing.{LeavesOld}
 use Rattle.ob_program.specs.Keeping.{ComesBack, IsOfRecord, OpensRecord, end_of_device, end_of_reopen, exit_of_keep}
 use Rattle.ob_program.specs.Outside.{DevicesTold}
 use Rattle.ob_program.specs.Serving.{Prints}
@@ -85,7 +86,7 @@ module _ {V : Type 0} (told : Type 0) (seen : V → List ℕ) (may_leave : V →
   CompactsDevices content old fresh fresh' (Err fault) = IsUncompacted told content (seen old) (seen fresh) fault
 
   -- The record's device was read alone, and a crash at any moment would have left what it might have left before. The new file couldn't
-  -- be opened; or it was, and came back.
+  -- be opened; or it was, and came back, as it was where it isn't new.
   pub record CompactsInto (content : Option (List ℕ)) (name : List ℕ) (files files' : ℕ) (v v' : DevicesTold V) (old old' : V) (result : Result Compacted CompactEnd) : Type 0 where
     pub stays : told → seen old' ≡ seen old
     pub any_moment : told → LeavesOnly moment left_since old old' (may_leave old)
@@ -93,7 +94,7 @@ module _ {V : Type 0} (told : Type 0) (seen : V → List ℕ) (may_leave : V →
         ((fault : DeviceFault) × (result ≡ Err (Ended (end_of_device fault))) × (v'.given ≡ v.given) × (v'.returned ≡ v.returned))
         ⊎ ((opened : DevicesTold V) × (device : V) × (device' : V) × (came : Result Compacted CompactFault)
         × OpensRecord told seen may_leave moment left_since failures name v opened device × ComesBack opened v' device'
-        × CompactsDevices content old device device' came × EndsWith (failures device') came result)
+        × CompactsDevices content old device device' came × (told → LeavesOld seen may_leave device device') × EndsWith (failures device') came result)
     pub rose : IfErr result (λ end. RoseSoFar end files files' v.faults v'.faults (failures old) (failures old'))
     pub files_later : files ≤ files'
     pub later : ((v.faults ≤ v'.faults) ⊎ Rose v.faults v'.faults) × (failures old ≤ failures old')
