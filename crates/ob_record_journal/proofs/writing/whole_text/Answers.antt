@@ -10,7 +10,7 @@ pub returns-then-len-eq0-clause-whole : goal.returns-then-len-eq0-clause-whole
 returns-then-len-eq0-clause-whole c =
     let none : IfOk c.to_vec-then-len-eq0.result (λ v. v.items ≡ at_rest []) = search rules in
     let empty : (run : Recorded) → Records c.in-Some.run'.now run → at_rest [] ≡ at_rest (run_blocks run.boot run.entries)
-        = λ run records. whole_none (at_rest []) refl run.boot run.entries (sym (c.len.ensures run records) ∙ c.if-len-eq0.true) in
+    = λ run records. whole_none (at_rest []) refl run.boot run.entries (sym (c.len.ensures run records) ∙ c.if-len-eq0.true) in
     rw c.in-Some.is (whole_if c.to_vec-then-len-eq0.result (λ v. v.items) (Some c.in-Some.run'.now) (at_rest []) none empty)
 
 pub returns-clause-whole : goal.returns-clause-whole
