@@ -6,7 +6,7 @@ use Rattle.ob_io.specs.Told.{Gains-none, IsFront, Sends}
 use Rattle.ob_journal.specs.Device.{LeavesOnly, Only}
 use Rattle.ob_journal.specs.declared.device.DeviceFault.{DeviceFault}
 use Rattle.ob_journal.specs.declared.device.DeviceFault.TheVariants as devices
-use Rattle.ob_kept.specs.Compacting.{HasCompactCause, IsUncompacted, SaysCompacted}
+use Rattle.ob_kept.specs.Compacting.{HasCompactCause, IsUncompacted, LeavesFresh, SaysCompacted}
 use Rattle.ob_kept.specs.declared.compacting.Compacted.{Compacted}
 use Rattle.ob_kept.specs.declared.fault.CompactFault.{CompactFault}
 use Rattle.ob_kept.specs.declared.fault.CompactFault.TheVariants as faults
@@ -139,9 +139,9 @@ module _ {V : Type 0} (told : Type 0) (seen : V → List ℕ) (may_leave : V →
 
   -- what came of the two devices, clause by clause
   pub devices_came : (old fresh fresh' : V) (came : Result Compacted CompactFault) → (told → IfOk came (λ c. SaysCompacted content (seen old) (seen fresh') c.before c.after))
-      → (told → OnOk came (Only (seen fresh') (may_leave fresh'))) → IfErr came (IsUncompacted told content (seen old) (seen fresh)) → Devices_ old fresh fresh' came
-  devices_came old fresh fresh' (Ok counts) says durable refused = record { says = says; durable = durable }
-  devices_came old fresh fresh' (Err fault) says durable refused = refused
+      → (told → OnOk came (Only (seen fresh') (may_leave fresh'))) → IfErr came (IsUncompacted told content (seen old) (seen fresh)) → IfErr came (LeavesFresh fresh fresh') → Devices_ old fresh fresh' came
+  devices_came old fresh fresh' (Ok counts) says durable refused untouched = record { says = says; durable = durable }
+  devices_came old fresh fresh' (Err fault) says durable refused untouched = (refused, untouched)
 
   -- a device that wasn't called
   untouched : (old : V) → ((c : List ℕ) → left_since old (moment old) c → may_leave old c) → LeavesOnly moment left_since old old (may_leave old)
@@ -347,7 +347,7 @@ module _ {V : Type 0} (told : Type 0) (seen : V → List ℕ) (may_leave : V →
               | inl (counts, came_is, ok_is) ↦ not_ok end_is ok_is
               | inr (why, came_is, why_is) ↦
                   unrefused_devices law whole old device fault why is opens (err_is end_is why_is)
-                  (subst (λ (r : Result Compacted CompactFault). Devices_ old device device' r) came_is made)
+                  (subst (λ (r : Result Compacted CompactFault). Devices_ old device device' r) came_is made).0
             ]
           ]
         ]

@@ -3,7 +3,7 @@ use Rattle.std.specs.Prelude.{◌≡◌, ◌⊎◌, ⊤, ℕ, ◌≤◌, List, �
 use Rattle.ob_io.specs.Faults.{Rose}
 use Rattle.ob_journal.specs.Device.{LeavesOnly, Only}
 use Rattle.ob_journal.specs.declared.device.DeviceFault.{DeviceFault}
-use Rattle.ob_kept.specs.Compacting.{IsUncompacted, SaysCompacted}
+use Rattle.ob_kept.specs.Compacting.{IsUncompacted, LeavesFresh, SaysCompacted}
 use Rattle.ob_kept.specs.declared.compacting.Compacted.{Compacted}
 use Rattle.ob_kept.specs.declared.fault.CompactFault.{CompactFault}
 use Rattle.ob_kept.specs.declared.fault.CompactFault.TheVariants as faults
@@ -80,10 +80,10 @@ module _ {V : Type 0} (told : Type 0) (seen : V → List ℕ) (may_leave : V →
     pub says : told → SaysCompacted content (seen old) (seen fresh) counts.before counts.after
     pub durable : told → Only (seen fresh) (may_leave fresh)
 
-  -- what came of two devices: a new record; or none, and why
+  -- what came of two devices: a new record; or none, and why, and where the old one gives no site the new file is as it was
   abbrev pub CompactsDevices : (content : Option (List ℕ)) → (old fresh fresh' : V) → Result Compacted CompactFault → Type 0
   CompactsDevices content old fresh fresh' (Ok counts) = IsWritten content old fresh' counts
-  CompactsDevices content old fresh fresh' (Err fault) = IsUncompacted told content (seen old) (seen fresh) fault
+  CompactsDevices content old fresh fresh' (Err fault) = IsUncompacted told content (seen old) (seen fresh) fault × LeavesFresh fresh fresh' fault
 
   -- The record's device was read alone, and a crash at any moment would have left what it might have left before. The new file couldn't
   -- be opened; or it was, and came back, as it was where it isn't new.
