@@ -1,4 +1,4 @@
-use Rattle.std.proofs.Common.{◌≡◌, ◌≤◌, ℕ, List, length, option_copied, ap, ◌∙◌, subst, arith}
+use Rattle.std.proofs.Common.{◌≡◌, ◌≤◌, ℕ, List, length, option_copied, sym, ap, ◌∙◌, subst, arith}
 use Rattle.ob_journal.specs.Device.{Holds}
 use Rattle.ob_record_journal.specs.Writing.{IsWhole}
 use Rattle.ob_record_journal.proofs.Whole.{whole_says, written_whole}
@@ -13,4 +13,4 @@ returns-clause-says g c = λ told.
     let holds : Holds (seen c.read.new.self) 0 text (seen c.write_at.new.self) =
     subst (λ (l : List ℕ). Holds (seen c.read.new.self) 0 l (seen c.write_at.new.self)) c.deref.ensures.value (c.in_ok-write_at.ensures.written told) in
     let is : seen c.sync.new.self ≡ text = c.sync.ensures.seen told ∙ written_whole (seen c.read.new.self) text (seen c.write_at.new.self) short c.in_ok-text.ensures.long holds in
-    whole_says c.record_at_rest.ensures (option_copied c.args.run) (seen c.sync.new.self) (subst (λ (l : List ℕ). IsWhole (option_copied c.args.run) l) (let back : text ≡ seen c.sync.new.self = cc is in back) c.in_ok-text.ensures.whole)
+    whole_says c.record_at_rest.ensures (option_copied c.args.run) (seen c.sync.new.self) (subst (λ (l : List ℕ). IsWhole (option_copied c.args.run) l) (sym is) c.in_ok-text.ensures.whole)
