@@ -1,5 +1,5 @@
 -- A record with fewer entries that leads a site to the same.
-use Rattle.std.proofs.Common.{◌≡◌, inl, inr, ℕ, ◌+◌, ◌≤◌, Bool, true, false, List, [], ◌∷◌, length, Option, Some, None, refl, sym, ◌∙◌, ap, subst, arith, le_refl}
+use Rattle.std.proofs.Common.{◌≡◌, inl, inr, ℕ, ◌≤◌, Bool, false, List, [], ◌∷◌, length, Option, Some, None, refl, sym, ◌∙◌, ap, subst, arith, le_refl}
 use Rattle.std.specs.Prelude.{◌↔◌, IfOk, IfSome, IsTrue, Result, Ok, Err}
 use Rattle.ob_load.specs.Loads.{IsSite}
 use Rattle.ob_object.specs.Object.{Object}
@@ -22,18 +22,16 @@ use Rattle.ob_site_file.specs.declared.fault.LoadFault.{LoadFault}
 use Rattle.ob_site_file.specs.declared.fault.LoadFault.TheVariants as loads
 use Rattle.ob_values.specs.declared.verb.Verb.{Verb}
 use Rattle.ob_values.specs.declared.verb.Verb.TheVariants.{Get, Put, Post}
-use Rattle.ob_watching.specs.Watches.{last_number}
 use Rattle.ob_site_lasting.specs.SiteLasting.{IsSiteRestartOf}
 use Rattle.ob_site_laws.specs.SiteLaws.{IsSoundSite}
 use Rattle.ob_site_rules.specs.declared.request.Request.{Request}
 use Rattle.ob_site_rules.specs.Sites.{SiteState}
-use Rattle.ob_site_rules.specs.State.{Plan}
 use Rattle.ob_kept.specs.declared.fault.CompactFault.TheVariants as faults
 use Rattle.ob_kept.specs.declared.fault.ReopenFault.{ReopenFault}
 use Rattle.ob_kept.specs.declared.fault.ReopenFault.TheVariants as reopens
-use Rattle.ob_kept.specs.Compacting.{GoesOnBy, Compacts, IsCompacted, LeavesAlike, LeavesFresh, IsAlike, IsUntried, IsUncompacted, HasCompactCause, fault_of_writing, is_illegal, SaysCompacted, none, some}
+use Rattle.ob_kept.specs.Compacting.{GoesOnBy, IsCompacted, LeavesAlike, LeavesFresh, IsAlike, IsUntried, IsUncompacted, HasCompactCause, fault_of_writing, is_illegal, SaysCompacted, some}
 use Rattle.ob_kept.specs.Redone.{redone_as, redone}
-use Rattle.ob_kept.specs.Reopening.{fault_of_saying, site_bytes, HasFileCause, IsOpenedAt, IsRedone, Unopened, Unready}
+use Rattle.ob_kept.specs.Reopening.{fault_of_saying, site_bytes, HasFileCause, IsOpenedAt, IsRedone, Unready}
 use Rattle.ob_kept.proofs.Reading.{refuses_said, refuses_saying}
 use Rattle.ob_kept.proofs.Reopens.{after_bare, itself}
 

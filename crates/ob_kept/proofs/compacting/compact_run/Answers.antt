@@ -1,4 +1,4 @@
-use Rattle.std.proofs.Common.{◌≡◌, ℕ, List, Option, sym, subst}
+use Rattle.std.proofs.Common.{ℕ, List, Option, sym, subst}
 use Rattle.ob_record.specs.Runs.{Recorded, Records}
 use Rattle.ob_kept.specs.Compacting.{IsAlike}
 use Rattle.ob_kept.proofs.Shorter.{compacted_new, compacted_same}

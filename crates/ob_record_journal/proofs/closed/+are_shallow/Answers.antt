@@ -1,4 +1,4 @@
-use Rattle.std.proofs.Common.{◌<◌, arith}
+use Rattle.std.proofs.Common.{arith}
 use Rattle.ob_record_journal.proofs.Closing.{kids_shallow, low_one, next_shallow}
 use Rattle.ob_record_journal.proofs.closed.+are_shallow.Goals as goal
 use Rattle.ob_record_journal.proofs.closed.+are_shallow.Goals.{then-level-ge-LEVELS-via-then-level-ge-LEVELS, then-level-ge-LEVELS-via-else-level-ge-LEVELS+then-not-are_shallow}
