@@ -6,4 +6,3 @@ pub mod Keeping
 pub mod Steps
 pub mod Ending
 pub mod Worked
-pub mod Bare

@@ -7,7 +7,6 @@ ghost use Rattle.ob_site_rules.specs.Sites.{site, step};
 ghost use Rattle.ob_site_watched.specs.Polls.{object_entries, steps_for};
 ghost use Rattle.ob_site.specs.Keeping.{Keeps, MayKeep, stepping};
 ghost use Rattle.ob_points.specs.Points.{point_at, passes};
-ghost use Rattle.ob_site.specs.Bare.{is_bare};
 
 use crate::keeper::{Keeper, Nobody};
 use crate::points::{is_bare, point};
@@ -154,10 +153,9 @@ impl Site {
     }
 
     /// Whether a path is that of an own node whose values no history records and no rule looks at: a Put there leaves nothing but
-    /// the value and, where it is a part of a contract, what others inherit of it.
-    pub fn is_bare(&self, path: &Text) -> bool
-        ensures { result ≡ is_bare self.now.plan self.now.world.site path.now }
-    {
+    /// the value and, where it is a part of a contract, what others inherit of it. A guess for who looks at what comes of it: no
+    /// clause says it.
+    pub fn is_bare(&self, path: &Text) -> bool {
         is_bare(&self.state, path)
     }
 
