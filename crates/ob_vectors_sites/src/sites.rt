@@ -20,8 +20,8 @@ pub(crate) fn opening_of<'a>(documents: &'a str, name: &str) -> Option<Opening<'
     Some(Opening { document, boot })
 }
 
-// One file with these bytes.
-fn files_of(alloc: Global, bytes: &[u8]) -> Result<MemFiles, AllocError> {
+/// One file with these bytes, whose name is `site`.
+pub(crate) fn files_of(alloc: Global, bytes: &[u8]) -> Result<MemFiles, AllocError> {
     let name = String::from_str(alloc, "site")?;
     let bytes = bytes.to_vec(alloc)?;
     let mut files = Vec::new(alloc);
