@@ -118,10 +118,15 @@ redoes_if (Ok r) file given text extent one said is begun =
     subst (λ (b : Bool). Redoes file given r.boot r.opening.value r.site b) (sym begun.0)
     (redoes_run file given r.boot r.opening.value r.site said.0 one said.2 said.3 (is said.0 said.1))
 
-pub refused_if : (result : Result Ready ReopenFault) (told : Type 0) (content : Option (List ℕ)) (file : List ℕ) (given : ℕ) (text : List ℕ) → OneRun → IsRecord text → (told → IsSaid file (Some text))
-    → IfErr result (λ fault. (recorded : Recorded) → Records text recorded → Unready content recorded fault) → IfErr result (Refuses told content file given)
-refused_if (Ok r) told content file given text one is said why = tt
-refused_if (Err fault) told content file given text one is said why =
+-- why the run that a file says leaves no site is why its record gives none
+pub refuses_said : (told : Type 0) (content : Option (List ℕ)) (file : List ℕ) (given : ℕ) (text : List ℕ) (fault : ReopenFault) → OneRun → IsRecord text → (told → IsSaid file (Some text))
+    → ((recorded : Recorded) → Records text recorded → Unready content recorded fault) → Refuses told content file given fault
+refuses_said told content file given text fault one is said why =
     refuses_run told content file given is.0.boot is.0 fault refl (why is.0 is.1) (λ t.
     let read = said t in
     subst (λ (run : Recorded). SaysRun file run.boot run.entries) (one text read.0 is.0 read.1 is.1) read.2)
+
+pub refused_if : (result : Result Ready ReopenFault) (told : Type 0) (content : Option (List ℕ)) (file : List ℕ) (given : ℕ) (text : List ℕ) → OneRun → IsRecord text → (told → IsSaid file (Some text))
+    → IfErr result (λ fault. (recorded : Recorded) → Records text recorded → Unready content recorded fault) → IfErr result (Refuses told content file given)
+refused_if (Ok r) told content file given text one is said why = tt
+refused_if (Err fault) told content file given text one is said why = refuses_said told content file given text fault one is said why

@@ -1,11 +1,12 @@
 -- A record with fewer entries that leads a site to the same.
-use Rattle.std.proofs.Common.{◌≡◌, inr, ℕ, List, [], ◌∷◌, length, Option, Some, None, refl, sym, ◌∙◌, ap, subst}
+use Rattle.std.proofs.Common.{◌≡◌, inl, inr, ℕ, List, [], ◌∷◌, length, Option, Some, None, refl, sym, ◌∙◌, ap, subst}
 use Rattle.std.specs.Prelude.{IfSome, Ok}
 use Rattle.ob_load.specs.Loads.{IsSite}
 use Rattle.ob_object.specs.Object.{Object}
 use Rattle.ob_opening.specs.Opening.{opening}
+use Rattle.ob_record.specs.Broken.{OneRun}
 use Rattle.ob_record.specs.Legal.{IsLegalRun, left_by_told, left_by_entry, after_entries}
-use Rattle.ob_record.specs.Runs.{Recorded, Records}
+use Rattle.ob_record.specs.Runs.{Recorded, Records, IsRecord}
 use Rattle.ob_record.specs.Sifted.{IsPartOf, IsSifted}
 use Rattle.ob_record.specs.declared.run.Entry.{Entry}
 use Rattle.ob_record.specs.declared.run.Told.{Told}
@@ -19,9 +20,12 @@ use Rattle.ob_site_lasting.specs.SiteLasting.{IsSiteRestartOf}
 use Rattle.ob_site_laws.specs.SiteLaws.{IsSoundSite}
 use Rattle.ob_site_rules.specs.declared.request.Request.{Request}
 use Rattle.ob_site_rules.specs.Sites.{SiteState}
-use Rattle.ob_kept.specs.Compacting.{GoesOnBy, IsCompacted, LeavesAlike, IsAlike, SaysCompacted, some}
+use Rattle.ob_kept.specs.declared.fault.CompactFault.TheVariants as faults
+use Rattle.ob_kept.specs.declared.fault.ReopenFault.{ReopenFault}
+use Rattle.ob_kept.specs.Compacting.{GoesOnBy, IsCompacted, LeavesAlike, IsAlike, IsUntried, IsUncompacted, SaysCompacted, some}
 use Rattle.ob_kept.specs.Redone.{redone_as, redone}
-use Rattle.ob_kept.specs.Reopening.{site_bytes, IsOpenedAt, IsRedone}
+use Rattle.ob_kept.specs.Reopening.{site_bytes, IsOpenedAt, IsRedone, Unready}
+use Rattle.ob_kept.proofs.Reading.{refuses_said}
 use Rattle.ob_kept.proofs.Reopens.{after_bare, itself}
 
 -- ---- what entries leave of a plan
@@ -116,6 +120,14 @@ module _ (one : OneDocument) (run : Recorded) (boot : ℕ) (ns : Option (List �
   compacted_same content bytes opened done sound records =
       record { entries = run.entries; records = records; compacts = record { part = part_itself run.entries; goes_on = goes_on_same content opened done sound } }
 
+-- ---- why none came
+
+-- what wasn't tried again
+pub unready_untried : (content : Option (List ℕ)) (run : Recorded) (ns : Option (List ℕ)) (start : SiteState) (fault : ReopenFault) → IsOpenedAt content run.boot ns start
+    → IsUntried content run.boot fault → Unready content run fault
+unready_untried content run ns start fault opened (inl unopened) = inl unopened
+unready_untried content run ns start fault opened (inr wanting) = subst (λ (f : ReopenFault). Unready content run f) (sym wanting) (inr (ns, start, opened, tt))
+
 -- ---- what was done again
 
 pub alike_so : (content : Option (List ℕ)) (run : Recorded) (boot : ℕ) (ns : Option (List ℕ)) (start now left : SiteState) → IsOpenedAt content boot ns start → IsRedone run boot start now → IsSoundSite now
@@ -140,3 +152,10 @@ says_compacted content file new text bytes before after said compacts says old_c
     let c = compacts run said.1 in
     some run.boot run.entries c.entries said.2 (says (record { boot = run.boot; entries = c.entries }) c.records) (old_count run said.1)
     (new_count (record { boot = run.boot; entries = c.entries }) c.records) c.compacts
+
+-- ---- why none was written
+
+-- the record gives no site
+pub uncompacted_run : (told : Type 0) (content : Option (List ℕ)) (file new text : List ℕ) (fault : ReopenFault) → OneRun → IsRecord text → (told → IsSaid file (Some text))
+    → ((recorded : Recorded) → Records text recorded → Unready content recorded fault) → IsUncompacted told content file new (faults.Reopen fault)
+uncompacted_run told content file new text fault one is said why = refuses_said told content file 0 text fault one is said why
