@@ -113,7 +113,7 @@ impl<D: Device> Recorder<D> {
                 self.full = true;
                 Err(AllocError)
             }
-            Err(AppendFault::Failed) | Err(AppendFault::Memory) => {
+            Err(_) => {
                 self.failed = true;
                 Err(AllocError)
             }

@@ -30,4 +30,4 @@ returns-clause-err g c =
     let text : c.in-Some.block.items ≡ block_text c.opening-opening.result (parts_of e) ++ 0 ∷ [] = rw c.in-Some.is at c.in_ok-block.ensures.text in
     let closed : c.deref.result.now ≡ next_block k e ++ 0 ∷ [] =
     c.deref.ensures.value ∙ text ∙ ap (λ (b : Option ℕ). block_text b (parts_of e) ++ 0 ∷ []) c.opening-opening.ensures.moment in
-    inr (inr (may_have_appended d.is_told d.seen d.may_leave d.moment d.left_since k l e c.opening-opening.ensures.range valid c.deref.result.now closed c.append.ensures.end_kept c.append.ensures.any_moment (record { boot = refl; full = refl; next_is = refl }) refl refl))
+    inr (inr (may_have_appended d.is_told d.seen d.may_leave d.moment d.left_since k l e c.opening-opening.ensures.range valid c.deref.result.now closed c.in-Err.ensures.end_kept c.append.ensures.any_moment (record { boot = refl; full = refl; next_is = refl }) refl refl))
