@@ -9,8 +9,7 @@ ghost use Rattle.ob_times.specs.declared.civil.Day.{Day};
 ghost use Rattle.ob_spelling.specs.Reads.{ReadsAs};
 ghost use Rattle.ob_spelling.specs.declared.fault.ValueFault.{ValueFault};
 
-use jiff::civil::Date;
-use jiff_core::civil;
+use jiff_core::civil::Date;
 use ob_spelling::{ValueFault, trimmed, two_digits};
 use std::marker::Model;
 
@@ -54,7 +53,7 @@ impl CivilDate {
         ensures since_year_1 { neg_ℤ (pos 719_162) ≤ℤ result }
         ensures to_year_9999 { result ≤ℤ pos 2_932_896 }
     {
-        self.date.to_plain().to_unix_epoch_day()
+        self.date.to_unix_epoch_day()
     }
 
     // The date with that day's number.
@@ -63,7 +62,7 @@ impl CivilDate {
         ensures { epoch_day result ≡ day }
     {
         CivilDate {
-            date: Date::from_plain(civil::Date::from_unix_epoch_day(day).unwrap()),
+            date: Date::from_unix_epoch_day(day).unwrap(),
         }
     }
 
@@ -72,11 +71,7 @@ impl CivilDate {
         ensures value { IsYmd result.0 (pos result.1) (pos result.2) self.now }
         ensures civil { IsCivil result.0 (pos result.1) (pos result.2) }
     {
-        (
-            self.date.year(),
-            self.date.month() as u8,
-            self.date.day() as u8,
-        )
+        (self.date.year, self.date.month, self.date.day)
     }
 }
 
