@@ -6,8 +6,6 @@ mod blocks;
 mod closed;
 mod laws;
 mod saying;
-#[cfg(test)]
-mod tests;
 mod writing;
 
 pub use blocks::Blocks;

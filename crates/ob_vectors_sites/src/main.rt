@@ -6,6 +6,7 @@ mod audits;
 mod desks;
 mod dialogue;
 mod dialogues;
+mod ends;
 mod kept;
 mod limits;
 mod links;
@@ -20,6 +21,7 @@ mod sizes;
 
 use desks::Desks;
 use dialogues::Dialogues;
+use ends::Ends;
 use kept::Kept;
 use limits::Limits;
 use links::Links;
@@ -48,8 +50,9 @@ fn run_sites<R: Print + Files + AllocGlobal + Threads + Wait + Sync>(rt: &R) -> 
     run_records(rt, lines.as_str())
 }
 
-// The records of the dialogues that the requests are.
+// Files of records, and the records of the dialogues that the requests are.
 fn run_records<R: Print + Files + AllocGlobal>(rt: &R, documents: &str) -> io::Result<()> {
+    run(rt, "ends.rows", &mut Ends)?;
     let dialogues = fs::read_to_string(rt, "requests.rows")?;
     let mut records = Records::new(rt.alloc(), dialogues.as_str(), documents);
     run(rt, "audits.rows", &mut records)
