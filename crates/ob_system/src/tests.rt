@@ -1,87 +1,181 @@
 use crate::host::without_brackets;
 use crate::refusal::Refusal;
 use crate::wait_time::WaitTime;
-use crate::{TcpDialer, TcpPort};
+use crate::{TcpDialer, TcpDoor, TcpLink, TcpPort};
 use ob_io::{Dialer, Door, Link, Port, send};
 use std::io;
-use std::process::Abort;
 use std::rt::Clock as Timer;
 use std::time::{Duration, Instant};
 
 // Lets a port listen on loopback, and gives the number.
-fn listen_somewhere<P: Port>(rt: &impl Abort, port: &mut P) -> u16 {
+fn listen_somewhere<P: Port>(port: &mut P) -> Option<u16> {
     for free in 42_000..42_100 {
         if port.listen("127.0.0.1", free).is_ok() {
-            return free;
+            return Some(free);
         }
     }
-    panic!(rt; "no port from 42000 to 42099 is free")
+    None
+}
+
+// Whether the next read of a link gives these bytes, which are 8 at most.
+fn reads<L: Link>(link: &mut L, bytes: &[u8]) -> bool {
+    let mut piece = [0u8; 8];
+    let Ok(length) = link.read(&mut piece) else {
+        return false;
+    };
+    match piece.get(..length) {
+        Some(read) => read == bytes,
+        None => false,
+    }
+}
+
+// Whether a door takes a link back in less than three seconds.
+fn takes_back<D: Door>(rt: &HostRuntime, door: &mut D, link: D::L) -> bool {
+    let begun = Instant::now(rt);
+    door.back(link);
+    let Ok(begun) = begun else {
+        return false;
+    };
+    match begun.elapsed(rt) {
+        Ok(gone) => gone.as_millis() < 3_000,
+        Err(_) => false,
+    }
+}
+
+// Whether an answer over bytes that weren't read comes whole, and the end behind it, though the near end stays open.
+fn answers<D: Door>(rt: &HostRuntime, door: &mut D, mut far: D::L, near: &mut D::L) -> bool {
+    let are_sent = send(near, b"more").is_ok() && send(&mut far, b"pong").is_ok();
+    let is_back = takes_back(rt, door, far);
+    are_sent && is_back && reads(near, b"pong") && reads(near, b"")
+}
+
+// Whether what the near end writes is what the door's end reads, and so back.
+fn carries<D: Door>(rt: &HostRuntime, door: &mut D, near: &mut D::L) -> bool {
+    let Ok(Some(mut far)) = door.accept() else {
+        return false;
+    };
+    let is_carried = send(near, b"ping").is_ok() && reads(&mut far, b"ping");
+    let is_answered = answers(rt, door, far, near);
+    is_carried && is_answered
+}
+
+// Whether a link that is dialled carries bytes to a door.
+fn dials<'a>(
+    rt: &'a HostRuntime,
+    door: &mut TcpDoor<'a, HostRuntime>,
+    dialer: &mut TcpDialer<'a, HostRuntime>,
+    number: u16,
+) -> bool {
+    let Ok(mut near) = dialer.dial("127.0.0.1", number) else {
+        return false;
+    };
+    let is_carried = carries(rt, door, &mut near);
+    dialer.back(near);
+    is_carried
+}
+
+// Whether a link to a port that listens carries bytes.
+fn opens<'a>(
+    rt: &'a HostRuntime,
+    port: &mut TcpPort<'a, HostRuntime>,
+    dialer: &mut TcpDialer<'a, HostRuntime>,
+    number: u16,
+) -> bool {
+    let Ok(mut door) = port.door() else {
+        return false;
+    };
+    let is_carried = dials(rt, &mut door, dialer, number);
+    port.back(door);
+    is_carried
+}
+
+// Whether both ends of a link read what the other one writes, and nothing is a fault.
+fn ends_meet(rt: &HostRuntime) -> bool {
+    let mut port = TcpPort::new(rt);
+    let mut dialer = TcpDialer::new(rt);
+    let is_carried = match listen_somewhere(&mut port) {
+        Some(number) => opens(rt, &mut port, &mut dialer, number),
+        None => false,
+    };
+    is_carried && (dialer.rose, dialer.faults, port.faults) == (false, 0, 0)
 }
 
 #[test]
 fn what_one_end_writes_the_other_reads(rt: HostRuntime) {
-    let mut port = TcpPort::new(&rt);
-    let number = listen_somewhere(&rt, &mut port);
-    let mut dialer = TcpDialer::new(&rt);
-    let (Ok(mut door), Ok(mut near)) = (port.door(), dialer.dial("127.0.0.1", number)) else {
-        panic!(rt; "no door or no link at port {number}")
+    assert!(rt; ends_meet(&rt), "or no port from 42000 to 42099 is free");
+}
+
+// Whether the door's end is closed over a byte that it didn't read, so that its system resets the connection.
+fn resets<'a>(
+    door: &mut TcpDoor<'a, HostRuntime>,
+    near: &mut TcpLink<'a, HostRuntime>,
+) -> bool {
+    let Ok(Some(far)) = door.accept() else {
+        return false;
     };
-    let Ok(Some(mut far)) = door.accept() else {
-        panic!(rt; "no link at the door")
-    };
-    assert!(rt; send(&mut near, b"ping").is_ok());
+    let is_sent = send(near, b"p").is_ok();
+    drop(far);
+    is_sent
+}
+
+// Whether each call on a link whose peer is gone is a fault.
+fn counts_faults(near: &mut TcpLink<'_, HostRuntime>) -> bool {
     let mut piece = [0u8; 8];
-    assert!(rt; far.read(&mut piece) == Ok(4));
-    assert!(rt; &piece[..4] == b"ping".as_slice());
-    // An answer over bytes that weren't read comes whole, and the end behind it, though this end stays open.
-    assert!(rt; send(&mut near, b"more").is_ok());
-    assert!(rt; send(&mut far, b"pong").is_ok());
-    let Ok(begun) = Instant::now(&rt) else {
-        panic!(rt; "no clock")
+    near.read(&mut piece).is_err()
+        && (near.read_faults, near.write_faults) == (1, 0)
+        && near.write(b"p").is_err()
+        && (near.read_faults, near.write_faults) == (1, 1)
+}
+
+// Whether a dialer counts a link whose peer is gone.
+fn is_reset<'a>(
+    door: &mut TcpDoor<'a, HostRuntime>,
+    dialer: &mut TcpDialer<'a, HostRuntime>,
+    number: u16,
+) -> bool {
+    let Ok(mut near) = dialer.dial("127.0.0.1", number) else {
+        return false;
     };
-    door.back(far);
-    assert!(rt;
-        begun
-            .elapsed(&rt)
-            .is_ok_and(|gone| gone.as_millis() < 3_000)
-    );
-    assert!(rt; near.read(&mut piece) == Ok(4));
-    assert!(rt; &piece[..4] == b"pong".as_slice());
-    assert!(rt; near.read(&mut piece) == Ok(0));
+    let is_counted = resets(door, &mut near) && counts_faults(&mut near);
     dialer.back(near);
-    port.back(door);
-    assert!(rt; (dialer.rose, dialer.faults, port.faults) == (false, 0, 0));
+    is_counted && (dialer.rose, dialer.faults) == (true, 1)
+}
+
+// Whether a port that another one has is a fault, and a door of a port that doesn't listen.
+fn is_taken(rt: &HostRuntime, number: u16) -> bool {
+    let mut second = TcpPort::new(rt);
+    second.listen("127.0.0.1", number).is_err() && second.door().is_err() && second.faults == 2
+}
+
+// Whether links to a door are counted that are reset, and the port is another one's.
+fn counts_resets<'a>(
+    rt: &'a HostRuntime,
+    port: &mut TcpPort<'a, HostRuntime>,
+    dialer: &mut TcpDialer<'a, HostRuntime>,
+    number: u16,
+) -> bool {
+    let Ok(mut door) = port.door() else {
+        return false;
+    };
+    is_reset(&mut door, dialer, number) && is_taken(rt, number)
+}
+
+// The number of a port at which nobody listens any more, where what went before was counted.
+fn listened_at<'a>(rt: &'a HostRuntime, dialer: &mut TcpDialer<'a, HostRuntime>) -> Option<u16> {
+    let mut port = TcpPort::new(rt);
+    let number = listen_somewhere(&mut port)?;
+    if counts_resets(rt, &mut port, dialer, number) {
+        return Some(number);
+    }
+    None
 }
 
 #[test]
 fn faults_are_counted(rt: HostRuntime) {
-    let mut port = TcpPort::new(&rt);
-    let number = listen_somewhere(&rt, &mut port);
     let mut dialer = TcpDialer::new(&rt);
-    let (Ok(mut door), Ok(mut near)) = (port.door(), dialer.dial("127.0.0.1", number)) else {
-        panic!(rt; "no door or no link at port {number}")
+    let Some(number) = listened_at(&rt, &mut dialer) else {
+        panic!(rt; "not counted, or no port from 42000 to 42099 is free")
     };
-    let Ok(Some(far)) = door.accept() else {
-        panic!(rt; "no link at the door")
-    };
-    // The peer is gone: it was closed over a byte that it didn't read, so that its system resets the connection.
-    assert!(rt; send(&mut near, b"p").is_ok());
-    drop(far);
-    let mut piece = [0u8; 8];
-    assert!(rt; near.read(&mut piece).is_err());
-    assert!(rt; (near.read_faults, near.write_faults) == (1, 0));
-    assert!(rt; near.write(b"p").is_err());
-    assert!(rt; (near.read_faults, near.write_faults) == (1, 1));
-    dialer.back(near);
-    assert!(rt; (dialer.rose, dialer.faults) == (true, 1));
-    // The port is taken, and one that doesn't listen gives no door.
-    let mut second = TcpPort::new(&rt);
-    assert!(rt; second.listen("127.0.0.1", number).is_err());
-    assert!(rt; second.door().is_err());
-    assert!(rt; second.faults == 2);
-    // Nobody listens any more.
-    drop(door);
-    drop(port);
     assert!(rt; dialer.dial("127.0.0.1", number).is_err());
     assert!(rt; (dialer.rose, dialer.faults) == (true, 2));
     assert!(rt; dialer.dial("[::1", number).is_err());
@@ -101,9 +195,19 @@ impl Timer for At {
     }
 }
 
+// Whether a call ends after so many seconds, when calls before have waited `before` and the peer may be silent for `silence`.
+fn ends_after(before: u16, silence: u16, end: u16) -> bool {
+    let Ok(wait) = WaitTime::new(&At(1_000), Duration::from_secs(u64::from(before))) else {
+        return false;
+    };
+    let (silence, end) = (u64::from(silence), 1_000 + u64::from(end));
+    wait.is_left(&At(end - 1), silence)
+        && !wait.is_left(&At(end), silence)
+        && wait.total(&At(end)).as_secs() == u64::from(before) + end - 1_000
+}
+
 #[test]
 fn a_wait_ends(rt: HostRuntime) {
-    // How long calls before have waited, how long the peer may be silent, when the time is up.
     for (before, silence, end) in [
         (0, 75, 75),
         (225, 75, 75),
@@ -111,23 +215,14 @@ fn a_wait_ends(rt: HostRuntime) {
         (299, 75, 1),
         (0, 300, 300),
     ] {
-        let Ok(wait) = WaitTime::new(&At(1_000), Duration::from_secs(before)) else {
-            panic!(rt; "no wait after {before} s")
-        };
-        assert!(rt;
-            wait.is_left(&At(1_000 + end - 1), silence),
-            "after {before} s"
-        );
-        assert!(rt;
-            !wait.is_left(&At(1_000 + end), silence),
-            "after {before} s"
-        );
-        assert!(rt;
-            wait.total(&At(1_000 + end)).as_secs() == before + end,
-            "after {before} s"
-        );
+        assert!(rt; ends_after(before, silence, end), "after {before} s");
     }
     assert!(rt; WaitTime::new(&At(1_000), Duration::from_secs(300)).is_err());
+}
+
+// Whether the error of this number is about that.
+fn is_about(code: i32, about: Refusal) -> bool {
+    Refusal::of(&io::Error::from_raw_os_error(code)) == about
 }
 
 #[test]
@@ -141,10 +236,7 @@ fn errors_of_accept_are_told_apart(rt: HostRuntime) {
         (9, Refusal::Door),
         (22, Refusal::Door),
     ] {
-        assert!(rt;
-            Refusal::of(&io::Error::from_raw_os_error(code)) == about,
-            "{code}"
-        );
+        assert!(rt; is_about(code, about), "{code}");
     }
 }
 

@@ -1,5 +1,6 @@
 use super::{DiskDevices, DiskFile};
 use ob_journal::{Device, DeviceFault, Devices, Extent, Journal, Sized, find, repair};
+use std::alloc::Global;
 use std::fs;
 use std::fs::{File, OpenOptions};
 use std::os::unix::fs::PermissionsExt;
@@ -16,54 +17,107 @@ fn emptied(rt: &HostRuntime) -> Result<(), Fail> {
     Ok(())
 }
 
+type Disk<'a> = DiskDevices<'a, HostRuntime>;
+
+// Whether the file of that name has these bytes.
+fn has_bytes(rt: &HostRuntime, bytes: &[u8]) -> bool {
+    match &fs::read(rt, NAME) {
+        Ok(found) => found.as_slice() == bytes,
+        Err(_) => false,
+    }
+}
+
+// Whether a device reads these bytes.
+fn reads(alloc: Global, device: &mut DiskFile, bytes: &[u8]) -> bool {
+    match &device.read(alloc) {
+        Ok(read) => read.as_slice() == bytes,
+        Err(_) => false,
+    }
+}
+
+// Whether the entries of a device's file go so far.
+fn goes_to(alloc: Global, device: &mut DiskFile, extent: Extent) -> bool {
+    match &device.read(alloc) {
+        Ok(bytes) => find::<Sized>(bytes) == Ok(extent),
+        Err(_) => false,
+    }
+}
+
+// Opens the file's journal, whose entries are to go so far.
+fn opened(alloc: Global, devices: &mut Disk<'_>, extent: Extent) -> Option<Journal<DiskFile>> {
+    let mut device = devices.open(alloc, NAME).ok()?;
+    if !goes_to(alloc, &mut device, extent) {
+        return None;
+    }
+    match repair::<DiskFile, Sized>(&mut device, extent) {
+        Ok(end) => Some(Journal { device, end }),
+        Err(_) => None,
+    }
+}
+
+fn appends_two(journal: &mut Journal<DiskFile>) -> bool {
+    journal.append::<Sized>(b"\x01a\0").is_ok() && journal.append::<Sized>(b"\x02bc\0").is_ok()
+}
+
+// Whether a file is made, and has the two entries that are appended.
+fn is_made(rt: &HostRuntime, devices: &mut Disk<'_>) -> bool {
+    let Some(mut journal) = opened(rt.alloc(), devices, Extent::Unmade) else {
+        return false;
+    };
+    let are_appended = appends_two(&mut journal);
+    let is_failed = devices.back(journal.device);
+    are_appended && !is_failed && has_bytes(rt, b"obix-record 1\n\x01a\n\x02bc\0")
+}
+
+// Whether a journal's file ends behind its gate.
+fn ends_at_gate(alloc: Global, journal: &mut Journal<DiskFile>) -> bool {
+    journal.end == 16
+        && reads(alloc, &mut journal.device, b"obix-record 1\n\x01a\0")
+        && journal.device.faults == 0
+}
+
+// Whether what a crash left behind the gate is cut off.
+fn is_cut_off(alloc: Global, devices: &mut Disk<'_>) -> bool {
+    let Some(mut journal) = opened(alloc, devices, Extent::Entries { end: 16 }) else {
+        return false;
+    };
+    let is_cut = ends_at_gate(alloc, &mut journal);
+    let is_failed = devices.back(journal.device);
+    is_cut && !is_failed
+}
+
 #[test]
 fn a_file_is_made_appended_to_and_read_again(rt: HostRuntime) -> Result<(), Fail> {
-    let alloc = rt.alloc();
     emptied(&rt)?;
     let mut devices = DiskDevices::new(&rt);
-    let mut device = devices.open(alloc, NAME)?;
-    let bytes = device.read(alloc)?;
-    assert!(rt; find::<Sized>(&bytes) == Ok(Extent::Unmade));
-    let end = repair::<DiskFile, Sized>(&mut device, Extent::Unmade)?;
-    let mut journal = Journal { device, end };
-    journal.append::<Sized>(b"\x01a\0")?;
-    journal.append::<Sized>(b"\x02bc\0")?;
-    assert!(rt; !devices.back(journal.device));
-    let left = fs::read(&rt, NAME)?;
-    assert_eq!(rt;
-        left.as_slice(),
-        b"obix-record 1\n\x01a\n\x02bc\0".as_slice()
-    );
-
-    // What a crash left behind the gate is cut off.
+    assert!(rt; is_made(&rt, &mut devices));
     fs::write(&rt, NAME, b"obix-record 1\n\x01a\0\x02b".as_slice())?;
-    let mut device = devices.open(alloc, NAME)?;
-    let bytes = device.read(alloc)?;
-    assert!(rt; find::<Sized>(&bytes) == Ok(Extent::Entries { end: 16 }));
-    let end = repair::<DiskFile, Sized>(&mut device, Extent::Entries { end: 16 })?;
-    assert!(rt; end == 16);
-    let left = device.read(alloc)?;
-    assert_eq!(rt; left.as_slice(), b"obix-record 1\n\x01a\0".as_slice());
-    assert!(rt; device.faults == 0);
-    assert!(rt; !devices.back(device));
+    assert!(rt; is_cut_off(rt.alloc(), &mut devices));
     assert!(rt; devices.faults == 0);
     Ok(())
 }
 
+// Whether a file can't be opened.
+fn fails(alloc: Global, devices: &mut Disk<'_>, name: &str) -> bool {
+    matches!(&devices.open(alloc, name), Err(DeviceFault::Failed))
+}
+
+// Whether a file that is open can't be opened again.
+fn is_locked(alloc: Global, devices: &mut Disk<'_>) -> bool {
+    let Ok(device) = devices.open(alloc, NAME) else {
+        return false;
+    };
+    let is_locked = fails(alloc, devices, NAME) && devices.faults == 1;
+    let is_failed = devices.back(device);
+    is_locked && !is_failed
+}
+
 #[test]
 fn a_file_has_one_owner(rt: HostRuntime) -> Result<(), Fail> {
-    let alloc = rt.alloc();
     emptied(&rt)?;
     let mut devices = DiskDevices::new(&rt);
-    let device = devices.open(alloc, NAME)?;
-    assert!(rt;
-        devices
-            .open(alloc, NAME)
-            .is_err_and(|fault| fault == DeviceFault::Failed)
-    );
-    assert!(rt; devices.faults == 1);
-    assert!(rt; !devices.back(device));
-    assert!(rt; devices.open(alloc, NAME).is_ok());
+    assert!(rt; is_locked(rt.alloc(), &mut devices));
+    assert!(rt; devices.open(rt.alloc(), NAME).is_ok());
     assert!(rt; devices.faults == 1);
     Ok(())
 }
@@ -71,7 +125,6 @@ fn a_file_has_one_owner(rt: HostRuntime) -> Result<(), Fail> {
 // A folder, a name below no folder, below a file, what is no regular file, and one that may not be written; root may write it.
 #[test]
 fn what_cannot_be_opened_is_counted(rt: HostRuntime) -> Result<(), Fail> {
-    let alloc = rt.alloc();
     emptied(&rt)?;
     let mut devices = DiskDevices::new(&rt);
     for (name, faults) in [
@@ -82,44 +135,52 @@ fn what_cannot_be_opened_is_counted(rt: HostRuntime) -> Result<(), Fail> {
         ("/dev/zero", 5),
         ("", 6),
     ] {
-        let opened = devices.open(alloc, name);
-        assert!(rt;
-            opened.is_err_and(|fault| fault == DeviceFault::Failed),
-            "{name}"
-        );
+        assert!(rt; fails(rt.alloc(), &mut devices, name), "{name}");
         assert!(rt; devices.faults == faults, "{name}");
     }
     fs::write(&rt, NAME, b"obix-record 1\0".as_slice())?;
     fs::set_permissions(&rt, NAME, fs::Permissions::from_mode(0o444))?;
     let is_refused = OpenOptions::new().write(true).open(&rt, NAME).is_err();
-    assert!(rt; devices.open(alloc, NAME).is_err() == is_refused);
+    assert!(rt; devices.open(rt.alloc(), NAME).is_err() == is_refused);
     assert!(rt; devices.faults == 6 + u64::from(is_refused));
     Ok(())
 }
 
-// A handle that may only read: each call that changes the file is a fault, and so are all on a full disk.
+// Whether each call that changes a file is a fault, where it may only be read.
+fn only_reads(alloc: Global, file: File) -> bool {
+    let mut device = DiskFile::new(file);
+    device.write_at(0, b"x") == Err(DeviceFault::Failed)
+        && device.cut(1) == Err(DeviceFault::Failed)
+        && device.faults == 2
+        && reads(alloc, &mut device, b"obix-record 1\0")
+}
+
+// Whether each call on a full disk is a fault.
+fn fails_full(alloc: Global, device: &mut DiskFile) -> bool {
+    device.write_at(0, b"x") == Err(DeviceFault::Failed)
+        && device.read(alloc).is_err()
+        && device.faults == 2
+}
+
+// Whether a journal on a full disk fails, and its device is counted when it comes back.
+fn is_full(alloc: Global, devices: &mut Disk<'_>, file: File) -> bool {
+    let mut device = DiskFile::new(file);
+    let is_full = fails_full(alloc, &mut device);
+    let mut journal = Journal { device, end: 13 };
+    let fails = journal.append::<Sized>(b"\x01a\0").is_err() && journal.device.faults == 3;
+    let is_failed = devices.back(journal.device);
+    is_full && fails && is_failed
+}
+
 #[test]
 fn calls_that_fail_are_counted(rt: HostRuntime) -> Result<(), Fail> {
-    let alloc = rt.alloc();
     emptied(&rt)?;
     fs::write(&rt, NAME, b"obix-record 1\0".as_slice())?;
-    let mut reader = DiskFile::new(File::open(&rt, NAME)?);
-    assert!(rt; reader.write_at(0, b"x") == Err(DeviceFault::Failed));
-    assert!(rt; reader.cut(1) == Err(DeviceFault::Failed));
-    assert!(rt; reader.faults == 2);
-    assert!(rt; reader.read(alloc)?.len() == 14);
-    let mut full = DiskFile::new(OpenOptions::new().write(true).open(&rt, "/dev/full")?);
-    assert!(rt; full.write_at(0, b"x") == Err(DeviceFault::Failed));
-    assert!(rt; full.read(alloc).is_err());
-    assert!(rt; full.faults == 2);
-    let mut journal = Journal {
-        device: full,
-        end: 13,
-    };
-    assert!(rt; journal.append::<Sized>(b"\x01a\0").is_err());
-    assert!(rt; journal.device.faults == 3);
+    let reader = File::open(&rt, NAME)?;
+    assert!(rt; only_reads(rt.alloc(), reader));
+    let full = OpenOptions::new().write(true).open(&rt, "/dev/full")?;
     let mut devices = DiskDevices::new(&rt);
-    assert!(rt; devices.back(journal.device));
+    assert!(rt; is_full(rt.alloc(), &mut devices, full));
     assert!(rt; devices.faults == 1);
     Ok(())
 }

@@ -1,6 +1,6 @@
 use super::{DiskFiles, StdSink, StdSource, SystemClock};
 use ob_io::{Clock, FileFault, Files, Sink, Source};
-use std::fs::OpenOptions;
+use std::fs::{File, OpenOptions};
 use std::io;
 use std::io::{ErrorKind, Read, Write};
 use std::rt::Clock as Timer;
@@ -40,40 +40,63 @@ impl Write for Rough {
     }
 }
 
-#[test]
-fn an_interruption_is_no_fault(rt: HostRuntime) {
+// Whether a read that is interrupted is tried again, and one that fails is a fault.
+fn reads_on() -> bool {
     let mut source = StdSource::new(Rough { calls: 0 });
     let mut piece = [0u8; 8];
-    assert!(rt; source.read(&mut piece) == Ok(3));
-    assert!(rt; source.read(&mut piece) == Ok(0));
-    assert!(rt; source.faults == 0);
-    assert!(rt; source.read(&mut piece).is_err());
-    assert!(rt; source.faults == 1);
+    source.read(&mut piece) == Ok(3)
+        && source.read(&mut piece) == Ok(0)
+        && source.faults == 0
+        && source.read(&mut piece).is_err()
+        && source.faults == 1
+}
+
+// Whether a write that is interrupted is tried again, and one that takes nothing is a fault, and one that fails.
+fn writes_on() -> bool {
     let mut sink = StdSink::new(Rough { calls: 0 });
-    assert!(rt; sink.write(b"four") == Ok(3));
-    assert!(rt; sink.faults == 0);
-    // A write that takes nothing, and one that fails.
-    assert!(rt; sink.write(b"four").is_err());
-    assert!(rt; sink.write(b"four").is_err());
-    assert!(rt; sink.faults == 2);
+    sink.write(b"four") == Ok(3)
+        && sink.faults == 0
+        && sink.write(b"four").is_err()
+        && sink.write(b"four").is_err()
+        && sink.faults == 2
+}
+
+#[test]
+fn an_interruption_is_no_fault(rt: HostRuntime) {
+    assert!(rt; reads_on());
+    assert!(rt; writes_on());
+}
+
+// Whether the files read so many bytes of a file, of 8 at most.
+fn reads_so_many(rt: &HostRuntime, files: &mut DiskFiles<'_, HostRuntime>, name: &str, length: usize) -> bool {
+    match &files.read_file(rt.alloc(), name, 8) {
+        Ok(bytes) => bytes.len() == length,
+        Err(_) => false,
+    }
+}
+
+// Whether a file can't be read.
+fn fails_to_read(rt: &HostRuntime, files: &mut DiskFiles<'_, HostRuntime>, name: &str) -> bool {
+    matches!(&files.read_file(rt.alloc(), name, 8), Err(FileFault::Failed))
 }
 
 #[test]
 fn files_that_cannot_be_read_are_counted(rt: HostRuntime) {
     let mut files = DiskFiles::new(&rt);
     for (name, faults) in [("/nowhere/at/all", 1), ("/", 2)] {
-        let read = files.read_file(rt.alloc(), name, 8);
-        assert!(rt;
-            read.is_err_and(|fault| fault == FileFault::Failed),
-            "{name}"
-        );
+        assert!(rt; fails_to_read(&rt, &mut files, name), "{name}");
         assert!(rt; files.faults == faults, "{name}");
     }
     for (name, length) in [("/dev/null", 0), ("/dev/zero", 8)] {
-        let read = files.read_file(rt.alloc(), name, 8);
-        assert!(rt; read.is_ok_and(|bytes| bytes.len() == length), "{name}");
+        assert!(rt; reads_so_many(&rt, &mut files, name, length), "{name}");
     }
     assert!(rt; files.faults == 2);
+}
+
+// Whether a write to a file is a fault.
+fn is_full(file: File) -> bool {
+    let mut sink = StdSink::new(file);
+    sink.write(b"x").is_err() && sink.faults == 1
 }
 
 #[test]
@@ -81,9 +104,7 @@ fn a_disk_that_is_full_is_counted(rt: HostRuntime) {
     let Ok(full) = OpenOptions::new().write(true).open(&rt, "/dev/full") else {
         panic!(rt; "no /dev/full")
     };
-    let mut sink = StdSink::new(full);
-    assert!(rt; sink.write(b"x").is_err());
-    assert!(rt; sink.faults == 1);
+    assert!(rt; is_full(full));
 }
 
 // A system whose clock tells so many seconds since 1970.
@@ -100,16 +121,20 @@ impl Timer for At {
     }
 }
 
-#[test]
-fn the_year_10000_is_a_fault(rt: HostRuntime) {
+// Whether a clock tells the last moment that there is.
+fn tells_last() -> bool {
     let last = At(253_402_300_799);
     let mut clock = SystemClock::new(&last);
-    assert!(rt;
-        clock
-            .now()
-            .is_ok_and(|moment| moment.ms() == 253_402_300_799_000)
-    );
-    assert!(rt; clock.faults == 0);
+    let is_told = match clock.now() {
+        Ok(moment) => moment.ms() == 253_402_300_799_000,
+        Err(_) => false,
+    };
+    is_told && clock.faults == 0
+}
+
+#[test]
+fn the_year_10000_is_a_fault(rt: HostRuntime) {
+    assert!(rt; tells_last());
     let next = At(253_402_300_800);
     let mut clock = SystemClock::new(&next);
     assert!(rt; clock.now().is_err());
