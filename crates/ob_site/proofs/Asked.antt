@@ -18,6 +18,8 @@ use Rattle.ob_site_state.specs.Contents.{state_in}
 use Rattle.ob_site_state.specs.Kept.{Kept}
 use Rattle.ob_site_state.specs.Stamping.{tree_of}
 use Rattle.ob_site_watched.specs.Answers.{IsDone, IsMade}
+use Rattle.ob_site_watched.specs.Polls.{target_steps, watch_steps}
+use Rattle.ob_site_watched.proofs.Polled.{none_for}
 use Rattle.ob_watch.specs.AsRules.{world_of}
 use Rattle.ob_watch.specs.Counted.{of_plan}
 use Rattle.ob_watch.specs.Flags.{flagged, flags_of}
@@ -51,14 +53,22 @@ none_live now n (w ∷ ws) none = go (w.0 == n) refl (is_over now w.1) (λ e. no
     go false e false behind = ap (λ (b : Bool). cond b (Some w.1) (lookup n (live now ws))) e ∙ behind (rest false e)
 
 -- no watch has the number
+gone : (k : Kept) (t : Table) (n : ℕ) → 2 ^ 64 ≤ n → ((i : ℕ) → get_or (numbers_of t.watches) i 0 < 2 ^ 64) → lookup n (flags_of (tree_of k) (live k.time t.watches)) ≡ None
+gone k t n l few =
+    (tables_agree k.plan (tree_of k)).looks_up n (live k.time t.watches) ∙ ap (λ (w : Option Leased). option_map (flagged (tree_of k)) w) (none_live k.time n t.watches (none_there n t.watches l few))
+
 pub beyond : (k : Kept) (t : Table) (r : Request) (n : ℕ) (op : WatchOperation) (o : Object) → 2 ^ 64 ≤ n → ((i : ℕ) → get_or (numbers_of t.watches) i 0 < 2 ^ 64) → o ≡ err NoSuchObject
     → IsQuiet k t t r (OneWatch n op) o
 beyond k t r n op o l few e =
-    let gone : lookup n (flags_of (tree_of k) (live k.time t.watches)) ≡ None =
-    (tables_agree k.plan (tree_of k)).looks_up n (live k.time t.watches) ∙ ap (λ (w : Option Leased). option_map (flagged (tree_of k)) w) (none_live k.time n t.watches (none_there n t.watches l few)) in record {
-      world = sym (ap (λ (found : Option (WatchOf Text Path Filter)). (on_watch (of_plan k.plan) (world_of k.plan k.time k.now (tree_of k) (lapsed_at k.time t)) n op found).0) gone);
-      reply = e ∙ sym (ap (λ (found : Option (WatchOf Text Path Filter)). sent k.plan (on_watch (of_plan k.plan) (world_of k.plan k.time k.now (tree_of k) (lapsed_at k.time t)) n op found).1) gone);
+    let none = gone k t n l few in record {
+      world = sym (ap (λ (found : Option (WatchOf Text Path Filter)). (on_watch (of_plan k.plan) (world_of k.plan k.time k.now (tree_of k) (lapsed_at k.time t)) n op found).0) none);
+      reply = e ∙ sym (ap (λ (found : Option (WatchOf Text Path Filter)). sent k.plan (on_watch (of_plan k.plan) (world_of k.plan k.time k.now (tree_of k) (lapsed_at k.time t)) n op found).1) none);
     }
+
+-- so nothing is counted for it
+pub beyond_steps : (k : Kept) (t : Table) (n : ℕ) (op : WatchOperation) → 2 ^ 64 ≤ n → ((i : ℕ) → get_or (numbers_of t.watches) i 0 < 2 ^ 64)
+    → target_steps k.plan (world_of k.plan k.time k.now (tree_of k) (lapsed_at k.time t)) (OneWatch n op) ≡ 0
+beyond_steps k t n op l few = ap (λ (found : Option (WatchOf Text Path Filter)). watch_steps k.plan k.now found op) (gone k t n l few) ∙ none_for k.plan k.now op
 
 -- a watch is made
 pub made_so : (k : Kept) (plan : Plan) (now : ℕ) (t u : Table) (o : Object) → plan ≡ k.plan → now ≡ k.time → IsMade plan now t u o → (r : Request) → IsQuiet k t u r NewWatch o
@@ -87,3 +97,12 @@ asked_so k plan now c t u n op o a b d e is r =
     (subst (λ (s : State). Answers plan now s (tree_of k) t u n op o) d
     (subst (λ (x : Stamped). Answers plan now (state_in c) x t u n op o) e first))) in
     record { world = all.0; reply = all.1 }
+
+-- what is counted for it
+pub asked_steps : (k : Kept) (plan : Plan) (now : ℕ) (c : Contents) (t : Table) (n : ℕ) (op : WatchOperation) → plan ≡ k.plan → now ≡ k.time → state_in c ≡ k.now → c.ground.tree ≡ tree_of k
+    → watch_steps plan (state_in c) (lookup n (flags_of c.ground.tree (live now t.watches))) op ≡ target_steps k.plan (world_of k.plan k.time k.now (tree_of k) (lapsed_at k.time t)) (OneWatch n op)
+asked_steps k plan now c t n op a b d e =
+    ap (λ (p : Plan). watch_steps p (state_in c) (lookup n (flags_of c.ground.tree (live now t.watches))) op) a
+    ∙ ap (λ (s : State). watch_steps k.plan s (lookup n (flags_of c.ground.tree (live now t.watches))) op) d
+    ∙ ap (λ (x : Stamped). watch_steps k.plan k.now (lookup n (flags_of x (live now t.watches))) op) e
+    ∙ ap (λ (m : ℕ). watch_steps k.plan k.now (lookup n (flags_of (tree_of k) (live m t.watches))) op) b

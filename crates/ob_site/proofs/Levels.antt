@@ -11,7 +11,7 @@ use Rattle.ob_opening.specs.Roles.{all_roles, is_dropped, role_at}
 use Rattle.ob_consistent_laws.proofs.Begins.{Begins, begins, words_of}
 use Rattle.ob_site_rules.specs.Build.{Path, Text}
 use Rattle.ob_site_rules.specs.Sites.{SiteState}
-use Rattle.ob_site_watched.specs.Polls.{steps_for, steps_in}
+use Rattle.ob_site_watched.specs.Polls.{steps_for}
 use Rattle.ob_tree.specs.Depths.{levels}
 use Rattle.ob_tree.specs.Laid.{changed_in, changed}
 use Rattle.ob_tree.specs.Shown.{row}
@@ -66,9 +66,6 @@ opened_shallow root boot st opens shallow =
     subst (λ (x : SiteState). IsShallow x.world.site.tree) b.opens.is all
 
 -- as many steps or more, where more are round each object
-steps_more : (a b : ℕ) (os : List Object) → a ≤ b → steps_for a os ≤ steps_for b os
-steps_more a b [] le = omega arith
-steps_more a b (o ∷ os) le = omega (arith, le, steps_more a b os le)
-
-pub steps_at_most : (old new : ℕ) (root : Object) (os : List Object) → IsShallow root → new ≤ old + steps_in root os → new ≤ old + steps_for 32 os
-steps_at_most old new root os shallow h = omega (arith, h, steps_more (levels (row root)) 32 os shallow)
+pub more_round : (a b : ℕ) (os : List Object) → a ≤ b → steps_for a os ≤ steps_for b os
+more_round a b [] le = omega arith
+more_round a b (o ∷ os) le = omega (arith, le, more_round a b os le)

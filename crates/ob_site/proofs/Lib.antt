@@ -12,6 +12,7 @@ pub mod Renumbered
 pub mod Restarted
 pub mod Sound
 pub mod Stepped
+pub mod Counts
 pub mod Keeping
 pub mod Crossing
 mod OwnAt

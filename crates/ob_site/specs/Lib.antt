@@ -4,5 +4,6 @@ pub mod Between
 pub mod Noted
 pub mod Keeping
 pub mod Steps
+pub mod Counts
 pub mod Ending
 pub mod Worked

@@ -1,10 +1,10 @@
 //! A site.
-ghost use Rattle.std.specs.Prelude.{◌≡◌, ◌↔◌, ℕ, ◌+◌, ◌<◌, ◌≤◌, IsTrue, IfOk, OnOk, OnErr, option_copied};
-ghost use Rattle.ob_watching.specs.Asked.{OneWatch, PollChanges};
+ghost use Rattle.std.specs.Prelude.{◌≡◌, ◌↔◌, ◌+◌, ◌<◌, ◌≤◌, IsTrue, IfOk, OnOk, OnErr, option_copied};
 ghost use Rattle.ob_watching.specs.Watches.{last_number};
 ghost use Rattle.ob_site_rules.specs.Locating.{locate};
-ghost use Rattle.ob_site_rules.specs.Sites.{site, step};
+ghost use Rattle.ob_site_rules.specs.Sites.{step};
 ghost use Rattle.ob_site_watched.specs.Polls.{object_entries, steps_for};
+ghost use Rattle.ob_site.specs.Counts.{request_steps};
 ghost use Rattle.ob_site.specs.Keeping.{Keeps, MayKeep, stepping};
 ghost use Rattle.ob_points.specs.Points.{point_at, passes};
 
@@ -89,7 +89,8 @@ impl Site {
         ensures refused { OnErr result (self.new ≡ self.old) }
         ensures keeps { OnOk result (Keeps K.below K.keeps keeper.old keeper.new (stepping self.old request.now moment)) }
         ensures may_keep { OnErr result (MayKeep K.below K.may_keep keeper.old keeper.new (stepping self.old request.now moment)) }
-        ensures steps { IfOk result (λ reply. steps.new ≤ steps.old + steps_for 32 (object_entries reply)) }
+        ensures steps { IfOk result (λ _. steps.new ≡ steps.old + request_steps self.old request.now moment) }
+        ensures at_most { IfOk result (λ reply. steps.new ≤ steps.old + steps_for 32 (object_entries reply)) }
     {
         step(
             &mut self.state,
@@ -104,9 +105,11 @@ impl Site {
     /// Does one request at a moment, and gives the reply, as `Machine::step` does, with a counter of the steps that a
     /// poll takes. A step is a view taken of what an object inherits, or one object of an effective object that is built.
     ///
-    /// A pollChanges that is answered counts at most as many steps as the entries for objects that it reports have parts,
-    /// and for each of them 32, for the objects round it: a site has at most the 32 levels of its document. So it counts
-    /// none where it reports no object. Other requests count none. Want of memory leaves the site as it was.
+    /// How many it counts is a function of the site, the request and the moment: for a pollChanges on a watch that stands, of
+    /// each item on an object that has changed, the objects round it and the parts of what is shown there; for every other
+    /// request none. So a poll counts at most as many steps as the entries for objects that it reports have parts, and for each of
+    /// them 32, for the objects round it: a site has at most the 32 levels of its document. Want of memory leaves the site as it
+    /// was.
     ///
     /// Source: oBIX 1.1, chapter 12 (Watch.pollChanges).
     pub fn step_counted<L: Ledger>(
@@ -117,8 +120,8 @@ impl Site {
     ) -> Result<Obj, AllocError>
         ensures done { IfOk result (λ reply. step locate self.old request.now moment ≡ (self.new, reply)) }
         ensures refused { OnErr result (self.new ≡ self.old) }
-        ensures polls { IfOk result (λ reply. (number : ℕ) → (site locate self.old.plan).target request.now ≡ OneWatch number PollChanges
-            → steps.new ≤ steps.old + steps_for 32 (object_entries reply)) }
+        ensures steps { IfOk result (λ _. steps.new ≡ steps.old + request_steps self.old request.now moment) }
+        ensures at_most { IfOk result (λ reply. steps.new ≤ steps.old + steps_for 32 (object_entries reply)) }
     {
         let mut nobody = Nobody;
         self.step_with(&mut nobody, request, moment, steps)

@@ -3,9 +3,13 @@ ghost use Rattle.std.specs.Prelude.{◌≡◌, ◌+◌, ◌≤◌, IfOk, OnOk, O
 ghost use Rattle.ob_site_rules.specs.Locating.{locate};
 ghost use Rattle.ob_site_rules.specs.Sites.{site, step};
 ghost use Rattle.ob_requests.specs.Targets.{IsTarget};
-ghost use Rattle.ob_site_watched.specs.Polls.{object_entries, steps_for, steps_in};
+ghost use Rattle.ob_site_state.specs.Stamping.{tree_of};
+ghost use Rattle.ob_watch.specs.AsRules.{world_of};
+ghost use Rattle.ob_watch.specs.Tables.{lapsed_at};
+ghost use Rattle.ob_site_watched.specs.Polls.{object_entries, steps_for, target_steps};
 ghost use Rattle.ob_site.specs.Between.{IsBegun, IsSite};
 ghost use Rattle.ob_site.specs.Keeping.{Keeps, MayKeep, stepping};
+ghost use Rattle.ob_site.specs.Counts.{request_steps};
 ghost use Rattle.ob_site.specs.Steps.{IsAnswered, IsUnanswered, step_of};
 ghost use Rattle.ob_site.specs.Views.{site_of};
 
@@ -48,7 +52,7 @@ fn answer<L: Ledger, K: Keeper>(
     ensures err { OnErr result (IsUnanswered state.old state.new watches.old watches.new) }
     ensures keeps { OnOk result (Keeps K.below K.keeps keeper.old keeper.new (step_of state.old watches.old request.now ((site locate state.old.plan).target request.now))) }
     ensures may_keep { OnErr result (MayKeep K.below K.may_keep keeper.old keeper.new (step_of state.old watches.old request.now ((site locate state.old.plan).target request.now))) }
-    ensures steps { IfOk result (λ o. steps.new ≤ steps.old + steps_in state.old.now.tree (object_entries o)) }
+    ensures steps { IfOk result (λ _. steps.new ≡ steps.old + target_steps state.old.plan (world_of state.old.plan state.old.time state.old.now (tree_of state.old) (lapsed_at state.old.time watches.old)) ((site locate state.old.plan).target request.now)) }
 {
     match target(state, request)? {
         Target::Itself => on_itself(state, watches, keeper, request),
@@ -76,7 +80,8 @@ pub(crate) fn step<L: Ledger, K: Keeper>(
     ensures kept { IsSite state.new watches.new }
     ensures keeps { OnOk result (Keeps K.below K.keeps keeper.old keeper.new (stepping (site_of state.old watches.old) request.now moment)) }
     ensures may_keep { OnErr result (MayKeep K.below K.may_keep keeper.old keeper.new (stepping (site_of state.old watches.old) request.now moment)) }
-    ensures steps { IfOk result (λ o. steps.new ≤ steps.old + steps_for 32 (object_entries o)) }
+    ensures steps { IfOk result (λ _. steps.new ≡ steps.old + request_steps (site_of state.old watches.old) request.now moment) }
+    ensures at_most { IfOk result (λ reply. steps.new ≤ steps.old + steps_for 32 (object_entries reply)) }
 {
     make_room(state, watches);
     state.begin(moment);

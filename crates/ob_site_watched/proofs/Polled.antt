@@ -1,39 +1,149 @@
--- The steps that a poll takes are those of the objects that it reports.
-use Rattle.std.proofs.Common.{◌≡◌, ℕ, ◌+◌, ◌<◌, ◌≤◌, Bool, true, false, cond, ◌&&◌, List, [], ◌∷◌, ◌++◌, map, Option, Some, None, refl, sym, ap, ◌∙◌, subst, arith}
-use Rattle.std.specs.Prelude.{min, is_none, is_some, unwrap_or, option_to_list, Result, Ok, Err, IfOk}
-use Rattle.std.specs.List.{list_all}
-use Rattle.std.specs.declared.alloc.AllocError.{AllocError}
+-- The steps that a poll takes, and that they are those of the objects that it reports.
+use Rattle.std.proofs.Common.{◌≡◌, ℕ, ◌+◌, ◌-◌, ◌^◌, ◌<◌, ◌≤◌, Bool, true, false, cond, ◌&&◌, ◌||◌, List, [], ◌∷◌, ◌++◌, map, length, take, get_or, Option, Some, None, refl, sym, ap, ◌∙◌, subst, arith}
+use Rattle.std.specs.Prelude.{min, is_none, is_some, option_map, unwrap_or, Result, Ok, Err, IfOk}
+use Rattle.std.specs.List.{filter, list_all, list_any}
+use Rattle.std.proofs.lemmas.List.{map-append, take_more}
 use Rattle.ob_object.specs.Object.{Object, parts, listed-in_row}
+use Rattle.ob_history.specs.declared.records.Filter.{Filter}
+use Rattle.ob_watching.specs.Asked.{Look, Renew, Add, Remove, PollChanges, PollRefresh, Delete, Refuse, Itself, Nowhere, NewWatch, OneWatch}
+use Rattle.ob_watching.specs.Tables.{lookup}
+use Rattle.ob_watching.specs.Watches.{TrackedOf, ItemOf, WatchOf, World, acted, changes, changes_of, on_watch}
+use Rattle.ob_watching.specs.Watches as rules
 use Rattle.ob_watching.specs.WatchOuts.{entries_of}
-use Rattle.ob_site_rules.specs.Build.{Text, under_href}
+use Rattle.ob_site_laws.proofs.Plain.{watched_plain}
+use Rattle.ob_site_rules.specs.Build.{Path, Text, under_href}
 use Rattle.ob_site_rules.specs.Computed.{watch_out}
-use Rattle.ob_site_rules.specs.Replies.{Reading, entry, is_plain}
+use Rattle.ob_site_rules.specs.declared.request.Request.{Request}
+use Rattle.ob_site_rules.specs.Replies.{Reading, entry, is_plain, sent}
+use Rattle.ob_site_rules.specs.Sites.{watched_object}
+use Rattle.ob_site_rules.specs.State.{Plan, State}
+use Rattle.ob_site_rules.specs.Watched.{SiteTarget, WatchOperation}
+use Rattle.ob_tree.specs.declared.node.NodeId.{NodeId}
 use Rattle.ob_tree.specs.Depths.{depth_at, levels}
+use Rattle.ob_tree.specs.Laid.{paths}
+use Rattle.ob_tree.specs.Paths.{place_of}
 use Rattle.ob_tree.specs.Shown.{row}
+use Rattle.ob_tree.specs.Trees.{Stamped}
 use Rattle.ob_tree.proofs.Deep.{depths_are_levels}
-use Rattle.ob_site_watched.specs.Polls.{is_of_object, of_objects, object_entries, steps_for, steps_in}
+use Rattle.ob_tree.proofs.Within.{place_within}
+use Rattle.ob_watch.specs.declared.item.Item.{Item}
+use Rattle.ob_watch.specs.declared.item.Tracked.{Tracked}
+use Rattle.ob_watch.specs.declared.item.Tracked.TheVariants as kept
+use Rattle.ob_watch.specs.Counted.{of_plan}
+use Rattle.ob_watch.specs.Flags.{flag_of, flagged, flags, flags_of}
+use Rattle.ob_watch.specs.Items.{is_due, is_due_by}
+use Rattle.ob_watch.specs.Tables.{Leased}
+use Rattle.ob_watch.proofs.LawLemmas.{tables_agree}
+use Rattle.ob_site_watched.specs.Polls.{is_of_object, item_steps, items_in, object_entries, of_objects, poll_steps, round_at, steps_for, steps_in, target_steps, watch_steps}
 
 rest_true : (a b : Bool) → (a && b) ≡ true → b ≡ true
 rest_true true b h = h
 rest_true false b h = absurd cc
 
--- what nothing was counted for
-pub unmoved : (root : Object) (steps : ℕ) (r : Result Object AllocError) → IfOk r (λ o. steps ≤ steps + steps_in root (object_entries o))
-unmoved root steps (Ok o) = omega arith
-unmoved root steps (Err e) = tt
+plus_zero : (n : ℕ) → n + 0 ≡ n
+plus_zero n = omega arith
 
-one_for : (round depth old new most : ℕ) (o : Object) → is_of_object o ≡ true → depth < round → new ≡ old + depth + min (parts o) most
-    → new ≤ old + steps_for round (of_objects (o ∷ []))
-one_for round depth old new most o is less e =
-    subst (λ (b : Bool). new ≤ old + steps_for round (cond b (o ∷ []) [])) (sym is) (omega (arith, less, e))
+pub no_more : (n : ℕ) → n ≡ n + 0
+no_more n = omega arith
 
--- an object that was read
-pub read_for : (root : Object) (n old new most : ℕ) (o : Object) → n < parts root → is_plain o ≡ true
-    → new ≡ old + depth_at n root + min (parts o) most → new ≤ old + steps_in root (of_objects (option_to_list (Some o)))
-read_for root n old new most o within plain e =
-    one_for (levels (row root)) (depth_at n root) old new most o (rest_true (is_none o.head.href) (is_of_object o) plain) (depths_are_levels root n within) e
+pub none_more : (n m : ℕ) → m ≡ 0 → n ≡ n + m
+none_more n m e = omega (arith, e)
 
--- one entry after others
+-- a fact that doesn't depend on the result
+pub whatever : {A E : Type 0} (r : Result A E) (P : Type 0) → P → IfOk r (λ _. P)
+whatever (Ok x) P p = p
+whatever (Err e) P p = tt
+
+-- what was counted for an object that was read, since it is due
+pub object_steps : (plan : Plan) (s : State) (t : Stamped) (path : Path) (k : Tracked) (node : NodeId) (mark : ℕ) (o : Object) (old new : ℕ)
+    → k ≡ kept.Object node mark → is_due_by t k ≡ true → place_of path (paths s.tree) ≡ Some node.number → o ≡ watched_object plan s path
+    → new ≡ old + depth_at node.number s.tree + min (parts o) (2 ^ 64 - 1) → new ≡ old + item_steps plan s path (flag_of t k)
+object_steps plan s t path k node mark o old new is due placed read steps =
+    let below : is_due_by t (kept.Object node mark) ≡ true = subst (λ (x : Tracked). is_due_by t x ≡ true) is due in
+    let round : round_at s.tree path ≡ depth_at node.number s.tree = ap (λ (n : Option ℕ). unwrap_or (option_map (λ m. depth_at m s.tree) n) 0) placed in
+    let whole : parts o ≡ parts (watched_object plan s path) = ap parts read in
+    let counted : new ≡ old + item_steps plan s path (rules.Object true) =
+    steps
+    ∙ ap (λ (n : ℕ). old + depth_at node.number s.tree + min n (2 ^ 64 - 1)) whole
+    ∙ ap (λ (n : ℕ). old + n + min (parts (watched_object plan s path)) (2 ^ 64 - 1)) (sym round)
+    ∙ added old (round_at s.tree path) (min (parts (watched_object plan s path)) (2 ^ 64 - 1)) in
+    subst (λ (x : Tracked). new ≡ old + item_steps plan s path (flag_of t x)) (sym is)
+    (subst (λ (b : Bool). new ≡ old + item_steps plan s path (rules.Object b)) (sym below) counted)
+  where
+    added : (a b c : ℕ) → a + b + c ≡ a + (b + c)
+    added a b c = omega arith
+
+-- for a feed nothing is counted
+pub feed_steps : (plan : Plan) (s : State) (t : Stamped) (path : Path) (k : Tracked) (filter : Filter) (given total : ℕ) (due : Bool) (old : ℕ)
+    → k ≡ kept.Feed filter given total due → old ≡ old + item_steps plan s path (flag_of t k)
+feed_steps plan s t path k filter given total due old is = subst (λ (x : Tracked). old ≡ old + item_steps plan s path (flag_of t x)) (sym is) (no_more old)
+
+-- nor for what isn't due
+pub idle_steps : (plan : Plan) (s : State) (t : Stamped) (path : Path) (k : Tracked) → is_due_by t k ≡ false → item_steps plan s path (flag_of t k) ≡ 0
+idle_steps plan s t path (kept.Object node mark) idle = ap (λ (b : Bool). item_steps plan s path (rules.Object b)) idle
+idle_steps plan s t path (kept.Feed filter given total due) idle = refl
+
+-- so nothing is where nothing is due
+pub none_steps : (plan : Plan) (s : State) (t : Stamped) (items : List Item) → list_any (is_due t) items ≡ false → poll_steps plan s (map (flags t) items) ≡ 0
+none_steps plan s t [] none = refl
+none_steps plan s t (i ∷ items) none =
+    let both = none_of (is_due t i) (list_any (is_due t) items) none in
+    nothing (item_steps plan s i.path (flag_of t i.tracked)) (poll_steps plan s (map (flags t) items)) (idle_steps plan s t i.path i.tracked both.0) (none_steps plan s t items both.1)
+  where
+    nothing : (a b : ℕ) → a ≡ 0 → b ≡ 0 → a + b ≡ 0
+    nothing a b x y = omega (arith, x, y)
+
+    none_of : (a b : Bool) → (a || b) ≡ false → (a ≡ false) × (b ≡ false)
+    none_of true b none = absurd (let e : true ≡ false = none in cc)
+    none_of false b none = (refl, none)
+
+nothing_before : (n : ℕ) → n ≡ 0 + n
+nothing_before n = omega arith
+
+one_before : (a bc b c : ℕ) → bc ≡ b + c → a + bc ≡ a + b + c
+one_before a bc b c e = omega (arith, e)
+
+poll_append : (plan : Plan) (s : State) (xs ys : List (ItemOf Text Path Filter)) → poll_steps plan s (xs ++ ys) ≡ poll_steps plan s xs + poll_steps plan s ys
+poll_append plan s [] ys = nothing_before (poll_steps plan s ys)
+poll_append plan s (x ∷ xs) ys = one_before (item_steps plan s x.path x.tracked) (poll_steps plan s (xs ++ ys)) (poll_steps plan s xs) (poll_steps plan s ys) (poll_append plan s xs ys)
+
+-- the steps for one more item
+pub steps_more : (plan : Plan) (s : State) (t : Stamped) (items : List Item) (k : ℕ) (i : Item) (old between new : ℕ) → k < length items → i ≡ get_or items k i
+    → between ≡ old + poll_steps plan s (map (flags t) (take k items)) → new ≡ between + item_steps plan s i.path (flag_of t i.tracked)
+    → new ≡ old + poll_steps plan s (map (flags t) (take (k + 1) items))
+steps_more plan s t items k i old between new l at before here =
+    let last : poll_steps plan s (map (flags t) (i ∷ [])) ≡ item_steps plan s i.path (flag_of t i.tracked) = plus_zero (item_steps plan s i.path (flag_of t i.tracked)) in
+    let all : poll_steps plan s (map (flags t) (take (k + 1) items)) ≡ poll_steps plan s (map (flags t) (take k items)) + poll_steps plan s (map (flags t) (i ∷ [])) =
+    ap (λ (is : List Item). poll_steps plan s (map (flags t) is)) (take_more items k i l ∙ ap (λ (j : Item). take k items ++ j ∷ []) (sym at))
+    ∙ ap (poll_steps plan s) (map-append (flags t) (take k items) (i ∷ []))
+    ∙ poll_append plan s (map (flags t) (take k items)) (map (flags t) (i ∷ [])) in
+    omega (arith, before, here, last, all)
+
+-- the steps of an operation on a watch that stands
+pub asked_there : (plan : Plan) (s : State) (t : Stamped) (n : ℕ) (ws : List (ℕ × Leased)) (w : Leased) (op : WatchOperation) (old new : ℕ) → lookup n ws ≡ Some w
+    → new ≡ old + watch_steps plan s (Some (flagged t w)) op → new ≡ old + watch_steps plan s (lookup n (flags_of t ws)) op
+asked_there plan s t n ws w op old new there steps =
+    subst (λ (v : Option (WatchOf Text Path Filter)). new ≡ old + watch_steps plan s v op)
+    (sym ((tables_agree plan t).looks_up n ws ∙ ap (λ (v : Option Leased). option_map (flagged t) v) there)) steps
+
+-- where no watch stands, none are taken
+pub none_for : (plan : Plan) (s : State) (op : WatchOperation) → watch_steps plan s None op ≡ 0
+none_for plan s (Look part) = refl
+none_for plan s (Renew input) = refl
+none_for plan s (Add asked) = refl
+none_for plan s (Remove texts) = refl
+none_for plan s PollChanges = refl
+none_for plan s PollRefresh = refl
+none_for plan s Delete = refl
+none_for plan s (Refuse fault) = refl
+
+pub none_asked : (plan : Plan) (s : State) (t : Stamped) (n : ℕ) (ws : List (ℕ × Leased)) (op : WatchOperation) (old : ℕ) → lookup n ws ≡ None → old ≡ old + watch_steps plan s (lookup n (flags_of t ws)) op
+none_asked plan s t n ws op old none =
+    let gone : lookup n (flags_of t ws) ≡ None = (tables_agree plan t).looks_up n ws ∙ ap (λ (v : Option Leased). option_map (flagged t) v) none in
+    let zero : watch_steps plan s (lookup n (flags_of t ws)) op ≡ 0 = ap (λ (v : Option (WatchOf Text Path Filter)). watch_steps plan s v op) gone ∙ none_for plan s op in
+    omega (arith, zero)
+
+-- The steps of a poll are at most those for the objects that it reports.
 steps_append : (round : ℕ) (xs ys : List Object) → steps_for round (of_objects (xs ++ ys)) ≡ steps_for round (of_objects xs) + steps_for round (of_objects ys)
 steps_append round [] ys = omega arith
 steps_append round (x ∷ xs) ys =
@@ -42,40 +152,76 @@ steps_append round (x ∷ xs) ys =
       | false ↦ steps_append round xs ys
     ]
 
-entry_same : (round : ℕ) (t : Option Text) (o : Object) → steps_for round (of_objects (under_href t o ∷ [])) ≡ steps_for round (of_objects (o ∷ []))
-entry_same round t o =
-    elim (is_of_object o) as (λ b. steps_for round (cond b (under_href t o ∷ []) []) ≡ steps_for round (cond b (o ∷ []) [])) [
-      | true ↦ refl
-      | false ↦ refl
-    ]
+one_for : (round depth most : ℕ) (t : Option Text) (o : Object) → is_of_object o ≡ true → depth ≤ round → depth + min (parts o) most ≤ steps_for round (of_objects (under_href t o ∷ []))
+one_for round depth most t o is less =
+    let here : depth + min (parts o) most ≤ parts o + round + 0 = omega (arith, less) in
+    subst (λ (b : Bool). depth + min (parts o) most ≤ steps_for round (cond b (under_href t o ∷ []) [])) (sym is) here
 
-pub pushed_for : (root : Object) (old new : ℕ) (t : Option Text) (o e : Object) (es more : List Object) → e ≡ under_href t o → more ≡ es ++ e ∷ []
-    → new ≤ old + steps_in root (of_objects (option_to_list (Some o)))
-    → new + steps_in root (of_objects es) ≤ old + steps_in root (of_objects more)
-pushed_for root old new t o e es more is at h =
-    let round : ℕ = levels (row root) in
-    let all : steps_for round (of_objects more) ≡ steps_for round (of_objects es) + steps_for round (of_objects (o ∷ [])) =
-    ap (λ (l : List Object). steps_for round (of_objects l)) at
-    ∙ steps_append round es (e ∷ [])
-    ∙ ap (λ (k : ℕ). steps_for round (of_objects es) + k) (ap (λ (x : Object). steps_for round (of_objects (x ∷ []))) is ∙ entry_same round t o) in
-    omega (arith, all, h)
+together : (a b x y all : ℕ) → a ≤ x → b ≤ y → all ≡ x + y → a + b ≤ all
+together a b x y all p q e = omega (arith, p, q, e)
 
-all_hrefs : (rs : List Reading) → list_all (λ (item : Object). is_some item.head.href) (map entry rs) ≡ true
-all_hrefs [] = refl
-all_hrefs (r ∷ rs) = all_hrefs rs
+none_least : (n : ℕ) → 0 ≤ n
+none_least n = omega arith
 
--- the entries of a WatchOut are those that it was made of
-entries_are : (rs : List Reading) → entries_of (watch_out (map entry rs)) ≡ Some (map entry rs)
-entries_are rs =
-    ap (λ (os : List Object). cond (list_all (λ item. is_some item.head.href) os) (Some os) None) (listed-in_row (map entry rs))
-    ∙ ap (λ (b : Bool). cond b (Some (map entry rs)) None) (all_hrefs rs)
+round_within : (root : Object) (n : Option ℕ) → ((m : ℕ) → n ≡ Some m → m < parts root) → unwrap_or (option_map (λ m. depth_at m root) n) 0 ≤ levels (row root)
+round_within root None within = none_least (levels (row root))
+round_within root (Some m) within =
+    let less : depth_at m root < levels (row root) = depths_are_levels root m (within m refl) in
+    let most : depth_at m root ≤ levels (row root) = omega (arith, less) in
+    most
 
-out_entries : (rs : List Reading) → object_entries (watch_out (map entry rs)) ≡ of_objects (map entry rs)
-out_entries rs = ap (λ (os : Option (List Object)). of_objects (unwrap_or os [])) (entries_are rs)
+module _ (plan : Plan) (s : State) where
+  item_at_most : (text : Text) (path : Path) (t : TrackedOf Filter) → item_steps plan s path t ≤ steps_in s.tree (of_objects (map entry (changes_of (of_plan plan) s text path t)))
+  item_at_most text path (rules.Object true) =
+      one_for (levels (row s.tree)) (round_at s.tree path) (2 ^ 64 - 1) (Some text) (watched_object plan s path)
+      (rest_true (is_none (watched_object plan s path).head.href) (is_of_object (watched_object plan s path)) (watched_plain plan s path))
+      (round_within s.tree (place_of path (paths s.tree)) (λ m placed. place_within s.tree path m placed))
+  item_at_most text path (rules.Object false) = none_least 0
+  item_at_most text path (rules.Feed filter given) = none_least (steps_in s.tree (of_objects (map entry (changes_of (of_plan plan) s text path (rules.Feed filter given)))))
 
-pub polled_for : (root : Object) (old new : ℕ) (rs : List Reading) (es : List Object) (reply : Object) → es ≡ map entry rs → reply ≡ watch_out es
-    → new ≤ old + steps_in root (of_objects es) → new ≤ old + steps_in root (object_entries reply)
-polled_for root old new rs es reply are is h =
-    let same : object_entries reply ≡ of_objects es =
-    ap object_entries (is ∙ ap watch_out are) ∙ out_entries rs ∙ ap of_objects (sym are) in
-    subst (λ (os : List Object). new ≤ old + steps_in root os) (sym same) h
+  all_at_most : (items : List (ItemOf Text Path Filter)) → poll_steps plan s items ≤ steps_in s.tree (of_objects (map entry (changes (of_plan plan) s items)))
+  all_at_most [] = none_least 0
+  all_at_most (i ∷ items) =
+      let here = changes_of (of_plan plan) s i.text i.path i.tracked in
+      let rest = changes (of_plan plan) s items in
+      let each = steps_in s.tree (of_objects (map entry here)) in
+      let others = steps_in s.tree (of_objects (map entry rest)) in
+      let both : steps_in s.tree (of_objects (map entry (here ++ rest))) ≡ each + others =
+      ap (λ (os : List Object). steps_in s.tree (of_objects os)) (map-append entry here rest) ∙ steps_append (levels (row s.tree)) (map entry here) (map entry rest) in
+      together (item_steps plan s i.path i.tracked) (poll_steps plan s items) each others (steps_in s.tree (of_objects (map entry (here ++ rest)))) (item_at_most i.text i.path i.tracked) (all_at_most items) both
+
+  all_hrefs : (rs : List Reading) → list_all (λ (item : Object). is_some item.head.href) (map entry rs) ≡ true
+  all_hrefs [] = refl
+  all_hrefs (r ∷ rs) = all_hrefs rs
+
+  -- the entries of a WatchOut are those that it was made of
+  entries_are : (rs : List Reading) → entries_of (watch_out (map entry rs)) ≡ Some (map entry rs)
+  entries_are rs =
+      ap (λ (os : List Object). cond (list_all (λ item. is_some item.head.href) os) (Some os) None) (listed-in_row (map entry rs))
+      ∙ ap (λ (b : Bool). cond b (Some (map entry rs)) None) (all_hrefs rs)
+
+  polls_at_most : (items : List (ItemOf Text Path Filter)) → poll_steps plan s items ≤ steps_in s.tree (object_entries (watch_out (map entry (changes (of_plan plan) s items))))
+  polls_at_most items =
+      subst (λ (os : List Object). poll_steps plan s items ≤ steps_in s.tree os)
+      (sym (ap (λ (os : Option (List Object)). of_objects (unwrap_or os [])) (entries_are (changes (of_plan plan) s items)))) (all_at_most items)
+
+-- what a watch that is asked replies to
+asked_at_most : (plan : Plan) (w : World (of_plan plan)) (n : ℕ) (op : WatchOperation) (found : Option (WatchOf Text Path Filter))
+    → watch_steps plan w.site found op ≤ steps_in w.site.tree (object_entries (sent plan (on_watch (of_plan plan) w n op found).1))
+asked_at_most plan w n (Look part) found = none_least _
+asked_at_most plan w n (Renew input) found = none_least _
+asked_at_most plan w n (Add asked) found = none_least _
+asked_at_most plan w n (Remove texts) found = none_least _
+asked_at_most plan w n PollChanges None = none_least _
+asked_at_most plan w n PollChanges (Some v) = polls_at_most plan w.site v.items
+asked_at_most plan w n PollRefresh found = none_least _
+asked_at_most plan w n Delete found = none_least _
+asked_at_most plan w n (Refuse fault) found = none_least _
+
+-- The steps that a request takes are at most those for the objects that its reply reports.
+pub steps_at_most : (plan : Plan) (w : World (of_plan plan)) (r : Request) (target : SiteTarget)
+    → target_steps plan w target ≤ steps_in w.site.tree (object_entries (sent plan (acted (of_plan plan) w r target).1))
+steps_at_most plan w r Itself = none_least _
+steps_at_most plan w r Nowhere = none_least _
+steps_at_most plan w r NewWatch = none_least _
+steps_at_most plan w r (OneWatch n op) = asked_at_most plan w n op (lookup n w.watches)

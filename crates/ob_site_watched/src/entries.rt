@@ -1,5 +1,7 @@
 //! The entries of WatchOut.
-ghost use Rattle.std.specs.Prelude.{◌≡◌, ◌+◌, ◌≤◌, ◌++◌, map, option_to_list, true, IfOk};
+ghost use Rattle.std.specs.Prelude.{◌≡◌, ◌+◌, ◌++◌, map, option_to_list, true, IfOk};
+ghost use Rattle.ob_site_state.specs.Contents.{state_in};
+ghost use Rattle.ob_watch.specs.Flags.{flag_of, flags};
 ghost use Rattle.ob_watch.specs.Items.{is_due};
 ghost use Rattle.ob_watch.specs.Marks.{AreStampsPast};
 ghost use Rattle.ob_replies.specs.Plans.{plan as plan_of};
@@ -7,7 +9,7 @@ ghost use Rattle.ob_site_rules.specs.Replies.{content_object, entry};
 ghost use Rattle.ob_site_places.specs.Complete.{IsComplete};
 ghost use Rattle.ob_site_watched.specs.Entries.{all_changes, all_readings, changes_in, object_now, reading_entry};
 ghost use Rattle.ob_site_watched.specs.Known.{AreKnown, IsKnown, IsPlacedBy};
-ghost use Rattle.ob_site_watched.specs.Polls.{of_objects, steps_in};
+ghost use Rattle.ob_site_watched.specs.Polls.{item_steps, poll_steps};
 
 use ob_machine::Steps;
 use ob_object::Obj;
@@ -94,7 +96,7 @@ fn change_due<L: Ledger>(
     requires placed { IsPlacedBy contents.now.ground.tree.root item.now.path item.now.tracked }
     requires due { is_due contents.now.ground.tree item.now ≡ true }
     ensures content { IfOk result (λ o. option_to_list o ≡ map (λ r. content_object r.content) (changes_in (plan_of plan.now) contents.now item.now)) }
-    ensures steps { IfOk result (λ o. steps.new ≤ steps.old + steps_in contents.now.ground.tree.root (of_objects (option_to_list o))) }
+    ensures steps { IfOk result (λ _. steps.new ≡ steps.old + item_steps (plan_of plan.now) (state_in contents.now) item.now.path (flag_of contents.now.ground.tree item.now.tracked)) }
 {
     match item.tracked() {
         Tracked::Object { node, mark: _ } => {
@@ -129,7 +131,7 @@ fn push_change<L: Ledger>(
     requires complete { IsComplete (plan_of plan.now) contents.now }
     requires known { IsKnown (plan_of plan.now) contents.now item.now }
     ensures entries { IfOk result (λ _. entries.new.items ≡ entries.old.items ++ map entry (changes_in (plan_of plan.now) contents.now item.now)) }
-    ensures steps { IfOk result (λ _. steps.new + steps_in contents.now.ground.tree.root (of_objects entries.old.items) ≤ steps.old + steps_in contents.now.ground.tree.root (of_objects entries.new.items)) }
+    ensures steps { IfOk result (λ _. steps.new ≡ steps.old + item_steps (plan_of plan.now) (state_in contents.now) item.now.path (flag_of contents.now.ground.tree item.now.tracked)) }
 {
     if !item.is_due(contents.ground.tree()) {
         return Ok(());
@@ -142,9 +144,8 @@ fn push_change<L: Ledger>(
     Ok(())
 }
 
-/// The entries of what has changed of items since it was last reported. Only the items that are due are read: it counts
-/// at most as many steps as the entries for objects have parts, and for each the objects round it. An error only for want
-/// of memory.
+/// The entries of what has changed of items since it was last reported. Only the items that are due are read: for each on an
+/// object it counts the objects round it and the parts of its entry, and no other step. An error only for want of memory.
 ///
 /// Source: oBIX 1.1, chapter 12 (Watch.pollChanges).
 #[tactic(auto, using(crate::proofs::Due::changes_more, crate::proofs::Due::known_at))]
@@ -158,7 +159,7 @@ pub fn changes<L: Ledger>(
     requires complete { IsComplete (plan_of plan.now) contents.now }
     requires known { AreKnown (plan_of plan.now) contents.now items.now }
     ensures entries { IfOk result (λ os. os.items ≡ all_changes (plan_of plan.now) contents.now items.now) }
-    ensures steps { IfOk result (λ os. steps.new ≤ steps.old + steps_in contents.now.ground.tree.root (of_objects os.items)) }
+    ensures steps { IfOk result (λ _. steps.new ≡ steps.old + poll_steps (plan_of plan.now) (state_in contents.now) (map (flags contents.now.ground.tree) items.now)) }
 {
     let mut entries = Vec::new(alloc);
     for item in items {
@@ -183,7 +184,7 @@ pub fn watch_changes<L: Ledger>(
     requires past { AreStampsPast contents.now.ground.tree }
     requires known { AreKnown (plan_of plan.now) contents.now watch.now.items }
     ensures entries { IfOk result (λ os. os.items ≡ all_changes (plan_of plan.now) contents.now watch.now.items) }
-    ensures steps { IfOk result (λ os. steps.new ≤ steps.old + steps_in contents.now.ground.tree.root (of_objects os.items)) }
+    ensures steps { IfOk result (λ _. steps.new ≡ steps.old + poll_steps (plan_of plan.now) (state_in contents.now) (map (flags contents.now.ground.tree) watch.now.items)) }
 {
     if !watch.has_due(contents.ground.tree()) {
         return Ok(Vec::new(alloc));

@@ -1,9 +1,12 @@
 //! What is asked of a watch.
-ghost use Rattle.std.specs.Prelude.{◌≡◌, ◌+◌, ◌≤◌, List, ℕ, false, IfOk, OnErr};
+ghost use Rattle.std.specs.Prelude.{◌≡◌, ◌+◌, List, ℕ, map, Some, false, IfOk, OnErr};
 ghost use Rattle.ob_replies.specs.Plans.{plan as plan_of};
 ghost use Rattle.ob_requests.specs.Targets.{operation_of};
 ghost use Rattle.ob_site_places.specs.Complete.{IsComplete};
 ghost use Rattle.ob_site_state.specs.Contents.{state_in};
+ghost use Rattle.ob_watch.specs.Flags.{flagged, flags, flags_of};
+ghost use Rattle.ob_watch.specs.Tables.{live};
+ghost use Rattle.ob_watching.specs.Tables.{lookup};
 ghost use Rattle.ob_watching.specs.Watches.{told_lease};
 ghost use Rattle.ob_site_rules.specs.Computed.{watch_out};
 ghost use Rattle.ob_site_rules.specs.Replies.{sent};
@@ -15,7 +18,7 @@ ghost use Rattle.ob_site_watched.specs.Entries.{all_changes, all_readings};
 ghost use Rattle.ob_site_watched.specs.Known.{AreKnown};
 ghost use Rattle.ob_site_watched.specs.Leaving.{Renews, is_add, leaving};
 ghost use Rattle.ob_site_watched.specs.Answers.{AllKnown, IsDone, IsReply};
-ghost use Rattle.ob_site_watched.specs.Polls.{object_entries, steps_in};
+ghost use Rattle.ob_site_watched.specs.Polls.{poll_steps, watch_steps};
 
 use crate::adding::{Adding, add};
 use crate::entries::{readings, watch_changes};
@@ -66,7 +69,7 @@ fn poll<L: Ledger>(
     requires past { AreStampsPast contents.now.ground.tree }
     requires known { AreKnown (plan_of plan.now) contents.now watch.now.items }
     ensures reply { IfOk result (λ o. o ≡ watch_out (all_changes (plan_of plan.now) contents.now watch.now.items)) }
-    ensures steps { IfOk result (λ o. steps.new ≤ steps.old + steps_in contents.now.ground.tree.root (object_entries o)) }
+    ensures steps { IfOk result (λ _. steps.new ≡ steps.old + poll_steps (plan_of plan.now) (state_in contents.now) (map (flags contents.now.ground.tree) watch.now.items)) }
 {
     let entries = watch_changes(alloc, plan, contents, watch, steps)?;
     watch_out(alloc, entries)
@@ -101,7 +104,7 @@ fn reply<L: Ledger>(
     requires known { AreKnown (plan_of plan.now) contents.now watch.now.items }
     requires other { is_add (operation_of call.now.asks) ≡ false }
     ensures reply { IfOk result (λ o. (numbers : List ℕ) → IsReply (plan_of plan.now) contents.now call.now.moment numbers call.now.number watch.now (operation_of call.now.asks) o) }
-    ensures steps { IfOk result (λ o. steps.new ≤ steps.old + steps_in contents.now.ground.tree.root (object_entries o)) }
+    ensures steps { IfOk result (λ _. steps.new ≡ steps.old + watch_steps (plan_of plan.now) (state_in contents.now) (Some (flagged contents.now.ground.tree watch.now)) (operation_of call.now.asks)) }
 {
     match &call.asks {
         Operation::Look(part) => watch_part(alloc, plan, call.number, watch.lease(), *part),
@@ -158,7 +161,7 @@ fn on_other<L: Ledger>(
     ensures done { IfOk result (IsDone (plan_of plan.now) contents.now call.now.moment watches.old watches.new call.now.number (operation_of call.now.asks)) }
     ensures err { OnErr result (watches.new ≡ watches.old) }
     ensures known { AllKnown (plan_of plan.now) contents.now watches.new }
-    ensures steps { IfOk result (λ o. steps.new ≤ steps.old + steps_in contents.now.ground.tree.root (object_entries o)) }
+    ensures steps { IfOk result (λ _. steps.new ≡ steps.old + watch_steps (plan_of plan.now) (state_in contents.now) (lookup call.now.number (flags_of contents.now.ground.tree (live call.now.moment watches.old.watches))) (operation_of call.now.asks)) }
 {
     let _numbers = watches.numbers();
     let Some(watch) = watches.get(call.number, call.moment) else {
@@ -171,8 +174,8 @@ fn on_other<L: Ledger>(
 }
 
 /// What an operation makes of the watches, and the reply. A request to a watch renews its lease, whatever the reply is.
-/// Watch.pollChanges counts at most as many steps as the object entries of its reply have parts, and for each the objects
-/// round it; other operations count none. An error only for want of memory, and it leaves the watches as they were.
+/// Watch.pollChanges counts for each object that it reports the objects round it and the parts of its entry; other operations
+/// count none. An error only for want of memory, and it leaves the watches as they were.
 ///
 /// Source: oBIX 1.1, chapter 12 (Watches).
 pub fn on_watch<L: Ledger>(
@@ -189,7 +192,7 @@ pub fn on_watch<L: Ledger>(
     ensures done { IfOk result (IsDone (plan_of plan.now) contents.now call.now.moment watches.old watches.new call.now.number (operation_of call.now.asks)) }
     ensures err { OnErr result (watches.new ≡ watches.old) }
     ensures known { AllKnown (plan_of plan.now) contents.now watches.new }
-    ensures steps { IfOk result (λ o. steps.new ≤ steps.old + steps_in contents.now.ground.tree.root (object_entries o)) }
+    ensures steps { IfOk result (λ _. steps.new ≡ steps.old + watch_steps (plan_of plan.now) (state_in contents.now) (lookup call.now.number (flags_of contents.now.ground.tree (live call.now.moment watches.old.watches))) (operation_of call.now.asks)) }
 {
     match &call.asks {
         Operation::Add(asked) => {

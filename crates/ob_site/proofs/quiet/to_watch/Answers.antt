@@ -1,11 +1,8 @@
-use Rattle.std.proofs.Common.{◌≡◌, ◌+◌, ◌≤◌, ap, subst}
-use Rattle.ob_object.specs.Object.{Object}
+use Rattle.std.proofs.Common.{ℕ, ◌+◌, ◌∙◌, ap}
 use Rattle.ob_replies.specs.Plans.{plan as plan_of}
-use Rattle.ob_site_rules.specs.State.{State}
-use Rattle.ob_site_watched.specs.Polls.{object_entries, steps_in}
 use Rattle.ob_watching.specs.Asked.{OneWatch}
 use Rattle.ob_requests.specs.Targets.{operation_of}
-use Rattle.ob_site.proofs.Asked.{asked_so, tree_is}
+use Rattle.ob_site.proofs.Asked.{asked_so, asked_steps, tree_is}
 use Rattle.ob_site.proofs.Known.{known_in, kept_through, past_in}
 use Rattle.ob_site.proofs.Unchanged.{quietly}
 use Rattle.ob_site.proofs.quiet.to_watch.Goals as goal
@@ -33,5 +30,9 @@ returns-clause-done g c = λ r.
 
 pub returns-clause-steps : goal.returns-clause-steps
 returns-clause-steps g c =
-    subst (λ (root : Object). c.on_watch.new.steps ≤ c.args.steps.now + steps_in root (object_entries c.in_ok-reply.reply))
-    (ap (λ (s : State). s.tree) c.contents.ensures.value) c.in_ok-reply.ensures.steps
+    let k = c.args.state.now in
+    let cs = c.contents.result.now in
+    c.in_ok-reply.ensures.steps
+    ∙ ap (λ (n : ℕ). c.args.steps.now + n)
+    (asked_steps k (plan_of c.plan.result.now) c.time.result cs c.args.watches.now c.args.number (operation_of c.args.asks) c.plan.ensures c.time.ensures c.contents.ensures.value
+    (tree_is k cs c.contents.ensures.value c.contents.ensures.stamps c.contents.ensures.steps))

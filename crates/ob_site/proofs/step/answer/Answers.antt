@@ -1,11 +1,15 @@
-use Rattle.std.proofs.Common.{refl, sym, subst, inl}
+use Rattle.std.proofs.Common.{◌≡◌, ◌+◌, refl, sym, subst, inl}
 use Rattle.std.proofs.lemmas.Result.{IfOk-weaker, on_ok_weaker, on_err_weaker}
 use Rattle.ob_site_rules.specs.Locating.{locate}
 use Rattle.ob_site_rules.specs.Sites.{site}
 use Rattle.ob_site_rules.specs.Watched.{SiteTarget}
 use Rattle.ob_requests.specs.declared.target.Target.{Target}
 use Rattle.ob_requests.specs.Targets.{IsTarget, operation_of}
-use Rattle.ob_site_watched.proofs.Polled.{unmoved}
+use Rattle.ob_site_state.specs.Stamping.{tree_of}
+use Rattle.ob_site_watched.specs.Polls.{target_steps}
+use Rattle.ob_site_watched.proofs.Polled.{no_more, none_more}
+use Rattle.ob_watch.specs.AsRules.{world_of}
+use Rattle.ob_watch.specs.Tables.{lapsed_at}
 use Rattle.ob_site.specs.Keeping.{Keeps, MayKeep}
 use Rattle.ob_site.specs.Steps.{IsAnswered, step_of}
 use Rattle.ob_site.proofs.Keeping.{nowhere_so, watch_so, whatever, whatever_err}
@@ -52,16 +56,49 @@ returns-in-OneWatch-clause-done g c =
     (λ o done. subst (λ (g : SiteTarget). IsAnswered k c.to_watch.new.state c.args.watches.now c.to_watch.new.watches r g o) (sym meant) (done r)) c.to_watch.ensures.done
 
 pub returns-in-Itself-clause-steps : goal.returns-in-Itself-clause-steps
-returns-in-Itself-clause-steps g c = unmoved c.args.state.now.now.tree c.args.steps.now c.on_itself.result
+returns-in-Itself-clause-steps g c =
+    let k = c.args.state.now in
+    let r = c.args.request.now in
+    let w = world_of k.plan k.time k.now (tree_of k) (lapsed_at k.time c.args.watches.now) in
+    let meant = subst (λ (g : Target). IsTarget g ((site locate k.plan).target r)) c.in-Itself.is c.in_ok-target.ensures in
+    whatever c.on_itself.result _
+    (subst (λ (x : SiteTarget). c.args.steps.now ≡ c.args.steps.now + target_steps k.plan w x) (sym meant) (no_more c.args.steps.now))
 
 pub returns-in-Nowhere-clause-steps : goal.returns-in-Nowhere-clause-steps
-returns-in-Nowhere-clause-steps g c = unmoved c.args.state.now.now.tree c.args.steps.now c.to_nobody.result
+returns-in-Nowhere-clause-steps g c =
+    let k = c.args.state.now in
+    let r = c.args.request.now in
+    let w = world_of k.plan k.time k.now (tree_of k) (lapsed_at k.time c.args.watches.now) in
+    let meant = subst (λ (g : Target). IsTarget g ((site locate k.plan).target r)) c.in-Nowhere.is c.in_ok-target.ensures in
+    whatever c.to_nobody.result _
+    (subst (λ (x : SiteTarget). c.args.steps.now ≡ c.args.steps.now + target_steps k.plan w x) (sym meant) (no_more c.args.steps.now))
 
 pub returns-in-Beyond-clause-steps : goal.returns-in-Beyond-clause-steps
-returns-in-Beyond-clause-steps g c = unmoved c.args.state.now.now.tree c.args.steps.now c.to_no_watch.result
+returns-in-Beyond-clause-steps g c =
+    let k = c.args.state.now in
+    let r = c.args.request.now in
+    let w = world_of k.plan k.time k.now (tree_of k) (lapsed_at k.time c.args.watches.now) in
+    let meant = subst (λ (g : Target). IsTarget g ((site locate k.plan).target r)) c.in-Beyond.is c.in_ok-target.ensures in
+    IfOk-weaker c.to_no_watch.result _ _
+    (λ o none. subst (λ (x : SiteTarget). c.args.steps.now ≡ c.args.steps.now + target_steps k.plan w x) (sym meant.3) (none_more c.args.steps.now _ (none meant.0 meant.1 meant.2))) c.to_no_watch.ensures.none
+
+pub returns-in-OneWatch-clause-steps : goal.returns-in-OneWatch-clause-steps
+returns-in-OneWatch-clause-steps g c =
+    let k = c.args.state.now in
+    let r = c.args.request.now in
+    let w = world_of k.plan k.time k.now (tree_of k) (lapsed_at k.time c.args.watches.now) in
+    let meant = subst (λ (g : Target). IsTarget g ((site locate k.plan).target r)) c.in-OneWatch.is c.in_ok-target.ensures in
+    IfOk-weaker c.to_watch.result _ _
+    (λ o steps. subst (λ (x : SiteTarget). c.to_watch.new.steps ≡ c.args.steps.now + target_steps k.plan w x) (sym meant) steps) c.to_watch.ensures.steps
 
 pub returns-in-NewWatch-clause-steps : goal.returns-in-NewWatch-clause-steps
-returns-in-NewWatch-clause-steps g c = unmoved c.args.state.now.now.tree c.args.steps.now c.to_service.result
+returns-in-NewWatch-clause-steps g c =
+    let k = c.args.state.now in
+    let r = c.args.request.now in
+    let w = world_of k.plan k.time k.now (tree_of k) (lapsed_at k.time c.args.watches.now) in
+    let meant = subst (λ (g : Target). IsTarget g ((site locate k.plan).target r)) c.in-NewWatch.is c.in_ok-target.ensures in
+    whatever c.to_service.result _
+    (subst (λ (x : SiteTarget). c.args.steps.now ≡ c.args.steps.now + target_steps k.plan w x) (sym meant) (no_more c.args.steps.now))
 
 pub returns-in-Itself-clause-keeps : goal.returns-in-Itself-clause-keeps
 returns-in-Itself-clause-keeps g c =

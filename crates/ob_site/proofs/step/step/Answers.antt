@@ -1,12 +1,8 @@
-use Rattle.std.proofs.Common.{◌≡◌, ◌+◌, ◌≤◌, sym, ap, ◌∙◌, subst}
-use Rattle.ob_object.specs.Object.{Object}
-use Rattle.ob_site_rules.specs.Sites.{SiteState}
-use Rattle.ob_site_state.specs.Kept.{Kept}
-use Rattle.ob_site_watched.specs.Polls.{object_entries, steps_in}
+use Rattle.std.proofs.Common.{ℕ, ◌+◌, ap, ◌∙◌, subst}
 use Rattle.ob_site.specs.Keeping.{Stepping, Keeps, MayKeep}
 use Rattle.ob_site.specs.Views.{site_of}
+use Rattle.ob_site.proofs.Counts.{counted, counted_at_most}
 use Rattle.ob_site.proofs.Keeping.{step_is}
-use Rattle.ob_site.proofs.Levels.{steps_at_most}
 use Rattle.ob_site.proofs.Stepped.{begun_so, stepped, site_after, undone, same_again, site_again}
 use Rattle.ob_site.proofs.step.step.Goals as goal
 
@@ -35,10 +31,14 @@ returns-in-Err-clause-kept g c =
 
 pub returns-in-Ok-clause-steps : goal.returns-in-Ok-clause-steps
 returns-in-Ok-clause-steps g c =
-    let same : c.begin.new.self.now.tree ≡ c.args.state.now.now.tree =
-    ap (λ (k : Kept). k.now.tree) c.begin.ensures ∙ ap (λ (st : SiteState). st.world.site.tree) c.make_room.ensures.same in
-    steps_at_most c.args.steps.now c.answer.new.steps c.args.state.now.now.tree (object_entries c.in-Ok.reply) c.requires.site.kept.shallow
-    (subst (λ (root : Object). c.answer.new.steps ≤ c.args.steps.now + steps_in root (object_entries c.in-Ok.reply)) same c.in-Ok.ensures.steps)
+    c.in-Ok.ensures.steps
+    ∙ ap (λ (n : ℕ). c.args.steps.now + n)
+    (counted (site_of c.args.state.now c.args.watches.now) c.make_room.new.state c.begin.new.self c.make_room.new.watches c.args.request.now c.args.moment c.make_room.ensures.same c.begin.ensures)
+
+pub returns-in-Ok-clause-at_most : goal.returns-in-Ok-clause-at_most
+returns-in-Ok-clause-at_most g c =
+    counted_at_most (site_of c.args.state.now c.args.watches.now) (site_of c.answer.new.state c.answer.new.watches) c.args.request.now c.args.moment c.in-Ok.reply c.args.steps.now c.answer.new.steps c.requires.site.kept.shallow
+    (returns-in-Ok-clause-done g c) (returns-in-Ok-clause-steps g c)
 
 pub returns-in-Ok-clause-keeps : goal.returns-in-Ok-clause-keeps
 returns-in-Ok-clause-keeps g c =

@@ -4,12 +4,13 @@ use Rattle.std.proofs.lemmas.Result.{IfOk-weaker}
 use Rattle.ob_watching.specs.Tables.{numbers_of, replace}
 use Rattle.ob_replies.specs.Plans.{plan as plan_of}
 use Rattle.ob_requests.specs.Targets.{operation_of}
+use Rattle.ob_site_state.specs.Contents.{state_in}
 use Rattle.ob_watch.specs.Tables.{IsLease, Leased, holding, live}
 use Rattle.ob_site_watched.specs.Answers.{AllKnown}
 use Rattle.ob_site_watched.specs.Leaving.{marks_after}
 use Rattle.ob_site_watched.proofs.Knowing.{left_known}
 use Rattle.ob_site_watched.proofs.Answering.{agrees, known_there, live_there, marks_last, none_stands, one_stands}
-use Rattle.ob_site_watched.proofs.Polled.{unmoved}
+use Rattle.ob_site_watched.proofs.Polled.{asked_there, none_asked, whatever}
 use Rattle.ob_site_watched.proofs.operations.on_other.Goals as goal
 
 pub returns-in_default-clause-done : goal.returns-in_default-clause-done
@@ -44,4 +45,11 @@ returns-clause-known g c =
     (left_known (plan_of c.args.plan.now) c.args.contents.now c.args.call.now.moment c.args.call.now.number (operation_of c.args.call.now.asks) c.args.watches.now c.requires.known)
 
 pub returns-in_default-clause-steps : goal.returns-in_default-clause-steps
-returns-in_default-clause-steps g c = unmoved c.args.contents.now.ground.tree.root c.args.steps.now c.refusal.result
+returns-in_default-clause-steps g c =
+    whatever c.refusal.result _
+    (none_asked (plan_of c.args.plan.now) (state_in c.args.contents.now) c.args.contents.now.ground.tree c.args.call.now.number (live c.args.call.now.moment c.args.watches.now.watches) (operation_of c.args.call.now.asks) c.args.steps.now (sym c.in_default.ensures))
+
+pub returns-clause-steps : goal.returns-clause-steps
+returns-clause-steps g c =
+    asked_there (plan_of c.args.plan.now) (state_in c.args.contents.now) c.args.contents.now.ground.tree c.args.call.now.number (live c.args.call.now.moment c.args.watches.now.watches) c.in-Some.watch.now (operation_of c.args.call.now.asks) c.args.steps.now c.reply.new.steps
+    (sym c.in-Some.ensures) c.in_ok-reply.ensures.steps

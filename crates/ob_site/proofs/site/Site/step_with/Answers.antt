@@ -1,6 +1,7 @@
-use Rattle.std.proofs.Common.{◌∙◌, subst, ap}
+use Rattle.std.proofs.Common.{◌≡◌, ◌+◌, ◌∙◌, subst, ap}
 use Rattle.std.proofs.lemmas.Result.{IfOk-weaker, on_ok_weaker, on_err_weaker}
 use Rattle.ob_site_rules.specs.Sites.{SiteState}
+use Rattle.ob_site.specs.Counts.{request_steps}
 use Rattle.ob_site.specs.Keeping.{Keeps, MayKeep, stepping}
 use Rattle.ob_site.specs.Views.{site_of}
 use Rattle.ob_site.proofs.Stepped.{left_so}
@@ -29,3 +30,8 @@ returns-clause-may_keep g c =
     on_err_weaker c.step.result
     (subst (λ (st : SiteState). MayKeep g.K.Keeper.below g.K.Keeper.may_keep c.args.keeper.now c.step.new.keeper (stepping st c.args.request.now c.args.moment)) c.self.view_is)
     c.step.ensures.may_keep
+
+pub returns-clause-steps : goal.returns-clause-steps
+returns-clause-steps g c =
+    IfOk-weaker c.step.result _ _
+    (λ o steps. subst (λ (st : SiteState). c.step.new.steps ≡ c.args.steps.now + request_steps st c.args.request.now c.args.moment) c.self.view_is steps) c.step.ensures.steps
