@@ -44,7 +44,7 @@ fn left_after(alloc: Global, view: &View, most: u64) -> Result<u64, AllocError>
 pub(crate) fn is_large<'x>(library: &'x Library, contract: &'x Obj) -> Result<bool, AllocError>
     ensures { IfOk result (λ large. large ≡ nat_lt 512 (parts (result_of library.now contract.now None None))) }
 {
-    let view = View::new(library, contract, None, None);
+    let view = View::uncounted(library, contract, None, None);
     let left = left_after(library.allocator(), &view, MOST + 1)?;
     let parts = (MOST + 1).saturating_sub(left);
     Ok(parts > MOST)

@@ -2,7 +2,7 @@
 //!
 //! A library maps words to contracts. An object takes defaults from the contracts of its list, an
 //! earlier one winning, and from the child that it overrides: its effective object. `effective` builds
-//! it, and a `View` lends each part of it without memory. The rules are in `specs/Inherit.antt`.
+//! it, and a `View` lends each part of it without memory; each counts its steps by itself. The rules are in `specs/Inherit.antt`.
 //! Source: oBIX 1.1, chapter 7 (contracts).
 #![tactic(auto)]
 
@@ -20,6 +20,7 @@ mod lookup;
 mod named;
 mod reading;
 mod standard;
+mod steps;
 mod tellers;
 
 pub use adding::LibFault;
@@ -28,6 +29,7 @@ pub use fewer::{telling, told_by};
 pub use library::Library;
 pub use lookup::Sources;
 pub use reading::View;
+pub use steps::Steps;
 pub use tellers::{Tellers, tell};
 
 /// Worked rows of the inheritance rules, computed on the definition.

@@ -103,7 +103,7 @@ impl<'a> Sources<'a> {
 
     /// The same, where words may be told in place of those that name the contracts: what a head inherits, and the child that one
     /// of a name overrides, are those by all of the words.
-    pub fn by(
+    pub(crate) fn by(
         library: &'a Library,
         own: &'a Obj,
         told: Option<&'a Tellers>,
@@ -240,7 +240,7 @@ impl<'a> Sources<'a> {
     }
 
     /// The child that an own child of a name overrides.
-    pub fn overridden(&self, name: Option<&Text>) -> Option<&'a Obj>
+    pub(crate) fn overridden(&self, name: Option<&Text>) -> Option<&'a Obj>
         ensures { option_copied result ≡ overridden_in self.now (option_copied name.entry) }
     {
         match name {

@@ -15,8 +15,7 @@ ghost use Rattle.ob_standing.specs.Standings.{context};
 ghost use Rattle.ob_ground.specs.Grounds.{AreTold, alone_at, inside_at};
 
 use crate::told::Told;
-use ob_contracts::{Library, View};
-use ob_machine::Steps;
+use ob_contracts::{Library, Steps, View};
 use ob_object::Slot;
 use ob_standing::Standing;
 use ob_tree::{NodeId, Tree};
@@ -155,12 +154,13 @@ impl Ground {
         self.tree.renumber();
     }
 
-    /// Where an object stands.
-    pub fn standing(&self, id: NodeId) -> Standing<'_>
+    /// Where an object stands. It takes a view of each object round it, which counts one step each.
+    pub fn standing<L: Ledger>(&self, id: NodeId, steps: &mut Steps<L>) -> Standing<'_>
         requires { id.number < parts self.now.tree.root }
-        ensures { Some (context result) ≡ standing_at self.now.library id.number self.now.tree.root }
+        ensures stands { Some (context result) ≡ standing_at self.now.library id.number self.now.tree.root }
+        ensures steps { steps.new ≡ steps.old + depth_at id.number self.now.tree.root }
     {
-        self.told.standing(&self.tree, id)
+        self.told.standing(&self.tree, id, steps)
     }
 
     /// The child of a name that an object has itself: looked up where it has more than eight, else looked for one by one.
@@ -176,32 +176,28 @@ impl Ground {
     }
 
     /// What an object shows where it stands, but for its own children, lent: its contracts are looked up by the words that are
-    /// told for it.
-    pub fn view(&self, id: NodeId) -> View<'_>
+    /// told for it. It counts one step, and one for each object round it.
+    pub fn view<L: Ledger>(&self, id: NodeId, steps: &mut Steps<L>) -> View<'_>
         requires { id.number < parts self.now.tree.root }
-        ensures { Some (shown result) ≡ alone_at self.now.library id.number self.now.tree.root }
+        ensures view { Some (shown result) ≡ alone_at self.now.library id.number self.now.tree.root }
+        ensures steps { steps.new ≡ steps.old + depth_at id.number self.now.tree.root + 1 }
     {
-        let standing = self.standing(id);
-        standing.view_told(self.tree.own(id), self.told.words_for(id))
+        let standing = self.standing(id, steps);
+        standing.view_told(self.tree.own(id), self.told.words_for(id), steps)
     }
 
-    /// Where a child of a name stands, or would stand, in an object.
-    pub fn inside<'a>(&'a self, id: NodeId, name: Option<&Text>) -> Standing<'a>
+    /// Where a child of a name stands, or would stand, in an object. It counts one step, and one for each object round it.
+    pub fn inside<'a, L: Ledger>(
+        &'a self,
+        id: NodeId,
+        name: Option<&Text>,
+        steps: &mut Steps<L>,
+    ) -> Standing<'a>
         requires { id.number < parts self.now.tree.root }
-        ensures { Some (context result) ≡ inside_at self.now.library id.number (option_copied name.entry) self.now.tree.root }
+        ensures inside { Some (context result) ≡ inside_at self.now.library id.number (option_copied name.entry) self.now.tree.root }
+        ensures steps { steps.new ≡ steps.old + depth_at id.number self.now.tree.root + 1 }
     {
-        let standing = self.standing(id);
-        standing.inside_told(self.tree.own(id), name, self.told.words_for(id))
-    }
-
-    /// The same as `standing`, counted as one step for each object round it.
-    pub fn standing_counted<L: Ledger>(&self, id: NodeId, steps: &mut Steps<L>) -> Standing<'_>
-        requires { id.number < parts self.now.tree.root }
-        ensures stands { Some (context result) ≡ standing_at self.now.library id.number self.now.tree.root }
-        ensures steps { steps.new ≡ steps.old + depth_at id.number self.now.tree.root }
-    {
-        let words = Some(self.told.words());
-        self.tree
-            .standing_told_counted(self.told.library(), words, id, steps)
+        let standing = self.standing(id, steps);
+        standing.inside(self.tree.own(id), name, self.told.words_for(id), steps)
     }
 }

@@ -1,17 +1,19 @@
 //! A library, with the words that are told by it.
-ghost use Rattle.std.specs.Prelude.{◌≡◌, ◌<◌, Some, IfOk};
+ghost use Rattle.std.specs.Prelude.{◌≡◌, ◌<◌, ◌+◌, Some, IfOk};
 ghost use Rattle.std.specs.Option.{option_copied};
 ghost use Rattle.ob_object.specs.Object.{parts};
 ghost use Rattle.ob_standing.specs.Standings.{context};
+ghost use Rattle.ob_tree.specs.Depths.{depth_at};
 ghost use Rattle.ob_tree.specs.Shown.{standing_at};
 ghost use Rattle.ob_ground.specs.Grounds.{AreTold, words_at};
 
-use ob_contracts::Library;
+use ob_contracts::{Library, Steps};
 use ob_standing::{Instead, Standing};
 use ob_tree::{NodeId, Tree};
 use std::alloc::{AllocError, Global};
 use std::collections::BTreeMap;
 use std::marker::Model;
+use std::sync::ledger::Ledger;
 
 /// A library, with the words that are looked up in place of those which objects name, and of those which lists and feeds give,
 /// by the numbers of these.
@@ -58,13 +60,20 @@ impl Told {
         &self.library
     }
 
-    /// Where an object of a tree for which the words are told stands with the library.
-    pub fn standing<'a>(&'a self, tree: &'a Tree, id: NodeId) -> Standing<'a>
+    /// Where an object of a tree for which the words are told stands with the library. It takes a view of each object round it,
+    /// which counts one step each.
+    pub fn standing<'a, L: Ledger>(
+        &'a self,
+        tree: &'a Tree,
+        id: NodeId,
+        steps: &mut Steps<L>,
+    ) -> Standing<'a>
         requires within { id.number < parts tree.now.root }
         requires told { AreTold tree.now.root self.now }
-        ensures { Some (context result) ≡ standing_at self.now.library id.number tree.now.root }
+        ensures stands { Some (context result) ≡ standing_at self.now.library id.number tree.now.root }
+        ensures steps { steps.new ≡ steps.old + depth_at id.number tree.now.root }
     {
-        tree.standing_told(self.library(), Some(self.words()), id)
+        tree.standing_told(self.library(), Some(self.words()), id, steps)
     }
 
     /// The words for the object of a number, where some are told.
@@ -75,7 +84,7 @@ impl Told {
     }
 
     /// The words by the numbers of objects.
-    pub(crate) fn words(&self) -> &BTreeMap<u64, Instead>
+    fn words(&self) -> &BTreeMap<u64, Instead>
         ensures { result.now.entries ≡ self.now.words }
     {
         &self.words

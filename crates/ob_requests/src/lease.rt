@@ -5,12 +5,13 @@ ghost use Rattle.ob_contracts.specs.Inherit.{effective_of};
 ghost use Rattle.ob_site_rules.specs.Watched.{feed_with, has_value, lease_of, lease_within, sets_limit};
 ghost use Rattle.ob_requests.specs.Calls.{found, lease_in, nanos_or_fault};
 
-use ob_contracts::{Library, View};
+use ob_contracts::{Library, Steps, View};
 use ob_history::{Filter, read_filter};
 use ob_object::{Kind, Obj, Slot};
 use ob_replies::Fault;
 use ob_times::Reltime;
 use ob_values::{Text, Value};
+use std::sync::ledger::Ledger;
 
 /// What an asked href names: an object to watch, a feed to watch through a filter, or nothing that can
 /// be watched.
@@ -35,11 +36,15 @@ fn lease_within(span: &Reltime) -> Result<u64, Fault>
 }
 
 // The lease that a reltime gives, with the value that it inherits.
-fn lease_given<'x>(library: &'x Library, input: &'x Obj) -> Result<u64, Fault>
+fn lease_given<'x, L: Ledger>(
+    library: &'x Library,
+    input: &'x Obj,
+    steps: &mut Steps<L>,
+) -> Result<u64, Fault>
     ensures value { nanos_or_fault result ≡ lease_of (effective_of library.now input.now None None).head.slot }
     ensures bounded { IfOk result (λ nanos. nanos ≤ 86_400_000_000_000) }
 {
-    match View::new(library, input, None, None).slot() {
+    match View::new(library, input, None, None, steps).slot() {
         Slot::Is(Value::Reltime(span)) => lease_within(span),
         _ => Err(Fault::LeaseOutOfRange),
     }
@@ -50,7 +55,11 @@ fn lease_given<'x>(library: &'x Library, input: &'x Obj) -> Result<u64, Fault>
 /// OtherShape where there is no input; OtherKind where it is no reltime; LeaseOutOfRange where its
 /// value, or the one that it inherits, isn't from a second to a day, or has months.
 /// Source: oBIX 1.1, chapter 12 (Watch.lease).
-pub fn lease_asked(library: &Library, input: &Option<Obj>) -> Result<u64, Fault>
+pub fn lease_asked<L: Ledger>(
+    library: &Library,
+    input: &Option<Obj>,
+    steps: &mut Steps<L>,
+) -> Result<u64, Fault>
     ensures value { nanos_or_fault result ≡ lease_in library.now input.now }
     ensures bounded { IfOk result (λ nanos. nanos ≤ 86_400_000_000_000) }
 {
@@ -60,7 +69,7 @@ pub fn lease_asked(library: &Library, input: &Option<Obj>) -> Result<u64, Fault>
     if !input.kind().same(Kind::Reltime) {
         return Err(Fault::OtherKind);
     }
-    lease_given(library, input)
+    lease_given(library, input, steps)
 }
 
 // Whether there is an object with a value.

@@ -18,7 +18,7 @@ use Rattle.ob_site_state.specs.Contents.{state_in}
 use Rattle.ob_site_state.specs.Kept.{Kept}
 use Rattle.ob_site_state.specs.Stamping.{tree_of}
 use Rattle.ob_site_watched.specs.Answers.{IsDone, IsMade}
-use Rattle.ob_site_watched.specs.Polls.{target_steps, watch_steps}
+use Rattle.ob_site_watched.specs.Polls.{Takes, WatchTakes}
 use Rattle.ob_site_watched.proofs.Polled.{none_for}
 use Rattle.ob_watch.specs.AsRules.{world_of}
 use Rattle.ob_watch.specs.Counted.{of_plan}
@@ -66,9 +66,10 @@ beyond k t r n op o l few e =
     }
 
 -- so nothing is counted for it
-pub beyond_steps : (k : Kept) (t : Table) (n : ℕ) (op : WatchOperation) → 2 ^ 64 ≤ n → ((i : ℕ) → get_or (numbers_of t.watches) i 0 < 2 ^ 64)
-    → target_steps k.plan (world_of k.plan k.time k.now (tree_of k) (lapsed_at k.time t)) (OneWatch n op) ≡ 0
-beyond_steps k t n op l few = ap (λ (found : Option (WatchOf Text Path Filter)). watch_steps k.plan k.now found op) (gone k t n l few) ∙ none_for k.plan k.now op
+pub beyond_steps : (k : Kept) (t : Table) (n : ℕ) (op : WatchOperation) (steps : ℕ) → 2 ^ 64 ≤ n → ((i : ℕ) → get_or (numbers_of t.watches) i 0 < 2 ^ 64)
+    → Takes k.plan (world_of k.plan k.time k.now (tree_of k) (lapsed_at k.time t)) (OneWatch n op) steps steps
+beyond_steps k t n op steps l few =
+    subst (λ (found : Option (WatchOf Text Path Filter)). WatchTakes k.plan k.now found op steps steps) (sym (gone k t n l few)) (none_for k.plan k.now op steps)
 
 -- a watch is made
 pub made_so : (k : Kept) (plan : Plan) (now : ℕ) (t u : Table) (o : Object) → plan ≡ k.plan → now ≡ k.time → IsMade plan now t u o → (r : Request) → IsQuiet k t u r NewWatch o
@@ -99,10 +100,11 @@ asked_so k plan now c t u n op o a b d e is r =
     record { world = all.0; reply = all.1 }
 
 -- what is counted for it
-pub asked_steps : (k : Kept) (plan : Plan) (now : ℕ) (c : Contents) (t : Table) (n : ℕ) (op : WatchOperation) → plan ≡ k.plan → now ≡ k.time → state_in c ≡ k.now → c.ground.tree ≡ tree_of k
-    → watch_steps plan (state_in c) (lookup n (flags_of c.ground.tree (live now t.watches))) op ≡ target_steps k.plan (world_of k.plan k.time k.now (tree_of k) (lapsed_at k.time t)) (OneWatch n op)
-asked_steps k plan now c t n op a b d e =
-    ap (λ (p : Plan). watch_steps p (state_in c) (lookup n (flags_of c.ground.tree (live now t.watches))) op) a
-    ∙ ap (λ (s : State). watch_steps k.plan s (lookup n (flags_of c.ground.tree (live now t.watches))) op) d
-    ∙ ap (λ (x : Stamped). watch_steps k.plan k.now (lookup n (flags_of x (live now t.watches))) op) e
-    ∙ ap (λ (m : ℕ). watch_steps k.plan k.now (lookup n (flags_of (tree_of k) (live m t.watches))) op) b
+pub asked_steps : (k : Kept) (plan : Plan) (now : ℕ) (c : Contents) (t : Table) (n : ℕ) (op : WatchOperation) (old new : ℕ) → plan ≡ k.plan → now ≡ k.time → state_in c ≡ k.now → c.ground.tree ≡ tree_of k
+    → WatchTakes plan (state_in c) (lookup n (flags_of c.ground.tree (live now t.watches))) op old new
+    → Takes k.plan (world_of k.plan k.time k.now (tree_of k) (lapsed_at k.time t)) (OneWatch n op) old new
+asked_steps k plan now c t n op old new a b d e takes =
+    subst (λ (p : Plan). WatchTakes p k.now (lookup n (flags_of (tree_of k) (live k.time t.watches))) op old new) a
+    (subst (λ (m : ℕ). WatchTakes plan k.now (lookup n (flags_of (tree_of k) (live m t.watches))) op old new) b
+    (subst (λ (s : State). WatchTakes plan s (lookup n (flags_of (tree_of k) (live now t.watches))) op old new) d
+    (subst (λ (x : Stamped). WatchTakes plan (state_in c) (lookup n (flags_of x (live now t.watches))) op old new) e takes)))

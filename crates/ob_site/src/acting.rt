@@ -12,6 +12,7 @@ ghost use Rattle.ob_site.specs.Steps.{IsAnswered, IsUnanswered, step_of};
 
 use crate::ending::end_step;
 use crate::keeper::Keeper;
+use ob_contracts::Steps;
 use ob_object::Obj;
 use ob_replies::refusal;
 use ob_site_calls::act_itself;
@@ -21,14 +22,20 @@ use ob_site_writes::Stop;
 use ob_step_laws::steps_take_none_away;
 use ob_watch::Watches;
 use std::alloc::AllocError;
+use std::sync::ledger::Ledger;
 
 /// What a request does to the state, and its reply, before the step ends. An error only for want of memory.
-fn act(state: &mut State, watches: &Watches, request: &Request) -> Result<Obj, AllocError>
+fn act<L: Ledger>(
+    state: &mut State,
+    watches: &Watches,
+    request: &Request,
+    steps: &mut Steps<L>,
+) -> Result<Obj, AllocError>
     ensures done { IfOk result (IsDone state.old state.new (act_itself locate state.old.plan state.old.now (numbers_of (lapsed_at state.old.time watches.now).watches) request.now state.old.time)) }
     ensures stays { OnErr result (state.new ≡ record state.old { now = state.new.now }) }
 {
     let numbers = watches.live_numbers(state.time())?;
-    match act_itself(state, &numbers, request) {
+    match act_itself(state, &numbers, request, steps) {
         Ok(reply) => Ok(reply),
         Err(Stop::Refused(fault)) => refusal(state.allocator(), fault),
         Err(Stop::Memory) => Err(AllocError),
@@ -39,11 +46,12 @@ fn act(state: &mut State, watches: &Watches, request: &Request) -> Result<Obj, A
 /// memory, or from the keeper; it leaves all but the state now, and the keeper.
 ///
 /// Source: oBIX 1.1, chapters 5 (Batch) and 10 (Networking).
-pub(crate) fn on_itself<K: Keeper>(
+pub(crate) fn on_itself<L: Ledger, K: Keeper>(
     state: &mut State,
     watches: &mut Watches,
     keeper: &mut K,
     request: &Request,
+    steps: &mut Steps<L>,
 ) -> Result<Obj, AllocError>
     requires begun { IsBegun state.old watches.old }
     requires ready { K.is_ready keeper.old }
@@ -54,7 +62,7 @@ pub(crate) fn on_itself<K: Keeper>(
 {
     state.is_sound();
     steps_take_none_away();
-    let reply = act(state, watches, request)?;
-    end_step(state, watches, keeper, request, &reply)?;
+    let reply = act(state, watches, request, steps)?;
+    end_step(state, watches, keeper, request, &reply, steps)?;
     Ok(reply)
 }

@@ -11,6 +11,7 @@ ghost use Rattle.ob_site.specs.Keeping.{IsChange, KeepsChange};
 
 use crate::changed::has_changed;
 use crate::keeper::Keeper;
+use ob_contracts::Steps;
 use ob_object::Obj;
 use ob_site_defaults::stamped_nodes;
 use ob_site_feeds::{News, feeds_are_told, news, tell};
@@ -20,6 +21,7 @@ use ob_tree::NodeId;
 use ob_values::Verb;
 use ob_watch::Watches;
 use std::alloc::AllocError;
+use std::sync::ledger::Ledger;
 
 /// A step moves no own node, and what could be watched before it can be after it.
 fn nodes_stay(state: &State)
@@ -90,12 +92,13 @@ fn keep_change<K: Keeper>(
 
 /// Ends the step of a request that is about to have this reply. An error only for want of memory, or from the keeper; it leaves
 /// all but the keeper as it was.
-pub(crate) fn end_step<K: Keeper>(
+pub(crate) fn end_step<L: Ledger, K: Keeper>(
     state: &mut State,
     watches: &mut Watches,
     keeper: &mut K,
     request: &Request,
     reply: &Obj,
+    steps: &mut Steps<L>,
 ) -> Result<(), AllocError>
     requires kept { AreKept state.old.plan state.old.before state.old.stamps state.old.steps watches.old }
     requires room { state.old.steps < 2 ^ 64 - 1 }
@@ -108,7 +111,7 @@ pub(crate) fn end_step<K: Keeper>(
     ensures may_keep { OnErr result ((keeper.new ≡ keeper.old) ⊎ (IsChange state.old.before state.old.now request.now.verb × K.may_keep keeper.old keeper.new request.now state.old.time watches.old.next reply.now)) }
 {
     nodes_stay(state);
-    let nodes = stamped_nodes(state)?;
+    let nodes = stamped_nodes(state, steps)?;
     let news = news(state)?;
     keep_change(state, watches, keeper, request, reply)?;
     settle(state, watches, &nodes, &news);

@@ -10,13 +10,13 @@ ghost use Rattle.ob_site_state.specs.declared.contents.Contents.{Contents};
 ghost use Rattle.ob_site_watched.specs.Answers.{AllKnown, IsMade};
 ghost use Rattle.ob_site_state.specs.Stamping.{tree_of};
 ghost use Rattle.ob_watch.specs.AsRules.{world_of};
-ghost use Rattle.ob_site_watched.specs.Polls.{target_steps};
+ghost use Rattle.ob_site_watched.specs.Polls.{Takes};
 ghost use Rattle.ob_site.specs.Between.{IsBegun};
 ghost use Rattle.ob_site.specs.Keeping.{Keeps, KeepsNext, KeepsPlace, MayKeep};
 ghost use Rattle.ob_site.specs.Steps.{IsAnswered, IsUnanswered, step_of};
 
 use crate::keeper::Keeper;
-use ob_machine::Steps;
+use ob_contracts::Steps;
 use ob_object::Obj;
 use ob_replies::{Fault, refusal};
 use ob_requests::Operation;
@@ -57,7 +57,7 @@ pub(crate) fn to_nobody(state: &mut State, watches: &mut Watches) -> Result<Obj,
 pub(crate) fn to_no_watch(state: &mut State, watches: &mut Watches) -> Result<Obj, AllocError>
     requires { IsBegun state.old watches.old }
     ensures done { IfOk result (λ o. (r : Asked) (n : ℕ) (op : WatchOperation) → 2 ^ 64 ≤ n → IsAnswered state.old state.new watches.old watches.new r (OneWatch n op) o) }
-    ensures none { IfOk result (λ _. (n : ℕ) (op : WatchOperation) → 2 ^ 64 ≤ n → target_steps state.old.plan (world_of state.old.plan state.old.time state.old.now (tree_of state.old) (lapsed_at state.old.time watches.old)) (OneWatch n op) ≡ 0) }
+    ensures none { IfOk result (λ _. (n : ℕ) (op : WatchOperation) (steps : ℕ) → 2 ^ 64 ≤ n → Takes state.old.plan (world_of state.old.plan state.old.time state.old.now (tree_of state.old) (lapsed_at state.old.time watches.old)) (OneWatch n op) steps steps) }
     ensures err { OnErr result (IsUnanswered state.old state.new watches.old watches.new) }
 {
     fit(watches.numbers());
@@ -127,8 +127,7 @@ pub(crate) fn to_service<K: Keeper>(
     Ok(reply)
 }
 
-/// Asks the watch of a number. A poll counts for each object that it reports the objects round it and the parts of its entry;
-/// other operations count none.
+/// Asks the watch of a number. A poll counts for each object that it reports the objects round it and the parts of its entry.
 ///
 /// Source: oBIX 1.1, chapter 12 (Watches).
 pub(crate) fn to_watch<L: Ledger>(
@@ -141,7 +140,7 @@ pub(crate) fn to_watch<L: Ledger>(
     requires { IsBegun state.old watches.old }
     ensures done { IfOk result (λ o. (r : Asked) → IsAnswered state.old state.new watches.old watches.new r (OneWatch number (operation_of asks)) o) }
     ensures err { OnErr result (IsUnanswered state.old state.new watches.old watches.new) }
-    ensures steps { IfOk result (λ _. steps.new ≡ steps.old + target_steps state.old.plan (world_of state.old.plan state.old.time state.old.now (tree_of state.old) (lapsed_at state.old.time watches.old)) (OneWatch number (operation_of asks))) }
+    ensures steps { IfOk result (λ _. Takes state.old.plan (world_of state.old.plan state.old.time state.old.now (tree_of state.old) (lapsed_at state.old.time watches.old)) (OneWatch number (operation_of asks)) steps.old steps.new) }
 {
     state.is_sound();
     let call = Call {

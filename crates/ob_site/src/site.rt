@@ -4,14 +4,15 @@ ghost use Rattle.ob_watching.specs.Watches.{last_number};
 ghost use Rattle.ob_site_rules.specs.Locating.{locate};
 ghost use Rattle.ob_site_rules.specs.Sites.{step};
 ghost use Rattle.ob_site_watched.specs.Polls.{object_entries, steps_for};
-ghost use Rattle.ob_site.specs.Counts.{request_steps};
+ghost use Rattle.ob_site.specs.Counts.{IsPoll, RequestTakes};
 ghost use Rattle.ob_site.specs.Keeping.{Keeps, MayKeep, stepping};
 ghost use Rattle.ob_points.specs.Points.{point_at, passes};
 
 use crate::keeper::{Keeper, Nobody};
 use crate::points::{is_bare, point};
 use crate::step::step;
-use ob_machine::{Machine, Steps};
+use ob_contracts::Steps;
+use ob_machine::Machine;
 use ob_object::Obj;
 use ob_site_rules::Request;
 use ob_site_same::same_state;
@@ -89,8 +90,8 @@ impl Site {
         ensures refused { OnErr result (self.new ≡ self.old) }
         ensures keeps { OnOk result (Keeps K.below K.keeps keeper.old keeper.new (stepping self.old request.now moment)) }
         ensures may_keep { OnErr result (MayKeep K.below K.may_keep keeper.old keeper.new (stepping self.old request.now moment)) }
-        ensures steps { IfOk result (λ _. steps.new ≡ steps.old + request_steps self.old request.now moment) }
-        ensures at_most { IfOk result (λ reply. steps.new ≤ steps.old + steps_for 32 (object_entries reply)) }
+        ensures steps { IfOk result (λ _. RequestTakes self.old request.now moment steps.old steps.new) }
+        ensures polls { IfOk result (λ reply. IsPoll self.old request.now → steps.new ≤ steps.old + steps_for 32 (object_entries reply)) }
     {
         step(
             &mut self.state,
@@ -102,14 +103,15 @@ impl Site {
         )
     }
 
-    /// Does one request at a moment, and gives the reply, as `Machine::step` does, with a counter of the steps that a
-    /// poll takes. A step is a view taken of what an object inherits, or one object of an effective object that is built.
+    /// Does one request at a moment, and gives the reply, as `Machine::step` does, with a counter of the steps that it takes. A step
+    /// is a view taken of what an object inherits, or one object of an effective object that is built: nothing of either is had
+    /// without the counter.
     ///
-    /// How many it counts is a function of the site, the request and the moment: for a pollChanges on a watch that stands, of
-    /// each item on an object that has changed, the objects round it and the parts of what is shown there; for every other
-    /// request none. So a poll counts at most as many steps as the entries for objects that it reports have parts, and for each of
-    /// them 32, for the objects round it: a site has at most the 32 levels of its document. Want of memory leaves the site as it
-    /// was.
+    /// For a pollChanges they are a function of the site, the request and the moment: of each item on an object that has changed,
+    /// the objects round it and the parts of what is shown there; for a pollRefresh the same of each item on an object. So a
+    /// pollChanges counts at most as many as the entries for objects that it reports have parts, and for each of them 32, for
+    /// the objects round it: a site has at most the 32 levels of its document. What finds no watch, makes one, looks at one or takes
+    /// items from it counts none; of other requests no more is said. Want of memory leaves the site as it was.
     ///
     /// Source: oBIX 1.1, chapter 12 (Watch.pollChanges).
     pub fn step_counted<L: Ledger>(
@@ -120,8 +122,8 @@ impl Site {
     ) -> Result<Obj, AllocError>
         ensures done { IfOk result (λ reply. step locate self.old request.now moment ≡ (self.new, reply)) }
         ensures refused { OnErr result (self.new ≡ self.old) }
-        ensures steps { IfOk result (λ _. steps.new ≡ steps.old + request_steps self.old request.now moment) }
-        ensures at_most { IfOk result (λ reply. steps.new ≤ steps.old + steps_for 32 (object_entries reply)) }
+        ensures steps { IfOk result (λ _. RequestTakes self.old request.now moment steps.old steps.new) }
+        ensures polls { IfOk result (λ reply. IsPoll self.old request.now → steps.new ≤ steps.old + steps_for 32 (object_entries reply)) }
     {
         let mut nobody = Nobody;
         self.step_with(&mut nobody, request, moment, steps)
@@ -175,7 +177,7 @@ impl Site {
     pub fn passes(&self, path: &Text, value: &Value) -> Result<bool, AllocError>
         ensures { IfOk result (λ yes. yes ≡ passes self.now.plan self.now.world.site path.now value.now) }
     {
-        passes(&self.state, path, value)
+        passes_by::<Brand>(self, path, value, Blank::new(1))
     }
 
     /// The time of the last step.
@@ -207,6 +209,22 @@ impl Site {
     {
         let _ = &self.state;
     }
+}
+
+/// The same as `Site::passes`, with a counter of steps of its own.
+fn passes_by<L: Ledger>(
+    site: &Site,
+    path: &Text,
+    value: &Value,
+    blank: Blank,
+) -> Result<bool, AllocError>
+    requires name { blank.name ≡ L.name }
+    requires parts { blank.parts ≡ L.parts }
+    requires cut { 0 < blank.parts }
+    ensures { IfOk result (λ yes. yes ≡ passes site.now.plan site.now.world.site path.now value.now) }
+{
+    let mut steps = Steps::<L>::begin(blank);
+    passes(&site.state, path, value, &mut steps)
 }
 
 /// The same as `step_kept`, with a counter of steps of its own.

@@ -6,10 +6,10 @@ ghost use Rattle.ob_requests.specs.Targets.{IsTarget};
 ghost use Rattle.ob_site_state.specs.Stamping.{tree_of};
 ghost use Rattle.ob_watch.specs.AsRules.{world_of};
 ghost use Rattle.ob_watch.specs.Tables.{lapsed_at};
-ghost use Rattle.ob_site_watched.specs.Polls.{object_entries, steps_for, target_steps};
+ghost use Rattle.ob_site_watched.specs.Polls.{Takes, object_entries, steps_for};
 ghost use Rattle.ob_site.specs.Between.{IsBegun, IsSite};
 ghost use Rattle.ob_site.specs.Keeping.{Keeps, MayKeep, stepping};
-ghost use Rattle.ob_site.specs.Counts.{request_steps};
+ghost use Rattle.ob_site.specs.Counts.{IsPoll, RequestTakes};
 ghost use Rattle.ob_site.specs.Steps.{IsAnswered, IsUnanswered, step_of};
 ghost use Rattle.ob_site.specs.Views.{site_of};
 
@@ -17,7 +17,7 @@ use crate::acting::on_itself;
 use crate::keeper::Keeper;
 use crate::quiet::{to_no_watch, to_nobody, to_service, to_watch};
 use crate::room::make_room;
-use ob_machine::Steps;
+use ob_contracts::Steps;
 use ob_object::Obj;
 use ob_requests::{Target, located, target_at};
 use ob_site_rules::Request;
@@ -52,10 +52,10 @@ fn answer<L: Ledger, K: Keeper>(
     ensures err { OnErr result (IsUnanswered state.old state.new watches.old watches.new) }
     ensures keeps { OnOk result (Keeps K.below K.keeps keeper.old keeper.new (step_of state.old watches.old request.now ((site locate state.old.plan).target request.now))) }
     ensures may_keep { OnErr result (MayKeep K.below K.may_keep keeper.old keeper.new (step_of state.old watches.old request.now ((site locate state.old.plan).target request.now))) }
-    ensures steps { IfOk result (λ _. steps.new ≡ steps.old + target_steps state.old.plan (world_of state.old.plan state.old.time state.old.now (tree_of state.old) (lapsed_at state.old.time watches.old)) ((site locate state.old.plan).target request.now)) }
+    ensures steps { IfOk result (λ _. Takes state.old.plan (world_of state.old.plan state.old.time state.old.now (tree_of state.old) (lapsed_at state.old.time watches.old)) ((site locate state.old.plan).target request.now) steps.old steps.new) }
 {
     match target(state, request)? {
-        Target::Itself => on_itself(state, watches, keeper, request),
+        Target::Itself => on_itself(state, watches, keeper, request, steps),
         Target::Nowhere => to_nobody(state, watches),
         Target::Beyond => to_no_watch(state, watches),
         Target::NewWatch => to_service(state, watches, keeper, request),
@@ -80,8 +80,8 @@ pub(crate) fn step<L: Ledger, K: Keeper>(
     ensures kept { IsSite state.new watches.new }
     ensures keeps { OnOk result (Keeps K.below K.keeps keeper.old keeper.new (stepping (site_of state.old watches.old) request.now moment)) }
     ensures may_keep { OnErr result (MayKeep K.below K.may_keep keeper.old keeper.new (stepping (site_of state.old watches.old) request.now moment)) }
-    ensures steps { IfOk result (λ _. steps.new ≡ steps.old + request_steps (site_of state.old watches.old) request.now moment) }
-    ensures at_most { IfOk result (λ reply. steps.new ≤ steps.old + steps_for 32 (object_entries reply)) }
+    ensures steps { IfOk result (λ _. RequestTakes (site_of state.old watches.old) request.now moment steps.old steps.new) }
+    ensures polls { IfOk result (λ reply. IsPoll (site_of state.old watches.old) request.now → steps.new ≤ steps.old + steps_for 32 (object_entries reply)) }
 {
     make_room(state, watches);
     state.begin(moment);

@@ -7,6 +7,7 @@ ghost use Rattle.ob_plain_state.specs.Named.{place as place_of};
 ghost use Rattle.ob_site_writes.specs.Stops.{IsDone, Stops};
 
 use crate::calls::call;
+use ob_contracts::Steps;
 use ob_object::Obj;
 use ob_plain_state::Place;
 use ob_replies::Fault;
@@ -15,9 +16,16 @@ use ob_site_state::State;
 use ob_site_writes::{Stop, put};
 use ob_values::{Text, Verb};
 use std::alloc::AllocError;
+use std::sync::ledger::Ledger;
 
 /// A write at a place: only a node is put to.
-fn put_at(state: &mut State, path: &Text, place: &Place, body: Option<&Obj>) -> Result<Obj, Stop>
+fn put_at<L: Ledger>(
+    state: &mut State,
+    path: &Text,
+    place: &Place,
+    body: Option<&Obj>,
+    steps: &mut Steps<L>,
+) -> Result<Obj, Stop>
     requires { place_at state.old.plan state.old.now path.now ≡ Some (place_of place.now) }
     ensures ok { IfOk result (IsDone state.old state.new
         (put_at state.old.plan state.old.now state.old.time path.now (place_of place.now) (option_copied body.entry))) }
@@ -25,7 +33,7 @@ fn put_at(state: &mut State, path: &Text, place: &Place, body: Option<&Obj>) -> 
         (put_at state.old.plan state.old.now state.old.time path.now (place_of place.now) (option_copied body.entry))) }
 {
     match place {
-        Place::Node(object) => put(state, path, object, body),
+        Place::Node(object) => put(state, path, object, body, steps),
         Place::About
         | Place::Batch
         | Place::Service
@@ -41,7 +49,12 @@ fn put_at(state: &mut State, path: &Text, place: &Place, body: Option<&Obj>) -> 
 }
 
 /// The object that is read at a path, which names this place.
-fn read_at(state: &State, path: &Text, place: Place) -> Result<Obj, AllocError>
+fn read_at<L: Ledger>(
+    state: &State,
+    path: &Text,
+    place: Place,
+    steps: &mut Steps<L>,
+) -> Result<Obj, AllocError>
     ensures { IfOk result (λ o. o ≡ object_at state.now.plan state.now.now state.now.time path.now (place_of place)) }
 {
     state.is_sound();
@@ -52,18 +65,20 @@ fn read_at(state: &State, path: &Text, place: Place) -> Result<Obj, AllocError>
         state.time(),
         path,
         place,
+        steps,
     )
 }
 
 /// One action at a place.
 ///
 /// Source: oBIX 1.1, chapter 10 (Networking: Read, Write and Invoke).
-pub fn act_at(
+pub fn act_at<L: Ledger>(
     state: &mut State,
     path: &Text,
     verb: Verb,
     place: Place,
     body: Option<&Obj>,
+    steps: &mut Steps<L>,
 ) -> Result<Obj, Stop>
     requires { place_at state.old.plan state.old.now path.now ≡ Some (place_of place) }
     ensures ok { IfOk result (IsDone state.old state.new
@@ -73,10 +88,10 @@ pub fn act_at(
 {
     match verb {
         Verb::Get => {
-            let reply = read_at(state, path, place)?;
+            let reply = read_at(state, path, place, steps)?;
             Ok(reply)
         }
-        Verb::Put => put_at(state, path, &place, body),
-        Verb::Post => call(state, path, &place, body),
+        Verb::Put => put_at(state, path, &place, body, steps),
+        Verb::Post => call(state, path, &place, body, steps),
     }
 }

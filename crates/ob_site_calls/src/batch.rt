@@ -14,6 +14,7 @@ ghost use Rattle.ob_site_writes.specs.Stops.{IsDone, Stops};
 
 use crate::actions::act_at;
 use crate::refusing::refused;
+use ob_contracts::Steps;
 use ob_object::{Kind, Obj};
 use ob_plain_state::Place;
 use ob_replies::build::put;
@@ -25,6 +26,7 @@ use ob_site_state::State;
 use ob_site_writes::Stop;
 use ob_values::{Text, Verb};
 use std::alloc::AllocError;
+use std::sync::ledger::Ledger;
 
 /// Whether a batch leaves a place out.
 fn is_left_out(place: &Place) -> bool
@@ -46,11 +48,21 @@ fn is_left_out(place: &Place) -> bool
 }
 
 /// What a path names, if it names something.
-fn named(state: &State, path: &Text) -> Result<Option<Place>, AllocError>
+fn named<L: Ledger>(
+    state: &State,
+    path: &Text,
+    steps: &mut Steps<L>,
+) -> Result<Option<Place>, AllocError>
     ensures { IfOk result (λ place. option_map place_of place ≡ place_at state.now.plan state.now.now path.now) }
 {
     state.is_sound();
-    place_at(state.allocator(), state.plan(), state.contents(), path)
+    place_at(
+        state.allocator(),
+        state.plan(),
+        state.contents(),
+        path,
+        steps,
+    )
 }
 
 /// Why an item whose path names nothing is refused.
@@ -66,42 +78,61 @@ fn nowhere(state: &State, numbers: &[u64], path: &Text) -> Fault
 
 /// An item of a batch at its path, told by what the path names.
 #[tactic(auto, using(crate::proofs::Batched::items))]
-fn item_there(
+fn item_there<L: Ledger>(
     state: &mut State,
     numbers: &[u64],
     request: &Request,
     path: &Text,
+    steps: &mut Steps<L>,
 ) -> Result<Obj, Stop>
     ensures ok { IfOk result (IsDone state.old state.new
         (item_on state.old.plan state.old.now numbers.now state.old.time request.now (Some path.now))) }
     ensures stop { IfErr result (Stops state.old state.new
         (item_on state.old.plan state.old.now numbers.now state.old.time request.now (Some path.now))) }
 {
-    let Some(place) = named(state, path)? else {
+    let Some(place) = named(state, path, steps)? else {
         return Err(Stop::Refused(nowhere(state, numbers, path)));
     };
     if is_left_out(&place) {
         return Err(Stop::Refused(Fault::NotInBatch));
     }
-    act_at(state, path, request.verb, place, request.body.as_ref())
+    act_at(
+        state,
+        path,
+        request.verb,
+        place,
+        request.body.as_ref(),
+        steps,
+    )
 }
 
 /// An item of a batch at its path.
 #[tactic(auto, using(crate::proofs::ByHead::item_refused))]
-fn item_at(state: &mut State, numbers: &[u64], request: &Request, path: &Text) -> Result<Obj, Stop>
+fn item_at<L: Ledger>(
+    state: &mut State,
+    numbers: &[u64],
+    request: &Request,
+    path: &Text,
+    steps: &mut Steps<L>,
+) -> Result<Obj, Stop>
     ensures ok { IfOk result (IsDone state.old state.new
         (item_on state.old.plan state.old.now numbers.now state.old.time request.now (Some path.now))) }
     ensures stop { IfErr result (Stops state.old state.new
         (item_on state.old.plan state.old.now numbers.now state.old.time request.now (Some path.now))) }
 {
-    if let Some(fault) = refused(state, path, request.verb, request.body.as_ref())? {
+    if let Some(fault) = refused(state, path, request.verb, request.body.as_ref(), steps)? {
         return Err(Stop::Refused(fault));
     }
-    item_there(state, numbers, request, path)
+    item_there(state, numbers, request, path, steps)
 }
 
 /// An item of a batch that is a request.
-fn item_on(state: &mut State, numbers: &[u64], request: &Request) -> Result<Obj, Stop>
+fn item_on<L: Ledger>(
+    state: &mut State,
+    numbers: &[u64],
+    request: &Request,
+    steps: &mut Steps<L>,
+) -> Result<Obj, Stop>
     ensures ok { IfOk result (IsDone state.old state.new
         (item_on state.old.plan state.old.now numbers.now state.old.time request.now
         (locate state.old.plan.base request.now.target))) }
@@ -110,31 +141,41 @@ fn item_on(state: &mut State, numbers: &[u64], request: &Request) -> Result<Obj,
         (locate state.old.plan.base request.now.target))) }
 {
     match located(state.allocator(), state.plan(), &request.target)? {
-        Some(path) => item_at(state, numbers, request, &path),
+        Some(path) => item_at(state, numbers, request, &path, steps),
         None => Err(Stop::Refused(Fault::NoSuchObject)),
     }
 }
 
 /// An item of a batch, if it is a request.
-fn act_item(state: &mut State, numbers: &[u64], item: &Obj) -> Result<Obj, Stop>
+fn act_item<L: Ledger>(
+    state: &mut State,
+    numbers: &[u64],
+    item: &Obj,
+    steps: &mut Steps<L>,
+) -> Result<Obj, Stop>
     ensures ok { IfOk result (IsDone state.old state.new
         (act_item locate state.old.plan state.old.now numbers.now state.old.time (item_request item.now))) }
     ensures stop { IfErr result (Stops state.old state.new
         (act_item locate state.old.plan state.old.now numbers.now state.old.time (item_request item.now))) }
 {
     match item_request(item)? {
-        Some(request) => item_on(state, numbers, &request),
+        Some(request) => item_on(state, numbers, &request, steps),
         None => Err(Stop::Refused(Fault::OtherShape)),
     }
 }
 
 /// An item of a batch, whose refusal is its result.
-fn item_result(state: &mut State, numbers: &[u64], item: &Obj) -> Result<Obj, AllocError>
+fn item_result<L: Ledger>(
+    state: &mut State,
+    numbers: &[u64],
+    item: &Obj,
+    steps: &mut Steps<L>,
+) -> Result<Obj, AllocError>
     ensures ok { IfOk result (IsDone state.old state.new
         (act_item locate state.old.plan state.old.now numbers.now state.old.time (item_request item.now))) }
     ensures stays { state.new ≡ record state.old { now = state.new.now } }
 {
-    match act_item(state, numbers, item) {
+    match act_item(state, numbers, item, steps) {
         Ok(reply) => Ok(reply),
         Err(Stop::Refused(fault)) => refusal(state.allocator(), fault),
         Err(Stop::Memory) => Err(AllocError),
@@ -142,7 +183,12 @@ fn item_result(state: &mut State, numbers: &[u64], item: &Obj) -> Result<Obj, Al
 }
 
 /// The items in order, each seeing the ones before.
-fn act_all(state: &mut State, numbers: &[u64], items: &[Obj]) -> Result<Vec<Obj>, AllocError>
+fn act_all<L: Ledger>(
+    state: &mut State,
+    numbers: &[u64],
+    items: &[Obj],
+    steps: &mut Steps<L>,
+) -> Result<Vec<Obj>, AllocError>
     ensures nameless { IfOk result (λ os. list_all (λ o. is_none o.head.name) os.items ≡ true) }
     ensures reply { IfOk result (λ os. (state.new.now, os.items)
         ≡ act_all locate state.old.plan state.old.now numbers.now state.old.time items.now) }
@@ -150,7 +196,7 @@ fn act_all(state: &mut State, numbers: &[u64], items: &[Obj]) -> Result<Vec<Obj>
 {
     let mut results = Vec::new(state.allocator());
     for item in items {
-        let reply = item_result(state, numbers, item)?;
+        let reply = item_result(state, numbers, item, steps)?;
         put(&mut results, reply)?;
     }
     Ok(results)
@@ -159,7 +205,12 @@ fn act_all(state: &mut State, numbers: &[u64], items: &[Obj]) -> Result<Vec<Obj>
 /// A batch: its items are done in order, and there is one result for each.
 ///
 /// Source: oBIX 1.1, chapter 5 (Batch).
-fn batch(state: &mut State, numbers: &[u64], body: Option<&Obj>) -> Result<Obj, Stop>
+fn batch<L: Ledger>(
+    state: &mut State,
+    numbers: &[u64],
+    body: Option<&Obj>,
+    steps: &mut Steps<L>,
+) -> Result<Obj, Stop>
     ensures ok { IfOk result (IsDone state.old state.new
         (batch locate state.old.plan state.old.now numbers.now state.old.time (option_copied body.entry))) }
     ensures stop { IfErr result (Stops state.old state.new
@@ -171,7 +222,7 @@ fn batch(state: &mut State, numbers: &[u64], body: Option<&Obj>) -> Result<Obj, 
     if let Some(fault) = batch_fault(body) {
         return Err(Stop::Refused(fault));
     }
-    let results = act_all(state, numbers, body.children())?;
+    let results = act_all(state, numbers, body.children(), steps)?;
     let reply = batch_out(state.allocator(), results)?;
     Ok(reply)
 }
@@ -221,52 +272,64 @@ fn is_batch_call(place: &Place, verb: Verb) -> bool
 
 /// A request at its path, told by what the path names: a batch is done as a whole, and every other request is one action.
 #[tactic(auto, using(crate::proofs::Batched::requests))]
-fn act_there(
+fn act_there<L: Ledger>(
     state: &mut State,
     numbers: &[u64],
     request: &Request,
     path: &Text,
+    steps: &mut Steps<L>,
 ) -> Result<Obj, Stop>
     ensures ok { IfOk result (IsDone state.old state.new
         (act_located locate state.old.plan state.old.now numbers.now state.old.time request.now (Some path.now))) }
     ensures stop { IfErr result (Stops state.old state.new
         (act_located locate state.old.plan state.old.now numbers.now state.old.time request.now (Some path.now))) }
 {
-    let Some(place) = named(state, path)? else {
+    let Some(place) = named(state, path, steps)? else {
         return Err(Stop::Refused(Fault::NoSuchObject));
     };
     let body = request.body.as_ref();
     if is_batch_call(&place, request.verb) {
-        return batch(state, numbers, body);
+        return batch(state, numbers, body, steps);
     }
-    act_at(state, path, request.verb, place, body)
+    act_at(state, path, request.verb, place, body, steps)
 }
 
 /// A request at its path.
 #[tactic(auto, using(crate::proofs::ByHead::act_refused))]
-fn act_on(state: &mut State, numbers: &[u64], request: &Request, path: &Text) -> Result<Obj, Stop>
+fn act_on<L: Ledger>(
+    state: &mut State,
+    numbers: &[u64],
+    request: &Request,
+    path: &Text,
+    steps: &mut Steps<L>,
+) -> Result<Obj, Stop>
     ensures ok { IfOk result (IsDone state.old state.new
         (act_located locate state.old.plan state.old.now numbers.now state.old.time request.now (Some path.now))) }
     ensures stop { IfErr result (Stops state.old state.new
         (act_located locate state.old.plan state.old.now numbers.now state.old.time request.now (Some path.now))) }
 {
-    if let Some(fault) = refused(state, path, request.verb, request.body.as_ref())? {
+    if let Some(fault) = refused(state, path, request.verb, request.body.as_ref(), steps)? {
         return Err(Stop::Refused(fault));
     }
-    act_there(state, numbers, request, path)
+    act_there(state, numbers, request, path, steps)
 }
 
 /// What a request to the site itself leaves of it, and the reply; `numbers` are those of the watches that stand.
 ///
 /// Source: oBIX 1.1, chapters 5 (Batch) and 10 (Networking).
-pub fn act_itself(state: &mut State, numbers: &[u64], request: &Request) -> Result<Obj, Stop>
+pub fn act_itself<L: Ledger>(
+    state: &mut State,
+    numbers: &[u64],
+    request: &Request,
+    steps: &mut Steps<L>,
+) -> Result<Obj, Stop>
     ensures ok { IfOk result
         (IsDone state.old state.new (act_itself locate state.old.plan state.old.now numbers.now request.now state.old.time)) }
     ensures stop { IfErr result (Stops state.old state.new
         (act_itself locate state.old.plan state.old.now numbers.now request.now state.old.time)) }
 {
     match located(state.allocator(), state.plan(), &request.target)? {
-        Some(path) => act_on(state, numbers, request, &path),
+        Some(path) => act_on(state, numbers, request, &path, steps),
         None => Err(Stop::Refused(Fault::NoSuchObject)),
     }
 }

@@ -9,6 +9,7 @@ ghost use Rattle.ob_plain_state.specs.Named.{place as place_of};
 ghost use Rattle.ob_site_writes.specs.Stops.{IsDone, Stops};
 
 use crate::acks::acknowledge;
+use ob_contracts::Steps;
 use ob_object::{Kind, Obj};
 use ob_plain_state::Place;
 use ob_replies::{Fault, nil};
@@ -17,6 +18,7 @@ use ob_site_state::State;
 use ob_site_writes::{Stop, shown, write_by, write_fault};
 use ob_values::Text;
 use std::alloc::AllocError;
+use std::sync::ledger::Ledger;
 
 /// The child of an obj.
 fn child_of_obj<'a>(object: &'a Obj, name: &str) -> Option<&'a Obj>
@@ -30,7 +32,12 @@ fn child_of_obj<'a>(object: &'a Obj, name: &str) -> Option<&'a Obj>
 }
 
 /// Writes the value that a body gives to a point, which is shown.
-fn write_shown(state: &mut State, point: &Text, new: &Obj) -> Result<Obj, Stop>
+fn write_shown<L: Ledger>(
+    state: &mut State,
+    point: &Text,
+    new: &Obj,
+    steps: &mut Steps<L>,
+) -> Result<Obj, Stop>
     requires { is_among point.now state.old.plan.points ≡ true }
     ensures ok { IfOk result (IsDone state.old state.new
         (write_point state.old.plan state.old.now state.old.time point.now (Some new.now))) }
@@ -38,8 +45,8 @@ fn write_shown(state: &mut State, point: &Text, new: &Obj) -> Result<Obj, Stop>
         (write_point state.old.plan state.old.now state.old.time point.now (Some new.now))) }
 {
     state.is_sound();
-    match shown(state, point)? {
-        Some(target) => write_by(state, point, &target, new),
+    match shown(state, point, steps)? {
+        Some(target) => write_by(state, point, &target, new, steps),
         None => unreachable!(),
     }
 }
@@ -49,7 +56,12 @@ fn write_shown(state: &mut State, point: &Text, new: &Obj) -> Result<Obj, Stop>
 ///
 /// Source: oBIX 1.1, chapter 13 (WritablePoint).
 #[tactic(auto, using(crate::proofs::ByHead::point_refused))]
-fn write_point(state: &mut State, point: &Text, value: Option<&Obj>) -> Result<Obj, Stop>
+fn write_point<L: Ledger>(
+    state: &mut State,
+    point: &Text,
+    value: Option<&Obj>,
+    steps: &mut Steps<L>,
+) -> Result<Obj, Stop>
     requires { is_among point.now state.old.plan.points ≡ true }
     ensures ok { IfOk result (IsDone state.old state.new
         (write_point state.old.plan state.old.now state.old.time point.now (option_copied value.entry))) }
@@ -59,10 +71,10 @@ fn write_point(state: &mut State, point: &Text, value: Option<&Obj>) -> Result<O
     let Some(new) = value else {
         return Err(Stop::Refused(Fault::OtherShape));
     };
-    if let Some(fault) = write_fault(state, point, new)? {
+    if let Some(fault) = write_fault(state, point, new, steps)? {
         return Err(Stop::Refused(fault));
     }
-    write_shown(state, point, new)
+    write_shown(state, point, new, steps)
 }
 
 /// The answer to a query of a history.
@@ -101,7 +113,13 @@ fn ack_call(state: &mut State, number: u64, input: Option<&Obj>) -> Result<Obj, 
 /// A call of the op at a path, other than batch, make and those of watches. An input that is left out is Nil.
 ///
 /// Source: oBIX 1.1, chapters 8 (Operations) and 13 to 15.
-pub fn call(state: &mut State, path: &Text, place: &Place, input: Option<&Obj>) -> Result<Obj, Stop>
+pub fn call<L: Ledger>(
+    state: &mut State,
+    path: &Text,
+    place: &Place,
+    input: Option<&Obj>,
+    steps: &mut Steps<L>,
+) -> Result<Obj, Stop>
     requires { place_at state.old.plan state.old.now path.now ≡ Some (place_of place.now) }
     ensures ok { IfOk result (IsDone state.old state.new
         (call state.old.plan state.old.now state.old.time (place_of place.now) (option_copied input.entry))) }
@@ -111,8 +129,8 @@ pub fn call(state: &mut State, path: &Text, place: &Place, input: Option<&Obj>) 
     match place {
         Place::AckOf(number) => ack_call(state, *number, input),
         Place::WritePointOf(point) => match input {
-            Some(input) => write_point(state, point, child_of_obj(input, "value")),
-            None => write_point(state, point, None),
+            Some(input) => write_point(state, point, child_of_obj(input, "value"), steps),
+            None => write_point(state, point, None, steps),
         },
         Place::QueryOf(history) => {
             let reply = records_asked(state, history, input)?;

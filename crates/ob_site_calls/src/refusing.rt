@@ -9,6 +9,7 @@ ghost use Rattle.ob_site_rules.specs.Places.{Node, computed_places};
 ghost use Rattle.ob_site_writes.specs.Targets.{IsRefused};
 ghost use Rattle.ob_site_calls.specs.Refusing.{IsRefusedThere};
 
+use ob_contracts::Steps;
 use ob_object::Obj;
 use ob_replies::Fault;
 use ob_site_places::computed_place;
@@ -17,6 +18,7 @@ use ob_site_state::State;
 use ob_site_writes::put_fault;
 use ob_values::{Text, Verb};
 use std::alloc::AllocError;
+use std::sync::ledger::Ledger;
 
 /// Whether no computed path is this one.
 fn is_free(state: &State, path: &Text) -> Result<bool, AllocError>
@@ -39,34 +41,36 @@ fn post_fault(state: &State, path: &Text, body: Option<&Obj>) -> Option<Fault>
 }
 
 /// Why the own node of a path refuses what a verb asks of it with a body. All stays as it is.
-fn node_fault(
+fn node_fault<L: Ledger>(
     state: &mut State,
     path: &Text,
     verb: Verb,
     body: Option<&Obj>,
+    steps: &mut Steps<L>,
 ) -> Result<Option<Fault>, AllocError>
     ensures same { state.new ≡ state.old }
     ensures fault { IfOk result (λ fault. IfSome fault (λ f. IsRefused state.old.plan state.old.now path.now (λ o. act_at state.old.plan state.old.now state.old.time path.now verb (Node o) (option_copied body.entry)) (told.fault f))) }
 {
     match verb {
         Verb::Get => Ok(None),
-        Verb::Put => put_fault(state, path, body),
+        Verb::Put => put_fault(state, path, body, steps),
         Verb::Post => Ok(post_fault(state, path, body)),
     }
 }
 
 /// Why the own node that a path names refuses what a verb asks of it with a body, as far as its own head tells it; all stays as
 /// it is. The node isn't shown for it, so that who asks for what is refused is answered at once, however much stands there.
-pub(crate) fn refused(
+pub(crate) fn refused<L: Ledger>(
     state: &mut State,
     path: &Text,
     verb: Verb,
     body: Option<&Obj>,
+    steps: &mut Steps<L>,
 ) -> Result<Option<Fault>, AllocError>
     ensures same { state.new ≡ state.old }
     ensures fault { IfOk result (λ fault. IfSome fault (λ f. IsRefusedThere state.old.plan state.old.now state.old.time path.now verb (option_copied body.entry) (told.fault f))) }
 {
-    let fault = node_fault(state, path, verb, body)?;
+    let fault = node_fault(state, path, verb, body, steps)?;
     if fault.is_none() || is_free(state, path)? {
         return Ok(fault);
     }

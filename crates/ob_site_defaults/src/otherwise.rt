@@ -16,7 +16,7 @@ ghost use Rattle.ob_site_shown.specs.Readable.{IsReadable};
 ghost use Rattle.ob_site_defaults.specs.Otherwise.{AreOtherwise, AreOtherwiseBelow, AreShown};
 ghost use Rattle.ob_site_defaults.specs.Watched.{can_be_watched};
 
-use ob_contracts::Library;
+use ob_contracts::{Library, Steps};
 use ob_object::{Kind, Obj};
 use ob_plain_state::node_path;
 use ob_replies::Plan;
@@ -25,6 +25,7 @@ use ob_site_shown::dressed_part;
 use ob_site_state::{Contents, State};
 use ob_tree::{NodeId, Tree};
 use std::alloc::{AllocError, Global};
+use std::sync::ledger::Ledger;
 
 /// Whether an own object is a node that can be watched: any but a feed.
 fn can_be_watched(own: &Obj) -> bool
@@ -65,12 +66,13 @@ fn put_otherwise(
 
 /// What is shown of the root by the library that contents have and by another one: before and after. An error only for want of
 /// memory.
-fn both_shown(
+fn both_shown<L: Ledger>(
     alloc: Global,
     plan: &Plan,
     contents: &Contents,
     old: &Library,
     root: NodeId,
+    steps: &mut Steps<L>,
 ) -> Result<(Obj, Obj), AllocError>
     requires readable { IsReadable (plan_of plan.now) contents.now }
     requires within { root.number < parts contents.now.ground.tree.root }
@@ -78,10 +80,10 @@ fn both_shown(
     ensures after { IfOk result (λ both. Some both.1 ≡ own_shown_at (plan_of plan.now) (state_in contents.now) root.number) }
 {
     let dressed = dressed_part(alloc, plan, contents, root)?;
-    let before = contents.ground.tree().standing(old, root);
-    let after = contents.ground.standing(root);
-    let old_root = before.whole(alloc, &dressed)?;
-    let new_root = after.whole(alloc, &dressed)?;
+    let before = contents.ground.tree().standing(old, root, steps);
+    let after = contents.ground.standing(root, steps);
+    let old_root = before.whole(alloc, &dressed, steps)?;
+    let new_root = after.whole(alloc, &dressed, steps)?;
     Ok((old_root, new_root))
 }
 
@@ -94,11 +96,12 @@ fn is_counted(tree: &Tree)
 
 /// The own nodes of which a watch shows something else with the library that contents have than with another one, each
 /// once, in document order. The root is shown once by each of the two.
-fn nodes_otherwise(
+fn nodes_otherwise<L: Ledger>(
     alloc: Global,
     plan: &Plan,
     contents: &Contents,
     old: &Library,
+    steps: &mut Steps<L>,
 ) -> Result<Vec<NodeId>, AllocError>
     requires readable { IsReadable (plan_of plan.now) contents.now }
     requires differ { first_twice [] (paths contents.now.ground.tree.root) ≡ None }
@@ -109,7 +112,7 @@ fn nodes_otherwise(
     is_counted(tree);
     let root = NodeId { number: 0 };
     let own = tree.copy(alloc, root)?;
-    let (before, after) = both_shown(alloc, plan, contents, old, root)?;
+    let (before, after) = both_shown(alloc, plan, contents, old, root, steps)?;
     let mut nodes = Vec::new(alloc);
     put_otherwise(&own, 0, &before, &after, &mut nodes)?;
     Ok(nodes)
@@ -119,11 +122,20 @@ fn nodes_otherwise(
 /// once, in document order. An error only for want of memory.
 ///
 /// Source: oBIX 1.1, chapters 7 (Contracts) and 12 (Watch.pollChanges).
-pub fn shown_otherwise(state: &State) -> Result<Vec<NodeId>, AllocError>
+pub fn shown_otherwise<L: Ledger>(
+    state: &State,
+    steps: &mut Steps<L>,
+) -> Result<Vec<NodeId>, AllocError>
     ensures others { IfOk result (λ nodes. AreOtherwise state.now.plan (with_library state.now.before.library state.now.now) state.now.now.library (map (λ node. node.number) nodes.items)) }
     ensures within { IfOk result (λ nodes. All (λ node. node.number < parts state.now.now.tree) nodes.items) }
 {
     state.is_sound();
     let old = library_before(state);
-    nodes_otherwise(state.allocator(), state.plan(), state.contents(), old)
+    nodes_otherwise(
+        state.allocator(),
+        state.plan(),
+        state.contents(),
+        old,
+        steps,
+    )
 }

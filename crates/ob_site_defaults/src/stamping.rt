@@ -10,10 +10,12 @@ ghost use Rattle.ob_site_settled.specs.Telling.{ended_in_values};
 ghost use Rattle.ob_site_defaults.specs.Ended.{EndsAll};
 
 use crate::otherwise::shown_otherwise;
+use ob_contracts::Steps;
 use ob_site_settled::{changed, changes_values};
 use ob_site_state::State;
 use ob_tree::NodeId;
 use std::alloc::AllocError;
+use std::sync::ledger::Ledger;
 
 /// Nodes behind others.
 fn joined(mut first: Vec<NodeId>, mut others: Vec<NodeId>) -> Result<Vec<NodeId>, AllocError>
@@ -34,27 +36,33 @@ fn is_told(state: &State)
 
 /// The nodes that a step has to stamp which left another library: those that it changed otherwise, and those of which a
 /// watch shows something else with the library.
-fn nodes_with_defaults(state: &State) -> Result<Vec<NodeId>, AllocError>
+fn nodes_with_defaults<L: Ledger>(
+    state: &State,
+    steps: &mut Steps<L>,
+) -> Result<Vec<NodeId>, AllocError>
     requires given { TakesNoneAway state.now.plan state.now.before state.now.now }
     requires long { length state.now.stamps ≡ parts state.now.now.tree }
     ensures ends { IfOk result (λ nodes. EndsAll state.now (map (λ node. node.number) nodes.items)) }
     ensures within { IfOk result (λ nodes. All (λ node. node.number < parts state.now.now.tree) nodes.items) }
 {
     is_told(state);
-    let nodes = changed(state)?;
-    let others = shown_otherwise(state)?;
+    let nodes = changed(state, steps)?;
+    let others = shown_otherwise(state, steps)?;
     joined(nodes, others)
 }
 
 /// The nodes that a step has to stamp which left the library.
-fn nodes_with_values(state: &State) -> Result<Vec<NodeId>, AllocError>
+fn nodes_with_values<L: Ledger>(
+    state: &State,
+    steps: &mut Steps<L>,
+) -> Result<Vec<NodeId>, AllocError>
     requires values { DifferInValues state.now.before (roll state.now.now) }
     requires long { length state.now.stamps ≡ parts state.now.now.tree }
     ensures ends { IfOk result (λ nodes. EndsAll state.now (map (λ node. node.number) nodes.items)) }
     ensures within { IfOk result (λ nodes. All (λ node. node.number < parts state.now.now.tree) nodes.items) }
 {
     is_told(state);
-    changed(state)
+    changed(state, steps)
 }
 
 /// The own nodes that the end of this step has to stamp, so that all watches are as the rules of watches have it; a node
@@ -62,14 +70,17 @@ fn nodes_with_values(state: &State) -> Result<Vec<NodeId>, AllocError>
 /// memory.
 ///
 /// Source: oBIX 1.1, chapters 7 (Contracts) and 12 (Watch.pollChanges).
-pub fn stamped_nodes(state: &State) -> Result<Vec<NodeId>, AllocError>
+pub fn stamped_nodes<L: Ledger>(
+    state: &State,
+    steps: &mut Steps<L>,
+) -> Result<Vec<NodeId>, AllocError>
     requires given { TakesNoneAway state.now.plan state.now.before state.now.now }
     requires long { length state.now.stamps ≡ parts state.now.now.tree }
     ensures ends { IfOk result (λ nodes. EndsAll state.now (map (λ node. node.number) nodes.items)) }
     ensures within { IfOk result (λ nodes. All (λ node. node.number < parts state.now.now.tree) nodes.items) }
 {
     if changes_values(state) {
-        return nodes_with_values(state);
+        return nodes_with_values(state, steps);
     }
-    nodes_with_defaults(state)
+    nodes_with_defaults(state, steps)
 }

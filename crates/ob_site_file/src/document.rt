@@ -23,8 +23,6 @@ use ob_roles::{all_parts, kept_root};
 use ob_times::Moment;
 use ob_values::Text;
 use std::alloc::{AllocError, Global};
-use std::marker::Brand;
-use std::sync::ledger::Blank;
 
 // Whether the parts of a root can be counted in 64 bits with one more.
 fn is_countable(root: &Obj) -> bool
@@ -95,7 +93,7 @@ fn is_large(alloc: Global, opened: &Opened) -> Result<bool, AllocError>
     ensures { IfOk result (λ large. large ≡ nat_lt 200_000 (parts (shown_root (site_of opened.now).plan (site_of opened.now).world.site))) }
 {
     let counting = Counting::of(alloc, &opened.library, &opened.plan, opened.logs.as_slice())?;
-    is_too_large::<Brand>(alloc, &counting, &opened.tree, Blank::new(1))
+    is_too_large(alloc, &counting, &opened.tree)
 }
 
 // What a root opens that has paths in place of texts that lead to the site, or the first refusal behind those of hrefs.

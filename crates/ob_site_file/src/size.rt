@@ -1,5 +1,5 @@
 //! How many parts the shown root has, counted up to a limit without building it.
-ghost use Rattle.std.specs.Prelude.{◌≡◌, ◌+◌, ◌-◌, ◌<◌, ◌≤◌, ◌++◌, ◌∷◌, ◌||◌, [], List, ℕ, Some, cond, map, min, nat_lt, filter, IfOk, OnErr};
+ghost use Rattle.std.specs.Prelude.{◌≡◌, ◌+◌, ◌-◌, ◌<◌, ◌++◌, ◌∷◌, ◌||◌, [], List, ℕ, Some, cond, map, min, nat_lt, filter, IfOk};
 ghost use Rattle.std.specs.Option.{option_copied};
 ghost use Rattle.ob_object.specs.Object.{Object, children, count, in_row, listed, parts};
 ghost use Rattle.ob_object.specs.WellFormed.{has_name};
@@ -12,13 +12,11 @@ ghost use Rattle.ob_site_file.specs.Sizes.{has_text, HasNames, is_fresh, IsCount
 
 use crate::derived::{Counting, Derived, Texts, derived_children};
 use ob_contracts::{Library, telling, told_by};
-use ob_machine::Steps;
 use ob_object::{Attributes, Obj, Words};
 use ob_roles::{Names, find_over, implied_by, names_in};
 use ob_values::Text;
 use std::alloc::{AllocError, Global};
 use std::collections::BTreeSet;
-use std::sync::ledger::{Blank, Ledger};
 
 /// The most parts that a shown root has.
 const MOST: u64 = 200_000;
@@ -317,39 +315,28 @@ fn left_after_shown<'a>(
     left_after_added(alloc, counting, object, &above, from.as_slice(), left)
 }
 
-/// The number of parts that a root shows, or the limit where there are more. Each part that is counted is a step, so there
-/// are no more steps than the limit; want of memory counts none.
-pub(crate) fn parts_up_to<'a, L: Ledger>(
+/// The number of parts that a root shows, or the limit where there are more. It takes no view and builds none of them. An error
+/// only for want of memory.
+fn parts_up_to<'a>(
     alloc: Global,
     counting: &Counting<'a>,
     root: &'a Obj,
     limit: u64,
-    steps: &mut Steps<L>,
 ) -> Result<u64, AllocError>
-    ensures parts { IfOk result (λ n. (plan : SitePlan) (s : SiteState) → IsCounting counting.now plan s → s.tree ≡ root.now → n ≡ min limit (parts (shown_root plan s))) }
-    ensures most { IfOk result (λ n. n ≤ limit) }
-    ensures steps { IfOk result (λ n. steps.new ≡ steps.old + n) }
-    ensures none { OnErr result (steps.new ≡ steps.old) }
+    ensures { IfOk result (λ n. (plan : SitePlan) (s : SiteState) → IsCounting counting.now plan s → s.tree ≡ root.now → n ≡ min limit (parts (shown_root plan s))) }
 {
     let left = left_after_shown(alloc, counting, root, None, None, limit)?;
-    let parts = limit.saturating_sub(left);
-    steps.add(parts);
-    Ok(parts)
+    Ok(limit.saturating_sub(left))
 }
 
-/// Whether a root shows more than 200,000 parts, by a counter of its own.
-pub(crate) fn is_too_large<'a, L: Ledger>(
+/// Whether a root shows more than 200,000 parts.
+pub(crate) fn is_too_large<'a>(
     alloc: Global,
     counting: &Counting<'a>,
     root: &'a Obj,
-    blank: Blank,
 ) -> Result<bool, AllocError>
-    requires name { blank.name ≡ L.name }
-    requires parts { blank.parts ≡ L.parts }
-    requires cut { 0 < blank.parts }
     ensures { IfOk result (λ large. (plan : SitePlan) (s : SiteState) → IsCounting counting.now plan s → s.tree ≡ root.now → large ≡ nat_lt 200_000 (parts (shown_root plan s))) }
 {
-    let mut steps = Steps::<L>::begin(blank);
-    let parts = parts_up_to(alloc, counting, root, MOST + 1, &mut steps)?;
+    let parts = parts_up_to(alloc, counting, root, MOST + 1)?;
     Ok(parts > MOST)
 }

@@ -7,6 +7,7 @@ ghost use Rattle.ob_site_shown.specs.Readable.{IsReadable};
 ghost use Rattle.ob_site_places.specs.Complete.{IsComplete};
 ghost use Rattle.ob_plain_state.specs.Named.{place as place_of};
 
+use ob_contracts::Steps;
 use ob_object::Obj;
 use ob_plain_state::Place;
 use ob_replies::build::nameless;
@@ -15,19 +16,21 @@ use ob_site_shown::shown_at;
 use ob_site_state::Contents;
 use ob_values::{Moment, Text};
 use std::alloc::{AllocError, Global};
+use std::sync::ledger::Ledger;
 
 /// What is shown at a path, or else a given object; without its name. An error only for want of memory.
-pub fn reply_at(
+pub fn reply_at<L: Ledger>(
     alloc: Global,
     plan: &Plan,
     contents: &Contents,
     path: &Text,
     default: Obj,
+    steps: &mut Steps<L>,
 ) -> Result<Obj, AllocError>
     requires { IsReadable (plan_of plan.now) contents.now }
     ensures { IfOk result (λ o. o ≡ reply_at (plan_of plan.now) (state_in contents.now) path.now default) }
 {
-    match shown_at(alloc, plan, contents, path)? {
+    match shown_at(alloc, plan, contents, path, steps)? {
         Some(node) => Ok(nameless(node)),
         None => Ok(nameless(default)),
     }
@@ -37,13 +40,14 @@ pub fn reply_at(
 /// that of another root as the op alone. An error only for want of memory.
 ///
 /// Source: oBIX 1.1, chapter 10 (Networking: Read).
-pub fn object_at(
+pub fn object_at<L: Ledger>(
     alloc: Global,
     plan: &Plan,
     contents: &Contents,
     now: Moment,
     path: &Text,
     place: Place,
+    steps: &mut Steps<L>,
 ) -> Result<Obj, AllocError>
     requires { IsComplete (plan_of plan.now) contents.now }
     ensures { IfOk result (λ o. o ≡ object_at (plan_of plan.now) (state_in contents.now) now path.now (place_of place)) }
@@ -52,7 +56,7 @@ pub fn object_at(
         Place::About => about(alloc, plan, now),
         Place::Batch => {
             let op = batch_op(alloc, plan)?;
-            reply_at(alloc, plan, contents, path, op)
+            reply_at(alloc, plan, contents, path, op, steps)
         }
         Place::Service => service(alloc, plan),
         Place::Make => {
@@ -71,7 +75,7 @@ pub fn object_at(
         | Place::AlarmQuery
         | Place::AlarmFeed => {
             let missing = refusal(alloc, Fault::NoSuchObject)?;
-            reply_at(alloc, plan, contents, path, missing)
+            reply_at(alloc, plan, contents, path, missing, steps)
         }
     }
 }

@@ -15,12 +15,14 @@ ghost use Rattle.ob_plain_state.specs.Named.{place as place_of};
 
 use crate::paths::{alarm_number, is_followed};
 use ob_alarms::{Alarm, Alarms};
+use ob_contracts::Steps;
 use ob_plain_state::Place;
 use ob_replies::{Plan, PointRule, ack_path, alarm_path, below};
 use ob_site_shown::{begins_with, parent_path, shown_at};
 use ob_site_state::Contents;
 use ob_values::Text;
 use std::alloc::{AllocError, Global};
+use std::sync::ledger::Ledger;
 
 /// The place of those whose paths the root's alone computes.
 fn fixed_place(plan: &Plan, path: &Text) -> Option<Place>
@@ -364,11 +366,12 @@ pub fn computed_place(
 }
 
 /// What a path names, if it names something: a computed place, or else a node with what it shows.
-pub fn place_at(
+pub fn place_at<L: Ledger>(
     alloc: Global,
     plan: &Plan,
     contents: &Contents,
     path: &Text,
+    steps: &mut Steps<L>,
 ) -> Result<Option<Place>, AllocError>
     requires { IsReadable (plan_of plan.now) contents.now }
     ensures { IfOk result (λ place. option_map place_of place ≡ place_at (plan_of plan.now) (state_in contents.now) path.now) }
@@ -377,7 +380,7 @@ pub fn place_at(
     if found.is_some() {
         return Ok(found);
     }
-    match shown_at(alloc, plan, contents, path)? {
+    match shown_at(alloc, plan, contents, path, steps)? {
         Some(node) => Ok(Some(Place::Node(node))),
         None => Ok(None),
     }

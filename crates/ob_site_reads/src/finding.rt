@@ -14,6 +14,7 @@ ghost use Rattle.ob_site_state.specs.Contents.{state_in};
 ghost use Rattle.ob_site_shown.specs.Readable.{IsReadable};
 ghost use Rattle.ob_requests.specs.Calls.{found as found_of};
 
+use ob_contracts::Steps;
 use ob_object::{Kind, Obj};
 use ob_plain_state::Place;
 use ob_replies::{Fault, Plan};
@@ -23,6 +24,7 @@ use ob_site_shown::shown_kind;
 use ob_site_state::Contents;
 use ob_values::Text;
 use std::alloc::{AllocError, Global};
+use std::sync::ledger::Ledger;
 
 /// What a node of a kind is to watches: all but ops and feeds are watched.
 fn found_node(path: Text, kind: Kind) -> Found
@@ -47,17 +49,18 @@ fn found_place(path: Text, input: &Option<Obj>, place: &Place) -> Found
 
 /// What a path is to watches that no computed path is the same as. An own node isn't shown for it.
 #[tactic(auto, using(crate::proofs::FoundKinds::node_found, crate::proofs::FoundKinds::none_found))]
-fn found_shown(
+fn found_shown<L: Ledger>(
     alloc: Global,
     plan: &Plan,
     contents: &Contents,
     numbers: &[u64],
     path: Text,
+    steps: &mut Steps<L>,
 ) -> Result<Found, AllocError>
     requires readable { IsReadable (plan_of plan.now) contents.now }
     ensures { IfOk result (λ f. (input : Option Object) → found_of f ≡ found_at (plan_of plan.now) numbers.now path input (option_map Node (shown (plan_of plan.now) (state_in contents.now) path))) }
 {
-    match shown_kind(alloc, plan, contents, &path)? {
+    match shown_kind(alloc, plan, contents, &path, steps)? {
         Some(kind) => Ok(found_node(path, kind)),
         None if is_of_watch(plan, numbers, path.as_str()) => Ok(Found::Nothing(
             Fault::NotWatchable,
@@ -68,32 +71,34 @@ fn found_shown(
 
 /// What a path is to watches: what it names is a computed place, or else a node.
 #[tactic(auto, using(crate::proofs::FoundKinds::place_found, crate::proofs::FoundKinds::shown_found))]
-fn found_at(
+fn found_at<L: Ledger>(
     alloc: Global,
     plan: &Plan,
     contents: &Contents,
     numbers: &[u64],
     path: Text,
     input: &Option<Obj>,
+    steps: &mut Steps<L>,
 ) -> Result<Found, AllocError>
     requires { IsReadable (plan_of plan.now) contents.now }
     ensures { IfOk result (λ f. found_of f ≡ found_at (plan_of plan.now) numbers.now path input.now (place_at (plan_of plan.now) (state_in contents.now) path)) }
 {
     match computed_place(alloc, plan, contents, &path)? {
         Some(place) => Ok(found_place(path, input, &place)),
-        None => found_shown(alloc, plan, contents, numbers, path),
+        None => found_shown(alloc, plan, contents, numbers, path, steps),
     }
 }
 
 /// What an asked href names, where the watches of these numbers stand. An error only for want of memory.
 ///
 /// Source: oBIX 1.1, chapter 12 (Watch.add).
-pub fn found(
+pub fn found<L: Ledger>(
     alloc: Global,
     plan: &Plan,
     contents: &Contents,
     numbers: &[u64],
     asked: &Asked,
+    steps: &mut Steps<L>,
 ) -> Result<Found, AllocError>
     requires { IsReadable (plan_of plan.now) contents.now }
     ensures { IfOk result (λ f. found_of f ≡ found locate (plan_of plan.now) (state_in contents.now) numbers.now asked.now.0 asked.now.1) }
@@ -102,7 +107,7 @@ pub fn found(
         return Ok(Found::Nothing(Fault::HrefTooLong));
     }
     match located(alloc, plan, &asked.0)? {
-        Some(path) => found_at(alloc, plan, contents, numbers, path, &asked.1),
+        Some(path) => found_at(alloc, plan, contents, numbers, path, &asked.1, steps),
         None => Ok(Found::Nothing(Fault::NoSuchObject)),
     }
 }

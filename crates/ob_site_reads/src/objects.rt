@@ -11,10 +11,10 @@ ghost use Rattle.ob_site_state.specs.Contents.{state_in};
 ghost use Rattle.ob_site_shown.specs.Readable.{IsReadable};
 ghost use Rattle.ob_site_reads.specs.Watchable.{IsWatchableAt};
 
-use ob_machine::Steps;
+use ob_contracts::Steps;
 use ob_object::{Kind, Obj};
 use ob_replies::Plan;
-use ob_site_shown::{shown_at, shown_own, shown_own_counted};
+use ob_site_shown::{shown_at, shown_own};
 use ob_site_state::Contents;
 use ob_tree::NodeId;
 use ob_values::Text;
@@ -41,39 +41,26 @@ fn unnamed(alloc: Global, mut object: Obj) -> Obj
 /// watched is there. An error only for want of memory.
 ///
 /// Source: oBIX 1.1, chapter 12 (Watches).
-pub fn watched_object(
+pub fn watched_object<L: Ledger>(
     alloc: Global,
     plan: &Plan,
     contents: &Contents,
     path: &Text,
+    steps: &mut Steps<L>,
 ) -> Result<Obj, AllocError>
     requires { IsReadable (plan_of plan.now) contents.now }
     ensures { IfOk result (λ o. o ≡ watched_object (plan_of plan.now) (state_in contents.now) path.now) }
 {
-    match shown_at(alloc, plan, contents, path)? {
+    match shown_at(alloc, plan, contents, path, steps)? {
         Some(object) => Ok(unnamed(alloc, object)),
         None => Ok(Obj::new(alloc, Kind::Obj)),
     }
 }
 
-/// The same of an own node by its number, without looking for its path. An error only for want of memory.
-pub fn watched_node(
-    alloc: Global,
-    plan: &Plan,
-    contents: &Contents,
-    node: NodeId,
-) -> Result<Obj, AllocError>
-    requires readable { IsReadable (plan_of plan.now) contents.now }
-    requires within { node.number < parts contents.now.ground.tree.root }
-    ensures { IfOk result (λ o. (p : Path) → place_of p (paths contents.now.ground.tree.root) ≡ Some node.number → o ≡ watched_object (plan_of plan.now) (state_in contents.now) p) }
-{
-    let object = shown_own(alloc, plan, contents, node)?;
-    Ok(unnamed(alloc, object))
-}
-
-/// The same of an own node by its number, counted: where it succeeds at a node that can be watched, it counts one step
-/// for each object round the node, and one for each object of the answer (`Obj::parts`).
-pub fn watched_node_counted<L: Ledger>(
+/// The same of an own node by its number, without looking for its path. Where it succeeds at a node that can be watched, it
+/// counts one step for each object round the node, and one for each object of the answer (`Obj::parts`). An error only for
+/// want of memory.
+pub fn watched_node<L: Ledger>(
     alloc: Global,
     plan: &Plan,
     contents: &Contents,
@@ -86,6 +73,6 @@ pub fn watched_node_counted<L: Ledger>(
     ensures steps { IfOk result (λ o. IsWatchableAt node.number contents.now.ground.tree.root
         → steps.new ≡ steps.old + depth_at node.number contents.now.ground.tree.root + min (parts o) (2 ^ 64 - 1)) }
 {
-    let object = shown_own_counted(alloc, plan, contents, node, steps)?;
+    let object = shown_own(alloc, plan, contents, node, steps)?;
     Ok(unnamed(alloc, object))
 }

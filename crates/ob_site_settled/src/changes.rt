@@ -22,6 +22,7 @@ use crate::noted::{alarms_before, library_replaced};
 use crate::seen::Seen;
 use crate::spans::shows_other_span;
 use crate::values::{same_status, shows_other_values};
+use ob_contracts::Steps;
 use ob_ground::Told;
 use ob_history::Log;
 use ob_object::{Slot, Status};
@@ -30,26 +31,33 @@ use ob_standing::Standing;
 use ob_tree::NodeId;
 use ob_values::Text;
 use std::alloc::AllocError;
+use std::sync::ledger::Ledger;
 
 /// Where an object stands with the library before the step: the words that objects name and give are found by those that this
 /// library tells, and not looked up for each note.
-fn standing_before<'a>(state: &'a State, replaced: Option<&'a Told>, node: NodeId) -> Standing<'a>
+fn standing_before<'a, L: Ledger>(
+    state: &'a State,
+    replaced: Option<&'a Told>,
+    node: NodeId,
+    steps: &mut Steps<L>,
+) -> Standing<'a>
     requires within { node.number < parts state.now.now.tree }
     requires told { TellsOf (option_copied replaced) state.now.now }
     ensures { Some (context result) ≡ standing_at (replaced_or (option_copied replaced.entry) state.now.now) node.number state.now.now.tree }
 {
     match replaced {
-        Some(told) => told.standing(state.tree(), node),
-        None => state.contents().ground.standing(node),
+        Some(told) => told.standing(state.tree(), node, steps),
+        None => state.contents().ground.standing(node, steps),
     }
 }
 
 /// Whether an object, where it stands, shows another slot than it would with this one.
-fn shows_other_slot(
+fn shows_other_slot<L: Ledger>(
     state: &State,
     replaced: Option<&Told>,
     node: NodeId,
     slot: &Slot,
+    steps: &mut Steps<L>,
 ) -> Result<bool, AllocError>
     requires comparable { IsComparable state.now.now (note.Slot node slot.now) }
     requires told { TellsOf (option_copied replaced) state.now.now }
@@ -60,23 +68,24 @@ fn shows_other_slot(
     let slot = slot.copy()?;
     let mut before = tree.own(node).copy()?;
     let _now = before.replace_slot(slot);
-    let standing = standing_before(state, replaced, node);
-    Ok(shows_other_values(&standing, &before, tree.own(node)))
+    let standing = standing_before(state, replaced, node, steps);
+    Ok(shows_other_values(&standing, &before, tree.own(node), steps))
 }
 
 /// A node of which a note has the slot, if it shows another one.
-fn changed_slot(
+fn changed_slot<L: Ledger>(
     state: &State,
     replaced: Option<&Told>,
     node: NodeId,
     slot: &Slot,
+    steps: &mut Steps<L>,
 ) -> Result<Option<NodeId>, AllocError>
     requires comparable { IsComparable state.now.now (note.Slot node slot.now) }
     requires told { TellsOf (option_copied replaced) state.now.now }
     ensures { IfOk result (λ found. option_map (λ node. node.number) found
         ≡ other_slot (replaced_or (option_copied replaced.entry) state.now.now) state.now.now node.number slot.now) }
 {
-    if shows_other_slot(state, replaced, node, slot)? {
+    if shows_other_slot(state, replaced, node, slot, steps)? {
         Ok(Some(node))
     } else {
         Ok(None)
@@ -154,10 +163,11 @@ fn changed_status(state: &State, rule: u64, status: Status) -> Option<NodeId>
 }
 
 /// The own node that a note tells of as the first one of its kind, if it shows itself otherwise than before.
-fn told_by(
+fn told_by<L: Ledger>(
     state: &State,
     replaced: Option<&Told>,
     change: &Change,
+    steps: &mut Steps<L>,
 ) -> Result<Option<NodeId>, AllocError>
     requires comparable { IsComparable state.now.now change.now }
     requires told { TellsOf (option_copied replaced) state.now.now }
@@ -165,7 +175,7 @@ fn told_by(
         ≡ told_by (replaced_or (option_copied replaced.entry) state.now.now) state.now.plan state.now.now change.now) }
 {
     match change {
-        Change::Slot { node, slot } => changed_slot(state, replaced, *node, slot),
+        Change::Slot { node, slot } => changed_slot(state, replaced, *node, slot, steps),
         Change::Records { place, len } => Ok(changed_records(state, *place, *len)),
         Change::Event { rule, status } => Ok(changed_status(state, *rule, *status)),
         Change::Contracts { told: _ } => Ok(None),
@@ -187,12 +197,13 @@ fn push_some(found: &mut Vec<NodeId>, node: Option<NodeId>) -> Result<(), AllocE
 }
 
 /// Puts last the own node that a note tells of, if it is the first one of its kind.
-fn push_told(
+fn push_told<L: Ledger>(
     state: &State,
     replaced: Option<&Told>,
     seen: &mut Seen,
     change: &Change,
     found: &mut Vec<NodeId>,
+    steps: &mut Steps<L>,
 ) -> Result<(), AllocError>
     requires comparable { IsComparable state.now.now change.now }
     requires told { TellsOf (option_copied replaced) state.now.now }
@@ -205,16 +216,17 @@ fn push_told(
     if !seen.is_first(change)? {
         return Ok(());
     }
-    let node = told_by(state, replaced, change)?;
+    let node = told_by(state, replaced, change, steps)?;
     push_some(found, node)
 }
 
 /// Puts last the own nodes that notes tell of.
-fn push_all(
+fn push_all<L: Ledger>(
     state: &State,
     replaced: Option<&Told>,
     changes: &[Change],
     found: &mut Vec<NodeId>,
+    steps: &mut Steps<L>,
 ) -> Result<(), AllocError>
     requires comparable { All (IsComparable state.now.now) changes.now }
     requires told { TellsOf (option_copied replaced) state.now.now }
@@ -223,7 +235,7 @@ fn push_all(
 {
     let mut seen = Seen::new(state.allocator());
     for change in changes {
-        push_told(state, replaced, &mut seen, change, found)?;
+        push_told(state, replaced, &mut seen, change, found, steps)?;
     }
     Ok(())
 }
@@ -246,7 +258,7 @@ fn changed_subject(state: &State) -> Option<NodeId>
 /// may be there twice. An error only for want of memory.
 ///
 /// Source: oBIX 1.1, chapter 12 (Watch.pollChanges).
-pub fn changed(state: &State) -> Result<Vec<NodeId>, AllocError>
+pub fn changed<L: Ledger>(state: &State, steps: &mut Steps<L>) -> Result<Vec<NodeId>, AllocError>
     ensures changed { IfOk result (λ nodes. AreChanged state.now.plan state.now.before (ended_in_values state.now)
         (map (λ node. node.number) nodes.items)) }
     ensures values { IfOk result (λ nodes. DifferInValues state.now.before (roll state.now.now)
@@ -256,7 +268,7 @@ pub fn changed(state: &State) -> Result<Vec<NodeId>, AllocError>
     state.is_sound();
     let replaced = library_replaced(state);
     let mut found = Vec::new(state.allocator());
-    push_all(state, replaced, state.changes(), &mut found)?;
+    push_all(state, replaced, state.changes(), &mut found, steps)?;
     push_some(&mut found, changed_subject(state))?;
     Ok(found)
 }

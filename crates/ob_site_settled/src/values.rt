@@ -6,9 +6,10 @@ ghost use Rattle.ob_site_rules.specs.Sameness.{same_option, same_slot, same_stat
 ghost use Rattle.ob_shown_laws.specs.Changed.{head_in, same_values};
 ghost use Rattle.ob_site_settled.specs.Values.{status_in};
 
-use ob_contracts::View;
+use ob_contracts::{Steps, View};
 use ob_object::{Facet, FacetRef, Obj, Slot, Status};
 use ob_standing::Standing;
+use std::sync::ledger::Ledger;
 
 /// Whether two slots are equal.
 fn is_equal(slot: &Slot, other: &Slot) -> bool
@@ -72,12 +73,17 @@ fn status_of(view: &View<'_>) -> Option<Status>
 /// before, told by its own attributes.
 ///
 /// Source: oBIX 1.1, chapter 7 (Contracts).
-pub fn shows_other_values<'a>(standing: &Standing<'a>, before: &'a Obj, now: &'a Obj) -> bool
+pub fn shows_other_values<'a, L: Ledger>(
+    standing: &Standing<'a>,
+    before: &'a Obj,
+    now: &'a Obj,
+    steps: &mut Steps<L>,
+) -> bool
     ensures { result ≡ not
         (same_values (head_in (context standing.now) before.now.head) (head_in (context standing.now) now.now.head)) }
 {
-    let before = standing.view(before);
-    let now = standing.view(now);
+    let before = standing.view(before, steps);
+    let now = standing.view(now, steps);
     let is_same = has_same(
         before.slot(),
         status_of(&before),

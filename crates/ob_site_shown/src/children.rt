@@ -9,6 +9,7 @@ ghost use Rattle.ob_site_shown.specs.Readable.{IsReadable};
 ghost use Rattle.ob_shown_laws.specs.OwnTree.{own_shown_at};
 
 use crate::roles::derived;
+use ob_contracts::Steps;
 use ob_object::find_named;
 use ob_plain_state::node_path;
 use ob_replies::Plan;
@@ -16,15 +17,17 @@ use ob_site_state::Contents;
 use ob_tree::NodeId;
 use ob_values::Text;
 use std::alloc::{AllocError, Global};
+use std::sync::ledger::Ledger;
 
 /// Whether an own node is shown with a child of a name: an own one, one that it inherits, or one that its roles derive. No
 /// child is shown for it. An error only for want of memory.
-pub fn shows_child(
+pub fn shows_child<L: Ledger>(
     alloc: Global,
     plan: &Plan,
     contents: &Contents,
     node: NodeId,
     name: &Text,
+    steps: &mut Steps<L>,
 ) -> Result<bool, AllocError>
     requires readable { IsReadable (plan_of plan.now) contents.now }
     requires within { node.number < parts contents.now.ground.tree.root }
@@ -35,7 +38,8 @@ pub fn shows_child(
     if contents.ground.child(node, name.as_str()).is_some() {
         return Ok(true);
     }
-    if contents.ground.view(node).child(name.as_str()).is_some() {
+    let view = contents.ground.view(node, steps);
+    if view.child(name.as_str()).is_some() {
         return Ok(true);
     }
     let derived = derived(alloc, plan, contents, node_path(own.head()))?;

@@ -10,12 +10,13 @@ ghost use Rattle.ob_site_shown.specs.Targets.{target, target_head};
 ghost use Rattle.ob_values.specs.declared.value.Value.{Value};
 
 use crate::shown::shown_at;
-use ob_contracts::View;
+use ob_contracts::{Steps, View};
 use ob_object::{Attributes, Facet, FacetRef, Kind, Obj};
 use ob_replies::Plan;
 use ob_site_state::Contents;
 use ob_values::{Text, Value};
 use std::alloc::{AllocError, Global};
+use std::sync::ledger::Ledger;
 
 /// A copy of a limit that is lent.
 fn limit(facet: Option<FacetRef<'_>>) -> Result<Option<Value>, AllocError>
@@ -71,11 +72,12 @@ fn target_head(alloc: Global, view: &View<'_>) -> Result<Attributes, AllocError>
 
 /// What of the own node of a path is asked when a value is to be written to it, which is what is asked of what is shown
 /// there. An error only for want of memory.
-pub fn own_target(
+pub fn own_target<L: Ledger>(
     alloc: Global,
     plan: &Plan,
     contents: &Contents,
     path: &Text,
+    steps: &mut Steps<L>,
 ) -> Result<Option<Obj>, AllocError>
     requires { IsReadable (plan_of plan.now) contents.now }
     ensures { IfOk result (λ found. IfSome found (λ o. option_map target (shown (plan_of plan.now) (state_in contents.now) path.now) ≡ Some o)) }
@@ -84,7 +86,7 @@ pub fn own_target(
     let Some(node) = tree.get(path) else {
         return Ok(None);
     };
-    let head = target_head(alloc, &contents.ground.view(node))?;
+    let head = target_head(alloc, &contents.ground.view(node, steps))?;
     if head.fits() {
         Ok(Some(Obj::from_attributes(alloc, head)))
     } else {
@@ -106,11 +108,12 @@ pub fn own_kind(plan: &Plan, contents: &Contents, path: &Text) -> Option<Kind>
 
 /// The kind of what is shown at a path, and `None` where nothing is. Of an own node nothing is shown for it. An error only
 /// for want of memory.
-pub fn shown_kind(
+pub fn shown_kind<L: Ledger>(
     alloc: Global,
     plan: &Plan,
     contents: &Contents,
     path: &Text,
+    steps: &mut Steps<L>,
 ) -> Result<Option<Kind>, AllocError>
     requires { IsReadable (plan_of plan.now) contents.now }
     ensures { IfOk result (λ kind. kind ≡ option_map (λ o. o.head.kind) (shown (plan_of plan.now) (state_in contents.now) path.now)) }
@@ -119,7 +122,7 @@ pub fn shown_kind(
     if kind.is_some() {
         return Ok(kind);
     }
-    match shown_at(alloc, plan, contents, path)? {
+    match shown_at(alloc, plan, contents, path, steps)? {
         Some(object) => Ok(Some(object.kind())),
         None => Ok(None),
     }

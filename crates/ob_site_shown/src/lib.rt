@@ -18,4 +18,4 @@ pub use logs::{history_log, log_at};
 pub use owners::{begins_with, shown_derived};
 pub use parents::parent_path;
 pub use roles::derived;
-pub use shown::{dressed_part, shown_at, shown_own, shown_own_counted};
+pub use shown::{dressed_part, shown_at, shown_own};

@@ -15,6 +15,7 @@ ghost use Rattle.ob_site_shown.specs.Readable.{IsReadable};
 
 use crate::parents::parent_path;
 use crate::roles::derived;
+use ob_contracts::Steps;
 use ob_object::Obj;
 use ob_plain_state::{is_path, node_path};
 use ob_replies::Plan;
@@ -22,6 +23,7 @@ use ob_site_state::Contents;
 use ob_tree::NodeId;
 use ob_values::Text;
 use std::alloc::{AllocError, Global};
+use std::sync::ledger::Ledger;
 
 /// Whether a path begins with another.
 pub fn begins_with(path: &Text, front: &Text) -> bool
@@ -45,26 +47,28 @@ fn among<'a>(objects: &'a [Obj], path: &Text) -> Option<&'a Obj>
 }
 
 /// What is shown of a child that the own object of a number has, where it stands.
-fn shown_inside(
+fn shown_inside<L: Ledger>(
     alloc: Global,
     contents: &Contents,
     node: NodeId,
     child: &Obj,
+    steps: &mut Steps<L>,
 ) -> Result<Obj, AllocError>
     requires { node.number < parts contents.now.ground.tree.root }
     ensures { IfOk result (λ o. Some o ≡ option_and_then (λ h. option_map (λ c. comes_to (under (handed_down c h) child.now.head.name) child.now) (standing_at contents.now.ground.library node.number contents.now.ground.tree.root)) (head_at node.number contents.now.ground.tree.root)) }
 {
-    let inside = contents.ground.inside(node, child.head().name());
-    inside.whole(alloc, child)
+    let inside = contents.ground.inside(node, child.head().name(), steps);
+    inside.whole(alloc, child, steps)
 }
 
 /// What is shown at a path that the roles of the own node at another derive.
-fn shown_by(
+fn shown_by<L: Ledger>(
     alloc: Global,
     plan: &Plan,
     contents: &Contents,
     owner: &Text,
     path: &Text,
+    steps: &mut Steps<L>,
 ) -> Result<Option<Obj>, AllocError>
     requires { IsReadable (plan_of plan.now) contents.now }
     ensures { IfOk result (ShownOr (plan_of plan.now) (state_in contents.now) path.now (IsOff (plan_of plan.now) (state_in contents.now) path.now owner.now)) }
@@ -79,7 +83,7 @@ fn shown_by(
     let children = derived(alloc, plan, contents, Some(owner))?;
     match among(&children, path) {
         Some(child) => {
-            let shown = shown_inside(alloc, contents, node, child)?;
+            let shown = shown_inside(alloc, contents, node, child, steps)?;
             Ok(Some(shown))
         }
         None => Ok(None),
@@ -87,36 +91,38 @@ fn shown_by(
 }
 
 /// What is shown at a path that the roles of a node of this path derive, or of this path with a slash behind it.
-fn shown_by_parent(
+fn shown_by_parent<L: Ledger>(
     alloc: Global,
     plan: &Plan,
     contents: &Contents,
     parent: &Text,
     path: &Text,
+    steps: &mut Steps<L>,
 ) -> Result<Option<Obj>, AllocError>
     requires { IsReadable (plan_of plan.now) contents.now }
     ensures { IfOk result (ShownOr (plan_of plan.now) (state_in contents.now) path.now (IsOff (plan_of plan.now) (state_in contents.now) path.now parent.now × IsOff (plan_of plan.now) (state_in contents.now) path.now (parent.now ++ 47 ∷ []))) }
 {
-    let shown = shown_by(alloc, plan, contents, parent, path)?;
+    let shown = shown_by(alloc, plan, contents, parent, path, steps)?;
     if shown.is_some() {
         return Ok(shown);
     }
     let parent = parent.followed_by(alloc, "/")?;
-    shown_by(alloc, plan, contents, &parent, path)
+    shown_by(alloc, plan, contents, &parent, path, steps)
 }
 
 /// What is shown at a path that the roles of the node in front of it derive.
-fn shown_below(
+fn shown_below<L: Ledger>(
     alloc: Global,
     plan: &Plan,
     contents: &Contents,
     path: &Text,
+    steps: &mut Steps<L>,
 ) -> Result<Option<Obj>, AllocError>
     requires { IsReadable (plan_of plan.now) contents.now }
     ensures { IfOk result (ShownOr (plan_of plan.now) (state_in contents.now) path.now (IsOffBelow (plan_of plan.now) (state_in contents.now) path.now)) }
 {
     match parent_path(alloc, path)? {
-        Some(parent) => shown_by_parent(alloc, plan, contents, &parent, path),
+        Some(parent) => shown_by_parent(alloc, plan, contents, &parent, path, steps),
         None => Ok(None),
     }
 }
@@ -125,18 +131,19 @@ fn shown_below(
 /// one in front of the path's last slash. An error only for want of memory.
 ///
 /// Source: that roles derive children is this profile's own.
-pub fn shown_derived(
+pub fn shown_derived<L: Ledger>(
     alloc: Global,
     plan: &Plan,
     contents: &Contents,
     path: &Text,
+    steps: &mut Steps<L>,
 ) -> Result<Option<Obj>, AllocError>
     requires { IsReadable (plan_of plan.now) contents.now }
     ensures { IfOk result (ShownOr (plan_of plan.now) (state_in contents.now) path.now (IsNotDerived (plan_of plan.now) (state_in contents.now) path.now (row contents.now.ground.tree.root))) }
 {
-    let shown = shown_by(alloc, plan, contents, &plan.root, path)?;
+    let shown = shown_by(alloc, plan, contents, &plan.root, path, steps)?;
     if shown.is_some() {
         return Ok(shown);
     }
-    shown_below(alloc, plan, contents, path)
+    shown_below(alloc, plan, contents, path, steps)
 }

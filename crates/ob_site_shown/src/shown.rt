@@ -15,15 +15,14 @@ ghost use Rattle.ob_site_shown.specs.Readable.{IsReadable};
 
 use crate::dressing::dress;
 use crate::owners::shown_derived;
-use ob_machine::Steps;
+use ob_contracts::Steps;
 use ob_object::Obj;
 use ob_replies::Plan;
 use ob_site_state::Contents;
 use ob_tree::NodeId;
 use ob_values::Text;
 use std::alloc::{AllocError, Global};
-use std::marker::Brand;
-use std::sync::ledger::{Blank, Ledger};
+use std::sync::ledger::Ledger;
 
 /// The own object of a number with all that is in it, with the status of each source and the children that roles
 /// derive. An error only for want of memory.
@@ -46,7 +45,7 @@ pub fn dressed_part(
 /// of the answer (`Obj::parts`). An error only for want of memory.
 ///
 /// Source: oBIX 1.1, chapters 6 (Naming) and 7 (Contracts). That roles derive children is this profile's own.
-pub fn shown_own_counted<L: Ledger>(
+pub fn shown_own<L: Ledger>(
     alloc: Global,
     plan: &Plan,
     contents: &Contents,
@@ -60,63 +59,29 @@ pub fn shown_own_counted<L: Ledger>(
     ensures steps { IfOk result (λ o. steps.new ≡ steps.old + depth_at node.number contents.now.ground.tree.root + min (parts o) (2 ^ 64 - 1)) }
 {
     let dressed = dressed_part(alloc, plan, contents, node)?;
-    let standing = contents.ground.standing_counted(node, steps);
-    standing.whole_counted(alloc, &dressed, steps)
-}
-
-/// The same, by a counter of its own.
-fn shown_own_by<L: Ledger>(
-    alloc: Global,
-    plan: &Plan,
-    contents: &Contents,
-    node: NodeId,
-    blank: Blank,
-) -> Result<Obj, AllocError>
-    requires readable { IsReadable (plan_of plan.now) contents.now }
-    requires within { node.number < parts contents.now.ground.tree.root }
-    requires name { blank.name ≡ L.name }
-    requires parts { blank.parts ≡ L.parts }
-    requires cut { 0 < blank.parts }
-    ensures stands { IfOk result (λ o. Some o ≡ own_shown_at (plan_of plan.now) (state_in contents.now) node.number) }
-    ensures shows { IfOk result (λ o. (p : Path) → place_of p (paths contents.now.ground.tree.root) ≡ Some node.number → shown (plan_of plan.now) (state_in contents.now) p ≡ Some o) }
-{
-    let mut steps = Steps::<L>::begin(blank);
-    shown_own_counted(alloc, plan, contents, node, &mut steps)
-}
-
-/// The same as `shown_own_counted`, for a caller that counts nothing.
-pub fn shown_own(
-    alloc: Global,
-    plan: &Plan,
-    contents: &Contents,
-    node: NodeId,
-) -> Result<Obj, AllocError>
-    requires readable { IsReadable (plan_of plan.now) contents.now }
-    requires within { node.number < parts contents.now.ground.tree.root }
-    ensures stands { IfOk result (λ o. Some o ≡ own_shown_at (plan_of plan.now) (state_in contents.now) node.number) }
-    ensures shows { IfOk result (λ o. (p : Path) → place_of p (paths contents.now.ground.tree.root) ≡ Some node.number → shown (plan_of plan.now) (state_in contents.now) p ≡ Some o) }
-{
-    shown_own_by::<Brand>(alloc, plan, contents, node, Blank::new(1))
+    let standing = contents.ground.standing(node, steps);
+    standing.whole(alloc, &dressed, steps)
 }
 
 /// What is shown at a path: of the own node there, or of the node that a role derives there, and `None` where neither
 /// is. An error only for want of memory.
 ///
 /// Source: oBIX 1.1, chapters 6 (Naming) and 7 (Contracts). That roles derive children is this profile's own.
-pub fn shown_at(
+pub fn shown_at<L: Ledger>(
     alloc: Global,
     plan: &Plan,
     contents: &Contents,
     path: &Text,
+    steps: &mut Steps<L>,
 ) -> Result<Option<Obj>, AllocError>
     requires { IsReadable (plan_of plan.now) contents.now }
     ensures { IfOk result (λ o. o ≡ shown (plan_of plan.now) (state_in contents.now) path.now) }
 {
     match contents.ground.tree().get(path) {
         Some(node) => {
-            let shown = shown_own(alloc, plan, contents, node)?;
+            let shown = shown_own(alloc, plan, contents, node, steps)?;
             Ok(Some(shown))
         }
-        None => shown_derived(alloc, plan, contents, path),
+        None => shown_derived(alloc, plan, contents, path, steps),
     }
 }

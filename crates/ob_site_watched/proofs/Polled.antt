@@ -5,7 +5,7 @@ use Rattle.std.specs.List.{filter, list_all, list_any}
 use Rattle.std.proofs.lemmas.List.{map-append, take_more}
 use Rattle.ob_object.specs.Object.{Object, parts, listed-in_row}
 use Rattle.ob_history.specs.declared.records.Filter.{Filter}
-use Rattle.ob_watching.specs.Asked.{Look, Renew, Add, Remove, PollChanges, PollRefresh, Delete, Refuse, Itself, Nowhere, NewWatch, OneWatch}
+use Rattle.ob_watching.specs.Asked.{Look, Renew, Add, Remove, PollChanges, PollRefresh, Delete, Refuse, OneWatch}
 use Rattle.ob_watching.specs.Tables.{lookup}
 use Rattle.ob_watching.specs.Watches.{TrackedOf, ItemOf, WatchOf, World, acted, changes, changes_of, on_watch}
 use Rattle.ob_watching.specs.Watches as rules
@@ -17,7 +17,7 @@ use Rattle.ob_site_rules.specs.declared.request.Request.{Request}
 use Rattle.ob_site_rules.specs.Replies.{Reading, entry, is_plain, sent}
 use Rattle.ob_site_rules.specs.Sites.{watched_object}
 use Rattle.ob_site_rules.specs.State.{Plan, State}
-use Rattle.ob_site_rules.specs.Watched.{SiteTarget, WatchOperation}
+use Rattle.ob_site_rules.specs.Watched.{WatchOperation}
 use Rattle.ob_tree.specs.declared.node.NodeId.{NodeId}
 use Rattle.ob_tree.specs.Depths.{depth_at, levels}
 use Rattle.ob_tree.specs.Laid.{paths}
@@ -34,7 +34,7 @@ use Rattle.ob_watch.specs.Flags.{flag_of, flagged, flags, flags_of}
 use Rattle.ob_watch.specs.Items.{is_due, is_due_by}
 use Rattle.ob_watch.specs.Tables.{Leased}
 use Rattle.ob_watch.proofs.LawLemmas.{tables_agree}
-use Rattle.ob_site_watched.specs.Polls.{is_of_object, item_steps, items_in, object_entries, of_objects, poll_steps, round_at, steps_for, steps_in, target_steps, watch_steps}
+use Rattle.ob_site_watched.specs.Polls.{Takes, WatchTakes, is_of_object, item_steps, items_in, object_entries, of_objects, poll_steps, reading_steps, refresh_steps, round_at, shown_steps, steps_for, steps_in}
 
 rest_true : (a b : Bool) → (a && b) ≡ true → b ≡ true
 rest_true true b h = h
@@ -43,7 +43,7 @@ rest_true false b h = absurd cc
 plus_zero : (n : ℕ) → n + 0 ≡ n
 plus_zero n = omega arith
 
-pub no_more : (n : ℕ) → n ≡ n + 0
+no_more : (n : ℕ) → n ≡ n + 0
 no_more n = omega arith
 
 pub none_more : (n m : ℕ) → m ≡ 0 → n ≡ n + m
@@ -54,24 +54,42 @@ pub whatever : {A E : Type 0} (r : Result A E) (P : Type 0) → P → IfOk r (λ
 whatever (Ok x) P p = p
 whatever (Err e) P p = tt
 
--- what was counted for an object that was read, since it is due
+-- a fact of two facts of one result
+pub both : {A E : Type 0} {P Q R : A → Type 0} (r : Result A E) → ((x : A) → P x → Q x → R x) → IfOk r P → IfOk r Q → IfOk r R
+both (Ok x) f p q = f x p q
+both (Err e) f p q = tt
+
+-- what was counted for an object that was read
+shown_for : (plan : Plan) (s : State) (path : Path) (node : NodeId) (o : Object) (old new : ℕ) → place_of path (paths s.tree) ≡ Some node.number → o ≡ watched_object plan s path
+    → new ≡ old + depth_at node.number s.tree + min (parts o) (2 ^ 64 - 1) → new ≡ old + shown_steps plan s path
+shown_for plan s path node o old new placed read steps =
+    let round : round_at s.tree path ≡ depth_at node.number s.tree = ap (λ (n : Option ℕ). unwrap_or (option_map (λ m. depth_at m s.tree) n) 0) placed in
+    steps
+    ∙ ap (λ (x : Object). old + depth_at node.number s.tree + min (parts x) (2 ^ 64 - 1)) read
+    ∙ ap (λ (n : ℕ). old + n + min (parts (watched_object plan s path)) (2 ^ 64 - 1)) (sym round)
+    ∙ added old (round_at s.tree path) (min (parts (watched_object plan s path)) (2 ^ 64 - 1))
+  where
+    added : (a b c : ℕ) → a + b + c ≡ a + (b + c)
+    added a b c = omega arith
+
+-- since it is due, or since all are read
 pub object_steps : (plan : Plan) (s : State) (t : Stamped) (path : Path) (k : Tracked) (node : NodeId) (mark : ℕ) (o : Object) (old new : ℕ)
     → k ≡ kept.Object node mark → is_due_by t k ≡ true → place_of path (paths s.tree) ≡ Some node.number → o ≡ watched_object plan s path
     → new ≡ old + depth_at node.number s.tree + min (parts o) (2 ^ 64 - 1) → new ≡ old + item_steps plan s path (flag_of t k)
 object_steps plan s t path k node mark o old new is due placed read steps =
     let below : is_due_by t (kept.Object node mark) ≡ true = subst (λ (x : Tracked). is_due_by t x ≡ true) is due in
-    let round : round_at s.tree path ≡ depth_at node.number s.tree = ap (λ (n : Option ℕ). unwrap_or (option_map (λ m. depth_at m s.tree) n) 0) placed in
-    let whole : parts o ≡ parts (watched_object plan s path) = ap parts read in
-    let counted : new ≡ old + item_steps plan s path (rules.Object true) =
-    steps
-    ∙ ap (λ (n : ℕ). old + depth_at node.number s.tree + min n (2 ^ 64 - 1)) whole
-    ∙ ap (λ (n : ℕ). old + n + min (parts (watched_object plan s path)) (2 ^ 64 - 1)) (sym round)
-    ∙ added old (round_at s.tree path) (min (parts (watched_object plan s path)) (2 ^ 64 - 1)) in
     subst (λ (x : Tracked). new ≡ old + item_steps plan s path (flag_of t x)) (sym is)
-    (subst (λ (b : Bool). new ≡ old + item_steps plan s path (rules.Object b)) (sym below) counted)
-  where
-    added : (a b c : ℕ) → a + b + c ≡ a + (b + c)
-    added a b c = omega arith
+    (subst (λ (b : Bool). new ≡ old + item_steps plan s path (rules.Object b)) (sym below) (shown_for plan s path node o old new placed read steps))
+
+pub reading_object : (plan : Plan) (s : State) (t : Stamped) (path : Path) (k : Tracked) (node : NodeId) (mark : ℕ) (o : Object) (old new : ℕ)
+    → k ≡ kept.Object node mark → place_of path (paths s.tree) ≡ Some node.number → o ≡ watched_object plan s path
+    → new ≡ old + depth_at node.number s.tree + min (parts o) (2 ^ 64 - 1) → new ≡ old + reading_steps plan s path (flag_of t k)
+reading_object plan s t path k node mark o old new is placed read steps =
+    subst (λ (x : Tracked). new ≡ old + reading_steps plan s path (flag_of t x)) (sym is) (shown_for plan s path node o old new placed read steps)
+
+pub reading_feed : (plan : Plan) (s : State) (t : Stamped) (path : Path) (k : Tracked) (filter : Filter) (given total : ℕ) (due : Bool) (old : ℕ)
+    → k ≡ kept.Feed filter given total due → old ≡ old + reading_steps plan s path (flag_of t k)
+reading_feed plan s t path k filter given total due old is = subst (λ (x : Tracked). old ≡ old + reading_steps plan s path (flag_of t x)) (sym is) (no_more old)
 
 -- for a feed nothing is counted
 pub feed_steps : (plan : Plan) (s : State) (t : Stamped) (path : Path) (k : Tracked) (filter : Filter) (given total : ℕ) (due : Bool) (old : ℕ)
@@ -119,29 +137,43 @@ steps_more plan s t items k i old between new l at before here =
     ∙ poll_append plan s (map (flags t) (take k items)) (map (flags t) (i ∷ [])) in
     omega (arith, before, here, last, all)
 
+refresh_append : (plan : Plan) (s : State) (xs ys : List (ItemOf Text Path Filter)) → refresh_steps plan s (xs ++ ys) ≡ refresh_steps plan s xs + refresh_steps plan s ys
+refresh_append plan s [] ys = nothing_before (refresh_steps plan s ys)
+refresh_append plan s (x ∷ xs) ys = one_before (reading_steps plan s x.path x.tracked) (refresh_steps plan s (xs ++ ys)) (refresh_steps plan s xs) (refresh_steps plan s ys) (refresh_append plan s xs ys)
+
+pub readings_more : (plan : Plan) (s : State) (t : Stamped) (items : List Item) (k : ℕ) (i : Item) (old between new : ℕ) → k < length items → i ≡ get_or items k i
+    → between ≡ old + refresh_steps plan s (map (flags t) (take k items)) → new ≡ between + reading_steps plan s i.path (flag_of t i.tracked)
+    → new ≡ old + refresh_steps plan s (map (flags t) (take (k + 1) items))
+readings_more plan s t items k i old between new l at before here =
+    let last : refresh_steps plan s (map (flags t) (i ∷ [])) ≡ reading_steps plan s i.path (flag_of t i.tracked) = plus_zero (reading_steps plan s i.path (flag_of t i.tracked)) in
+    let all : refresh_steps plan s (map (flags t) (take (k + 1) items)) ≡ refresh_steps plan s (map (flags t) (take k items)) + refresh_steps plan s (map (flags t) (i ∷ [])) =
+    ap (λ (is : List Item). refresh_steps plan s (map (flags t) is)) (take_more items k i l ∙ ap (λ (j : Item). take k items ++ j ∷ []) (sym at))
+    ∙ ap (refresh_steps plan s) (map-append (flags t) (take k items) (i ∷ []))
+    ∙ refresh_append plan s (map (flags t) (take k items)) (map (flags t) (i ∷ [])) in
+    omega (arith, before, here, last, all)
+
 -- the steps of an operation on a watch that stands
 pub asked_there : (plan : Plan) (s : State) (t : Stamped) (n : ℕ) (ws : List (ℕ × Leased)) (w : Leased) (op : WatchOperation) (old new : ℕ) → lookup n ws ≡ Some w
-    → new ≡ old + watch_steps plan s (Some (flagged t w)) op → new ≡ old + watch_steps plan s (lookup n (flags_of t ws)) op
+    → WatchTakes plan s (Some (flagged t w)) op old new → WatchTakes plan s (lookup n (flags_of t ws)) op old new
 asked_there plan s t n ws w op old new there steps =
-    subst (λ (v : Option (WatchOf Text Path Filter)). new ≡ old + watch_steps plan s v op)
+    subst (λ (v : Option (WatchOf Text Path Filter)). WatchTakes plan s v op old new)
     (sym ((tables_agree plan t).looks_up n ws ∙ ap (λ (v : Option Leased). option_map (flagged t) v) there)) steps
 
 -- where no watch stands, none are taken
-pub none_for : (plan : Plan) (s : State) (op : WatchOperation) → watch_steps plan s None op ≡ 0
-none_for plan s (Look part) = refl
-none_for plan s (Renew input) = refl
-none_for plan s (Add asked) = refl
-none_for plan s (Remove texts) = refl
-none_for plan s PollChanges = refl
-none_for plan s PollRefresh = refl
-none_for plan s Delete = refl
-none_for plan s (Refuse fault) = refl
+pub none_for : (plan : Plan) (s : State) (op : WatchOperation) (old : ℕ) → WatchTakes plan s None op old old
+none_for plan s (Look part) old = refl
+none_for plan s (Renew input) old = tt
+none_for plan s (Add asked) old = tt
+none_for plan s (Remove texts) old = refl
+none_for plan s PollChanges old = no_more old
+none_for plan s PollRefresh old = no_more old
+none_for plan s Delete old = refl
+none_for plan s (Refuse fault) old = refl
 
-pub none_asked : (plan : Plan) (s : State) (t : Stamped) (n : ℕ) (ws : List (ℕ × Leased)) (op : WatchOperation) (old : ℕ) → lookup n ws ≡ None → old ≡ old + watch_steps plan s (lookup n (flags_of t ws)) op
+pub none_asked : (plan : Plan) (s : State) (t : Stamped) (n : ℕ) (ws : List (ℕ × Leased)) (op : WatchOperation) (old : ℕ) → lookup n ws ≡ None → WatchTakes plan s (lookup n (flags_of t ws)) op old old
 none_asked plan s t n ws op old none =
-    let gone : lookup n (flags_of t ws) ≡ None = (tables_agree plan t).looks_up n ws ∙ ap (λ (v : Option Leased). option_map (flagged t) v) none in
-    let zero : watch_steps plan s (lookup n (flags_of t ws)) op ≡ 0 = ap (λ (v : Option (WatchOf Text Path Filter)). watch_steps plan s v op) gone ∙ none_for plan s op in
-    omega (arith, zero)
+    subst (λ (v : Option (WatchOf Text Path Filter)). WatchTakes plan s v op old old)
+    (sym ((tables_agree plan t).looks_up n ws ∙ ap (λ (v : Option Leased). option_map (flagged t) v) none)) (none_for plan s op old)
 
 -- The steps of a poll are at most those for the objects that it reports.
 steps_append : (round : ℕ) (xs ys : List Object) → steps_for round (of_objects (xs ++ ys)) ≡ steps_for round (of_objects xs) + steps_for round (of_objects ys)
@@ -205,23 +237,13 @@ module _ (plan : Plan) (s : State) where
       subst (λ (os : List Object). poll_steps plan s items ≤ steps_in s.tree os)
       (sym (ap (λ (os : Option (List Object)). of_objects (unwrap_or os [])) (entries_are (changes (of_plan plan) s items)))) (all_at_most items)
 
--- what a watch that is asked replies to
-asked_at_most : (plan : Plan) (w : World (of_plan plan)) (n : ℕ) (op : WatchOperation) (found : Option (WatchOf Text Path Filter))
-    → watch_steps plan w.site found op ≤ steps_in w.site.tree (object_entries (sent plan (on_watch (of_plan plan) w n op found).1))
-asked_at_most plan w n (Look part) found = none_least _
-asked_at_most plan w n (Renew input) found = none_least _
-asked_at_most plan w n (Add asked) found = none_least _
-asked_at_most plan w n (Remove texts) found = none_least _
-asked_at_most plan w n PollChanges None = none_least _
-asked_at_most plan w n PollChanges (Some v) = polls_at_most plan w.site v.items
-asked_at_most plan w n PollRefresh found = none_least _
-asked_at_most plan w n Delete found = none_least _
-asked_at_most plan w n (Refuse fault) found = none_least _
+-- what a watch that is polled replies
+polled_at_most : (plan : Plan) (w : World (of_plan plan)) (n : ℕ) (found : Option (WatchOf Text Path Filter))
+    → poll_steps plan w.site (items_in found) ≤ steps_in w.site.tree (object_entries (sent plan (on_watch (of_plan plan) w n PollChanges found).1))
+polled_at_most plan w n None = none_least _
+polled_at_most plan w n (Some v) = polls_at_most plan w.site v.items
 
--- The steps that a request takes are at most those for the objects that its reply reports.
-pub steps_at_most : (plan : Plan) (w : World (of_plan plan)) (r : Request) (target : SiteTarget)
-    → target_steps plan w target ≤ steps_in w.site.tree (object_entries (sent plan (acted (of_plan plan) w r target).1))
-steps_at_most plan w r Itself = none_least _
-steps_at_most plan w r Nowhere = none_least _
-steps_at_most plan w r NewWatch = none_least _
-steps_at_most plan w r (OneWatch n op) = asked_at_most plan w n op (lookup n w.watches)
+-- The steps that a poll takes are at most those for the objects that its reply reports.
+pub steps_at_most : (plan : Plan) (w : World (of_plan plan)) (r : Request) (n old new : ℕ) → Takes plan w (OneWatch n PollChanges) old new
+    → new ≤ old + steps_in w.site.tree (object_entries (sent plan (acted (of_plan plan) w r (OneWatch n PollChanges)).1))
+steps_at_most plan w r n old new takes = omega (arith, takes, polled_at_most plan w n (lookup n w.watches))

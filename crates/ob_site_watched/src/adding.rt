@@ -16,6 +16,7 @@ ghost use Rattle.ob_site_watched.specs.Putting.{ArePut, HasPut, IsPlaced, IsPut,
 
 use crate::entries::reading;
 use crate::offering::{Offer, offered, refused};
+use ob_contracts::Steps;
 use ob_object::{Obj, copy_text};
 use ob_replies::{Fault, Plan, refusal, watch_out};
 use ob_requests::{Asked, as_the_site_says, firsts};
@@ -23,6 +24,7 @@ use ob_site_state::Contents;
 use ob_values::{Moment, Text};
 use ob_watch::{Additions, WatchFault, Watches};
 use std::alloc::{AllocError, Global};
+use std::sync::ledger::Ledger;
 
 /// What is asked to be added to the watch of a number, and when.
 #[derive(Drop)]
@@ -54,7 +56,7 @@ fn too_many(alloc: Global, own: &Obj) -> Result<Obj, AllocError>
 }
 
 /// Puts what is offered into a watch, and gives its entry. Nothing is read for an href that the watch has no room for.
-fn put_offer(
+fn put_offer<L: Ledger>(
     alloc: Global,
     plan: &Plan,
     contents: &Contents,
@@ -62,6 +64,7 @@ fn put_offer(
     adding: &Adding<'_>,
     offer: Offer,
     undo: &mut Additions,
+    steps: &mut Steps<L>,
 ) -> Result<Obj, AllocError>
     requires complete { IsComplete (plan_of plan.now) contents.now }
     requires placed { IsPlaced contents.now offer }
@@ -75,7 +78,7 @@ fn put_offer(
     if is_refused(watches, adding, item.text()) {
         return refused(alloc, item.text(), Fault::TooManyItems);
     }
-    let entry = reading(alloc, plan, contents, &item)?;
+    let entry = reading(alloc, plan, contents, &item, steps)?;
     match watches.add(adding.number, item, undo) {
         Ok(()) => Ok(entry),
         Err(WatchFault::ItemsFull) => too_many(alloc, &entry),
@@ -85,13 +88,14 @@ fn put_offer(
 
 /// Puts the first of each of equal hrefs into a watch, in their order, and gives the reply. What an href names is read when
 /// it is put, and not before. After an error `undo` takes back what was put.
-fn put_all(
+fn put_all<L: Ledger>(
     alloc: Global,
     plan: &Plan,
     contents: &Contents,
     watches: &mut Watches,
     adding: &Adding<'_>,
     undo: &mut Additions,
+    steps: &mut Steps<L>,
 ) -> Result<Obj, AllocError>
     requires complete { IsComplete (plan_of plan.now) contents.now }
     requires past { AreStampsPast contents.now.ground.tree }
@@ -103,21 +107,22 @@ fn put_all(
     let firsts = firsts(alloc, adding.asked)?;
     let mut entries = Vec::new(alloc);
     for a in &firsts {
-        let offer = offered(alloc, plan, contents, &numbers, a)?;
-        let entry = put_offer(alloc, plan, contents, watches, adding, offer, undo)?;
+        let offer = offered(alloc, plan, contents, &numbers, a, steps)?;
+        let entry = put_offer(alloc, plan, contents, watches, adding, offer, undo, steps)?;
         entries.push(entry)?;
     }
     watch_out(alloc, entries)
 }
 
 /// The same, and an error leaves the watches as they were.
-fn put_or_leave(
+fn put_or_leave<L: Ledger>(
     alloc: Global,
     plan: &Plan,
     contents: &Contents,
     watches: &mut Watches,
     adding: &Adding<'_>,
     mut undo: Additions,
+    steps: &mut Steps<L>,
 ) -> Result<Obj, AllocError>
     requires complete { IsComplete (plan_of plan.now) contents.now }
     requires past { AreStampsPast contents.now.ground.tree }
@@ -127,7 +132,7 @@ fn put_or_leave(
     ensures err { OnErr result (watches.new ≡ watches.old) }
 {
     let _numbers = watches.numbers();
-    match put_all(alloc, plan, contents, watches, adding, &mut undo) {
+    match put_all(alloc, plan, contents, watches, adding, &mut undo, steps) {
         Ok(reply) => Ok(reply),
         Err(AllocError) => {
             watches.take_back(adding.number, undo);
@@ -140,12 +145,13 @@ fn put_or_leave(
 /// as they were.
 ///
 /// Source: oBIX 1.1, chapter 12 (Watch.add).
-pub(crate) fn add(
+pub(crate) fn add<L: Ledger>(
     alloc: Global,
     plan: &Plan,
     contents: &Contents,
     watches: &mut Watches,
     adding: &Adding<'_>,
+    steps: &mut Steps<L>,
 ) -> Result<Obj, AllocError>
     requires complete { IsComplete (plan_of plan.now) contents.now }
     requires past { AreStampsPast contents.now.ground.tree }
@@ -161,7 +167,7 @@ pub(crate) fn add(
     };
     let _lease = watch.lease();
     let undo = Additions::new(alloc, watch.items());
-    let reply = put_or_leave(alloc, plan, contents, watches, adding, undo)?;
+    let reply = put_or_leave(alloc, plan, contents, watches, adding, undo, steps)?;
     watches.touch(adding.number, adding.moment);
     Ok(reply)
 }

@@ -9,31 +9,33 @@ ghost use Rattle.ob_site_rules.specs.Replies.{content_object, entry};
 ghost use Rattle.ob_site_places.specs.Complete.{IsComplete};
 ghost use Rattle.ob_site_watched.specs.Entries.{all_changes, all_readings, changes_in, object_now, reading_entry};
 ghost use Rattle.ob_site_watched.specs.Known.{AreKnown, IsKnown, IsPlacedBy};
-ghost use Rattle.ob_site_watched.specs.Polls.{item_steps, poll_steps};
+ghost use Rattle.ob_site_watched.specs.Polls.{item_steps, poll_steps, reading_steps, refresh_steps};
 
-use ob_machine::Steps;
+use ob_contracts::Steps;
 use ob_object::Obj;
 use ob_replies::{Plan, entry};
-use ob_site_reads::{Since, feed_since, watched_node, watched_node_counted, whole_feed};
+use ob_site_reads::{Since, feed_since, watched_node, whole_feed};
 use ob_site_state::Contents;
 use ob_watch::{Item, Tracked, Watch};
 use std::alloc::{AllocError, Global};
 use std::sync::ledger::Ledger;
 
-/// What is read of an item now: the object, or the feed with all kept events that pass its filter.
+/// What is read of an item now: the object, or the feed with all kept events that pass its filter. Only an object counts steps.
 #[tactic(auto, using(crate::proofs::Due::placed_within))]
-fn object_now(
+fn object_now<L: Ledger>(
     alloc: Global,
     plan: &Plan,
     contents: &Contents,
     item: &Item,
+    steps: &mut Steps<L>,
 ) -> Result<Obj, AllocError>
     requires complete { IsComplete (plan_of plan.now) contents.now }
     requires placed { IsPlacedBy contents.now.ground.tree.root item.now.path item.now.tracked }
-    ensures { IfOk result (λ o. o ≡ object_now (plan_of plan.now) contents.now item.now) }
+    ensures object { IfOk result (λ o. o ≡ object_now (plan_of plan.now) contents.now item.now) }
+    ensures steps { IfOk result (λ _. steps.new ≡ steps.old + reading_steps (plan_of plan.now) (state_in contents.now) item.now.path (flag_of contents.now.ground.tree item.now.tracked)) }
 {
     match item.tracked() {
-        Tracked::Object { node, mark: _ } => watched_node(alloc, plan, contents, *node),
+        Tracked::Object { node, mark: _ } => watched_node(alloc, plan, contents, *node, steps),
         Tracked::Feed {
             filter,
             given: _,
@@ -43,21 +45,23 @@ fn object_now(
     }
 }
 
-/// The entry of an item as it is now: the object, or the feed with all kept events that pass its filter. An error only
-/// for want of memory.
+/// The entry of an item as it is now: the object, or the feed with all kept events that pass its filter. Of an object it counts
+/// those round it and the parts of the entry. An error only for want of memory.
 ///
 /// Source: oBIX 1.1, chapter 12 (Watch.pollRefresh).
-pub fn reading(
+pub fn reading<L: Ledger>(
     alloc: Global,
     plan: &Plan,
     contents: &Contents,
     item: &Item,
+    steps: &mut Steps<L>,
 ) -> Result<Obj, AllocError>
     requires complete { IsComplete (plan_of plan.now) contents.now }
     requires placed { IsPlacedBy contents.now.ground.tree.root item.now.path item.now.tracked }
-    ensures { IfOk result (λ o. o ≡ reading_entry (plan_of plan.now) contents.now item.now) }
+    ensures entry { IfOk result (λ o. o ≡ reading_entry (plan_of plan.now) contents.now item.now) }
+    ensures steps { IfOk result (λ _. steps.new ≡ steps.old + reading_steps (plan_of plan.now) (state_in contents.now) item.now.path (flag_of contents.now.ground.tree item.now.tracked)) }
 {
-    let object = object_now(alloc, plan, contents, item)?;
+    let object = object_now(alloc, plan, contents, item, steps)?;
     let text = item.text().copy()?;
     Ok(entry(object, text))
 }
@@ -66,19 +70,21 @@ pub fn reading(
 ///
 /// Source: oBIX 1.1, chapter 12 (Watch.pollRefresh).
 #[tactic(auto, using(crate::proofs::Due::known_at))]
-pub fn readings(
+pub fn readings<L: Ledger>(
     alloc: Global,
     plan: &Plan,
     contents: &Contents,
     items: &[Item],
+    steps: &mut Steps<L>,
 ) -> Result<Vec<Obj>, AllocError>
     requires complete { IsComplete (plan_of plan.now) contents.now }
     requires known { AreKnown (plan_of plan.now) contents.now items.now }
-    ensures { IfOk result (λ os. os.items ≡ all_readings (plan_of plan.now) contents.now items.now) }
+    ensures entries { IfOk result (λ os. os.items ≡ all_readings (plan_of plan.now) contents.now items.now) }
+    ensures steps { IfOk result (λ _. steps.new ≡ steps.old + refresh_steps (plan_of plan.now) (state_in contents.now) (map (flags contents.now.ground.tree) items.now)) }
 {
     let mut entries = Vec::new(alloc);
     for item in items {
-        entries.push(reading(alloc, plan, contents, item)?)?;
+        entries.push(reading(alloc, plan, contents, item, steps)?)?;
     }
     Ok(entries)
 }
@@ -100,7 +106,7 @@ fn change_due<L: Ledger>(
 {
     match item.tracked() {
         Tracked::Object { node, mark: _ } => {
-            let object = watched_node_counted(alloc, plan, contents, *node, steps)?;
+            let object = watched_node(alloc, plan, contents, *node, steps)?;
             Ok(Some(object))
         }
         Tracked::Feed {

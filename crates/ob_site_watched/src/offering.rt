@@ -9,6 +9,7 @@ ghost use Rattle.ob_watch.specs.Marks.{AreStampsPast};
 ghost use Rattle.ob_requests.specs.Calls.{found as found_of};
 ghost use Rattle.ob_site_watched.specs.Offered.{IsFor, IsOffered, refused_entry};
 
+use ob_contracts::Steps;
 use ob_marks_laws::watched_are_own;
 use ob_object::Obj;
 use ob_replies::{Fault, Plan, entry, refusal};
@@ -18,6 +19,7 @@ use ob_site_state::Contents;
 use ob_values::Text;
 use ob_watch::Item;
 use std::alloc::{AllocError, Global};
+use std::sync::ledger::Ledger;
 
 /// An href that is asked for: the item that it is to be added as, or the entry of its refusal.
 #[derive(Drop)]
@@ -67,19 +69,20 @@ pub(crate) fn refused(alloc: Global, text: &Text, fault: Fault) -> Result<Obj, A
 ///
 /// Source: oBIX 1.1, chapter 12 (Watch.add).
 #[tactic(auto, using(crate::proofs::Found::item_offered, crate::proofs::Found::refusal_offered))]
-pub(crate) fn offered(
+pub(crate) fn offered<L: Ledger>(
     alloc: Global,
     plan: &Plan,
     contents: &Contents,
     numbers: &[u64],
     asked: &Asked,
+    steps: &mut Steps<L>,
 ) -> Result<Offer, AllocError>
     requires complete { IsComplete (plan_of plan.now) contents.now }
     requires past { AreStampsPast contents.now.ground.tree }
     ensures { IfOk result (IsOffered (plan_of plan.now) contents.now numbers.now asked.now) }
 {
     watched_are_own();
-    let found = found(alloc, plan, contents, numbers, asked)?;
+    let found = found(alloc, plan, contents, numbers, asked, steps)?;
     let text = asked.0.copy()?;
     match item_for(alloc, plan, contents, text, found)? {
         Ok(item) => Ok(Offer::Item(item)),

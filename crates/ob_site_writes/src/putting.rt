@@ -14,19 +14,21 @@ use crate::reading::replied;
 use crate::stop::Stop;
 use crate::value::{target_fault, value_fault};
 use crate::written::written_at;
-use ob_contracts::{Library, View};
+use ob_contracts::{Library, Steps, View};
 use ob_object::{Attributes, Obj, Slot};
 use ob_replies::Fault;
 use ob_site_state::State;
 use ob_values::Text;
 use std::alloc::{AllocError, Global};
+use std::sync::ledger::Ledger;
 
 /// Writes a value in which nothing is wrong to the object shown at a path, and answers what is shown there then.
-fn show_written(
+fn show_written<L: Ledger>(
     state: &mut State,
     path: &Text,
     object: &Obj,
     slot: &Slot,
+    steps: &mut Steps<L>,
 ) -> Result<Obj, AllocError>
     requires can { CanBeWritten state.old.plan state.old.now path.now object.now.head.kind slot.now }
     requires room { overfills state.old.plan state.old.now state.old.time path.now object.now.head slot.now ≡ false }
@@ -35,12 +37,18 @@ fn show_written(
 {
     written_at(state, path, object.head(), slot)?;
     let default = object.copy()?;
-    replied(state, path, default)
+    replied(state, path, default, steps)
 }
 
 /// Writes the value of a head to the object shown at a path, where nothing is wrong, and answers what is shown there
 /// then.
-fn write_given(state: &mut State, path: &Text, object: &Obj, new: &Attributes) -> Result<Obj, Stop>
+fn write_given<L: Ledger>(
+    state: &mut State,
+    path: &Text,
+    object: &Obj,
+    new: &Attributes,
+    steps: &mut Steps<L>,
+) -> Result<Obj, Stop>
     requires shows { shown state.old.plan state.old.now path.now ≡ Some object.now }
     requires records { (history : Path) → records_from state.old.plan path.now history ≡ true → is_value_kind object.now.head.kind ≡ true }
     requires held { is_value_kind new.now.kind ≡ true → IsTrue (fits_slot new.now.kind new.now.slot) → IsTrue (holds_value new.now.kind new.now.slot) }
@@ -48,23 +56,24 @@ fn write_given(state: &mut State, path: &Text, object: &Obj, new: &Attributes) -
     ensures stop { IfErr result (Stops state.old state.new (unless (value_fault state.old.plan state.old.now state.old.time path.now object.now.head new.now) state.old.now (showing state.old.plan path.now object.now (written state.old.plan state.old.time path.now object.now new.now.slot state.old.now)))) }
 {
     state.is_sound();
-    if let Some(fault) = value_fault(state, path, object, new)? {
+    if let Some(fault) = value_fault(state, path, object, new, steps)? {
         return Err(Stop::Refused(fault));
     }
-    let reply = show_written(state, path, object, new.slot())?;
+    let reply = show_written(state, path, object, new.slot(), steps)?;
     Ok(reply)
 }
 
 /// The kind and the slot that a body gives, with what it inherits by its own words; nothing else of it is looked at.
-pub(crate) fn given_by<'x>(
+pub(crate) fn given_by<'x, L: Ledger>(
     alloc: Global,
     library: &'x Library,
     body: &'x Obj,
+    steps: &mut Steps<L>,
 ) -> Result<Attributes, AllocError>
     ensures kind { IfOk result (λ head. head.kind ≡ (effective_of library.now body.now None None).head.kind) }
     ensures slot { IfOk result (λ head. head.slot ≡ (effective_of library.now body.now None None).head.slot) }
 {
-    let view = View::new(library, body, None, None);
+    let view = View::new(library, body, None, None, steps);
     let mut head = Attributes::empty(alloc, view.kind());
     head.put_slot(view.slot().copy()?);
     Ok(head)
@@ -72,21 +81,33 @@ pub(crate) fn given_by<'x>(
 
 /// Writes the value that a body gives to the object shown at a path, where nothing is wrong, and answers what is shown
 /// there then. A node that a history records is shown with a kind that has values.
-pub fn write_by(state: &mut State, path: &Text, object: &Obj, body: &Obj) -> Result<Obj, Stop>
+pub fn write_by<L: Ledger>(
+    state: &mut State,
+    path: &Text,
+    object: &Obj,
+    body: &Obj,
+    steps: &mut Steps<L>,
+) -> Result<Obj, Stop>
     requires shows { shown state.old.plan state.old.now path.now ≡ Some object.now }
     requires records { (history : Path) → records_from state.old.plan path.now history ≡ true → is_value_kind object.now.head.kind ≡ true }
     ensures ok { IfOk result (IsDone state.old state.new (write_by state.old.plan state.old.now state.old.time path.now object.now None body.now)) }
     ensures stop { IfErr result (Stops state.old state.new (write_by state.old.plan state.old.now state.old.time path.now object.now None body.now)) }
 {
-    let given = given_by(state.allocator(), state.library(), body)?;
-    write_given(state, path, object, &given)
+    let given = given_by(state.allocator(), state.library(), body, steps)?;
+    write_given(state, path, object, &given, steps)
 }
 
 /// Put on a node that is shown at a path: the tests on the node, that there is a body, and the tests on its value; then
 /// the write. It answers what is shown at the path afterwards.
 ///
 /// Source: oBIX 1.1, chapter 10 (Networking: Write). The order of the refusals is this profile's own.
-pub fn put(state: &mut State, path: &Text, object: &Obj, body: Option<&Obj>) -> Result<Obj, Stop>
+pub fn put<L: Ledger>(
+    state: &mut State,
+    path: &Text,
+    object: &Obj,
+    body: Option<&Obj>,
+    steps: &mut Steps<L>,
+) -> Result<Obj, Stop>
     requires { shown state.old.plan state.old.now path.now ≡ Some object.now }
     ensures ok { IfOk result (IsDone state.old state.new (put state.old.plan state.old.now state.old.time path.now object.now (option_copied body.entry))) }
     ensures stop { IfErr result (Stops state.old state.new (put state.old.plan state.old.now state.old.time path.now object.now (option_copied body.entry))) }
@@ -95,7 +116,7 @@ pub fn put(state: &mut State, path: &Text, object: &Obj, body: Option<&Obj>) -> 
         return Err(Stop::Refused(fault));
     }
     match body {
-        Some(body) => write_by(state, path, object, body),
+        Some(body) => write_by(state, path, object, body, steps),
         None => Err(Stop::Refused(Fault::OtherShape)),
     }
 }

@@ -3,23 +3,40 @@ ghost use Rattle.std.specs.Prelude.{◌≡◌, IfOk};
 ghost use Rattle.ob_site_rules.specs.Places.{reply_at};
 ghost use Rattle.ob_site_rules.specs.Shown.{shown};
 
+use ob_contracts::Steps;
 use ob_object::Obj;
 use ob_site_places::reply_at;
 use ob_site_shown::shown_at;
 use ob_site_state::State;
 use ob_values::Text;
 use std::alloc::AllocError;
+use std::sync::ledger::Ledger;
 
 /// What is shown at a path, if something is. An error only for want of memory.
-pub fn shown(state: &State, path: &Text) -> Result<Option<Obj>, AllocError>
+pub fn shown<L: Ledger>(
+    state: &State,
+    path: &Text,
+    steps: &mut Steps<L>,
+) -> Result<Option<Obj>, AllocError>
     ensures { IfOk result (λ o. o ≡ shown state.now.plan state.now.now path.now) }
 {
     state.is_sound();
-    shown_at(state.allocator(), state.plan(), state.contents(), path)
+    shown_at(
+        state.allocator(),
+        state.plan(),
+        state.contents(),
+        path,
+        steps,
+    )
 }
 
 /// What is shown at a path, or else a given object; without its name. An error only for want of memory.
-pub fn replied(state: &State, path: &Text, default: Obj) -> Result<Obj, AllocError>
+pub fn replied<L: Ledger>(
+    state: &State,
+    path: &Text,
+    default: Obj,
+    steps: &mut Steps<L>,
+) -> Result<Obj, AllocError>
     ensures { IfOk result (λ o. o ≡ reply_at state.now.plan state.now.now path.now default) }
 {
     state.is_sound();
@@ -29,5 +46,6 @@ pub fn replied(state: &State, path: &Text, default: Obj) -> Result<Obj, AllocErr
         state.contents(),
         path,
         default,
+        steps,
     )
 }

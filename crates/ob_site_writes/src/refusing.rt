@@ -7,54 +7,73 @@ ghost use Rattle.ob_site_writes.specs.Targets.{IsRefused, IsTarget};
 
 use crate::putting::given_by;
 use crate::value::{target_fault, value_fault};
+use ob_contracts::Steps;
 use ob_object::Obj;
 use ob_replies::Fault;
 use ob_site_shown::own_target;
 use ob_site_state::State;
 use ob_values::Text;
 use std::alloc::AllocError;
+use std::sync::ledger::Ledger;
 
 /// What of the own node of a path is asked when a value is to be written to it. An error only for want of memory.
-pub(crate) fn target_at(state: &State, path: &Text) -> Result<Option<Obj>, AllocError>
+pub(crate) fn target_at<L: Ledger>(
+    state: &State,
+    path: &Text,
+    steps: &mut Steps<L>,
+) -> Result<Option<Obj>, AllocError>
     ensures { IfOk result (λ found. IfSome found (λ o. IsTarget state.now.plan state.now.now path.now o)) }
 {
     state.is_sound();
-    own_target(state.allocator(), state.plan(), state.contents(), path)
+    own_target(
+        state.allocator(),
+        state.plan(),
+        state.contents(),
+        path,
+        steps,
+    )
 }
 
 /// What is wrong with the value that a body gives for a target. All stays as it is.
-fn body_fault(
+fn body_fault<L: Ledger>(
     state: &mut State,
     path: &Text,
     target: &Obj,
     body: &Obj,
+    steps: &mut Steps<L>,
 ) -> Result<Option<Fault>, AllocError>
     requires { IsTarget state.old.plan state.old.now path.now target.now }
     ensures same { state.new ≡ state.old }
     ensures fault { IfOk result (λ fault. option_map told.fault fault ≡ value_fault state.old.plan state.old.now state.old.time path.now target.now.head (given_by state.old.now body.now)) }
 {
-    let given = given_by(state.allocator(), state.library(), body)?;
-    value_fault(state, path, target, &given)
+    let given = given_by(state.allocator(), state.library(), body, steps)?;
+    value_fault(state, path, target, &given, steps)
 }
 
 /// Why the write of the value that a body gives is refused by the own node of a path, told by its own head. It tells nothing
 /// where no own node is there. All stays as it is; an error only for want of memory.
-pub fn write_fault(state: &mut State, path: &Text, body: &Obj) -> Result<Option<Fault>, AllocError>
+pub fn write_fault<L: Ledger>(
+    state: &mut State,
+    path: &Text,
+    body: &Obj,
+    steps: &mut Steps<L>,
+) -> Result<Option<Fault>, AllocError>
     ensures same { state.new ≡ state.old }
     ensures fault { IfOk result (λ fault. IfSome fault (λ f. IsRefused state.old.plan state.old.now path.now (λ o. write_by state.old.plan state.old.now state.old.time path.now o None body.now) (told.fault f))) }
 {
-    match target_at(state, path)? {
-        Some(target) => body_fault(state, path, &target, body),
+    match target_at(state, path, steps)? {
+        Some(target) => body_fault(state, path, &target, body, steps),
         None => Ok(None),
     }
 }
 
 /// Why a Put is refused by a target. All stays as it is.
-fn target_refusal(
+fn target_refusal<L: Ledger>(
     state: &mut State,
     path: &Text,
     target: &Obj,
     body: Option<&Obj>,
+    steps: &mut Steps<L>,
 ) -> Result<Option<Fault>, AllocError>
     requires { IsTarget state.old.plan state.old.now path.now target.now }
     ensures same { state.new ≡ state.old }
@@ -65,23 +84,24 @@ fn target_refusal(
         return Ok(fault);
     }
     match body {
-        Some(body) => body_fault(state, path, target, body),
+        Some(body) => body_fault(state, path, target, body, steps),
         None => Ok(Some(Fault::OtherShape)),
     }
 }
 
 /// Why a Put is refused by the own node of a path, told by its own head. It tells nothing where no own node is there. All
 /// stays as it is; an error only for want of memory.
-pub fn put_fault(
+pub fn put_fault<L: Ledger>(
     state: &mut State,
     path: &Text,
     body: Option<&Obj>,
+    steps: &mut Steps<L>,
 ) -> Result<Option<Fault>, AllocError>
     ensures same { state.new ≡ state.old }
     ensures fault { IfOk result (λ fault. IfSome fault (λ f. IsRefused state.old.plan state.old.now path.now (λ o. put state.old.plan state.old.now state.old.time path.now o (option_copied body.entry)) (told.fault f))) }
 {
-    match target_at(state, path)? {
-        Some(target) => target_refusal(state, path, &target, body),
+    match target_at(state, path, steps)? {
+        Some(target) => target_refusal(state, path, &target, body, steps),
         None => Ok(None),
     }
 }

@@ -8,6 +8,7 @@ ghost use Rattle.ob_replies.specs.Told as told;
 ghost use Rattle.ob_site_rules.specs.Writes.{ranged, has_child, is_listed, fault_of, verdict_fault, slot_fault, value_fault, target_fault};
 ghost use Rattle.ob_site_writes.specs.Targets.{IsTarget};
 
+use ob_contracts::Steps;
 use ob_object::{Attributes, Kind, Obj, Slot, WriteFault, check_write};
 use ob_replies::Fault;
 use ob_site_shown::shows_child;
@@ -15,6 +16,7 @@ use ob_site_state::State;
 use ob_site_written::overfills;
 use ob_values::{Text, Value};
 use std::alloc::AllocError;
+use std::sync::ledger::Ledger;
 
 /// Whether a kind is one of the ten that have values.
 pub fn is_value_kind(kind: Kind) -> bool
@@ -40,7 +42,12 @@ pub(crate) fn target_fault(head: &Attributes) -> Option<Fault>
 }
 
 /// Whether the own node that a range names, where it names no contract, has a child of a name; so too where none is there.
-fn node_has(state: &State, range: &Text, name: &Text) -> Result<bool, AllocError>
+fn node_has<L: Ledger>(
+    state: &State,
+    range: &Text,
+    name: &Text,
+    steps: &mut Steps<L>,
+) -> Result<bool, AllocError>
     ensures { IfOk result (λ has. contract_of state.now.now.library range.now ≡ None → has ≡ has_child name.now (ranged state.now.plan state.now.now range.now)) }
 {
     match state.tree().get(range) {
@@ -52,6 +59,7 @@ fn node_has(state: &State, range: &Text, name: &Text) -> Result<bool, AllocError
                 state.contents(),
                 node,
                 name,
+                steps,
             )
         }
         None => Ok(true),
@@ -60,32 +68,47 @@ fn node_has(state: &State, range: &Text, name: &Text) -> Result<bool, AllocError
 
 /// Whether the object that a range names, a contract or else an own node, has a child of a name; so too where it names none.
 /// No child is shown for it. An error only for want of memory.
-fn has_child(state: &State, range: &Text, name: &Text) -> Result<bool, AllocError>
+fn has_child<L: Ledger>(
+    state: &State,
+    range: &Text,
+    name: &Text,
+    steps: &mut Steps<L>,
+) -> Result<bool, AllocError>
     ensures { IfOk result (λ has. has ≡ has_child name.now (ranged state.now.plan state.now.now range.now)) }
 {
     match state.library().get(range.as_str()) {
         Some(contract) => Ok(contract.child(name.as_str()).is_some()),
-        None => node_has(state, range, name),
+        None => node_has(state, range, name, steps),
     }
 }
 
 /// Whether a name is that of a child of the object that a range names, if it names one.
-fn is_in_range(state: &State, range: Option<&Text>, name: &Text) -> Result<bool, AllocError>
+fn is_in_range<L: Ledger>(
+    state: &State,
+    range: Option<&Text>,
+    name: &Text,
+    steps: &mut Steps<L>,
+) -> Result<bool, AllocError>
     ensures { IfOk result (λ listed. listed ≡ has_child name.now (option_and_then (ranged state.now.plan state.now.now) (option_copied range.entry))) }
 {
     match range {
-        Some(range) => has_child(state, range, name),
+        Some(range) => has_child(state, range, name, steps),
         None => Ok(true),
     }
 }
 
 /// Whether the value of an enum is the name of a child of the object that its range names, if it names one.
 /// Other values are not held against a range.
-fn is_listed(state: &State, head: &Attributes, value: &Value) -> Result<bool, AllocError>
+fn is_listed<L: Ledger>(
+    state: &State,
+    head: &Attributes,
+    value: &Value,
+    steps: &mut Steps<L>,
+) -> Result<bool, AllocError>
     ensures { IfOk result (λ listed. listed ≡ is_listed state.now.plan state.now.now head.now value.now) }
 {
     match value {
-        Value::Enum(name) => is_in_range(state, head.range(), name),
+        Value::Enum(name) => is_in_range(state, head.range(), name, steps),
         _ => Ok(true),
     }
 }
@@ -122,34 +145,41 @@ fn listed_fault(object: &Obj, value: &Value, listed: bool) -> Option<Fault>
 }
 
 /// What is wrong with a value that is to stand in an object's slot.
-pub(crate) fn held_fault(
+pub(crate) fn held_fault<L: Ledger>(
     state: &State,
     object: &Obj,
     value: &Value,
+    steps: &mut Steps<L>,
 ) -> Result<Option<Fault>, AllocError>
     ensures { IfOk result (λ fault. option_map told.fault fault ≡ slot_fault state.now.plan state.now.now object.now.head (Is value.now)) }
 {
-    let listed = is_listed(state, object.head(), value)?;
+    let listed = is_listed(state, object.head(), value, steps)?;
     Ok(listed_fault(object, value, listed))
 }
 
 /// What is wrong with a slot for an object. Null is allowed.
-fn slot_fault(state: &State, object: &Obj, slot: &Slot) -> Result<Option<Fault>, AllocError>
+fn slot_fault<L: Ledger>(
+    state: &State,
+    object: &Obj,
+    slot: &Slot,
+    steps: &mut Steps<L>,
+) -> Result<Option<Fault>, AllocError>
     ensures { IfOk result (λ fault. option_map told.fault fault ≡ slot_fault state.now.plan state.now.now object.now.head slot.now) }
 {
     match slot {
-        Slot::Is(value) => held_fault(state, object, value),
+        Slot::Is(value) => held_fault(state, object, value, steps),
         Slot::Null | Slot::Absent => Ok(None),
     }
 }
 
 /// What is wrong with a value for the object shown at a path, of which the same is asked as of this one: its kind, a text
 /// too long, below min, above max, not in range, and last that it would store too much. All stays as it is.
-pub(crate) fn value_fault(
+pub(crate) fn value_fault<L: Ledger>(
     state: &mut State,
     path: &Text,
     object: &Obj,
     new: &Attributes,
+    steps: &mut Steps<L>,
 ) -> Result<Option<Fault>, AllocError>
     requires { IsTarget state.old.plan state.old.now path.now object.now }
     ensures same { state.new ≡ state.old }
@@ -160,7 +190,7 @@ pub(crate) fn value_fault(
         return Ok(Some(Fault::OtherKind));
     }
     let slot = new.slot();
-    let fault = slot_fault(state, object, slot)?;
+    let fault = slot_fault(state, object, slot, steps)?;
     if fault.is_some() {
         return Ok(fault);
     }

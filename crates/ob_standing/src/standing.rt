@@ -1,15 +1,27 @@
 //! Where an object stands.
+ghost use Rattle.std.specs.Prelude.{◌≡◌};
 ghost use Rattle.std.specs.Option.{option_copied};
+ghost use Rattle.ob_contracts.specs.Inherit.{overridden};
+ghost use Rattle.ob_contracts.specs.Shown.{view_sources};
 ghost use Rattle.ob_contracts.specs.Tellers.{TellsIn};
 
 use crate::handed::Handed;
 use crate::instead::{Instead, is_of, items_of};
-use ob_contracts::{Library, Sources, Tellers, View, effective, tell};
-use ob_machine::Steps;
+use ob_contracts::{Library, Sources, Steps, Tellers, View, effective, tell};
 use ob_object::{Obj, Words};
 use ob_values::Text;
 use std::alloc::{AllocError, Global};
 use std::sync::ledger::Ledger;
+
+/// The child that an own child of a name would override.
+fn overridden<'a>(view: &View<'a>, name: Option<&Text>) -> Option<&'a Obj>
+    ensures { option_copied result ≡ overridden (option_copied name.entry) (view_sources view.now) }
+{
+    match name {
+        Some(name) => view.over(name.as_str()),
+        None => None,
+    }
+}
 
 /// Where an object stands: the library, the words that its list or feed gives to it, and the child that it
 /// overrides. Where something is told in place of the words of the list, it is looked up in their place.
@@ -23,13 +35,12 @@ pub struct Standing<'a> {
 }
 
 impl<'a> Standing<'a> {
-    ghost use Rattle.std.specs.Prelude.{◌≡◌, ◌+◌, ◌-◌, ◌^◌, ℕ, List, Option, cond, is_some, min, IfOk, OnErr};
+    ghost use Rattle.std.specs.Prelude.{◌≡◌, ◌+◌, ◌-◌, ◌^◌, cond, is_some, min, IfOk, OnErr};
     ghost use Rattle.std.specs.Option.{option_copied};
     ghost use Rattle.ob_object.specs.Object.{parts};
-    ghost use Rattle.ob_object.specs.declared.head.Head.{Head};
-    ghost use Rattle.ob_contracts.specs.Inherit.{inherited_head, or_else, overridden, words_in};
-    ghost use Rattle.ob_contracts.specs.Places.{overridden_in, sources_of};
-    ghost use Rattle.ob_contracts.specs.Shown.{shown};
+    ghost use Rattle.ob_contracts.specs.Inherit.{implied_by, or_else, words_in};
+    ghost use Rattle.ob_contracts.specs.Places.{sources_of};
+    ghost use Rattle.ob_contracts.specs.Shown.{shown, shown_result, view_sources};
     ghost use Rattle.ob_contracts.specs.Telling.{Same, StandFor};
     ghost use Rattle.ob_standing.specs.Contexts.{at_root, sources_in, handed_down, under, comes_to};
     ghost use Rattle.ob_standing.specs.Standings.{context, Hands, MayStand};
@@ -93,34 +104,26 @@ impl<'a> Standing<'a> {
         Sources::new(self.library, own, self.all_words(own, is), self.over)
     }
 
-    /// What is looked up of it for the object's head, and for a child of a name.
-    fn looked_up(&self, own: &'a Obj, is: Option<&'a Tellers>) -> Sources<'a>
-        requires { TellsIn self.now.library.now (option_copied is) own.now.head.is }
-        ensures own { result.own.now ≡ own.now }
-        ensures head { (h : Head) → inherited_head h (sources_of result) ≡ inherited_head h (sources_in (context self.now) own.now.head) }
-        ensures over { (n : Option (List ℕ)) → overridden_in result n ≡ overridden n (sources_in (context self.now) own.now.head) }
-    {
-        let told = self.told_of(own, is);
-        Sources::by(self.library, own, told, self.words_of(own), self.over)
-    }
-
     /// Where an own child of a name stands, of an object that stands there, told by its own attributes. Something may be
-    /// told in place of the object's own words, and of those that it gives to its children.
-    pub fn inside_told(
+    /// told in place of the object's own words, and of those that it gives to its children. It takes a view of the own object,
+    /// which counts one step.
+    pub fn inside<L: Ledger>(
         &self,
         own: &'a Obj,
         name: Option<&Text>,
         told: Option<&'a Instead>,
+        steps: &mut Steps<L>,
     ) -> Standing<'a>
         requires { MayStand (context self.now) own.now.head (option_copied told) }
-        ensures { context result ≡ under (handed_down (context self.now) own.now.head) (option_copied name.entry) }
+        ensures inside { context result ≡ under (handed_down (context self.now) own.now.head) (option_copied name.entry) }
+        ensures steps { steps.new ≡ steps.old + 1 }
     {
-        let sources = self.looked_up(own, is_of(told));
+        let view = self.view_told(own, told, steps);
         Standing {
             library: self.library,
-            implied: sources.implied_by(),
+            implied: view.implied_by(),
             told: items_of(told),
-            over: sources.overridden(name),
+            over: overridden(&view, name),
         }
     }
 
@@ -148,59 +151,36 @@ impl<'a> Standing<'a> {
         })
     }
 
-    /// What an object that stands there shows, lent.
-    pub fn view(&self, object: &'a Obj) -> View<'a>
-        ensures { shown result ≡ comes_to (context self.now) object.now }
-    {
-        self.view_told(object, None)
-    }
-
-    /// The same, where something may be told in place of the object's own words, and of those that it gives to its children.
-    pub fn view_told(&self, object: &'a Obj, told: Option<&'a Instead>) -> View<'a>
-        requires { MayStand (context self.now) object.now.head (option_copied told) }
-        ensures { shown result ≡ comes_to (context self.now) object.now }
-    {
-        let told = self.told_of(object, is_of(told));
-        View::with_told(self.library, object, told, self.implied, self.over)
-    }
-
-    /// What an object that stands there comes to. An error only for want of memory.
-    ///
-    /// Source: oBIX 1.1, chapter 7 (Contracts).
-    pub fn whole(&self, alloc: Global, object: &Obj) -> Result<Obj, AllocError>
-        ensures { IfOk result (λ made. made ≡ comes_to (context self.now) object.now) }
-    {
-        effective(alloc, self.library, object, self.words(), self.over)
-    }
-
-    /// The same as `inside_told`, counted as one step: the look at the sources of the own object.
-    pub fn inside_counted<L: Ledger>(
-        &self,
-        own: &'a Obj,
-        name: Option<&Text>,
-        told: Option<&'a Instead>,
-        steps: &mut Steps<L>,
-    ) -> Standing<'a>
-        requires { MayStand (context self.now) own.now.head (option_copied told) }
-        ensures inside { context result ≡ under (handed_down (context self.now) own.now.head) (option_copied name.entry) }
-        ensures steps { steps.new ≡ steps.old + 1 }
-    {
-        steps.add(1);
-        self.inside_told(own, name, told)
-    }
-
-    /// The same as `view`, counted as one step.
-    pub fn view_counted<L: Ledger>(&self, object: &'a Obj, steps: &mut Steps<L>) -> View<'a>
+    /// What an object that stands there shows, lent. It counts one step.
+    pub fn view<L: Ledger>(&self, object: &'a Obj, steps: &mut Steps<L>) -> View<'a>
         ensures view { shown result ≡ comes_to (context self.now) object.now }
         ensures steps { steps.new ≡ steps.old + 1 }
     {
-        steps.add(1);
-        self.view(object)
+        self.view_told(object, None, steps)
     }
 
-    /// The same as `whole`, counted as one step for each object of the answer (`Obj::parts`). An error, which is
-    /// only for want of memory, counts none.
-    pub fn whole_counted<L: Ledger>(
+    /// The same, where something may be told in place of the object's own words, and of those that it gives to its children.
+    pub fn view_told<L: Ledger>(
+        &self,
+        object: &'a Obj,
+        told: Option<&'a Instead>,
+        steps: &mut Steps<L>,
+    ) -> View<'a>
+        requires { MayStand (context self.now) object.now.head (option_copied told) }
+        ensures view { shown result ≡ comes_to (context self.now) object.now }
+        ensures words { implied_by (shown_result result).head ≡ (handed_down (context self.now) object.now.head).implied }
+        ensures sources { view_sources result ≡ sources_in (context self.now) object.now.head }
+        ensures steps { steps.new ≡ steps.old + 1 }
+    {
+        let told = self.told_of(object, is_of(told));
+        View::with_told(self.library, object, told, self.implied, self.over, steps)
+    }
+
+    /// What an object that stands there comes to. Where it succeeds it counts one step for each object of the answer
+    /// (`Obj::parts`). An error, which is only for want of memory, counts none.
+    ///
+    /// Source: oBIX 1.1, chapter 7 (Contracts).
+    pub fn whole<L: Ledger>(
         &self,
         alloc: Global,
         object: &Obj,
@@ -210,8 +190,6 @@ impl<'a> Standing<'a> {
         ensures steps { IfOk result (λ made. steps.new ≡ steps.old + min (parts made) (2 ^ 64 - 1)) }
         ensures none { OnErr result (steps.new ≡ steps.old) }
     {
-        let made = self.whole(alloc, object)?;
-        steps.add(made.parts());
-        Ok(made)
+        effective(alloc, self.library, object, self.words(), self.over, steps)
     }
 }

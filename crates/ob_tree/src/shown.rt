@@ -10,13 +10,12 @@ ghost use Rattle.ob_tree.specs.Shown.{part_at, standing_at, AreLaid};
 ghost use Rattle.ob_tree.specs.Told.{words_for, AreToldBy};
 
 use crate::spot::Spot;
-use ob_contracts::Library;
-use ob_machine::Steps;
+use ob_contracts::{Library, Steps};
 use ob_object::{Attributes, Obj};
 use ob_standing::{Instead, Standing};
 use std::alloc::{AllocError, Global};
 use std::collections::BTreeMap;
-use std::sync::ledger::{Blank, Ledger};
+use std::sync::ledger::Ledger;
 
 /// A library, and the words that are looked up in it in place of those which objects name and give, by the numbers of these.
 #[derive(Clone, Copy)]
@@ -59,7 +58,7 @@ fn words_for<'a>(told: Option<&'a BTreeMap<u64, Instead>>, place: usize) -> Opti
     }
 }
 
-/// Where the object of a number stands among those round it, counted as one step for each of those.
+/// Where the object of a number stands among those round it, of each of which it takes a view.
 pub(crate) fn standing_of<'a, L: Ledger>(
     lore: Lore<'a>,
     leaves: &'a [Obj],
@@ -80,30 +79,10 @@ pub(crate) fn standing_of<'a, L: Ledger>(
             let own = leaf_in(leaves, parent);
             let child = leaf_in(leaves, at);
             let told = words_for(lore.told, parent);
-            round.inside_counted(own, child.name(), told, steps)
+            round.inside(own, child.name(), told, steps)
         }
         None => Standing::at_root(lore.library),
     }
-}
-
-/// The same, by a counter of its own.
-pub(crate) fn uncounted_standing<'a, L: Ledger>(
-    lore: Lore<'a>,
-    leaves: &'a [Obj],
-    spots: &[Spot],
-    at: usize,
-    blank: Blank,
-) -> Standing<'a>
-    requires laid { AreLaid (said leaves.now) spots.now }
-    requires within { at < length leaves.now }
-    requires told { AreToldBy lore.library.now (object_of (said leaves.now) spots.now) (words_for lore.told) }
-    requires name { blank.name ≡ L.name }
-    requires parts { blank.parts ≡ L.parts }
-    requires cut { 0 < blank.parts }
-    ensures { Some (context result) ≡ standing_at lore.entry.library.now at (object_of (said leaves.now) spots.now) }
-{
-    let mut steps = Steps::<L>::begin(blank);
-    standing_of(lore, leaves, spots, at, &mut steps)
 }
 
 /// Puts a child last whose name no child has.

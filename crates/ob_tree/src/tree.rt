@@ -22,19 +22,18 @@ use crate::laying::{lay_leaves, lay_spots, places_of};
 use crate::node::NodeId;
 use crate::numbering::all_numbers;
 use crate::paths::node_path;
-use crate::shown::{Lore, grown, standing_of, uncounted_standing};
+use crate::shown::{Lore, grown, standing_of};
 use crate::spot::Spot;
 use crate::telling::{Arena, put_told};
 use crate::touching::{renumber, stamp_up};
-use ob_contracts::Library;
-use ob_machine::Steps;
+use ob_contracts::{Library, Steps};
 use ob_object::{Obj, Slot, Status};
 use ob_standing::{Instead, Standing};
 use ob_values::Text;
 use std::alloc::{AllocError, Global};
 use std::collections::BTreeMap;
-use std::marker::{Brand, Model};
-use std::sync::ledger::{Blank, Ledger};
+use std::marker::Model;
+use std::sync::ledger::Ledger;
 
 /// The tree of a site.
 pub struct Tree {
@@ -294,29 +293,37 @@ impl Tree {
         self.steps = 1;
     }
 
-    /// Where an object stands.
-    pub fn standing<'a>(&'a self, library: &'a Library, id: NodeId) -> Standing<'a>
+    /// Where an object stands. It takes a view of each object round it, which counts one step each.
+    pub fn standing<'a, L: Ledger>(
+        &'a self,
+        library: &'a Library,
+        id: NodeId,
+        steps: &mut Steps<L>,
+    ) -> Standing<'a>
         requires { id.number < parts self.now.root }
-        ensures { Some (context result) ≡ standing_at library.now id.number self.now.root }
+        ensures stands { Some (context result) ≡ standing_at library.now id.number self.now.root }
+        ensures steps { steps.new ≡ steps.old + depth_at id.number self.now.root }
     {
-        self.standing_told(library, None, id)
+        self.standing_told(library, None, id, steps)
     }
 
     /// The same, where words may be told that stand for those which objects name and give, by the numbers of these.
-    pub fn standing_told<'a>(
+    pub fn standing_told<'a, L: Ledger>(
         &'a self,
         library: &'a Library,
         told: Option<&'a BTreeMap<u64, Instead>>,
         id: NodeId,
+        steps: &mut Steps<L>,
     ) -> Standing<'a>
         requires within { id.number < parts self.now.root }
         requires told { AreToldBy library.now self.now.root (words_for told) }
-        ensures { Some (context result) ≡ standing_at library.now id.number self.now.root }
+        ensures stands { Some (context result) ≡ standing_at library.now id.number self.now.root }
+        ensures steps { steps.new ≡ steps.old + depth_at id.number self.now.root }
     {
         let leaves = self.leaves.as_slice();
         let spots = self.spots.as_slice();
         let at = id.number as usize;
-        uncounted_standing::<Brand>(Lore { library, told }, leaves, spots, at, Blank::new(1))
+        standing_of(Lore { library, told }, leaves, spots, at, steps)
     }
 
     /// Words that stand for those of the objects, by the numbers of these: for an own `is` of many, and for several that a list or
@@ -336,39 +343,6 @@ impl Tree {
         Ok(words)
     }
 
-    /// The same as `standing`, counted as one step for each object round it.
-    pub fn standing_counted<'a, L: Ledger>(
-        &'a self,
-        library: &'a Library,
-        id: NodeId,
-        steps: &mut Steps<L>,
-    ) -> Standing<'a>
-        requires { id.number < parts self.now.root }
-        ensures stands { Some (context result) ≡ standing_at library.now id.number self.now.root }
-        ensures steps { steps.new ≡ steps.old + depth_at id.number self.now.root }
-    {
-        self.standing_told_counted(library, None, id, steps)
-    }
-
-    /// The same as `standing_told`, counted as one step for each object round it.
-    pub fn standing_told_counted<'a, L: Ledger>(
-        &'a self,
-        library: &'a Library,
-        told: Option<&'a BTreeMap<u64, Instead>>,
-        id: NodeId,
-        steps: &mut Steps<L>,
-    ) -> Standing<'a>
-        requires within { id.number < parts self.now.root }
-        requires told { AreToldBy library.now self.now.root (words_for told) }
-        ensures stands { Some (context result) ≡ standing_at library.now id.number self.now.root }
-        ensures steps { steps.new ≡ steps.old + depth_at id.number self.now.root }
-    {
-        let leaves = self.leaves.as_slice();
-        let spots = self.spots.as_slice();
-        let at = id.number as usize;
-        standing_of(Lore { library, told }, leaves, spots, at, steps)
-    }
-
     /// A copy of an object with all that is in it, its own objects alone. An error only for want of memory.
     pub fn copy(&self, alloc: Global, id: NodeId) -> Result<Obj, AllocError>
         requires { id.number < parts self.now.root }
@@ -379,22 +353,12 @@ impl Tree {
         grown(alloc, leaves, spots, id.number as usize)
     }
 
-    /// What is shown at an object: it and all that is in it, with all that they inherit where they stand. An
-    /// error only for want of memory.
+    /// What is shown at an object: it and all that is in it, with all that they inherit where they stand. Where it succeeds
+    /// it counts one step for each object round the one that is shown, and one for each object of the answer (`Obj::parts`).
+    /// An error only for want of memory.
     ///
     /// Source: oBIX 1.1, chapter 7 (Contracts).
-    pub fn whole(&self, alloc: Global, library: &Library, id: NodeId) -> Result<Obj, AllocError>
-        requires { id.number < parts self.now.root }
-        ensures { IfOk result (λ made. Some made ≡ shown_at library.now id.number self.now.root) }
-    {
-        let object = self.copy(alloc, id)?;
-        let standing = self.standing(library, id);
-        standing.whole(alloc, &object)
-    }
-
-    /// The same, counted: where it succeeds it adds one step for each object round the one that is shown, and one
-    /// for each object of the answer (`Obj::parts`).
-    pub fn whole_counted<L: Ledger>(
+    pub fn whole<L: Ledger>(
         &self,
         alloc: Global,
         library: &Library,
@@ -407,7 +371,7 @@ impl Tree {
             ≡ steps.old + depth_at id.number self.now.root + min (parts made) (2 ^ 64 - 1)) }
     {
         let object = self.copy(alloc, id)?;
-        let standing = self.standing_counted(library, id, steps);
-        standing.whole_counted(alloc, &object, steps)
+        let standing = self.standing(library, id, steps);
+        standing.whole(alloc, &object, steps)
     }
 }

@@ -1,11 +1,15 @@
 //! Contracts: what an object shows of its contracts, what a library refuses, and what an object is.
+ghost use Rattle.std.specs.Prelude.{◌≡◌, ◌<◌};
+
 use crate::spelled::{object, push_object};
 use crate::views::shows;
-use ob_contracts::{LibFault, Library, effective, view};
+use ob_contracts::{LibFault, Library, Steps, effective, view};
 use ob_object::{Kind, Obj, Words};
 use ob_rows::{Asked, Table, split_bar, split_word};
 use ob_values::Text;
 use std::alloc::{AllocError, Global};
+use std::marker::Brand;
+use std::sync::ledger::{Blank, Ledger};
 
 /// Rows that a library answers, which begins as the standard one:
 ///
@@ -31,20 +35,35 @@ fn words(alloc: Global, said: &str) -> Result<Words, AllocError> {
 }
 
 // Tells the effective object of an object, and whether its view shows something else.
-fn tell_effective(
+fn tell_counted<L: Ledger>(
     alloc: Global,
     library: &Library,
-    object: &Obj,
-    of: (Option<&Words>, Option<&Obj>),
+    of: (&Obj, Option<&Words>, Option<&Obj>),
     told: &mut String,
-) -> Result<(), AllocError> {
-    let (implied, over) = of;
-    let made = effective(alloc, library, object, implied, over)?;
+    blank: Blank,
+) -> Result<(), AllocError>
+    requires name { blank.name ≡ L.name }
+    requires parts { blank.parts ≡ L.parts }
+    requires cut { 0 < blank.parts }
+{
+    let (object, implied, over) = of;
+    let mut steps = Steps::<L>::begin(blank);
+    let made = effective(alloc, library, object, implied, over, &mut steps)?;
     push_object(alloc, None, &made, told)?;
-    if !shows(&view(library, object, implied, over), &made) {
+    if !shows(&view(library, object, implied, over, &mut steps), &made) {
         told.push_str(" and its view shows something else")?;
     }
     Ok(())
+}
+
+// The same, by a counter of its own.
+fn tell_effective(
+    alloc: Global,
+    library: &Library,
+    of: (&Obj, Option<&Words>, Option<&Obj>),
+    told: &mut String,
+) -> Result<(), AllocError> {
+    tell_counted::<Brand>(alloc, library, of, told, Blank::new(1))
 }
 
 // Tells the word and the effective object of a contract.
@@ -59,7 +78,7 @@ fn tell_contract(
         Some((word, contract)) => {
             told.push_str(word.as_str())?;
             told.push_str(" ")?;
-            tell_effective(alloc, library, contract, (None, None), told)
+            tell_effective(alloc, library, (contract, None, None), told)
         }
         None => told.push_str("none"),
     }
@@ -73,7 +92,7 @@ fn tell_object(
     told: &mut String,
 ) -> Result<(), AllocError> {
     match object(alloc, said) {
-        Some(object) => tell_effective(alloc, library, &object, (None, None), told),
+        Some(object) => tell_effective(alloc, library, (&object, None, None), told),
         None => told.push_str("no object"),
     }
 }
@@ -91,8 +110,8 @@ fn tell_item(
     let over = object(alloc, over);
     match object(alloc, said) {
         Some(item) => {
-            let of = (Some(&implied), over.as_ref());
-            tell_effective(alloc, library, &item, of, told)
+            let of = (&item, Some(&implied), over.as_ref());
+            tell_effective(alloc, library, of, told)
         }
         None => told.push_str("no object"),
     }

@@ -1,4 +1,3 @@
-use Rattle.std.proofs.Common.{ℕ, ◌+◌, ◌∙◌, ap}
 use Rattle.ob_replies.specs.Plans.{plan as plan_of}
 use Rattle.ob_watching.specs.Asked.{OneWatch}
 use Rattle.ob_requests.specs.Targets.{operation_of}
@@ -32,7 +31,5 @@ pub returns-clause-steps : goal.returns-clause-steps
 returns-clause-steps g c =
     let k = c.args.state.now in
     let cs = c.contents.result.now in
-    c.in_ok-reply.ensures.steps
-    ∙ ap (λ (n : ℕ). c.args.steps.now + n)
-    (asked_steps k (plan_of c.plan.result.now) c.time.result cs c.args.watches.now c.args.number (operation_of c.args.asks) c.plan.ensures c.time.ensures c.contents.ensures.value
-    (tree_is k cs c.contents.ensures.value c.contents.ensures.stamps c.contents.ensures.steps))
+    asked_steps k (plan_of c.plan.result.now) c.time.result cs c.args.watches.now c.args.number (operation_of c.args.asks) c.args.steps.now c.on_watch.new.steps c.plan.ensures c.time.ensures c.contents.ensures.value
+    (tree_is k cs c.contents.ensures.value c.contents.ensures.stamps c.contents.ensures.steps) c.in_ok-reply.ensures.steps

@@ -1,4 +1,4 @@
-use Rattle.std.proofs.Common.{◌≡◌, ◌+◌, refl, sym, subst, inl}
+use Rattle.std.proofs.Common.{refl, sym, subst, inl}
 use Rattle.std.proofs.lemmas.Result.{IfOk-weaker, on_ok_weaker, on_err_weaker}
 use Rattle.ob_site_rules.specs.Locating.{locate}
 use Rattle.ob_site_rules.specs.Sites.{site}
@@ -6,8 +6,7 @@ use Rattle.ob_site_rules.specs.Watched.{SiteTarget}
 use Rattle.ob_requests.specs.declared.target.Target.{Target}
 use Rattle.ob_requests.specs.Targets.{IsTarget, operation_of}
 use Rattle.ob_site_state.specs.Stamping.{tree_of}
-use Rattle.ob_site_watched.specs.Polls.{target_steps}
-use Rattle.ob_site_watched.proofs.Polled.{no_more, none_more}
+use Rattle.ob_site_watched.specs.Polls.{Takes}
 use Rattle.ob_watch.specs.AsRules.{world_of}
 use Rattle.ob_watch.specs.Tables.{lapsed_at}
 use Rattle.ob_site.specs.Keeping.{Keeps, MayKeep}
@@ -62,7 +61,7 @@ returns-in-Itself-clause-steps g c =
     let w = world_of k.plan k.time k.now (tree_of k) (lapsed_at k.time c.args.watches.now) in
     let meant = subst (λ (g : Target). IsTarget g ((site locate k.plan).target r)) c.in-Itself.is c.in_ok-target.ensures in
     whatever c.on_itself.result _
-    (subst (λ (x : SiteTarget). c.args.steps.now ≡ c.args.steps.now + target_steps k.plan w x) (sym meant) (no_more c.args.steps.now))
+    (subst (λ (x : SiteTarget). Takes k.plan w x c.args.steps.now c.on_itself.new.steps) (sym meant) tt)
 
 pub returns-in-Nowhere-clause-steps : goal.returns-in-Nowhere-clause-steps
 returns-in-Nowhere-clause-steps g c =
@@ -71,7 +70,7 @@ returns-in-Nowhere-clause-steps g c =
     let w = world_of k.plan k.time k.now (tree_of k) (lapsed_at k.time c.args.watches.now) in
     let meant = subst (λ (g : Target). IsTarget g ((site locate k.plan).target r)) c.in-Nowhere.is c.in_ok-target.ensures in
     whatever c.to_nobody.result _
-    (subst (λ (x : SiteTarget). c.args.steps.now ≡ c.args.steps.now + target_steps k.plan w x) (sym meant) (no_more c.args.steps.now))
+    (subst (λ (x : SiteTarget). Takes k.plan w x c.args.steps.now c.args.steps.now) (sym meant) refl)
 
 pub returns-in-Beyond-clause-steps : goal.returns-in-Beyond-clause-steps
 returns-in-Beyond-clause-steps g c =
@@ -80,7 +79,7 @@ returns-in-Beyond-clause-steps g c =
     let w = world_of k.plan k.time k.now (tree_of k) (lapsed_at k.time c.args.watches.now) in
     let meant = subst (λ (g : Target). IsTarget g ((site locate k.plan).target r)) c.in-Beyond.is c.in_ok-target.ensures in
     IfOk-weaker c.to_no_watch.result _ _
-    (λ o none. subst (λ (x : SiteTarget). c.args.steps.now ≡ c.args.steps.now + target_steps k.plan w x) (sym meant.3) (none_more c.args.steps.now _ (none meant.0 meant.1 meant.2))) c.to_no_watch.ensures.none
+    (λ o none. subst (λ (x : SiteTarget). Takes k.plan w x c.args.steps.now c.args.steps.now) (sym meant.3) (none meant.0 meant.1 c.args.steps.now meant.2)) c.to_no_watch.ensures.none
 
 pub returns-in-OneWatch-clause-steps : goal.returns-in-OneWatch-clause-steps
 returns-in-OneWatch-clause-steps g c =
@@ -89,7 +88,7 @@ returns-in-OneWatch-clause-steps g c =
     let w = world_of k.plan k.time k.now (tree_of k) (lapsed_at k.time c.args.watches.now) in
     let meant = subst (λ (g : Target). IsTarget g ((site locate k.plan).target r)) c.in-OneWatch.is c.in_ok-target.ensures in
     IfOk-weaker c.to_watch.result _ _
-    (λ o steps. subst (λ (x : SiteTarget). c.to_watch.new.steps ≡ c.args.steps.now + target_steps k.plan w x) (sym meant) steps) c.to_watch.ensures.steps
+    (λ o steps. subst (λ (x : SiteTarget). Takes k.plan w x c.args.steps.now c.to_watch.new.steps) (sym meant) steps) c.to_watch.ensures.steps
 
 pub returns-in-NewWatch-clause-steps : goal.returns-in-NewWatch-clause-steps
 returns-in-NewWatch-clause-steps g c =
@@ -98,7 +97,7 @@ returns-in-NewWatch-clause-steps g c =
     let w = world_of k.plan k.time k.now (tree_of k) (lapsed_at k.time c.args.watches.now) in
     let meant = subst (λ (g : Target). IsTarget g ((site locate k.plan).target r)) c.in-NewWatch.is c.in_ok-target.ensures in
     whatever c.to_service.result _
-    (subst (λ (x : SiteTarget). c.args.steps.now ≡ c.args.steps.now + target_steps k.plan w x) (sym meant) (no_more c.args.steps.now))
+    (subst (λ (x : SiteTarget). Takes k.plan w x c.args.steps.now c.args.steps.now) (sym meant) refl)
 
 pub returns-in-Itself-clause-keeps : goal.returns-in-Itself-clause-keeps
 returns-in-Itself-clause-keeps g c =

@@ -1,4 +1,4 @@
-use Rattle.std.proofs.Common.{ℕ, ◌+◌, ap, ◌∙◌, subst}
+use Rattle.std.proofs.Common.{◌∙◌, subst}
 use Rattle.ob_site.specs.Keeping.{Stepping, Keeps, MayKeep}
 use Rattle.ob_site.specs.Views.{site_of}
 use Rattle.ob_site.proofs.Counts.{counted, counted_at_most}
@@ -31,14 +31,13 @@ returns-in-Err-clause-kept g c =
 
 pub returns-in-Ok-clause-steps : goal.returns-in-Ok-clause-steps
 returns-in-Ok-clause-steps g c =
+    counted (site_of c.args.state.now c.args.watches.now) c.make_room.new.state c.begin.new.self c.make_room.new.watches c.args.request.now c.args.moment c.args.steps.now c.answer.new.steps c.make_room.ensures.same c.begin.ensures
     c.in-Ok.ensures.steps
-    ∙ ap (λ (n : ℕ). c.args.steps.now + n)
-    (counted (site_of c.args.state.now c.args.watches.now) c.make_room.new.state c.begin.new.self c.make_room.new.watches c.args.request.now c.args.moment c.make_room.ensures.same c.begin.ensures)
 
-pub returns-in-Ok-clause-at_most : goal.returns-in-Ok-clause-at_most
-returns-in-Ok-clause-at_most g c =
+pub returns-in-Ok-clause-polls : goal.returns-in-Ok-clause-polls
+returns-in-Ok-clause-polls g c = λ poll.
     counted_at_most (site_of c.args.state.now c.args.watches.now) (site_of c.answer.new.state c.answer.new.watches) c.args.request.now c.args.moment c.in-Ok.reply c.args.steps.now c.answer.new.steps c.requires.site.kept.shallow
-    (returns-in-Ok-clause-done g c) (returns-in-Ok-clause-steps g c)
+    (returns-in-Ok-clause-done g c) poll (returns-in-Ok-clause-steps g c)
 
 pub returns-in-Ok-clause-keeps : goal.returns-in-Ok-clause-keeps
 returns-in-Ok-clause-keeps g c =

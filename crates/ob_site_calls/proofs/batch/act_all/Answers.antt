@@ -12,7 +12,7 @@ use Rattle.ob_site_calls.proofs.Batched.{stays_on}
 use Rattle.ob_site_calls.proofs.batch.act_all.Goals as goal
 
 pub loop-item-preserved : goal.loop-item-preserved
-loop-item-preserved c =
+loop-item-preserved g c =
     let k = c.loop-item.state in
     let n = c.item_result.new.state in
     let ns = c.args.numbers.now in
@@ -31,7 +31,7 @@ loop-item-preserved c =
     }
 
 pub returns : goal.returns
-returns c =
+returns g c =
     let k = c.loop-item.state in record {
       nameless = c.loop-item.invariant.nameless;
       reply = sym (with_none locate k.plan c.args.numbers.now k.time k.now c.loop-item.results.items c.args.items.now c.loop-item.item-index c.loop-item-test.false) ∙ c.loop-item.invariant.done;
@@ -39,9 +39,9 @@ returns c =
     }
 
 pub returns-in_err-reply-clause-stays : goal.returns-in_err-reply-clause-stays
-returns-in_err-reply-clause-stays c =
+returns-in_err-reply-clause-stays g c =
     stays_on c.args.state.now c.loop-item.state c.item_result.new.state c.item_result.new.state.now c.loop-item.invariant.stays c.in_err-reply.ensures.stays
 
 pub returns-in_err-put-clause-stays : goal.returns-in_err-put-clause-stays
-returns-in_err-put-clause-stays c =
+returns-in_err-put-clause-stays g c =
     stays_on c.args.state.now c.loop-item.state c.item_result.new.state c.item_result.new.state.now c.loop-item.invariant.stays c.in_ok-reply.ensures.stays

@@ -8,7 +8,7 @@ use Rattle.ob_site_writes.specs.Stops.{IsDone, Stops}
 use Rattle.ob_site_calls.proofs.calls.write_point.Goals as goal
 
 pub returns-clause-ok : goal.returns-clause-ok
-returns-clause-ok c =
+returns-clause-ok g c =
     let old = c.args.state.now in
     let p = c.args.point.now in
     subst (λ (v : Option Object). IfOk c.write_shown.result (IsDone old c.write_shown.new.state (write_point old.plan old.now old.time p v)))
@@ -17,7 +17,7 @@ returns-clause-ok c =
     c.in_ok-fault.ensures.same c.write_shown.ensures.ok)
 
 pub returns-clause-stop : goal.returns-clause-stop
-returns-clause-stop c =
+returns-clause-stop g c =
     let old = c.args.state.now in
     let p = c.args.point.now in
     subst (λ (v : Option Object). IfErr c.write_shown.result (Stops old c.write_shown.new.state (write_point old.plan old.now old.time p v)))

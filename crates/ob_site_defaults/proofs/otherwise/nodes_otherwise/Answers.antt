@@ -10,7 +10,7 @@ use Rattle.ob_site_defaults.proofs.Walked.{same_root, root_walked}
 use Rattle.ob_site_defaults.proofs.otherwise.nodes_otherwise.Goals as goal
 
 pub put_otherwise-requires : goal.put_otherwise-requires
-put_otherwise-requires c =
+put_otherwise-requires g c =
     let plan = plan_of c.args.plan.now in
     let s = state_in c.args.contents.now in
     let own_is : Some c.in_ok-own.own ≡ part_at 0 s.tree = c.in_ok-own.ensures ∙ ap (λ (t : Stamped). part_at 0 t.root) c.tree-tree.ensures in
@@ -31,12 +31,12 @@ put_otherwise-requires c =
     }
 
 pub returns-clause-others : goal.returns-clause-others
-returns-clause-others c =
+returns-clause-others g c =
     root_walked (plan_of c.args.plan.now) (state_in c.args.contents.now) c.args.old.now c.in_ok-own.own _ _ c.new-nodes.result.items c.put_otherwise.new.nodes.items c.requires.readable.paths_differ c.requires.differ
     (c.in_ok-own.ensures ∙ ap (λ (t : Stamped). part_at 0 t.root) c.tree-tree.ensures) c.in_ok-before.ensures.before c.in_ok-before.ensures.after c.new-nodes.ensures.items c.in_ok-put_otherwise.ensures
 
 pub returns-clause-within : goal.returns-clause-within
-returns-clause-within c =
+returns-clause-within g c =
     within_all (plan_of c.args.plan.now) (with_library c.args.old.now (state_in c.args.contents.now)) c.args.contents.now.ground.library c.put_otherwise.new.nodes.items
     (root_walked (plan_of c.args.plan.now) (state_in c.args.contents.now) c.args.old.now c.in_ok-own.own _ _ c.new-nodes.result.items c.put_otherwise.new.nodes.items c.requires.readable.paths_differ c.requires.differ
     (c.in_ok-own.ensures ∙ ap (λ (t : Stamped). part_at 0 t.root) c.tree-tree.ensures) c.in_ok-before.ensures.before c.in_ok-before.ensures.after c.new-nodes.ensures.items c.in_ok-put_otherwise.ensures)

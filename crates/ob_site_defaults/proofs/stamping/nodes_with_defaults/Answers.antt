@@ -6,7 +6,7 @@ use Rattle.ob_site_defaults.proofs.Stamped.{both_end, both_within}
 use Rattle.ob_site_defaults.proofs.stamping.nodes_with_defaults.Goals as goal
 
 pub returns-clause-ends : goal.returns-clause-ends
-returns-clause-ends c =
+returns-clause-ends g c =
     let k = c.args.state.now in
     IfOk-weaker c.joined.result (λ all. all.items ≡ c.in_ok-nodes.nodes.items ++ c.in_ok-others.others.items) (λ all. EndsAll k (map (λ node. node.number) all.items))
     (λ all is.
@@ -14,7 +14,7 @@ returns-clause-ends c =
     c.in_ok-nodes.ensures.changed c.in_ok-others.ensures.others c.requires.long is) c.joined.ensures
 
 pub returns-clause-within : goal.returns-clause-within
-returns-clause-within c =
+returns-clause-within g c =
     let k = c.args.state.now in
     IfOk-weaker c.joined.result (λ all. all.items ≡ c.in_ok-nodes.nodes.items ++ c.in_ok-others.others.items) (λ all. All (λ node. node.number < parts k.now.tree) all.items)
     (λ all is. both_within (parts k.now.tree) c.in_ok-nodes.nodes.items c.in_ok-others.others.items all.items c.in_ok-nodes.ensures.within c.in_ok-others.ensures.within is) c.joined.ensures

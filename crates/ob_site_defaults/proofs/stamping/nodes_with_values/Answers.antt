@@ -8,7 +8,7 @@ use Rattle.ob_site_defaults.proofs.Stamped.{values_end}
 use Rattle.ob_site_defaults.proofs.stamping.nodes_with_values.Goals as goal
 
 pub returns-clause-ends : goal.returns-clause-ends
-returns-clause-ends c =
+returns-clause-ends g c =
     let k = c.args.state.now in
     IfOk-weaker c.changed.result (λ nodes. DifferInValues k.before (roll k.now) → AreChanged k.plan k.before (roll k.now) (map (λ node. node.number) nodes.items))
     (λ nodes. EndsAll k (map (λ node. node.number) nodes.items))

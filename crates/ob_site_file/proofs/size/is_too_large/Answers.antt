@@ -4,4 +4,4 @@ use Rattle.ob_site_file.proofs.Sizes.{counted_test}
 use Rattle.ob_site_file.proofs.size.is_too_large.Goals as goal
 
 pub returns : goal.returns
-returns g c = λ plan s k same. counted_test (parts (shown_root plan s)) c.in_ok-parts.parts (c.in_ok-parts.ensures.parts plan s k same)
+returns c = λ plan s k same. counted_test (parts (shown_root plan s)) c.in_ok-parts.parts (c.in_ok-parts.ensures plan s k same)

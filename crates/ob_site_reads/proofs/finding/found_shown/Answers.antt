@@ -7,6 +7,6 @@ use Rattle.ob_site_reads.proofs.FoundKinds.{node_found}
 use Rattle.ob_site_reads.proofs.finding.found_shown.Goals as goal
 
 pub returns-in-Some : goal.returns-in-Some
-returns-in-Some c =
+returns-in-Some g c =
     node_found (plan_of c.args.plan.now) c.args.numbers.now c.args.path c.in-Some.kind (shown (plan_of c.args.plan.now) (state_in c.args.contents.now) c.args.path)
     (found_of c.found_node.result) (sym c.in-Some.is ∙ c.in_ok-kind.ensures) c.found_node.ensures

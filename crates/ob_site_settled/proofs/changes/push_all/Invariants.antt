@@ -5,7 +5,7 @@ use Rattle.ob_site_settled.specs.Telling.{all_told, replaced_or}
 use Rattle.ob_site_settled.proofs.changes.push_all.Given as goal
 
 abbrev pub invariant-loop-change : goal.invariant-loop-change
-invariant-loop-change l = record {
+invariant-loop-change g l = record {
   so_far :
       map (λ node. node.number) l.found.items ++ all_told (replaced_or (option_copied l.replaced) l.state.now) l.state.plan l.state.now (take l.change-index l.changes) (drop l.change-index l.changes)
       ≡ map (λ node. node.number) l.fn.found.items ++ all_told (replaced_or (option_copied l.replaced) l.state.now) l.state.plan l.state.now [] l.changes;

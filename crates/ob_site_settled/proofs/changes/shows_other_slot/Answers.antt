@@ -9,7 +9,7 @@ use Rattle.ob_site_settled.proofs.Looping.{shown_slot}
 use Rattle.ob_site_settled.proofs.changes.shows_other_slot.Goals as goal
 
 pub returns : goal.returns
-returns c =
+returns g c =
     shown_slot (standing_at (replaced_or (option_copied c.args.replaced) c.args.state.now.now) c.args.node.number c.args.state.now.now.tree) (head_at c.args.node.number c.args.state.now.now.tree) c.args.slot.now c.in_ok-slot.slot
     (context c.standing_before-standing.result) c.own.result.now c.own-2.result.now c.in_ok-before.before c.replace_slot-now.new.self c.shows_other_values.result
     c.standing_before-standing.ensures

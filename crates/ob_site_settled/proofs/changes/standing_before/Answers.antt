@@ -9,16 +9,16 @@ use Rattle.ob_site_settled.specs.Telling.{replaced_or, TellsOf}
 use Rattle.ob_site_settled.proofs.changes.standing_before.Goals as goal
 
 pub standing-requires-clause-told : goal.standing-requires-clause-told
-standing-requires-clause-told c =
+standing-requires-clause-told g c =
     subst (λ (o : Object). AreTold o c.in-Some.told.now) (sym (ap (λ (t : Stamped). t.root) c.tree.ensures.value))
     (subst (λ (t : Option Taught). TellsOf t c.args.state.now.now) (ap (λ r. option_copied r) c.in-Some.is) c.requires.told)
 
 pub returns-in-Some : goal.returns-in-Some
-returns-in-Some c =
-    c.standing.ensures ∙ ap (λ (t : Stamped). standing_at c.in-Some.told.now.library c.args.node.number t.root) c.tree.ensures.value
+returns-in-Some g c =
+    c.standing.ensures.stands ∙ ap (λ (t : Stamped). standing_at c.in-Some.told.now.library c.args.node.number t.root) c.tree.ensures.value
     ∙ ap (λ r. standing_at (replaced_or (option_copied r) c.args.state.now.now) c.args.node.number c.args.state.now.now.tree) (sym c.in-Some.is)
 
 pub returns-in-None : goal.returns-in-None
-returns-in-None c =
-    c.standing-in-None.ensures ∙ ap (λ (s : State). standing_at s.library c.args.node.number s.tree) c.contents.ensures.value
+returns-in-None g c =
+    c.standing-in-None.ensures.stands ∙ ap (λ (s : State). standing_at s.library c.args.node.number s.tree) c.contents.ensures.value
     ∙ ap (λ r. standing_at (replaced_or (option_copied r) c.args.state.now.now) c.args.node.number c.args.state.now.now.tree) (sym c.in-None.is)

@@ -16,7 +16,7 @@ use Rattle.ob_site_shown.proofs.ChildNames.{by_own, by_role, by_source, shows_na
 use Rattle.ob_site_shown.proofs.children.shows_child.Goals as goal
 
 pub returns-then-is_some : goal.returns-then-is_some
-returns-then-is_some c =
+returns-then-is_some g c =
     let plan = plan_of c.args.plan.now in
     let s = state_in c.args.contents.now in
     let k = c.args.node.number in
@@ -31,7 +31,7 @@ returns-then-is_some c =
     ∙ ap (λ (b : Bool). Some b) (by_own (is_some (child_at k n s.tree)) (is_some (named n (derived plan s (node_path own.head)))) (is_some (named n (children (comes_to at own)))) (there ∙ c.if-is_some.true))
 
 pub returns-then-is_some-2 : goal.returns-then-is_some-2
-returns-then-is_some-2 c =
+returns-then-is_some-2 g c =
     let plan = plan_of c.args.plan.now in
     let s = state_in c.args.contents.now in
     let k = c.args.node.number in
@@ -39,14 +39,14 @@ returns-then-is_some-2 c =
     let own = c.own-own.result.now in
     let lent : Some own ≡ option_map leaf (head_at k s.tree) = c.own-own.ensures ∙ ap (λ (t : Stamped). option_map leaf (head_at k t.root)) c.tree-tree.ensures in
     let at = place_there s.library k s.tree own in
-    let seen = shown_by c.view.result in
+    let seen = shown_by c.view-view.result in
     let inherited : is_some (named n (children seen)) ≡ c.is_some-2.result =
     told shown_by c.child-2.result (λ (m : List ℕ). named m (children seen)) c.as_str-2.result.now n c.is_some-2.result c.as_str-2.ensures.value c.child-2.ensures c.is_some-2.ensures in
-    shows_names plan s k at own seen n (stands_there s.library k s.tree own lent) lent (seen_there s.library k s.tree own seen lent c.view.ensures)
+    shows_names plan s k at own seen n (stands_there s.library k s.tree own lent) lent (seen_there s.library k s.tree own seen lent c.view-view.ensures.view)
     ∙ ap (λ (b : Bool). Some b) (by_source (is_some (child_at k n s.tree)) (is_some (named n (derived plan s (node_path own.head)))) (is_some (named n (children seen))) (inherited ∙ c.if-is_some-2.true))
 
 pub returns : goal.returns
-returns c =
+returns g c =
     let plan = plan_of c.args.plan.now in
     let s = state_in c.args.contents.now in
     let k = c.args.node.number in
@@ -54,7 +54,7 @@ returns c =
     let own = c.own-own.result.now in
     let lent : Some own ≡ option_map leaf (head_at k s.tree) = c.own-own.ensures ∙ ap (λ (t : Stamped). option_map leaf (head_at k t.root)) c.tree-tree.ensures in
     let at = place_there s.library k s.tree own in
-    let seen = shown_by c.view.result in
+    let seen = shown_by c.view-view.result in
     let roles = derived plan s (node_path own.head) in
     let there : is_some (child_at k n s.tree) ≡ c.is_some.result =
     told (λ (id : NodeId). id.number) c.child.result (λ (m : List ℕ). child_at k m s.tree) c.as_str.result.now n c.is_some.result c.as_str.ensures.value
@@ -65,7 +65,7 @@ returns c =
     let derives : is_some (named n roles) ≡ c.is_some-3.result =
     sym (ap (λ (os : List Object). is_some (named n os)) made)
     ∙ told (λ (o : Bor Object). o.now) c.find_named.result (λ (m : List ℕ). named m c.deref.result.now) c.as_str-3.result.now n c.is_some-3.result c.as_str-3.ensures.value c.find_named.ensures c.is_some-3.ensures in
-    shows_names plan s k at own seen n (stands_there s.library k s.tree own lent) lent (seen_there s.library k s.tree own seen lent c.view.ensures)
+    shows_names plan s k at own seen n (stands_there s.library k s.tree own lent) lent (seen_there s.library k s.tree own seen lent c.view-view.ensures.view)
     ∙ ap (λ (b : Bool). Some b)
     (by_role (is_some (child_at k n s.tree)) (is_some (named n roles)) (is_some (named n (children seen))) (there ∙ c.if-is_some.false) (inherited ∙ c.if-is_some-2.false)
     ∙ derives)

@@ -8,7 +8,7 @@ use Rattle.ob_site_shown.proofs.ByRole.{or_else_that, off_parent, off_no_parent}
 use Rattle.ob_site_shown.proofs.owners.shown_below.Goals as goal
 
 pub returns-in-Some : goal.returns-in-Some
-returns-in-Some c =
+returns-in-Some g c =
     let plan = plan_of c.args.plan.now in
     let s = state_in c.args.contents.now in
     let p = c.args.path.now in
@@ -19,5 +19,5 @@ returns-in-Some c =
     (λ o is. or_else_that plan s p both (IsOffBelow plan s p) o (λ off. off_parent plan s p q is_parent off.0 off.1) is) c.shown_by_parent.ensures
 
 pub returns-in-None : goal.returns-in-None
-returns-in-None c =
+returns-in-None g c =
     off_no_parent (plan_of c.args.plan.now) (state_in c.args.contents.now) c.args.path.now (subst (IsParent c.args.path.now) c.in-None.is c.in_ok-parent.ensures)

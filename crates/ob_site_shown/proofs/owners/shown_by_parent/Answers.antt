@@ -7,7 +7,7 @@ use Rattle.ob_site_shown.proofs.ByRole.{off_there, or_else_that}
 use Rattle.ob_site_shown.proofs.owners.shown_by_parent.Goals as goal
 
 pub returns : goal.returns
-returns c =
+returns g c =
     let plan = plan_of c.args.plan.now in
     let s = state_in c.args.contents.now in
     let p = c.args.path.now in

@@ -10,7 +10,7 @@ use Rattle.ob_site_shown.proofs.Nowhere.{nowhere}
 use Rattle.ob_site_shown.proofs.owners.shown_derived.Goals as goal
 
 pub returns : goal.returns
-returns c =
+returns g c =
     let plan = plan_of c.args.plan.now in
     let s = state_in c.args.contents.now in
     let p = c.args.path.now in

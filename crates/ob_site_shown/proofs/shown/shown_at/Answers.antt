@@ -13,7 +13,7 @@ use Rattle.ob_site_shown.proofs.ByRole.{nothing}
 use Rattle.ob_site_shown.proofs.shown.shown_at.Goals as goal
 
 pub returns-in-None : goal.returns-in-None
-returns-in-None c =
+returns-in-None g c =
     let plan = plan_of c.args.plan.now in
     let s = state_in c.args.contents.now in
     let p = c.args.path.now in

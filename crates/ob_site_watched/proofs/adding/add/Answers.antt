@@ -13,19 +13,19 @@ use Rattle.ob_site_watched.proofs.Put.{added_known, added_stands}
 use Rattle.ob_site_watched.proofs.adding.add.Goals as goal
 
 pub returns-in_default-clause-done : goal.returns-in_default-clause-done
-returns-in_default-clause-done c =
+returns-in_default-clause-done g c =
     IfOk-weaker c.refusal.result _ _
     (λ o e. none_stands (plan_of c.args.plan.now) c.args.contents.now c.args.adding.now.moment c.args.adding.now.number c.args.watches.now (Add c.args.adding.now.asked.now) o (sym c.in_default.ensures) e) c.refusal.ensures
 
 pub put_or_leave-requires-clause-held : goal.put_or_leave-requires-clause-held
-put_or_leave-requires-clause-held c =
+put_or_leave-requires-clause-held g c =
     let n = c.args.adding.now.number in
     let old = c.args.watches.now in
     let w = c.in-Some.watch.now in
     held_there (lookup n old.watches) w (live_there c.args.adding.now.moment n old.watches w c.numbers-numbers.ensures.differ (sym c.in-Some.ensures))
 
 pub put_or_leave-requires-clause-nothing : goal.put_or_leave-requires-clause-nothing
-put_or_leave-requires-clause-nothing c =
+put_or_leave-requires-clause-nothing g c =
     let n = c.args.adding.now.number in
     let old = c.args.watches.now in
     let w = c.in-Some.watch.now in
@@ -33,7 +33,7 @@ put_or_leave-requires-clause-nothing c =
     (c.items.ensures.items ∙ ap (λ (u : Leased). u.items) (one_held (lookup n old.watches) w v (live_there c.args.adding.now.moment n old.watches w c.numbers-numbers.ensures.differ (sym c.in-Some.ensures)) there)) c.new-undo.ensures
 
 pub returns-clause-done : goal.returns-clause-done
-returns-clause-done c =
+returns-clause-done g c =
     let plan = plan_of c.args.plan.now in
     let now = c.args.adding.now.moment in
     let n = c.args.adding.now.number in
@@ -45,7 +45,7 @@ returns-clause-done c =
     differ there (sym c.in-Some.ensures) (subst IsLease c.lease-lease.ensures.value c.lease-lease.ensures.bounded) (c.in_ok-reply.ensures.put w there) c.touch.ensures.touched
 
 pub returns-clause-known : goal.returns-clause-known
-returns-clause-known c =
+returns-clause-known g c =
     let plan = plan_of c.args.plan.now in
     let contents = c.args.contents.now in
     let now = c.args.adding.now.moment in

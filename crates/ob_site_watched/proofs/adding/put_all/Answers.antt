@@ -12,7 +12,7 @@ use Rattle.ob_site_watched.proofs.Put.{all_named, placed}
 use Rattle.ob_site_watched.proofs.adding.put_all.Goals as goal
 
 pub returns-in_err-numbers : goal.returns-in_err-numbers
-returns-in_err-numbers c =
+returns-in_err-numbers g c =
     let plan = plan_of c.args.plan.now in
     let site = c.args.contents.now in
     let n = c.args.adding.now.number in
@@ -23,7 +23,7 @@ returns-in_err-numbers c =
     λ w there. none_put n plan site ns asked old undo w c.from_residual.result c.from_residual.ensures.0 c.numbers-numbers.ensures.differ there
 
 pub returns-in_err-firsts : goal.returns-in_err-firsts
-returns-in_err-firsts c =
+returns-in_err-firsts g c =
     let plan = plan_of c.args.plan.now in
     let site = c.args.contents.now in
     let n = c.args.adding.now.number in
@@ -34,7 +34,7 @@ returns-in_err-firsts c =
     λ w there. none_put n plan site ns asked old undo w c.from_residual-in_err-firsts.result c.from_residual-in_err-firsts.ensures.0 c.numbers-numbers.ensures.differ there
 
 pub loop-a-init : goal.loop-a-init
-loop-a-init c =
+loop-a-init g c =
     let plan = plan_of c.args.plan.now in
     let site = c.args.contents.now in
     let n = c.args.adding.now.number in
@@ -46,7 +46,7 @@ loop-a-init c =
     (way_starts n plan site ns old undo w c.numbers-numbers.ensures.differ there)
 
 pub returns-in_err-offer : goal.returns-in_err-offer
-returns-in_err-offer c =
+returns-in_err-offer g c =
     let plan = plan_of c.args.plan.now in
     let site = c.args.contents.now in
     let n = c.args.adding.now.number in
@@ -62,11 +62,11 @@ returns-in_err-offer c =
     way_stops n plan site ns all k old c.loop-a.watches c.loop-a.watches undo c.loop-a.undo c.loop-a.undo es w way asked c.from_residual-in_err-offer.result c.from_residual-in_err-offer.ensures.0
 
 pub put_offer-requires-clause-placed : goal.put_offer-requires-clause-placed
-put_offer-requires-clause-placed c =
+put_offer-requires-clause-placed g c =
     placed (plan_of c.args.plan.now) c.args.contents.now c.deref.result.now c.a-item.result c.in_ok-offer.offer c.in_ok-offer.ensures
 
 pub returns-in_err-entry : goal.returns-in_err-entry
-returns-in_err-entry c =
+returns-in_err-entry g c =
     let plan = plan_of c.args.plan.now in
     let site = c.args.contents.now in
     let n = c.args.adding.now.number in
@@ -83,7 +83,7 @@ returns-in_err-entry c =
     (c.put_offer.ensures way.left (way_there n plan site ns all k old c.loop-a.watches c.put_offer.new.watches undo c.loop-a.undo c.put_offer.new.undo es w way there))
 
 pub returns-in_err-push : goal.returns-in_err-push
-returns-in_err-push c =
+returns-in_err-push g c =
     let plan = plan_of c.args.plan.now in
     let site = c.args.contents.now in
     let n = c.args.adding.now.number in
@@ -100,7 +100,7 @@ returns-in_err-push c =
     (c.put_offer.ensures way.left (way_there n plan site ns all k old c.loop-a.watches c.put_offer.new.watches undo c.loop-a.undo c.put_offer.new.undo es w way there))
 
 pub loop-a-preserved : goal.loop-a-preserved
-loop-a-preserved c =
+loop-a-preserved g c =
     let plan = plan_of c.args.plan.now in
     let site = c.args.contents.now in
     let n = c.args.adding.now.number in
@@ -119,7 +119,7 @@ loop-a-preserved c =
     (c.in_ok-entry.ensures way.left (way_there n plan site ns all k old c.loop-a.watches c.put_offer.new.watches undo c.loop-a.undo c.put_offer.new.undo es w way there)))
 
 pub watch_out-requires : goal.watch_out-requires
-watch_out-requires c =
+watch_out-requires g c =
     let plan = plan_of c.args.plan.now in
     let site = c.args.contents.now in
     let n = c.args.adding.now.number in
@@ -135,7 +135,7 @@ watch_out-requires c =
     all_named plan site ns (take k all) held.0 way.left es way.added
 
 pub returns : goal.returns
-returns c =
+returns g c =
     let plan = plan_of c.args.plan.now in
     let site = c.args.contents.now in
     let n = c.args.adding.now.number in

@@ -7,6 +7,6 @@ use Rattle.ob_site_watched.proofs.Grown.{IsOnTheWay}
 use Rattle.ob_site_watched.proofs.adding.put_all.Given as goal
 
 abbrev pub invariant-loop-a : goal.invariant-loop-a
-invariant-loop-a l =
+invariant-loop-a g l =
     OfHeld l.adding.number l.fn.watches
     (IsOnTheWay (plan_of l.plan) l.contents (numbers_of (lapsed_at l.adding.moment l.fn.watches).watches) (take l.a-index l.a-items) l.adding.number l.fn.watches l.watches l.fn.undo l.undo l.entries.items)

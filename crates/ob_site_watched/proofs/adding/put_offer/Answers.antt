@@ -13,7 +13,7 @@ use Rattle.ob_site_watched.proofs.Grown.{put_added, put_aside, put_failed, put_f
 use Rattle.ob_site_watched.proofs.adding.put_offer.Goals as goal
 
 pub returns-in-Refused : goal.returns-in-Refused
-returns-in-Refused c =
+returns-in-Refused g c =
     let plan = plan_of c.args.plan.now in
     let site = c.args.contents.now in
     let n = c.args.adding.now.number in
@@ -23,7 +23,7 @@ returns-in-Refused c =
     (λ w there. put_refused n plan site c.in-Refused.entry old undo w c.numbers-numbers.ensures.differ there)
 
 pub returns-then-is_refused : goal.returns-then-is_refused
-returns-then-is_refused c =
+returns-then-is_refused g c =
     let plan = plan_of c.args.plan.now in
     let site = c.args.contents.now in
     let n = c.args.adding.now.number in
@@ -35,7 +35,7 @@ returns-then-is_refused c =
     (subst (λ (text : Text). IfOk c.refused.result (λ o. o ≡ refused_entry text TooManyItems)) c.text-then-is_refused.ensures c.refused.ensures))
 
 pub returns-in_err-entry : goal.returns-in_err-entry
-returns-in_err-entry c =
+returns-in_err-entry g c =
     let plan = plan_of c.args.plan.now in
     let site = c.args.contents.now in
     let n = c.args.adding.now.number in
@@ -45,7 +45,7 @@ returns-in_err-entry c =
     (λ w there. put_nothing n plan site (offer.Item c.in-Item.item) old undo w c.from_residual.result c.from_residual.ensures.0 c.numbers-numbers.ensures.differ there)
 
 pub returns-in-Ok : goal.returns-in-Ok
-returns-in-Ok c =
+returns-in-Ok g c =
     let plan = plan_of c.args.plan.now in
     let site = c.args.contents.now in
     let n = c.args.adding.now.number in
@@ -54,7 +54,7 @@ returns-in-Ok c =
     (λ w there. put_added n plan site c.in-Item.item old c.add.new.self c.args.undo.now c.add.new.undo c.add.result w c.in-Ok.field-0 c.in_ok-entry.entry there c.in_ok-entry.ensures c.in-Ok.is c.add.ensures)
 
 pub returns-in-Err-ItemsFull : goal.returns-in-Err-ItemsFull
-returns-in-Err-ItemsFull c =
+returns-in-Err-ItemsFull g c =
     let plan = plan_of c.args.plan.now in
     let site = c.args.contents.now in
     let n = c.args.adding.now.number in
@@ -64,7 +64,7 @@ returns-in-Err-ItemsFull c =
     (c.in-Err-ItemsFull.is ∙ ap (λ (f : WatchFault). (let r : Added = Err f in r)) c.in-Err-ItemsFull.field-0-is) c.add.ensures c.too_many.ensures)
 
 pub returns : goal.returns
-returns c =
+returns g c =
     let plan = plan_of c.args.plan.now in
     let site = c.args.contents.now in
     let n = c.args.adding.now.number in

@@ -8,7 +8,7 @@ use Rattle.ob_site_watched.proofs.Grown.{all_back, has_put, is_held}
 use Rattle.ob_site_watched.proofs.adding.put_or_leave.Goals as goal
 
 pub returns-in-Ok-clause-put : goal.returns-in-Ok-clause-put
-returns-in-Ok-clause-put c =
+returns-in-Ok-clause-put g c =
     let n = c.args.adding.now.number in
     let old = c.args.watches.now in
     let ns : List ℕ = numbers_of (live c.args.adding.now.moment old.watches) in
@@ -16,7 +16,7 @@ returns-in-Ok-clause-put c =
     λ w there. has_put n (plan_of c.args.plan.now) c.args.contents.now ns asked old c.put_all.new.watches c.args.undo c.put_all.new.undo c.in-Ok.reply w (c.in-Ok.ensures w there)
 
 pub returns-in-Err-clause-err : goal.returns-in-Err-clause-err
-returns-in-Err-clause-err c =
+returns-in-Err-clause-err g c =
     let n = c.args.adding.now.number in
     let old = c.args.watches.now in
     let ns : List ℕ = numbers_of (live c.args.adding.now.moment old.watches) in

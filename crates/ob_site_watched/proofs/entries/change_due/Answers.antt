@@ -31,5 +31,5 @@ returns-in_ok-object-in-Object-clause-steps g c =
     let root = c.args.contents.now.ground.tree.root in
     let is = sym (sym c.in-Object.is ∙ c.tracked.ensures) in
     let placed = subst (λ (k : Tracked). IsPlacedBy root c.args.item.now.path k) is c.requires.placed in
-    object_steps (plan_of c.args.plan.now) (state_in c.args.contents.now) c.args.contents.now.ground.tree c.args.item.now.path c.args.item.now.tracked _ _ c.in_ok-object-in-Object.object c.args.steps.now c.watched_node_counted.new.steps
+    object_steps (plan_of c.args.plan.now) (state_in c.args.contents.now) c.args.contents.now.ground.tree c.args.item.now.path c.args.item.now.tracked _ _ c.in_ok-object-in-Object.object c.args.steps.now c.watched_node.new.steps
     is c.requires.due placed.0 (c.in_ok-object-in-Object.ensures.object c.args.item.now.path placed.0) (c.in_ok-object-in-Object.ensures.steps placed.1)

@@ -1,10 +1,11 @@
-use Rattle.std.proofs.Common.{Option, sym, ap, ◌∙◌, subst}
+use Rattle.std.proofs.Common.{Option, Some, sym, ap, ◌∙◌, subst}
 use Rattle.std.specs.Prelude.{option_and_then}
 use Rattle.std.proofs.lemmas.Result.{IfOk-weaker}
 use Rattle.ob_watching.specs.Tables.{numbers_of, replace}
 use Rattle.ob_replies.specs.Plans.{plan as plan_of}
 use Rattle.ob_requests.specs.Targets.{operation_of}
 use Rattle.ob_site_state.specs.Contents.{state_in}
+use Rattle.ob_watch.specs.Flags.{flagged}
 use Rattle.ob_watch.specs.Tables.{IsLease, Leased, holding, live}
 use Rattle.ob_site_watched.specs.Answers.{AllKnown}
 use Rattle.ob_site_watched.specs.Leaving.{marks_after}
@@ -34,14 +35,14 @@ returns-clause-done g c =
     let differ = c.numbers-numbers.ensures.differ in
     let ns = numbers_of (live now old.watches) in
     one_stands plan contents now n old c.leave.new.watches op w (marks_after contents now op w) c.in_ok-reply.reply differ (sym c.in-Some.ensures)
-    (c.leave.ensures ∙ ap (λ (v : Option Leased). holding (replace n (option_and_then (marks_after contents now op) v) old.watches) old) (live_there now n old.watches w differ (sym c.in-Some.ensures)))
+    (c.leave.ensures.left ∙ ap (λ (v : Option Leased). holding (replace n (option_and_then (marks_after contents now op) v) old.watches) old) (live_there now n old.watches w differ (sym c.in-Some.ensures)))
     (marks_last plan contents now op w (subst IsLease c.lease-lease.ensures.value c.lease-lease.ensures.bounded))
     (agrees plan contents now ns op w c.requires.past (known_there plan contents now n old w c.requires.known (sym c.in-Some.ensures)) c.requires.other)
     (c.in_ok-reply.ensures.reply ns)
 
 pub returns-clause-known : goal.returns-clause-known
 returns-clause-known g c =
-    subst (AllKnown (plan_of c.args.plan.now) c.args.contents.now) (sym c.leave.ensures)
+    subst (AllKnown (plan_of c.args.plan.now) c.args.contents.now) (sym c.leave.ensures.left)
     (left_known (plan_of c.args.plan.now) c.args.contents.now c.args.call.now.moment c.args.call.now.number (operation_of c.args.call.now.asks) c.args.watches.now c.requires.known)
 
 pub returns-in_default-clause-steps : goal.returns-in_default-clause-steps
@@ -51,5 +52,8 @@ returns-in_default-clause-steps g c =
 
 pub returns-clause-steps : goal.returns-clause-steps
 returns-clause-steps g c =
-    asked_there (plan_of c.args.plan.now) (state_in c.args.contents.now) c.args.contents.now.ground.tree c.args.call.now.number (live c.args.call.now.moment c.args.watches.now.watches) c.in-Some.watch.now (operation_of c.args.call.now.asks) c.args.steps.now c.reply.new.steps
-    (sym c.in-Some.ensures) c.in_ok-reply.ensures.steps
+    let plan = plan_of c.args.plan.now in
+    let s = state_in c.args.contents.now in
+    let t = c.args.contents.now.ground.tree in
+    asked_there plan s t c.args.call.now.number (live c.args.call.now.moment c.args.watches.now.watches) c.in-Some.watch.now (operation_of c.args.call.now.asks) c.args.steps.now c.leave.new.steps
+    (sym c.in-Some.ensures) (c.leave.ensures.steps plan s (Some (flagged t c.in-Some.watch.now)) c.args.steps.now c.in_ok-reply.ensures.steps)

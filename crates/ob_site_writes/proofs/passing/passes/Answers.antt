@@ -8,7 +8,7 @@ use Rattle.ob_site_writes.proofs.Targets.{passes_by}
 use Rattle.ob_site_writes.proofs.passing.passes.Goals as goal
 
 pub returns-in-Some : goal.returns-in-Some
-returns-in-Some c =
+returns-in-Some g c =
     let k = c.args.state.now in
     let p = c.args.path.now in
     let v = c.args.value.now in

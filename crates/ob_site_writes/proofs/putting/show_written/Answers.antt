@@ -8,7 +8,7 @@ use Rattle.ob_site_writes.proofs.Refused.{shown_then}
 use Rattle.ob_site_writes.proofs.putting.show_written.Goals as goal
 
 pub returns-clause-ok : goal.returns-clause-ok
-returns-clause-ok c =
+returns-clause-ok g c =
     let k = c.args.state.now in
     let t = c.written_at.new.state in
     let p = c.args.path.now in

@@ -11,7 +11,7 @@ use Rattle.ob_site_writes.specs.declared.stop.Stop.{Stop}
 use Rattle.ob_site_writes.proofs.putting.write_by.Goals as goal
 
 pub returns-clause-ok : goal.returns-clause-ok
-returns-clause-ok c =
+returns-clause-ok g c =
     let k = c.args.state.now in
     let t = c.write_given.new.state in
     let p = c.args.path.now in
@@ -25,7 +25,7 @@ returns-clause-ok c =
     (λ reply is. subst (λ (m : State × Object). IsDone k t m reply) (ap₂ done kind slot) is) c.write_given.ensures.ok
 
 pub returns-clause-stop : goal.returns-clause-stop
-returns-clause-stop c =
+returns-clause-stop g c =
     let k = c.args.state.now in
     let t = c.write_given.new.state in
     let p = c.args.path.now in

@@ -21,7 +21,7 @@ use Rattle.ob_site_writes.proofs.Refused.{same_of}
 use Rattle.ob_site_writes.proofs.putting.write_given.Goals as goal
 
 pub show_written-requires-clause-can : goal.show_written-requires-clause-can
-show_written-requires-clause-can c =
+show_written-requires-clause-can g c =
     let k = c.args.state.now in
     let p = c.args.path.now in
     let o = c.args.object.now in
@@ -37,7 +37,7 @@ show_written-requires-clause-can c =
     (can_be_written k.plan k.now p o new.slot c.is_sound.ensures.sound.consistent c.requires.shows fits c.requires.records (λ v. held v fits)))
 
 pub returns-clause-ok : goal.returns-clause-ok
-returns-clause-ok c =
+returns-clause-ok g c =
     let k = c.args.state.now in
     let t = c.show_written.new.state in
     let p = c.args.path.now in

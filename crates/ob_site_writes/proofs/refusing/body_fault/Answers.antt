@@ -10,7 +10,7 @@ use Rattle.ob_site_rules.specs.Writes.{given_by, value_fault}
 use Rattle.ob_site_writes.proofs.refusing.body_fault.Goals as goal
 
 pub returns-clause-fault : goal.returns-clause-fault
-returns-clause-fault c =
+returns-clause-fault g c =
     let k = c.args.state.now in
     let p = c.args.path.now in
     let o = c.args.target.now in

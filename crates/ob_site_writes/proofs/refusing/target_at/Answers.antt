@@ -10,7 +10,7 @@ use Rattle.ob_site_writes.proofs.Targets.{all_targets}
 use Rattle.ob_site_writes.proofs.refusing.target_at.Goals as goal
 
 pub returns : goal.returns
-returns c =
+returns g c =
     let k = c.args.state.now in
     let p = c.args.path.now in
     let plan = plan_of c.plan.result.now in

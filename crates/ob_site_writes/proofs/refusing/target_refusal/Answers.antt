@@ -12,12 +12,12 @@ use Rattle.ob_site_writes.proofs.Targets.{bodiless_refused, put_refused, target_
 use Rattle.ob_site_writes.proofs.refusing.target_refusal.Goals as goal
 
 pub returns-then-is_some-clause-fault : goal.returns-then-is_some-clause-fault
-returns-then-is_some-clause-fault c =
+returns-then-is_some-clause-fault g c =
     let k = c.args.state.now in
     target_refused k.plan k.now k.time c.args.path.now c.args.target.now (option_copied c.args.body) c.target_fault-fault.result c.requires (c.target_fault-fault.ensures ∙ ap target_fault c.head.ensures.value)
 
 pub returns-in-Some-clause-fault : goal.returns-in-Some-clause-fault
-returns-in-Some-clause-fault c =
+returns-in-Some-clause-fault g c =
     let k = c.args.state.now in
     let p = c.args.path.now in
     let t = c.args.target.now in
@@ -29,7 +29,7 @@ returns-in-Some-clause-fault c =
     (λ f. IfSome f (λ g. IsRefused k.plan k.now p (λ o. put k.plan k.now k.time p o (Some body)) (told.fault g))) (λ f e. put_refused k.plan k.now k.time p t body f c.requires free e) c.body_fault.ensures.fault)
 
 pub returns-in-None-clause-fault : goal.returns-in-None-clause-fault
-returns-in-None-clause-fault c =
+returns-in-None-clause-fault g c =
     let k = c.args.state.now in
     let p = c.args.path.now in
     let t = c.args.target.now in

@@ -9,13 +9,13 @@ use Rattle.ob_site_writes.proofs.Targets.{write_refused}
 use Rattle.ob_site_writes.proofs.refusing.write_fault.Goals as goal
 
 pub body_fault-requires : goal.body_fault-requires
-body_fault-requires c =
+body_fault-requires g c =
     let k = c.args.state.now in
     let p = c.args.path.now in
     subst (λ (found : Option Object). IfSome found (λ o. IsTarget k.plan k.now p o)) c.in-Some.is c.in_ok-target.ensures
 
 pub returns-in-Some-clause-fault : goal.returns-in-Some-clause-fault
-returns-in-Some-clause-fault c =
+returns-in-Some-clause-fault g c =
     let k = c.args.state.now in
     let p = c.args.path.now in
     let body = c.args.body.now in

@@ -9,7 +9,7 @@ use Rattle.ob_site_writes.proofs.Ranged.{contract_has}
 use Rattle.ob_site_writes.proofs.value.has_child.Goals as goal
 
 pub returns-in-Some : goal.returns-in-Some
-returns-in-Some c =
+returns-in-Some g c =
     let k = c.args.state.now in
     let r = c.args.range.now in
     let n = c.args.name.now in
@@ -18,7 +18,7 @@ returns-in-Some c =
     (sym (told (λ (b : Bor Object). b.now) c.child.result (λ (m : List ℕ). named m (children o)) c.as_str-in-Some.result.now n c.is_some.result c.as_str-in-Some.ensures.value c.child.ensures c.is_some.ensures))
 
 pub returns-in-None : goal.returns-in-None
-returns-in-None c =
+returns-in-None g c =
     let k = c.args.state.now in
     let r = c.args.range.now in
     let n = c.args.name.now in

@@ -15,7 +15,7 @@ use Rattle.ob_site_writes.proofs.Ranged.{node_told, nothing_has}
 use Rattle.ob_site_writes.proofs.value.node_has.Goals as goal
 
 pub returns-in-Some : goal.returns-in-Some
-returns-in-Some c =
+returns-in-Some g c =
     let k = c.args.state.now in
     let r = c.args.range.now in
     let n = c.args.name.now in
@@ -28,7 +28,7 @@ returns-in-Some c =
     (λ has is none. node_told k.plan plan k.now s r n number has c.plan.ensures c.contents.ensures.value c.is_sound.ensures.sound.paths_differ here is none) c.shows_child.ensures
 
 pub returns-in-None : goal.returns-in-None
-returns-in-None c =
+returns-in-None g c =
     let k = c.args.state.now in
     let r = c.args.range.now in
     let here : None ≡ place_of r (paths k.now.tree) = c.in-None.ensures.place ∙ ap (λ (t : Stamped). place_of r (paths t.root)) c.tree.ensures.value in

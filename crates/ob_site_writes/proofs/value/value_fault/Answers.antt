@@ -8,7 +8,7 @@ use Rattle.ob_site_writes.proofs.Fitting.{rule_takes}
 use Rattle.ob_site_writes.proofs.value.value_fault.Goals as goal
 
 pub overfills-requires : goal.overfills-requires
-overfills-requires c =
+overfills-requires g c =
     let k = c.args.state.now in
     let slot = c.slot-slot.result.now in
     let o = c.args.object.now in

@@ -35,8 +35,8 @@ leaf_in-own-requires g t c =
     let less : c.in-Some.parent < c.args.at = parent_before c.args.lore.library.now o c.args.spots.now c.args.at c.in-Some.parent c.requires.laid.spots_are (omega (arith, c.requires.within, n)) up in
     omega (arith, less, c.requires.within)
 
-pub inside_counted-requires : goal.inside_counted-requires
-inside_counted-requires g t c =
+pub inside-requires : goal.inside-requires
+inside-requires g t c =
     let os = c.args.leaves.now in
     let o = object_of (said os) c.args.spots.now in
     let p = c.in-Some.parent in
@@ -61,8 +61,8 @@ returns-in-Some g t c =
     let here : head_at at o ≡ Some k = ap (λ (l : List Head). slice_get l at) (sym c.requires.laid.heads_are) ∙ said_read os at c.leaf_in-child.result.now c.leaf_in-child.ensures in
     let down : handed_at lib at o ≡ handed (handed_at lib p o) h = context_below lib o c.args.spots.now at p h c.requires.laid.spots_are (omega (arith, c.requires.within, n)) up there in
     record {
-      stands = stands_below lib o r (context c.inside_counted.result) at p h k c.standing_of-round.ensures.stands there here down (c.inside_counted.ensures.inside ∙ ap (under (handed_down r h)) c.name.ensures);
-      steps = omega (arith, c.inside_counted.ensures.steps, c.standing_of-round.ensures.steps, depth_below o c.args.spots.now at p c.requires.laid.spots_are (omega (arith, c.requires.within, n)) up);
+      stands = stands_below lib o r (context c.inside.result) at p h k c.standing_of-round.ensures.stands there here down (c.inside.ensures.inside ∙ ap (under (handed_down r h)) c.name.ensures);
+      steps = omega (arith, c.inside.ensures.steps, c.standing_of-round.ensures.steps, depth_below o c.args.spots.now at p c.requires.laid.spots_are (omega (arith, c.requires.within, n)) up);
     }
 
 pub returns-in-None : goal.returns-in-None

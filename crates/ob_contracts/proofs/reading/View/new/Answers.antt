@@ -4,4 +4,4 @@ use Rattle.ob_contracts.proofs.Taught.{tells_none}
 use Rattle.ob_contracts.proofs.reading.View.new.Goals as goal
 
 pub with_told-requires : goal.with_told-requires
-with_told-requires c = tells_none c.args.library.now (or_else c.args.object.now.head.is (option_copied c.args.implied))
+with_told-requires g c = tells_none c.args.library.now (or_else c.args.object.now.head.is (option_copied c.args.implied))

@@ -1,7 +1,7 @@
-use Rattle.std.proofs.Common.{◌≡◌, ◌+◌, ◌∙◌, subst, ap}
+use Rattle.std.proofs.Common.{◌∙◌, sym, subst, ap}
 use Rattle.std.proofs.lemmas.Result.{IfOk-weaker, on_ok_weaker, on_err_weaker}
 use Rattle.ob_site_rules.specs.Sites.{SiteState}
-use Rattle.ob_site.specs.Counts.{request_steps}
+use Rattle.ob_site.specs.Counts.{IsPoll, RequestTakes}
 use Rattle.ob_site.specs.Keeping.{Keeps, MayKeep, stepping}
 use Rattle.ob_site.specs.Views.{site_of}
 use Rattle.ob_site.proofs.Stepped.{left_so}
@@ -34,4 +34,9 @@ returns-clause-may_keep g c =
 pub returns-clause-steps : goal.returns-clause-steps
 returns-clause-steps g c =
     IfOk-weaker c.step.result _ _
-    (λ o steps. subst (λ (st : SiteState). c.step.new.steps ≡ c.args.steps.now + request_steps st c.args.request.now c.args.moment) c.self.view_is steps) c.step.ensures.steps
+    (λ o. subst (λ (st : SiteState). RequestTakes st c.args.request.now c.args.moment c.args.steps.now c.step.new.steps) c.self.view_is) c.step.ensures.steps
+
+pub returns-clause-polls : goal.returns-clause-polls
+returns-clause-polls g c =
+    IfOk-weaker c.step.result _ _
+    (λ o few poll. few (subst (λ (st : SiteState). IsPoll st c.args.request.now) (sym c.self.view_is) poll)) c.step.ensures.polls

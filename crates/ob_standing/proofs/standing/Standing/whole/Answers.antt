@@ -5,7 +5,7 @@ use Rattle.ob_standing.specs.Standings.{context}
 use Rattle.ob_standing.proofs.Walking.{told_the_same}
 use Rattle.ob_standing.proofs.standing.Standing.whole.Goals as goal
 
-pub returns : goal.returns
-returns c =
+pub returns-clause-whole : goal.returns-clause-whole
+returns-clause-whole g c =
     IfOk-weaker c.effective.result _ _
-    (λ made is. is ∙ told_the_same (context c.args.self.now) c.args.object.now (option_copied c.words.result) c.words.ensures) c.effective.ensures
+    (λ made is. is ∙ told_the_same (context c.args.self.now) c.args.object.now (option_copied c.words.result) c.words.ensures) c.effective.ensures.made

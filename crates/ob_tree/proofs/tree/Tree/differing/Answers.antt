@@ -10,7 +10,7 @@ abbrev number : NodeId → ℕ
 number id = id.number
 
 pub loop-number-preserved : goal.loop-number-preserved
-loop-number-preserved c =
+loop-number-preserved g c =
     let Is : ℕ → Type 0 = Differs c.args.old.now c.args.new.now c.args.self.now.root in
     let n = c.loop-number.number in
     let before : List NodeId = c.loop-number.ids.items in

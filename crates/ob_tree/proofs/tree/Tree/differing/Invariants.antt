@@ -4,4 +4,4 @@ use Rattle.ob_tree.proofs.Collecting.{Collected}
 use Rattle.ob_tree.proofs.tree.Tree.differing.Given as goal
 
 abbrev pub invariant-loop-number : goal.invariant-loop-number
-invariant-loop-number l = (l.number ≤ l.number-end) × Collected (Differs l.fn.old l.fn.new l.fn.self.root) l.number (map (λ id. id.number) l.ids.items)
+invariant-loop-number g l = (l.number ≤ l.number-end) × Collected (Differs l.fn.old l.fn.new l.fn.self.root) l.number (map (λ id. id.number) l.ids.items)

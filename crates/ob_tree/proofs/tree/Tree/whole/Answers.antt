@@ -6,12 +6,12 @@ use Rattle.ob_tree.specs.Shown.{shown_at}
 use Rattle.ob_tree.proofs.Wholes.{whole_shown}
 use Rattle.ob_tree.proofs.tree.Tree.whole.Goals as goal
 
-pub returns : goal.returns
-returns c =
+pub returns-clause-whole : goal.returns-clause-whole
+returns-clause-whole g c =
     let lib = c.args.library.now in
     let o = c.args.self.now.root in
     let n = c.args.id.number in
     let p = c.in_ok-object.object in
     let stands = context c.standing-standing.result in
     IfOk-weaker c.whole.result (λ made. made ≡ comes_to stands p) (λ made. Some made ≡ shown_at lib n o)
-    (λ made is. whole_shown lib o o n p made stands refl c.requires c.in_ok-object.ensures c.standing-standing.ensures is) c.whole.ensures
+    (λ made is. whole_shown lib o o n p made stands refl c.requires c.in_ok-object.ensures c.standing-standing.ensures.stands is) c.whole.ensures.whole

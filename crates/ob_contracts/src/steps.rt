@@ -1,11 +1,12 @@
-//! Counting steps without taking time or memory for it: what is counted exists in contracts alone.
+//! Counting views and built parts without taking time or memory for it: what is counted exists in contracts alone.
 
 ghost use Rattle.std.specs.Prelude.{◌≡◌, ℕ, ◌+◌, ◌<◌};
 
 use std::marker::Model;
 use std::sync::ledger::{Blank, Book, Ledger, Share};
 
-/// How many steps were taken. Contracts see it as that number. It takes no bytes, and only `add` changes it.
+/// How many steps were taken: a step is a view that is taken of an object, or a part of an effective object that is built.
+/// Contracts see it as that number. It takes no bytes, and nothing outside of this crate adds to it.
 ///
 /// A function that counts takes `steps: &mut Steps<L>` for any ledger `L`. A caller that counts nothing calls one
 /// that takes a `blank: Blank`, as `counted::<Brand>(.., Blank::new(1))`, and begins there by `Steps::begin`.
@@ -36,7 +37,7 @@ impl<L: Ledger> Steps<L> {
     }
 
     /// Counts so many steps.
-    pub fn add(&mut self, number: u64)
+    pub(crate) fn add(&mut self, number: u64)
         ensures { self.new ≡ self.old + number }
     {
         self.book.add(&mut self.share, number);

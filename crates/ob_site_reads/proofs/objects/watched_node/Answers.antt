@@ -5,7 +5,7 @@ use Rattle.ob_replies.specs.Plans.{plan as plan_of}
 use Rattle.ob_site_state.specs.Contents.{state_in}
 use Rattle.ob_tree.specs.Depths.{depth_at}
 use Rattle.ob_site_reads.proofs.Plain.{told_whole}
-use Rattle.ob_site_reads.proofs.objects.watched_node_counted.Goals as goal
+use Rattle.ob_site_reads.proofs.objects.watched_node.Goals as goal
 
 pub returns-clause-steps : goal.returns-clause-steps
 returns-clause-steps g c = λ watchable.

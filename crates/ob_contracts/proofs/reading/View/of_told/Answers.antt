@@ -1,4 +1,4 @@
-use Rattle.ob_contracts.proofs.reading.View.with_told.Goals as goal
+use Rattle.ob_contracts.proofs.reading.View.of_told.Goals as goal
 
 pub invariant_of-result : goal.invariant_of-result
 invariant_of-result c = record { stand = c.requires }

@@ -1,0 +1,4 @@
+use Rattle.ob_vectors.proofs.contracts.tell_effective.Given as goal
+
+abbrev pub ghosts-tell_counted : goal.ghosts-tell_counted
+ghosts-tell_counted a = record { name = a.blank.name; parts = a.blank.parts }
