@@ -4,8 +4,9 @@ use Rattle.std.specs.Prelude.{Result, Ok, Err}
 use Rattle.url.specs.Parts.{Parts}
 use Rattle.ob_object.specs.declared.kind.Kind.{Kind}
 use Rattle.ob_object.specs.declared.kind.Kind.TheVariants as kind
-use Rattle.ob_object.specs.Kinds.{same_kind, is_ref}
+use Rattle.ob_object.specs.Kinds.{same_kind, is_ref, is_err}
 use Rattle.ob_object.specs.Object.{Object}
+use Rattle.ob_object.specs.Paths.{node_path}
 use Rattle.ob_contracts.specs.Inherit.{Contracts, only_if}
 use Rattle.ob_contracts.specs.Standard.{standard}
 use Rattle.ob_contracts.specs.declared.adding.LibFault.{LibFault}
@@ -13,7 +14,6 @@ use Rattle.ob_contracts.proofs.Fitting.{one_kind}
 use Rattle.ob_href.specs.Href.{is_root_url}
 use Rattle.ob_hrefs.specs.Hrefs.{root_url, site_path, bad_href, made_object}
 use Rattle.ob_site_rules.specs.Build.{Text, Path}
-use Rattle.ob_site_rules.specs.Shown.{node_path, is_err}
 use Rattle.ob_site_rules.specs.Writes.{site_contracts}
 use Rattle.ob_site_rules.specs.Sites.{SiteState}
 use Rattle.ob_opening.specs.Roles.{worded_contracts}

@@ -3,7 +3,7 @@ use Rattle.std.proofs.Common.{◌≡◌, ℕ, ◌+◌, Bool, true, false, cond, 
 use Rattle.std.specs.Prelude.{unwrap_or}
 use Rattle.ob_object.specs.Object.{Object, Objects, none, node, count, listed, children}
 use Rattle.ob_object.specs.WellFormed.{has_name, named}
-use Rattle.ob_site_rules.specs.Shown.{node_path}
+use Rattle.ob_object.specs.Paths.{node_path}
 use Rattle.ob_site_rules.specs.Writes.{site_contracts}
 use Rattle.ob_opening.specs.declared.roles.Roles.{Roles}
 use Rattle.ob_opening.specs.Roles.{no_roles, is_dropped, role_at}

@@ -5,9 +5,10 @@ use Rattle.std.specs.Prelude.{is_some, unwrap_or}
 use Rattle.std.specs.List.{AllByRecursion}
 use Rattle.std.proofs.lemmas.Slice.Eq.{bytes_eq-Decides}
 use Rattle.ob_object.specs.Object.{Object}
+use Rattle.ob_object.specs.Paths.{is_path, node_path}
 use Rattle.ob_site_rules.specs.Build.{Text, Path}
-use Rattle.ob_site_rules.specs.State.{Plan, State, Log, at, is_among, is_path}
-use Rattle.ob_site_rules.specs.Shown.{node_path, derived, lobby_children, write_point_op, history_part, subject_children}
+use Rattle.ob_site_rules.specs.State.{Plan, State, Log, at, is_among}
+use Rattle.ob_site_rules.specs.Shown.{derived, lobby_children, write_point_op, history_part, subject_children}
 use Rattle.ob_plain_state.proofs.Keeping.{names_of}
 use Rattle.ob_opening.specs.Roles.{derived_names}
 use Rattle.ob_opening.specs.Loading.{Part, path_of, root_lobby}

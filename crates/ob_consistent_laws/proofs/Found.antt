@@ -3,8 +3,8 @@ use Rattle.std.proofs.Common.{◌≡◌, Bool, true, false, cond, ◌||◌, byte
 use Rattle.std.specs.Prelude.{is_some, unwrap_or}
 use Rattle.std.specs.List.{AllByRecursion}
 use Rattle.ob_site_rules.specs.Build.{Path}
-use Rattle.ob_site_rules.specs.State.{is_among, is_path}
-use Rattle.ob_site_rules.specs.Shown.{node_path}
+use Rattle.ob_object.specs.Paths.{is_path, node_path}
+use Rattle.ob_site_rules.specs.State.{is_among}
 use Rattle.ob_opening.specs.Loading.{Part, listed_path, path_of}
 use Rattle.ob_consistent_laws.specs.Laws.{Apart}
 use Rattle.ob_consistent_laws.proofs.OneKind.{among_append, apart_second, apart_not, listed_is, or_true}

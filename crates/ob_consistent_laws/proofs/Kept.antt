@@ -2,9 +2,9 @@
 use Rattle.std.proofs.Common.{◌≡◌, ℕ, ◌+◌, Bool, true, false, cond, ◌||◌, bytes_eq, List, [], ◌∷◌, ◌++◌, refl, sym, ap, ap₂, ◌∙◌, subst, append_assoc, true≢false}
 use Rattle.std.proofs.lemmas.Slice.Eq.{bytes_eq-Decides}
 use Rattle.ob_object.specs.Object.{Object, Objects, none, node, count}
+use Rattle.ob_object.specs.Paths.{node_path}
 use Rattle.ob_site_rules.specs.Build.{Path}
 use Rattle.ob_site_rules.specs.State.{is_among}
-use Rattle.ob_site_rules.specs.Shown.{node_path}
 use Rattle.ob_opening.specs.declared.roles.Roles.{Roles}
 use Rattle.ob_opening.specs.Roles.{no_roles, is_dropped, holds_contracts, role_at}
 use Rattle.ob_opening.specs.Loading.{Part, parts_of, kept_row, kept_root, row_of, paths_in, listed_path, derived_paths}

@@ -5,10 +5,11 @@ use Rattle.std.proofs.lemmas.Slice.Eq.{bytes_eq-Decides}
 use Rattle.ob_object.specs.declared.kind.Kind.{Kind}
 use Rattle.ob_object.specs.declared.head.Head.{Head}
 use Rattle.ob_object.specs.Object.{Objects, none, node, Object}
+use Rattle.ob_object.specs.Paths.{is_path, node_path}
 use Rattle.ob_contracts.specs.Inherit.{or_else, only_if}
 use Rattle.ob_site_rules.specs.Build.{Path}
-use Rattle.ob_site_rules.specs.State.{is_among, is_path}
-use Rattle.ob_site_rules.specs.Shown.{node_path, node_in}
+use Rattle.ob_site_rules.specs.State.{is_among}
+use Rattle.ob_site_rules.specs.Shown.{node_in}
 use Rattle.ob_opening.specs.Loading.{listed_path}
 use Rattle.ob_plain_state.specs.States.{IsOfKindAt, NodesAre}
 use Rattle.ob_consistent_laws.specs.Laws.{Apart, row_paths, kind_or_obj, ApartAreOfOneKind}

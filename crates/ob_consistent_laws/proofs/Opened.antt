@@ -6,12 +6,13 @@ use Rattle.url.specs.Parts.{Parts}
 use Rattle.ob_object.specs.declared.kind.Kind.{Kind}
 use Rattle.ob_object.specs.Object.{Object, count, parts}
 use Rattle.ob_object.specs.WellFormed.{IsWellFormed}
+use Rattle.ob_object.specs.Paths.{node_path}
 use Rattle.ob_contracts.specs.Inherit.{Contracts}
 use Rattle.ob_contracts.specs.Standard.{standard, with_added}
 use Rattle.ob_hrefs.specs.Hrefs.{site_path, made_object}
 use Rattle.ob_site_rules.specs.Build.{Text, Path}
 use Rattle.ob_site_rules.specs.State.{is_among, rolled}
-use Rattle.ob_site_rules.specs.Shown.{node_path, node_in, node_of}
+use Rattle.ob_site_rules.specs.Shown.{node_in, node_of}
 use Rattle.ob_site_rules.specs.Writes.{site_contracts}
 use Rattle.ob_site_rules.specs.Sites.{SiteState}
 use Rattle.ob_plain_state.specs.States.{AreCounted, NamesAreFree, NodesAre, AreTaken}

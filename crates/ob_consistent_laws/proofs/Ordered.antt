@@ -7,12 +7,12 @@ use Rattle.std.proofs.lemmas.Bool.Decides.{nat_tests}
 use Rattle.std.proofs.lemmas.Slice.Eq.{bytes_eq-Decides}
 use Rattle.url.specs.Parts.{Parts}
 use Rattle.ob_object.specs.Object.{Object}
+use Rattle.ob_object.specs.Paths.{node_path}
 use Rattle.ob_contracts.specs.Inherit.{Contracts}
 use Rattle.ob_history.specs.declared.records.Record.{Record}
 use Rattle.ob_history.specs.Records.{InOrder}
 use Rattle.ob_site_rules.specs.Build.{Path}
 use Rattle.ob_site_rules.specs.State.{PointRule, Log, is_among, rolled}
-use Rattle.ob_site_rules.specs.Shown.{node_path}
 use Rattle.ob_site_rules.specs.Writes.{stored_in, stored_logs}
 use Rattle.ob_site_rules.specs.Sites.{SiteState}
 use Rattle.ob_opening.specs.declared.roles.Roles.{Roles}

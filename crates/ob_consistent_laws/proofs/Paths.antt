@@ -3,9 +3,10 @@ use Rattle.std.proofs.Common.{◌≡◌, Bool, true, false, cond, refl, sym, ap}
 use Rattle.ob_object.specs.declared.head.Head.{Head}
 use Rattle.ob_object.specs.declared.head.Slot.{Slot}
 use Rattle.ob_object.specs.Object.{Objects, none, node}
+use Rattle.ob_object.specs.Paths.{is_path, node_path}
 use Rattle.ob_site_rules.specs.Build.{Path}
-use Rattle.ob_site_rules.specs.State.{Plan, State, is_path, with_board, roll}
-use Rattle.ob_site_rules.specs.Shown.{node_path, dressed}
+use Rattle.ob_site_rules.specs.State.{Plan, State, with_board, roll}
+use Rattle.ob_site_rules.specs.Shown.{dressed}
 use Rattle.ob_site_rules.specs.Writes.{with_slot, with_slot_in}
 use Rattle.ob_plain_state.proofs.Keeping.{keys-rolled}
 use Rattle.ob_shown_laws.specs.Alike.{row, without_slot, DifferInSlots}

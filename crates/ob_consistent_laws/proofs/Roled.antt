@@ -4,8 +4,8 @@ use Rattle.std.specs.Prelude.{is_some}
 use Rattle.std.specs.List.{AllByRecursion}
 use Rattle.ob_object.specs.declared.head.Head.{Head}
 use Rattle.ob_object.specs.Object.{Object, Objects, node, count}
+use Rattle.ob_object.specs.Paths.{node_path}
 use Rattle.ob_site_rules.specs.Build.{Path}
-use Rattle.ob_site_rules.specs.Shown.{node_path}
 use Rattle.ob_site_rules.specs.Paths.{below}
 use Rattle.ob_opening.specs.declared.roles.Roles.{Roles}
 use Rattle.ob_opening.specs.Roles.{no_roles, is_dropped, role_at}

@@ -13,6 +13,7 @@ use Rattle.ob_object.specs.Kinds.{same_kind}
 use Rattle.ob_object.specs.Fits.{fits_slot}
 use Rattle.ob_object.specs.Object.{Object, Objects, none, node, count, listed, children, parts}
 use Rattle.ob_object.specs.WellFormed.{has_name, named}
+use Rattle.ob_object.specs.Paths.{is_path, node_path}
 use Rattle.ob_contracts.proofs.Fitting.{one_kind}
 use Rattle.ob_alarms.specs.declared.rule.Num.{Num}
 use Rattle.ob_alarms.specs.declared.rule.Num.TheVariants as num
@@ -20,8 +21,8 @@ use Rattle.ob_alarms.specs.declared.rule.Rule.{Rule}
 use Rattle.ob_alarms.specs.Limits.{IsRule, is_below, same_kind as same_kind_num}
 use Rattle.ob_alarms.specs.Lists.{first_place}
 use Rattle.ob_site_rules.specs.Build.{Text, Path, child}
-use Rattle.ob_site_rules.specs.State.{Plan, PointRule, numbered_from, is_path}
-use Rattle.ob_site_rules.specs.Shown.{node_path, rule_of}
+use Rattle.ob_site_rules.specs.State.{Plan, PointRule, numbered_from}
+use Rattle.ob_site_rules.specs.Shown.{rule_of}
 use Rattle.ob_site_rules.specs.Writes.{number_in}
 use Rattle.ob_plain_state.specs.States.{IsOfKindAt, NodesAre, limits_fit, rule_at}
 use Rattle.ob_plain_state.specs.States as states

@@ -6,10 +6,11 @@ use Rattle.ob_object.specs.declared.kind.Kind.{Kind}
 use Rattle.ob_object.specs.declared.head.Head.{Head}
 use Rattle.ob_object.specs.declared.head.Slot.{Slot}
 use Rattle.ob_object.specs.Object.{Object, Objects, none, node, listed}
+use Rattle.ob_object.specs.Paths.{is_path, node_path}
 use Rattle.ob_contracts.specs.Standard.{standard}
 use Rattle.ob_site_rules.specs.Build.{Path}
-use Rattle.ob_site_rules.specs.State.{Plan, State, is_path, roll}
-use Rattle.ob_site_rules.specs.Shown.{node_path, node_of, derived}
+use Rattle.ob_site_rules.specs.State.{Plan, State, roll}
+use Rattle.ob_site_rules.specs.Shown.{node_of, derived}
 use Rattle.ob_site_rules.specs.Writes.{with_slot, with_slot_in}
 use Rattle.ob_plain_state.specs.States.{NamesAreFree, NodesAre, IsOfKindAt}
 use Rattle.ob_plain_state.proofs.Keeping.{names_of, NamesDiffer-same, NamesAreFree-same, rolled_counted, keys-rolled}

@@ -4,10 +4,10 @@ use Rattle.std.specs.List.{AllWithin}
 use Rattle.circular_buffer.specs.Buffer.{last_item}
 use Rattle.ob_times.specs.Times.{Instant, instant}
 use Rattle.ob_object.specs.declared.kind.Kind.{Kind}
-use Rattle.ob_object.specs.declared.kind.Kind.TheVariants as kind
 use Rattle.ob_object.specs.declared.head.Slot.{Slot}
 use Rattle.ob_object.specs.declared.head.Slot.TheVariants.{Absent, Null, Is}
 use Rattle.ob_object.specs.Fits.{fits_value}
+use Rattle.ob_object.specs.Kinds.{has_values}
 use Rattle.ob_history.specs.declared.records.Record.{Record}
 use Rattle.ob_history.specs.declared.records.Filter.{Filter}
 
@@ -52,22 +52,8 @@ holds_value k Absent = false
 holds_value k Null = true
 holds_value k (Is v) = fits_value k v
 
--- the kinds that have values
-abbrev pub is_value_kind : Kind → Bool
-is_value_kind kind.Bool = true
-is_value_kind kind.Int = true
-is_value_kind kind.Real = true
-is_value_kind kind.Str = true
-is_value_kind kind.Enum = true
-is_value_kind kind.Uri = true
-is_value_kind kind.Abstime = true
-is_value_kind kind.Reltime = true
-is_value_kind kind.Date = true
-is_value_kind kind.Time = true
-is_value_kind _ = false
-
 abbrev pub is_record : Record → Bool
-is_record r = is_value_kind r.kind && holds_value r.kind r.slot
+is_record r = has_values r.kind && holds_value r.kind r.slot
 
 abbrev pub IsRecord : Record → Type 0
 IsRecord r = IsTrue (is_record r)

@@ -1,6 +1,7 @@
 //! Records, and filters on them.
 ghost use Rattle.std.specs.Prelude.{◌≡◌};
-ghost use Rattle.ob_history.specs.Records.{is_value_kind, holds_value, is_record};
+ghost use Rattle.ob_object.specs.Kinds.{has_values};
+ghost use Rattle.ob_history.specs.Records.{holds_value, is_record};
 
 use ob_object::{Kind, Slot};
 use ob_values::Abstime;
@@ -14,25 +15,6 @@ pub struct Record {
     pub time: Abstime,
     pub kind: Kind,
     pub slot: Slot,
-}
-
-// Whether a kind is one of the ten that have values.
-fn is_value_kind(kind: Kind) -> bool
-    ensures { result ≡ is_value_kind kind }
-{
-    match kind {
-        Kind::Bool
-        | Kind::Int
-        | Kind::Real
-        | Kind::Str
-        | Kind::Enum
-        | Kind::Uri
-        | Kind::Abstime
-        | Kind::Reltime
-        | Kind::Date
-        | Kind::Time => true,
-        Kind::Obj | Kind::List | Kind::Op | Kind::Feed | Kind::Ref | Kind::Err => false,
-    }
 }
 
 // Whether a slot is Null or a value of the kind.
@@ -51,7 +33,7 @@ impl Record {
     pub fn fits(&self) -> bool
         ensures { result ≡ is_record self.now }
     {
-        is_value_kind(self.kind) && holds_value(self.kind, &self.slot)
+        self.kind.has_values() && holds_value(self.kind, &self.slot)
     }
 }
 

@@ -4,14 +4,15 @@ use Rattle.std.specs.Prelude.{is_some, codes, find, slice_get, length}
 use Rattle.std.specs.Str.{bytes_eq}
 use Rattle.std.specs.List.{flat_map, list_any}
 use Rattle.ob_object.specs.Object.{Objects, none, node, Object, in_row}
+use Rattle.ob_object.specs.Paths.{is_path, node_path}
 use Rattle.ob_contracts.specs.Inherit.{or_else, only_if}
 use Rattle.ob_alarms.specs.States.{needs_ack}
 use Rattle.ob_alarms.specs.declared.alarm.Alarm.{Alarm}
 use Rattle.ob_alarms.specs.declared.rule.Rule.{Rule}
 use Rattle.ob_site_rules.specs.Build.{Path}
 use Rattle.ob_site_rules.specs.Paths.{below, ack_path}
-use Rattle.ob_site_rules.specs.State.{Plan, State, Log, at, is_among, is_path, board}
-use Rattle.ob_site_rules.specs.Shown.{node_path, derived, lobby_children, write_point_op, history_part, subject_children}
+use Rattle.ob_site_rules.specs.State.{Plan, State, Log, at, is_among, board}
+use Rattle.ob_site_rules.specs.Shown.{derived, lobby_children, write_point_op, history_part, subject_children}
 use Rattle.ob_site_rules.specs.Places.{Place, AckOf, WritePointOf, QueryOf, FeedOf, Node, fixed_places, point_places, history_places, subject_places, event_places, alarm_places, computed_places}
 use Rattle.ob_site_rules.specs.Watched.{is_call_kind}
 use Rattle.ob_standing.specs.Contexts.{HandedDown, handed_down, under}

@@ -4,8 +4,9 @@ use Rattle.std.specs.Prelude.{is_some, nat_lt, slice_get}
 use Rattle.ob_object.specs.declared.kind.Kind.{Kind}
 use Rattle.ob_object.specs.declared.kind.Kind.TheVariants as kind
 use Rattle.ob_object.specs.declared.head.Head.{Head}
-use Rattle.ob_object.specs.Kinds.{same_kind, is_ref}
+use Rattle.ob_object.specs.Kinds.{same_kind, is_ref, is_err}
 use Rattle.ob_object.specs.Object.{Objects, none, node, Object, listed, in_row}
+use Rattle.ob_object.specs.Paths.{is_path, node_path}
 use Rattle.ob_contracts.specs.Inherit.{Contracts, Words, or_else, only_if, result_of, effective_of}
 use Rattle.ob_history.specs.declared.records.Filter.{Filter}
 use Rattle.ob_history.specs.Filters.{filter_of}
@@ -14,8 +15,8 @@ use Rattle.ob_site_rules.specs.Build.{Path}
 use Rattle.ob_site_rules.specs.Faults.{HrefTooLong, NotWatchable}
 use Rattle.ob_site_rules.specs.Locating.{locate}
 use Rattle.ob_site_rules.specs.Places.{Place, About, Batch, Service, Make, AlarmAt, AckOf, WritePointOf, QueryOf, FeedOf, AlarmQuery, AlarmFeed, Node, computed_places}
-use Rattle.ob_site_rules.specs.State.{Plan, State, at, is_path}
-use Rattle.ob_site_rules.specs.Shown.{is_err, node_path, derived, rule_of, with_status, with_status_at, with_status_by, with_roles, shown}
+use Rattle.ob_site_rules.specs.State.{Plan, State, at}
+use Rattle.ob_site_rules.specs.Shown.{derived, rule_of, with_status, with_status_at, with_status_by, with_roles, shown}
 use Rattle.ob_site_rules.specs.Watched.{is_call_kind, feed_if, feed_with, sets_limit, found_place, found_at, found_located}
 use Rattle.ob_standing.specs.Contexts.{HandedDown, handed_down, under}
 use Rattle.ob_shown_laws.specs.Alike.{row}

@@ -5,7 +5,7 @@ use Rattle.std.proofs.lemmas.List.{map-append}
 use Rattle.std.proofs.lemmas.Option.{slice_get-map}
 use Rattle.ob_object.specs.declared.head.Head.{Head}
 use Rattle.ob_object.specs.Object.{Objects, none, node, Object}
-use Rattle.ob_site_rules.specs.Shown.{node_path}
+use Rattle.ob_object.specs.Paths.{node_path}
 use Rattle.ob_shown_laws.specs.Alike.{row, without_slot, DifferInSlots}
 use Rattle.ob_shown_laws.specs.Changed.{is_watchable}
 use Rattle.ob_tree.specs.Laid.{heads, heads_of, head_at}

@@ -6,6 +6,7 @@ pub mod Fits
 pub mod Default
 pub mod Status
 pub mod Object
+pub mod Paths
 pub mod WellFormed
 pub mod Pushed
 pub mod Spelled

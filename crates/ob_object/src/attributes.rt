@@ -4,6 +4,7 @@ ghost use Rattle.std.specs.Option.{option_copied};
 ghost use Rattle.ob_object.specs.Object.{empty_head};
 ghost use Rattle.ob_object.specs.Fits.{fits_head};
 ghost use Rattle.ob_object.specs.Kept.{there, facets_lent};
+ghost use Rattle.ob_object.specs.Paths.{node_path};
 
 use crate::facet::Facets;
 use crate::head::{Head, Slot, fits_limits, fits_name, fits_slot, fits_words};
@@ -195,6 +196,16 @@ impl Attributes {
             Some(&self.href)
         } else {
             None
+        }
+    }
+
+    /// The path of a node: its href, unless it is a ref or an err.
+    pub fn node_path(&self) -> Option<&Text>
+        ensures { option_copied result ≡ node_path self.now }
+    {
+        match self.kind() {
+            Kind::Ref | Kind::Err => None,
+            _ => self.href(),
         }
     }
 

@@ -11,23 +11,23 @@ use Rattle.ob_object.specs.declared.kind.Kind.TheVariants as kind
 use Rattle.ob_object.specs.declared.head.Slot.{Slot}
 use Rattle.ob_object.specs.declared.head.Slot.TheVariants.{Is}
 use Rattle.ob_object.specs.declared.head.Head.{Head}
-use Rattle.ob_object.specs.Kinds.{same_kind}
+use Rattle.ob_object.specs.Kinds.{same_kind, has_values}
 use Rattle.ob_object.specs.Object.{Objects, none, node, Object, listed, children, count, parts}
 use Rattle.ob_object.specs.WellFormed.{has_name}
+use Rattle.ob_object.specs.Paths.{is_path, node_path}
 use Rattle.ob_contracts.specs.Inherit.{Contracts, Words, slot_or_default}
 use Rattle.ob_contracts.specs.Adding.{added}
 use Rattle.ob_contracts.specs.declared.adding.LibFault.{LibFault}
 use Rattle.ob_history.specs.declared.records.Record.{Record}
-use Rattle.ob_history.specs.Records.{is_value_kind}
 use Rattle.ob_href.specs.Href.{is_root_url}
 use Rattle.ob_hrefs.specs.Hrefs.{bad_href, made_object}
 use Rattle.ob_alarms.specs.declared.rule.Num.{Num}
 use Rattle.ob_alarms.specs.declared.rule.Num.TheVariants as num
 use Rattle.ob_alarms.specs.Limits.{is_below}
 use Rattle.ob_site_rules.specs.Build.{Text, Path, child}
-use Rattle.ob_site_rules.specs.State.{PointRule, Log, is_among, is_path, rolled}
+use Rattle.ob_site_rules.specs.State.{PointRule, Log, is_among, rolled}
 use Rattle.ob_site_rules.specs.Paths.{below, behind}
-use Rattle.ob_site_rules.specs.Shown.{node_path, shown_root}
+use Rattle.ob_site_rules.specs.Shown.{shown_root}
 use Rattle.ob_site_rules.specs.Writes.{number_in, site_contracts, stored_in}
 use Rattle.ob_site_rules.specs.Sites.{SiteState}
 use Rattle.ob_opening.specs.declared.roles.Roles.{Roles}
@@ -133,7 +133,7 @@ child_of n k o = option_and_then (of_kind k) (child n o)
 
 -- the child `value` of a record, if its kind has values
 abbrev pub value_of_record : Object → Option Object
-value_of_record o = option_and_then (λ v. cond (is_value_kind v.head.kind) (Some v) None) (child (codes "value") o)
+value_of_record o = option_and_then (λ v. cond (has_values v.head.kind) (Some v) None) (child (codes "value") o)
 
 -- the record of a time and a value, if both are there; a value that is left out is its kind's default
 abbrev pub record_from : Option Instant → Option Object → Option Record
@@ -211,7 +211,7 @@ source_ref o = child_of (codes "source") kind.Ref o
 -- a history whose `source` names no node of a value kind
 abbrev pub has_bad_source : List Part → Part → Bool
 has_bad_source ps p =
-    unwrap_or (option_map (λ r. is_none (option_and_then (node_there is_value_kind ps) r.head.href)) (source_ref p.own)) false
+    unwrap_or (option_map (λ r. is_none (option_and_then (node_there has_values ps) r.head.href)) (source_ref p.own)) false
 
 -- what is wrong with a part that is a history: with itself, and with the items of its `data`
 abbrev pub bad_history : List Part → Part → List ℕ

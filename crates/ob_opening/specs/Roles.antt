@@ -4,16 +4,15 @@ use Rattle.std.specs.Prelude.{ℕ, Bool, true, false, cond, ◌&&◌, ◌||◌, 
 use Rattle.ob_object.specs.declared.kind.Kind.{Kind}
 use Rattle.ob_object.specs.declared.kind.Kind.TheVariants as kind
 use Rattle.ob_object.specs.declared.head.Head.{Head}
-use Rattle.ob_object.specs.Kinds.{same_kind}
+use Rattle.ob_object.specs.Kinds.{same_kind, has_values}
 use Rattle.ob_object.specs.Object.{Objects, none, node, Object, empty_head, listed, in_row}
 use Rattle.ob_object.specs.WellFormed.{has_name}
+use Rattle.ob_object.specs.Paths.{node_path}
 use Rattle.ob_contracts.specs.Inherit.{Contracts, Words, words_in, sources, overridden, inherited_head, implied_by, missing}
 use Rattle.ob_contracts.specs.Ancestry.{is_a, own_words}
-use Rattle.ob_history.specs.Records.{is_value_kind}
 use Rattle.ob_opening.specs.declared.roles.Roles.{Roles}
 use Rattle.ob_site_rules.specs.Build.{Text}
 use Rattle.ob_site_rules.specs.State.{is_among}
-use Rattle.ob_site_rules.specs.Shown.{node_path}
 
 -- a kind, a name, words as `is`, and the words that a list or a feed gives; nothing else tells roles
 abbrev pub thin : Head → Option Words → Option Words → Head
@@ -52,7 +51,7 @@ abbrev pub roles_of : Contracts → Bool → Head → Option Words → Roles
 roles_of lib root h ws = record {
   root = root;
   lobby = root && is_a lib (words_in ws) (codes "obix:Lobby");
-  point = is_some (node_path h) && (is_value_kind h.kind && is_a lib (words_in ws) (codes "obix:WritablePoint"));
+  point = is_some (node_path h) && (has_values h.kind && is_a lib (words_in ws) (codes "obix:WritablePoint"));
   history = is_some (node_path h) && (same_kind h.kind kind.Obj && is_a lib (words_in ws) (codes "obix:History"));
   subject = is_some (node_path h) && (same_kind h.kind kind.Obj && is_a lib (words_in ws) (codes "obix:AlarmSubject"));
 }

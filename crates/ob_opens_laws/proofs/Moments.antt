@@ -4,13 +4,14 @@ use Rattle.std.specs.Prelude.{Result, Ok, Err}
 use Rattle.url.specs.Parts.{Parts}
 use Rattle.ob_object.specs.declared.head.Head.{Head}
 use Rattle.ob_object.specs.Object.{Objects, none, node, Object, listed, in_row, parts}
+use Rattle.ob_object.specs.Paths.{node_path}
 use Rattle.ob_contracts.specs.Inherit.{Contracts, effective_of}
 use Rattle.ob_contracts.specs.Standard.{standard}
 use Rattle.ob_contracts.specs.declared.adding.LibFault.{LibFault}
 use Rattle.ob_hrefs.specs.Hrefs.{root_url, site_path, bad_href}
 use Rattle.ob_site_rules.specs.Build.{Path}
 use Rattle.ob_site_rules.specs.State.{Plan, State}
-use Rattle.ob_site_rules.specs.Shown.{node_path, rule_of, with_status_by, with_status_at, with_status, derived, with_roles, dressed, shown_root}
+use Rattle.ob_site_rules.specs.Shown.{rule_of, with_status_by, with_status_at, with_status, derived, with_roles, dressed, shown_root}
 use Rattle.ob_site_rules.specs.Writes.{site_contracts}
 use Rattle.ob_site_rules.specs.Sites.{SiteState}
 use Rattle.ob_opening.specs.Roles.{no_roles, all_roles, worded_contracts}

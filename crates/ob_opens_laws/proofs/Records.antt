@@ -8,13 +8,13 @@ use Rattle.ob_object.specs.declared.kind.Kind.{Kind}
 use Rattle.ob_object.specs.declared.kind.Kind.TheVariants as kind
 use Rattle.ob_object.specs.declared.head.Slot.{Slot}
 use Rattle.ob_object.specs.declared.head.Slot.TheVariants.{Absent, Null, Is}
-use Rattle.ob_object.specs.Kinds.{same_kind}
+use Rattle.ob_object.specs.Kinds.{same_kind, has_values}
 use Rattle.ob_object.specs.Fits.{fits_slot}
 use Rattle.ob_object.specs.Object.{Objects, none, node, Object, listed}
 use Rattle.ob_object.specs.WellFormed.{IsWellFormed, has_name, named}
 use Rattle.ob_contracts.specs.Inherit.{Contracts, slot_or_default}
 use Rattle.ob_history.specs.declared.records.Record.{Record}
-use Rattle.ob_history.specs.Records.{InOrder, IsRecord, is_value_kind, holds_value}
+use Rattle.ob_history.specs.Records.{InOrder, IsRecord, holds_value}
 use Rattle.ob_hrefs.specs.Hrefs.{site_path, made_object}
 use Rattle.ob_site_rules.specs.Build.{Text, Path, child}
 use Rattle.ob_site_rules.specs.State.{Log, rolled, rolled_logs}
@@ -34,7 +34,7 @@ use Rattle.ob_consistent_laws.proofs.Inverted.{Opens}
 use Rattle.ob_opens_laws.specs.Records.{EachLog, HoldsRecords, HasRecords, OpensRecords}
 
 -- what a slot that fits a kind with values stands for is null or a value of it
-default_held : (k : Kind) → is_value_kind k ≡ true → IsTrue (is_value_kind k && holds_value k (slot_or_default k Absent))
+default_held : (k : Kind) → has_values k ≡ true → IsTrue (has_values k && holds_value k (slot_or_default k Absent))
 default_held kind.Bool h = refl
 default_held kind.Int h = refl
 default_held kind.Real h = refl
@@ -52,7 +52,7 @@ default_held kind.Feed h = absurd (true≢false (sym h))
 default_held kind.Ref h = absurd (true≢false (sym h))
 default_held kind.Err h = absurd (true≢false (sym h))
 
-slot_held : (k : Kind) (s : Slot) → is_value_kind k ≡ true → IsTrue (fits_slot k s) → IsTrue (is_value_kind k && holds_value k (slot_or_default k s))
+slot_held : (k : Kind) (s : Slot) → has_values k ≡ true → IsTrue (fits_slot k s) → IsTrue (has_values k && holds_value k (slot_or_default k s))
 slot_held k Absent h f = default_held k h
 slot_held k Null h f = ap (λ b. b && true) h
 slot_held k (Is v) h f = ap₂ (λ a b. a && b) h f
@@ -74,7 +74,7 @@ none_some : (r : Record) → None ≡ Some r → ⊥
 none_some r e = cc
 
 -- the record of a time and a child is one
-from_value : (t : Option Instant) (v : Object) (r : Record) → is_value_kind v.head.kind ≡ true → IsTrue (fits_slot v.head.kind v.head.slot) → record_from t (Some v) ≡ Some r → IsRecord r
+from_value : (t : Option Instant) (v : Object) (r : Record) → has_values v.head.kind ≡ true → IsTrue (fits_slot v.head.kind v.head.slot) → record_from t (Some v) ≡ Some r → IsRecord r
 from_value None v r is fits e = absurd (none_some r e)
 from_value (Some t) v r is fits e =
     let made : Record = record { time = t; kind = v.head.kind; slot = slot_or_default v.head.kind v.head.slot } in
@@ -87,11 +87,11 @@ from_none None r e = none_some r e
 from_none (Some t) r e = none_some r e
 
 from_child : (t : Option Instant) (c : Option Object) (r : Record) → FitsIfThere c
-    → record_from t (option_and_then (λ (v : Object). cond (is_value_kind v.head.kind) (Some v) None) c) ≡ Some r → IsRecord r
+    → record_from t (option_and_then (λ (v : Object). cond (has_values v.head.kind) (Some v) None) c) ≡ Some r → IsRecord r
 from_child t None r fits e = absurd (from_none t r e)
-from_child t (Some v) r fits e = go (is_value_kind v.head.kind) refl e
+from_child t (Some v) r fits e = go (has_values v.head.kind) refl e
   where
-    go : (b : Bool) → is_value_kind v.head.kind ≡ b → record_from t (cond b (Some v) None) ≡ Some r → IsRecord r
+    go : (b : Bool) → has_values v.head.kind ≡ b → record_from t (cond b (Some v) None) ≡ Some r → IsRecord r
     go true is g = from_value t v r is fits g
     go false is g = absurd (from_none t r g)
 

@@ -6,12 +6,13 @@ use Rattle.std.proofs.lemmas.Slice.Eq.{bytes_eq-Decides}
 use Rattle.url.specs.Parts.{Parts}
 use Rattle.ob_object.specs.declared.kind.Kind.{Kind}
 use Rattle.ob_object.specs.Object.{Object}
+use Rattle.ob_object.specs.Paths.{is_path, node_path}
+use Rattle.ob_object.specs.Kinds.{has_values}
 use Rattle.ob_contracts.specs.Inherit.{Contracts}
-use Rattle.ob_history.specs.Records.{is_value_kind}
 use Rattle.ob_hrefs.specs.Hrefs.{site_path, made_object}
 use Rattle.ob_site_rules.specs.Build.{Path}
-use Rattle.ob_site_rules.specs.State.{at, is_path, source_of}
-use Rattle.ob_site_rules.specs.Shown.{node_path, node_in, node_of}
+use Rattle.ob_site_rules.specs.State.{at, source_of}
+use Rattle.ob_site_rules.specs.Shown.{node_in, node_of}
 use Rattle.ob_site_rules.specs.Sites.{SiteState}
 use Rattle.ob_plain_state.specs.States.{IsOfKindAt, NodesAre}
 use Rattle.ob_opening.specs.declared.roles.Roles.{Roles}
@@ -38,12 +39,12 @@ abbrev own_source : Part → Option Path
 own_source q = option_and_then (λ (s : Object). s.head.href) (source_ref q.own)
 
 abbrev HasGoodSource : List Part → Part → Type 0
-HasGoodSource ps q = (p : Path) → own_source q ≡ Some p → is_none (node_there is_value_kind ps p) ≡ false
+HasGoodSource ps q = (p : Path) → own_source q ≡ Some p → is_none (node_there has_values ps p) ≡ false
 
-source_there : (ps : List Part) (r : Option Object) → unwrap_or (option_map (λ (s : Object). is_none (option_and_then (node_there is_value_kind ps) s.head.href)) r) false ≡ false
-    → (p : Path) → option_and_then (λ (s : Object). s.head.href) r ≡ Some p → is_none (node_there is_value_kind ps p) ≡ false
+source_there : (ps : List Part) (r : Option Object) → unwrap_or (option_map (λ (s : Object). is_none (option_and_then (node_there has_values ps) s.head.href)) r) false ≡ false
+    → (p : Path) → option_and_then (λ (s : Object). s.head.href) r ≡ Some p → is_none (node_there has_values ps p) ≡ false
 source_there ps None h p e = absurd (none_some p e)
-source_there ps (Some r) h p e = sym (ap (λ o. is_none (option_and_then (node_there is_value_kind ps) o)) e) ∙ h
+source_there ps (Some r) h p e = sym (ap (λ o. is_none (option_and_then (node_there has_values ps) o)) e) ∙ h
 
 good_source : (ps : List Part) (q : Part) → bad_history ps q ≡ [] → q.roles.history ≡ true → HasGoodSource ps q
 good_source ps q h is =
@@ -83,16 +84,16 @@ kind_there kind_at p None k is h = absurd (true≢false (sym h))
 kind_there kind_at p (Some q) k is h = is ∙ ap kind_at ((bytes_eq-Decides q p).0 h)
 
 -- where a node with a value has a path, the path is of a kind that has values
-value_there : (kind_at : Path → Kind) (ps : List Part) (p : Path) → AllByRecursion (IsKind kind_at) ps → is_none (node_there is_value_kind ps p) ≡ false → is_value_kind (kind_at p) ≡ true
-value_there kind_at ps p ks h = go (find (λ (q : Part). not q.inside && (is_value_kind q.own.head.kind && is_path p (node_path q.own.head))) ps) refl h
+value_there : (kind_at : Path → Kind) (ps : List Part) (p : Path) → AllByRecursion (IsKind kind_at) ps → is_none (node_there has_values ps p) ≡ false → has_values (kind_at p) ≡ true
+value_there kind_at ps p ks h = go (find (λ (q : Part). not q.inside && (has_values q.own.head.kind && is_path p (node_path q.own.head))) ps) refl h
   where
-    go : (o : Option Part) → find (λ (q : Part). not q.inside && (is_value_kind q.own.head.kind && is_path p (node_path q.own.head))) ps ≡ o
-        → is_none (option_map (λ (q : Part). q.own) o) ≡ false → is_value_kind (kind_at p) ≡ true
+    go : (o : Option Part) → find (λ (q : Part). not q.inside && (has_values q.own.head.kind && is_path p (node_path q.own.head))) ps ≡ o
+        → is_none (option_map (λ (q : Part). q.own) o) ≡ false → has_values (kind_at p) ≡ true
     go None e g = absurd (true≢false g)
     go (Some q) e g =
-        let there = each_found (IsKind kind_at) (λ (q : Part). not q.inside && (is_value_kind q.own.head.kind && is_path p (node_path q.own.head))) ps q ks e in
-        let both = and_both (not q.inside) (is_value_kind q.own.head.kind) (is_path p (node_path q.own.head)) there.1 in
-        ap is_value_kind (sym (kind_there kind_at p (node_path q.own.head) q.own.head.kind there.0 both.1)) ∙ both.0
+        let there = each_found (IsKind kind_at) (λ (q : Part). not q.inside && (has_values q.own.head.kind && is_path p (node_path q.own.head))) ps q ks e in
+        let both = and_both (not q.inside) (has_values q.own.head.kind) (is_path p (node_path q.own.head)) there.1 in
+        ap has_values (sym (kind_there kind_at p (node_path q.own.head) q.own.head.kind there.0 both.1)) ∙ both.0
 
 module _ (base : Parts) (r : Path) (boot : ℕ) (lib words : Contracts) (root : Object) where
   abbrev rs : List Roles
@@ -111,18 +112,18 @@ module _ (base : Parts) (r : Path) (boot : ℕ) (lib words : Contracts) (root : 
   kind_at p = kind_or_obj (node_in p (row_of tree))
 
   made_sources : taken_twice r [] (paths_in rs 0 no_roles (row_of root)) ≡ None → bad_part ps ≡ None → (h q : Path) (o : Object)
-      → source_of made.plan h ≡ Some q → node_of q tree ≡ Some o → is_value_kind o.head.kind ≡ true
+      → source_of made.plan h ≡ Some q → node_of q tree ≡ Some o → has_values o.head.kind ≡ true
   made_sources once good h q o source here =
       let nodes : Apart (row_paths (row_of tree)) = root_apart rs root (taken_once r (paths_in rs 0 no_roles (row_of root)) once) in
       let kinds : NodesAre kind_at (row_of tree) = apart_are_of_one_kind (row_of tree) nodes in
       let kept : NodesAre kind_at (kept_row rs 0 no_roles (row_of root)) = subst (NodesAre kind_at) (sym (root_kept rs root)) kinds in
-      let there : is_none (node_there is_value_kind ps q) ≡ false =
-      looked_up (λ p. is_none (node_there is_value_kind ps p) ≡ false) h q (histories_in ps) (good_sources ps ps (all_good ps good).histories) source in
-      ap (λ (x : Option Object). is_value_kind (kind_or_obj x)) (sym here)
+      let there : is_none (node_there has_values ps q) ≡ false =
+      looked_up (λ p. is_none (node_there has_values ps p) ≡ false) h q (histories_in ps) (good_sources ps ps (all_good ps good).histories) source in
+      ap (λ (x : Option Object). has_values (kind_or_obj x)) (sym here)
       ∙ value_there kind_at ps q (parts_kinds kind_at rs 0 false no_roles (row_of root) kept) there
 
   pub opened_sources : (st : SiteState) → Opens base r boot lib words root st → (h q : Path) (o : Object)
-      → source_of st.plan h ≡ Some q → node_of q st.world.site.tree ≡ Some o → is_value_kind o.head.kind ≡ true
+      → source_of st.plan h ≡ Some q → node_of q st.world.site.tree ≡ Some o → has_values o.head.kind ≡ true
   opened_sources st opens h q o source here =
       made_sources opens.once opens.good h q o
       (ap (λ (x : SiteState). source_of x.plan h) opens.is ∙ source)

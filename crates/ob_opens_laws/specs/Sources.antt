@@ -1,7 +1,7 @@
 -- The sources of the histories that a document opens.
 use Rattle.std.specs.Prelude.{◌≡◌, ℕ, true, Some, Ok}
 use Rattle.ob_object.specs.Object.{Object}
-use Rattle.ob_history.specs.Records.{is_value_kind}
+use Rattle.ob_object.specs.Kinds.{has_values}
 use Rattle.ob_site_rules.specs.Build.{Path}
 use Rattle.ob_site_rules.specs.State.{source_of}
 use Rattle.ob_site_rules.specs.Shown.{node_of}
@@ -13,4 +13,4 @@ use Rattle.ob_opening.specs.Opening.{opening}
 abbrev pub OpensSources : Type 0
 OpensSources =
     (root : Object) (boot : ℕ) (st : SiteState) (h q : Path) (o : Object)
-    → opening root boot ≡ Ok st → source_of st.plan h ≡ Some q → node_of q st.world.site.tree ≡ Some o → is_value_kind o.head.kind ≡ true
+    → opening root boot ≡ Ok st → source_of st.plan h ≡ Some q → node_of q st.world.site.tree ≡ Some o → has_values o.head.kind ≡ true

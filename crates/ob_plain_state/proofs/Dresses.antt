@@ -5,9 +5,10 @@ use Rattle.ob_object.specs.declared.head.Head.{Head}
 use Rattle.ob_object.specs.Fits.{fits_head}
 use Rattle.ob_object.specs.Object.{Object, Objects, none, node, listed, in_row, children}
 use Rattle.ob_object.specs.WellFormed.{NamesDiffer}
+use Rattle.ob_object.specs.Paths.{node_path}
 use Rattle.ob_site_rules.specs.Build.{Path}
 use Rattle.ob_site_rules.specs.State.{Plan, State}
-use Rattle.ob_site_rules.specs.Shown.{with_status_by, with_status_at, with_status, with_roles, derived, node_path, rule_of}
+use Rattle.ob_site_rules.specs.Shown.{with_status_by, with_status_at, with_status, with_roles, derived, rule_of}
 use Rattle.ob_plain_state.specs.States.{NamesAreFree}
 use Rattle.ob_plain_state.proofs.Keeping.{names_of, NamesDiffer-same}
 use Rattle.ob_plain_state.specs.Dressed.{dressed_object}

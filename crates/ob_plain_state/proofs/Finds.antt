@@ -4,10 +4,10 @@ use Rattle.std.specs.Prelude.{is_some}
 use Rattle.std.specs.Option.{option_copied}
 use Rattle.std.proofs.Math.Seq.{drop-cons}
 use Rattle.ob_object.specs.Object.{Object, in_row, children, in_row-listed}
+use Rattle.ob_object.specs.Paths.{is_path, node_path}
 use Rattle.ob_contracts.specs.Inherit.{or_else, only_if}
 use Rattle.ob_site_rules.specs.Build.{Path}
-use Rattle.ob_site_rules.specs.State.{is_path}
-use Rattle.ob_site_rules.specs.Shown.{node_path, node_in, node_of}
+use Rattle.ob_site_rules.specs.Shown.{node_in, node_of}
 
 or_else-assoc : (a b r : Option Object) → or_else a (or_else b r) ≡ or_else (or_else a (or_else b None)) r
 or_else-assoc None None r = refl

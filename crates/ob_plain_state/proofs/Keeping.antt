@@ -6,11 +6,12 @@ use Rattle.std.specs.List.{list_any}
 use Rattle.std.proofs.lemmas.List.{map-append, length-drop}
 use Rattle.ob_object.specs.Object.{Object, Objects, none, node, listed}
 use Rattle.ob_object.specs.WellFormed.{has_name, named, is_taken, NamesDiffer}
+use Rattle.ob_object.specs.Paths.{is_path, node_path}
 use Rattle.ob_contracts.specs.Standard.{standard}
 use Rattle.ob_alarms.specs.Changes.{State as Board}
-use Rattle.ob_site_rules.specs.State.{Plan, State as SiteState, Log as SiteLog, at, is_among, is_path, board, rolled, rolled_logs}
+use Rattle.ob_site_rules.specs.State.{Plan, State as SiteState, Log as SiteLog, at, is_among, board, rolled, rolled_logs}
 use Rattle.ob_site_rules.specs.Build.{Path}
-use Rattle.ob_site_rules.specs.Shown.{derived, derived_at, lobby_children, write_point_op, history_part, subject_children, node_path, node_of}
+use Rattle.ob_site_rules.specs.Shown.{derived, derived_at, lobby_children, write_point_op, history_part, subject_children, node_of}
 use Rattle.ob_site_rules.specs.Writes.{events_ever, site_contracts}
 use Rattle.ob_plain_state.specs.States.{log_of, entry_of, state_of, unspared, NamesAreFree, NodesAre, AreTaken, AreCounted, IsOf}
 use Rattle.ob_plain_state.specs.declared.log.Log.{Log}

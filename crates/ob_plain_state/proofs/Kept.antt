@@ -11,9 +11,10 @@ use Rattle.ob_object.specs.declared.kind.Kind.TheVariants as kind
 use Rattle.ob_object.specs.declared.head.Head.{Head}
 use Rattle.ob_object.specs.declared.head.Slot.{Slot}
 use Rattle.ob_object.specs.declared.head.Slot.TheVariants.{Absent, Null, Is}
-use Rattle.ob_object.specs.Kinds.{kind_of}
+use Rattle.ob_object.specs.Kinds.{kind_of, has_values}
 use Rattle.ob_object.specs.Fits.{fits_slot}
 use Rattle.ob_object.specs.Object.{Object, Objects, none, node, listed}
+use Rattle.ob_object.specs.Paths.{is_path, node_path}
 use Rattle.ob_contracts.specs.Inherit.{or_else, only_if}
 use Rattle.ob_alarms.specs.declared.rule.Num.{Num}
 use Rattle.ob_alarms.specs.declared.rule.Num.TheVariants as num
@@ -21,10 +22,9 @@ use Rattle.ob_alarms.specs.declared.rule.Rule.{Rule}
 use Rattle.ob_alarms.specs.Limits.{TakenBy, IsOfKind, same_kind as same_kind_num}
 use Rattle.ob_alarms.specs.Lists.{first_place}
 use Rattle.ob_alarms.specs.Changes.{State as Board, turn, outside_of, current}
-use Rattle.ob_history.specs.Records.{is_value_kind}
 use Rattle.ob_site_rules.specs.Build.{Path}
-use Rattle.ob_site_rules.specs.State.{Plan, PointRule, State as SiteState, Log as SiteLog, is_path, numbered_from, board}
-use Rattle.ob_site_rules.specs.Shown.{node_path, node_in, node_of, rule_of, shown, derived}
+use Rattle.ob_site_rules.specs.State.{Plan, PointRule, State as SiteState, Log as SiteLog, numbered_from, board}
+use Rattle.ob_site_rules.specs.Shown.{node_in, node_of, rule_of, shown, derived}
 use Rattle.ob_site_rules.specs.Writes.{with_slot, with_slot_in, recorded, board_by, number_in}
 use Rattle.ob_plain_state.specs.States.{state_of, unspared, entry_of, NamesAreFree, NodesAre, IsOfKindAt, AreCounted, IsOf, limits_fit, rule_in, is_int}
 use Rattle.ob_plain_state.specs.declared.state.State.{State}
@@ -36,7 +36,7 @@ use Rattle.ob_contracts.proofs.Fitting.{one_kind}
 use Rattle.ob_plain_state.proofs.ShownKinds.{shown_kind}
 
 -- the kind of a value is one that has values
-valued : (v : Value) → is_value_kind (kind_of v) ≡ true
+valued : (v : Value) → has_values (kind_of v) ≡ true
 valued (value.Bool b) = refl
 valued (value.Int i) = refl
 valued (value.Real r) = refl
@@ -49,12 +49,12 @@ valued (value.Date d) = refl
 valued (value.Time t) = refl
 
 -- a kind takes what another one does that is the same, if that is one of values
-takes_too : (k j : Kind) (slot : Slot) → (is_value_kind k ≡ true → k ≡ j) → IsTrue (fits_slot k slot) → IsTrue (fits_slot j slot)
+takes_too : (k j : Kind) (slot : Slot) → (has_values k ≡ true → k ≡ j) → IsTrue (fits_slot k slot) → IsTrue (fits_slot j slot)
 takes_too k j Absent same fits = refl
 takes_too k j Null same fits = refl
 takes_too k j (Is v) same fits =
     let is : k ≡ kind_of v = one_kind k (kind_of v) fits in
-    subst (λ (x : Kind). IsTrue (fits_slot x (Is v))) (same (ap is_value_kind is ∙ valued v)) fits
+    subst (λ (x : Kind). IsTrue (fits_slot x (Is v))) (same (ap has_values is ∙ valued v)) fits
 
 nodes_take : (kind_at : Path → Kind) (p : Path) (slot : Slot) → IsTrue (fits_slot (kind_at p) slot) → (r : Objects) → NodesAre kind_at r → NodesTake p slot r
 nodes_take kind_at p slot fits none n = tt

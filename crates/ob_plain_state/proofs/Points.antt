@@ -3,10 +3,11 @@ use Rattle.std.proofs.Common.{◌≡◌, ℕ, Bool, true, false, ◌||◌, List,
 use Rattle.std.specs.Prelude.{is_some}
 use Rattle.ob_object.specs.Object.{Object, Objects, none, node, listed, in_row, in_row-listed}
 use Rattle.ob_object.specs.declared.head.Head.{Head}
+use Rattle.ob_object.specs.Paths.{is_path, node_path}
 use Rattle.ob_contracts.specs.Inherit.{Contracts, Words, sources, overridden, implied_by, inherited_head, row_results, result_of, missing, bare, row_with_defaults, effective_of}
 use Rattle.ob_site_rules.specs.Build.{Path}
-use Rattle.ob_site_rules.specs.State.{Plan, State as SiteState, is_among, is_path}
-use Rattle.ob_site_rules.specs.Shown.{node_path, derived, with_status_by, with_status_at, with_status, with_roles, dressed, shown_root, node_of, shown, rule_of}
+use Rattle.ob_site_rules.specs.State.{Plan, State as SiteState, is_among}
+use Rattle.ob_site_rules.specs.Shown.{derived, with_status_by, with_status_at, with_status, with_roles, dressed, shown_root, node_of, shown, rule_of}
 use Rattle.ob_plain_state.specs.States.{state_of, IsOf}
 use Rattle.ob_plain_state.specs.declared.state.State.{State}
 use Rattle.ob_plain_state.proofs.Kept.{is_in, in_row_there}

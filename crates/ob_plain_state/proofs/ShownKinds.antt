@@ -4,20 +4,20 @@ use Rattle.std.specs.Str.{bytes_eq}
 use Rattle.std.proofs.lemmas.Slice.Eq.{bytes_eq-Decides}
 use Rattle.ob_object.specs.declared.kind.Kind.{Kind}
 use Rattle.ob_object.specs.declared.head.Head.{Head}
-use Rattle.ob_object.specs.Kinds.{is_ref}
+use Rattle.ob_object.specs.Kinds.{is_ref, has_values, is_err}
 use Rattle.ob_object.specs.Object.{Object, Objects, none, node, listed, in_row, in_row-listed}
+use Rattle.ob_object.specs.Paths.{is_path, node_path}
 use Rattle.ob_contracts.specs.Inherit.{Contracts, Words, or_else, only_if, sources, overridden, implied_by, inherited_head, row_results, result_of, missing, bare, bare_row, row_with_defaults, effective_of}
-use Rattle.ob_history.specs.Records.{is_value_kind}
 use Rattle.ob_site_rules.specs.Build.{Path}
-use Rattle.ob_site_rules.specs.State.{Plan, State as SiteState, Log as SiteLog, at, is_among, is_path}
-use Rattle.ob_site_rules.specs.Shown.{is_err, node_path, lobby_children, write_point_op, history_part, subject_children, derived, with_status_by, with_status_at, with_status, with_roles, dressed, shown_root, node_in, shown, rule_of}
+use Rattle.ob_site_rules.specs.State.{Plan, State as SiteState, Log as SiteLog, at, is_among}
+use Rattle.ob_site_rules.specs.Shown.{lobby_children, write_point_op, history_part, subject_children, derived, with_status_by, with_status_at, with_status, with_roles, dressed, shown_root, node_in, shown, rule_of}
 use Rattle.ob_plain_state.specs.States.{IsOfKindAt, NodesAre}
 
 module _ (kind_at : Path → Kind) where
   -- an object of a value kind with a path is of the kind of that path
   abbrev pub Good : Option Path → Kind → Type 0
   Good None k = Unit {0}
-  Good (Some p) k = is_value_kind k ≡ true → k ≡ kind_at p
+  Good (Some p) k = has_values k ≡ true → k ≡ kind_at p
 
   abbrev pub AllGood : Objects → Type 0
   AllGood none = Unit {0}
@@ -130,29 +130,29 @@ module _ (kind_at : Path → Kind) where
   pub good_shown : (plan : Plan) (s : SiteState) → AllGood (row_of s.tree) → AllGood (row_of (shown_root plan s))
   good_shown plan s g = good_result s.library (dressed plan s) (good_roles plan s (row_of s.tree) g)
 
-  good_here : (p : Path) (o : Option Path) (k : Kind) → Good o k → is_path p o ≡ true → is_value_kind k ≡ true → k ≡ kind_at p
+  good_here : (p : Path) (o : Option Path) (k : Kind) → Good o k → is_path p o ≡ true → has_values k ≡ true → k ≡ kind_at p
   good_here p None k g is v = absurd (true≢false (sym is))
   good_here p (Some q) k g is v = g v ∙ ap kind_at ((bytes_eq-Decides q p).0 is)
 
-  found_here : (b : Bool) (p : Path) (x o : Object) (r : Option Object) → (b ≡ true → is_value_kind x.head.kind ≡ true → x.head.kind ≡ kind_at p)
-      → (r ≡ Some o → is_value_kind o.head.kind ≡ true → o.head.kind ≡ kind_at p)
-      → or_else (only_if b (Some x)) r ≡ Some o → is_value_kind o.head.kind ≡ true → o.head.kind ≡ kind_at p
+  found_here : (b : Bool) (p : Path) (x o : Object) (r : Option Object) → (b ≡ true → has_values x.head.kind ≡ true → x.head.kind ≡ kind_at p)
+      → (r ≡ Some o → has_values o.head.kind ≡ true → o.head.kind ≡ kind_at p)
+      → or_else (only_if b (Some x)) r ≡ Some o → has_values o.head.kind ≡ true → o.head.kind ≡ kind_at p
   found_here true p x o r here later e =
       let same : x ≡ o = cc in
-      subst (λ (y : Object). is_value_kind y.head.kind ≡ true → y.head.kind ≡ kind_at p) same (here refl)
+      subst (λ (y : Object). has_values y.head.kind ≡ true → y.head.kind ≡ kind_at p) same (here refl)
   found_here false p x o r here later e = later e
 
-  found_either : (p : Path) (o : Object) (a r : Option Object) → (a ≡ Some o → is_value_kind o.head.kind ≡ true → o.head.kind ≡ kind_at p)
-      → (r ≡ Some o → is_value_kind o.head.kind ≡ true → o.head.kind ≡ kind_at p) → or_else a r ≡ Some o → is_value_kind o.head.kind ≡ true → o.head.kind ≡ kind_at p
+  found_either : (p : Path) (o : Object) (a r : Option Object) → (a ≡ Some o → has_values o.head.kind ≡ true → o.head.kind ≡ kind_at p)
+      → (r ≡ Some o → has_values o.head.kind ≡ true → o.head.kind ≡ kind_at p) → or_else a r ≡ Some o → has_values o.head.kind ≡ true → o.head.kind ≡ kind_at p
   found_either p o None r here later e = later e
   found_either p o (Some x) r here later e = here e
 
-  pub found_kind : (p : Path) (o : Object) (r : Objects) → AllGood r → node_in p r ≡ Some o → is_value_kind o.head.kind ≡ true → o.head.kind ≡ kind_at p
+  pub found_kind : (p : Path) (o : Object) (r : Objects) → AllGood r → node_in p r ≡ Some o → has_values o.head.kind ≡ true → o.head.kind ≡ kind_at p
   found_kind p o none g e = absurd cc
   found_kind p o (node h inner rest) g e =
       found_here (is_path p (node_path h)) p (record { head = h; inner = inner }) o _ (λ is v. good_here p (node_path h) h.kind g.0 is v)
       (found_either p o (node_in p inner) (node_in p rest) (found_kind p o inner g.1) (found_kind p o rest g.2)) e
 
   -- what is shown at a path, if it is of a value kind, is of the kind of that path
-  pub shown_kind : (plan : Plan) (s : SiteState) (p : Path) (o : Object) → NodesAre kind_at (node s.tree.head s.tree.inner none) → shown plan s p ≡ Some o → is_value_kind o.head.kind ≡ true → o.head.kind ≡ kind_at p
+  pub shown_kind : (plan : Plan) (s : SiteState) (p : Path) (o : Object) → NodesAre kind_at (node s.tree.head s.tree.inner none) → shown plan s p ≡ Some o → has_values o.head.kind ≡ true → o.head.kind ≡ kind_at p
   shown_kind plan s p o nodes e = found_kind p o (row_of (shown_root plan s)) (good_shown plan s (good_nodes (row_of s.tree) nodes)) e

@@ -11,13 +11,13 @@ use Rattle.ob_object.specs.declared.head.Slot.TheVariants.{Absent}
 use Rattle.ob_object.specs.Kinds.{is_ref, has_of}
 use Rattle.ob_object.specs.Object.{Object, Objects, none, node, listed, in_row, children, count, parts}
 use Rattle.ob_object.specs.WellFormed.{named}
+use Rattle.ob_object.specs.Paths.{node_path}
 use Rattle.ob_contracts.specs.Inherit.{Contracts, Words, contract_of, or_else, words_in, present, places, sources, first_given, only_if, inherited_head, overridden, implied_by, bare, bare_row, is_new, missing, row_results, result_of}
 use Rattle.ob_contracts.specs.Adding.{head_names, row_names, names_word, library_names, added}
 use Rattle.ob_contracts.specs.declared.adding.LibFault.{LibFault}
 use Rattle.ob_contracts.specs.declared.adding.LibFault.TheVariants.{Twice, Later, Large}
 use Rattle.ob_contracts.proofs.Children.{named-map}
 use Rattle.ob_site_rules.specs.Build.{Path, child}
-use Rattle.ob_site_rules.specs.Shown.{node_path}
 use Rattle.ob_site_rules.specs.Writes.{site_contracts}
 use Rattle.ob_plain_state.specs.States.{AreTaken}
 use Rattle.ob_plain_state.proofs.Keeping.{names_of, taken_among, taken-among}

@@ -4,11 +4,12 @@ use Rattle.ob_object.specs.declared.kind.Kind.{Kind}
 use Rattle.ob_object.specs.declared.head.Slot.{Slot}
 use Rattle.ob_object.specs.Fits.{fits_slot}
 use Rattle.ob_object.specs.Object.{Objects, none, node}
+use Rattle.ob_object.specs.Paths.{is_path, node_path}
 use Rattle.ob_alarms.specs.Limits.{Takes}
 use Rattle.ob_alarms.specs.declared.rule.Rule.{Rule}
 use Rattle.ob_site_rules.specs.Build.{Path}
-use Rattle.ob_site_rules.specs.State.{Plan, is_path}
-use Rattle.ob_site_rules.specs.Shown.{node_path, rule_of}
+use Rattle.ob_site_rules.specs.State.{Plan}
+use Rattle.ob_site_rules.specs.Shown.{rule_of}
 use Rattle.ob_site_rules.specs.Writes.{number_in}
 use Rattle.ob_plain_state.specs.declared.state.State.{State}
 

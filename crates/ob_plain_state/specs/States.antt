@@ -4,6 +4,7 @@ use Rattle.ob_object.specs.declared.kind.Kind.{Kind}
 use Rattle.ob_object.specs.declared.kind.Kind.TheVariants as kind
 use Rattle.ob_object.specs.Object.{Objects, none, node, listed}
 use Rattle.ob_object.specs.WellFormed.{NamesDiffer}
+use Rattle.ob_object.specs.Paths.{node_path}
 use Rattle.ob_contracts.specs.Inherit.{Contracts, result_of}
 use Rattle.ob_contracts.specs.Standard.{standard}
 use Rattle.ob_contracts.specs.Adding.{added}
@@ -13,7 +14,7 @@ use Rattle.ob_alarms.specs.declared.rule.Num.TheVariants as num
 use Rattle.ob_alarms.specs.declared.rule.Rule.{Rule}
 use Rattle.ob_site_rules.specs.State.{Plan, State as SiteState, Log as SiteLog, board, numbered_from, is_among}
 use Rattle.ob_site_rules.specs.Build.{Path}
-use Rattle.ob_site_rules.specs.Shown.{derived, node_path, rule_of, node_of}
+use Rattle.ob_site_rules.specs.Shown.{derived, rule_of, node_of}
 use Rattle.ob_site_rules.specs.Writes.{events_ever, site_contracts}
 use Rattle.ob_plain_state.specs.declared.log.Log.{Log}
 use Rattle.ob_plain_state.specs.declared.state.State.{State}

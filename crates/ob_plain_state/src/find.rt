@@ -3,7 +3,7 @@ ghost use Rattle.std.specs.Prelude.{◌≡◌};
 ghost use Rattle.std.specs.Option.{option_copied};
 ghost use Rattle.ob_site_rules.specs.Shown.{node_of};
 
-use crate::paths::{is_path, node_path};
+use crate::paths::is_path;
 use ob_object::Obj;
 use ob_values::Text;
 
@@ -11,7 +11,7 @@ use ob_values::Text;
 pub fn node_of<'a>(object: &'a Obj, path: &Text) -> Option<&'a Obj>
     ensures { option_copied result ≡ node_of path.now object.now }
 {
-    if is_path(path, node_path(object.head())) {
+    if is_path(path, object.head().node_path()) {
         return Some(object);
     }
     for child in object.children() {

@@ -15,7 +15,7 @@ mod state;
 
 pub use find::node_of;
 pub use log::Log;
-pub use paths::{is_path, node_path};
+pub use paths::is_path;
 pub use place::Place;
 pub use roles::rule_of;
 pub use state::State;

@@ -4,13 +4,13 @@ use Rattle.std.specs.Prelude.{◌⊎◌, Result, Ok, Err}
 use Rattle.std.specs.List.{cons_option}
 use Rattle.std.proofs.Math.Seq.{drop-cons}
 use Rattle.ob_object.specs.Object.{Object}
+use Rattle.ob_object.specs.Paths.{node_path}
 use Rattle.ob_contracts.specs.Inherit.{Contracts, result_of}
 use Rattle.ob_contracts.specs.Adding.{added}
 use Rattle.ob_contracts.specs.declared.adding.LibFault.{LibFault}
 use Rattle.ob_contracts.specs.declared.adding.LibFault.TheVariants.{Memory}
 use Rattle.ob_opening.specs.Loading.{add_contracts, and_add}
 use Rattle.ob_site_rules.specs.Build.{Path}
-use Rattle.ob_site_rules.specs.Shown.{node_path}
 use Rattle.ob_roles.specs.Sums.{nodes_of, Gives, IsAddedIf}
 
 pub nodes_past : (o : Object) (os : List Object) → node_path o.head ≡ None → nodes_of (o ∷ os) ≡ nodes_of os

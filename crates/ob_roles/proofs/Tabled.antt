@@ -8,10 +8,10 @@ use Rattle.std.proofs.lemmas.List.{take_more, take_all}
 use Rattle.std.proofs.lemmas.Map.Text.{is_eq-slice_cmp}
 use Rattle.std.proofs.lemmas.Slice.Eq.{bytes_eq-Decides}
 use Rattle.ob_object.specs.Object.{Object}
+use Rattle.ob_object.specs.Paths.{node_path}
 use Rattle.ob_contracts.specs.Inherit.{Contracts, contract_of}
 use Rattle.ob_opening.specs.Roles.{worded, worded_contracts}
 use Rattle.ob_site_rules.specs.Build.{Path}
-use Rattle.ob_site_rules.specs.Shown.{node_path}
 use Rattle.ob_roles.specs.Few.{brief_contracts}
 use Rattle.ob_roles.specs.Sums.{nodes_of}
 use Rattle.ob_roles.specs.Tables.{Holds}

@@ -5,14 +5,13 @@ use Rattle.std.proofs.Math.Seq.{drop-cons}
 use Rattle.std.proofs.lemmas.List.{append-nil, take_more, take_all}
 use denote.Ref.{Bor}
 use Rattle.ob_object.specs.declared.head.Head.{Head}
-use Rattle.ob_object.specs.Kinds.{has_of}
+use Rattle.ob_object.specs.Kinds.{has_of, has_values}
 use Rattle.ob_object.specs.Object.{Object}
 use Rattle.ob_object.specs.Object.{children}
 use Rattle.ob_object.specs.WellFormed.{named}
 use Rattle.ob_object.specs.Kinds.{same_kind}
+use Rattle.ob_object.specs.Paths.{node_path}
 use Rattle.ob_object.specs.declared.kind.Kind.TheVariants as kind
-use Rattle.ob_history.specs.Records.{is_value_kind}
-use Rattle.ob_site_rules.specs.Shown.{node_path}
 use Rattle.ob_opening.specs.declared.roles.Roles.{Roles}
 use Rattle.ob_opening.specs.Roles.{roles_of}
 use Rattle.ob_roles.specs.declared.ancestors.Ancestors.{Ancestors}
@@ -101,16 +100,16 @@ named_all all i names n h held = sym (else_none (found names n)) ∙ ap (λ l. o
 
 -- the roles of an object, by what it is
 pub roles_are : (lib : Contracts) (root : Bool) (h : Head) (ws : Option Words) (a : Ancestors) (r : Roles) → Are a lib (words_in ws) → r.root ≡ root → r.lobby ≡ (root && a.lobby)
-    → r.point ≡ (is_some (node_path h) && (is_value_kind h.kind && a.point)) → r.history ≡ (is_some (node_path h) && (same_kind h.kind kind.Obj && a.history))
+    → r.point ≡ (is_some (node_path h) && (has_values h.kind && a.point)) → r.history ≡ (is_some (node_path h) && (same_kind h.kind kind.Obj && a.history))
     → r.subject ≡ (is_some (node_path h) && (same_kind h.kind kind.Obj && a.subject)) → r ≡ roles_of lib root h ws
 roles_are lib root h ws a r are e1 e2 e3 e4 e5 =
     let R : Bool → Bool → Bool → Bool → Bool → Roles = λ v w x y z. record { root = v; lobby = w; point = x; history = y; subject = z } in
     let f2 = e2 ∙ ap (λ b. root && b) are.lobby in
-    let f3 = e3 ∙ ap (λ b. is_some (node_path h) && (is_value_kind h.kind && b)) are.point in
+    let f3 = e3 ∙ ap (λ b. is_some (node_path h) && (has_values h.kind && b)) are.point in
     let f4 = e4 ∙ ap (λ b. is_some (node_path h) && (same_kind h.kind kind.Obj && b)) are.history in
     let f5 = e5 ∙ ap (λ b. is_some (node_path h) && (same_kind h.kind kind.Obj && b)) are.subject in
     let w2 = root && is_a lib (words_in ws) (codes "obix:Lobby") in
-    let w3 = is_some (node_path h) && (is_value_kind h.kind && is_a lib (words_in ws) (codes "obix:WritablePoint")) in
+    let w3 = is_some (node_path h) && (has_values h.kind && is_a lib (words_in ws) (codes "obix:WritablePoint")) in
     let w4 = is_some (node_path h) && (same_kind h.kind kind.Obj && is_a lib (words_in ws) (codes "obix:History")) in
     ap (λ v. R v r.lobby r.point r.history r.subject) e1
     ∙ ap (λ w. R root w r.point r.history r.subject) f2

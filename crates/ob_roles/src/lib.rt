@@ -23,7 +23,7 @@ mod worded;
 pub use ancestors::Ancestors;
 pub use kept::kept_root;
 pub use kinds::{Known, kinds_of, words_are};
-pub use library::{library_of, node_path};
+pub use library::library_of;
 pub use naming::{Names, find_over, names_in};
 pub use part::Part;
 pub use parts::all_parts;

@@ -1,32 +1,20 @@
 //! The contracts of a site.
-ghost use Rattle.std.specs.Prelude.{◌≡◌, Ok};
-ghost use Rattle.std.specs.Option.{option_copied};
+ghost use Rattle.std.specs.Prelude.{Ok};
 ghost use Rattle.ob_contracts.specs.Standard.{standard};
 ghost use Rattle.ob_opening.specs.Loading.{add_contracts};
-ghost use Rattle.ob_site_rules.specs.Shown.{node_path};
+ghost use Rattle.ob_object.specs.Paths.{node_path};
 ghost use Rattle.ob_site_rules.specs.Writes.{site_contracts};
 ghost use Rattle.ob_roles.specs.Sums.{Gives, IsAddedIf};
 
 use ob_contracts::{LibFault, Library};
-use ob_object::{Attributes, Kind, Obj};
-use ob_values::Text;
+use ob_object::Obj;
 use std::alloc::Global;
-
-/// The path of a node: its href, unless it is a ref or an err.
-pub fn node_path(head: &Attributes) -> Option<&Text>
-    ensures { option_copied result ≡ node_path head.now }
-{
-    match head.kind() {
-        Kind::Ref | Kind::Err => None,
-        _ => head.href(),
-    }
-}
 
 // Adds an object under its path, if it is a node.
 fn add(library: &mut Library, object: &Obj) -> Result<(), LibFault>
     ensures { IsAddedIf library.old library.new object.now (node_path object.now.head) result }
 {
-    let Some(path) = node_path(object.head()) else {
+    let Some(path) = object.head().node_path() else {
         return Ok(());
     };
     let Ok(path) = path.copy() else {

@@ -19,7 +19,6 @@ ghost use Rattle.ob_roles.specs.Worded.{worded_at};
 
 use crate::few::{copied, few_given, few_own};
 use crate::kinds::Known;
-use crate::library::node_path;
 use crate::naming::{find_over, names_in, names_of};
 use crate::summed::{put_if_new, put_missing, sum_given};
 use crate::taking::{Table, implied_by, sources};
@@ -146,7 +145,7 @@ fn put_nodes(
     ensures { IfOk result (λ _. (whole lib : Contracts) → Tells known.now whole → Holds table.old (brief_contracts whole lib) → Holds table.new (brief_contracts whole (worded_contracts lib (nodes_of objects.now)))) }
 {
     for object in objects {
-        if let Some(path) = node_path(object.head()) {
+        if let Some(path) = object.head().node_path() {
             put_contract(alloc, known, table, path, object)?;
         }
     }

@@ -11,7 +11,7 @@ use Rattle.ob_object.specs.declared.kind.Kind.TheVariants as kind
 use Rattle.ob_object.specs.declared.head.Slot.{Slot}
 use Rattle.ob_object.specs.declared.head.Slot.TheVariants.{Absent, Null, Is}
 use Rattle.ob_object.specs.Default.{default_of}
-use Rattle.ob_object.specs.Kinds.{same_kind}
+use Rattle.ob_object.specs.Kinds.{same_kind, has_values}
 use Rattle.ob_object.specs.Object.{Object, children}
 use Rattle.ob_parts.specs.Numbered.{Part, inside_child, root}
 use Rattle.ob_parts.specs.Offences.{IsFirst}
@@ -102,14 +102,9 @@ is_written site p Absent = false
 is_written site p Null = true
 is_written site p (Is v) = site.lets p v
 
--- the kinds that have values
-abbrev pub is_given : Slot → Bool
-is_given Absent = false
-is_given _ = true
-
 -- the value of an entry: of the kind of the point, and it may be written there; where the point isn't one, of any kind that has values
 abbrev pub is_value : PointRules → Option (Text × Kind) → Object → Bool
-is_value site None o = is_given (default_of o.head.kind)
+is_value site None o = has_values o.head.kind
 is_value site (Some p) o = same_kind o.head.kind p.1 && is_written site p.0 (slot_given o.head.kind o.head.slot)
 
 -- the day and the time of an entry, if it has both

@@ -1,7 +1,6 @@
 //! What single objects are to be.
 ghost use Rattle.std.specs.Prelude.{◌≡◌, codes, IfOk, option_copied, option_map};
 ghost use Rattle.std.specs.List.{list_any};
-ghost use Rattle.ob_object.specs.Default.{default_of};
 ghost use Rattle.ob_schedule.specs.Forms as form;
 ghost use Rattle.ob_schedule.specs.Views as view;
 
@@ -202,16 +201,6 @@ fn is_written<P: Points>(points: &P, path: &Text, slot: &Slot) -> Result<bool, A
     }
 }
 
-/// Whether a kind has values.
-fn has_values(kind: Kind) -> bool
-    ensures { result ≡ form.is_given (default_of kind) }
-{
-    match kind.default_slot() {
-        Slot::Absent => false,
-        Slot::Null | Slot::Is(_) => true,
-    }
-}
-
 /// Whether it is a value for the point; where the point isn't one, of any kind that has values.
 pub(crate) fn is_value<P: Points>(
     points: &P,
@@ -221,7 +210,7 @@ pub(crate) fn is_value<P: Points>(
     ensures { IfOk result (λ yes. yes ≡ form.is_value (P.rules points.now) (option_map view.point_of point.entry) object.now) }
 {
     let Some(Point { path, kind }) = point else {
-        return Ok(has_values(object.kind()));
+        return Ok(object.kind().has_values());
     };
     if !object.kind().same(kind) {
         return Ok(false);

@@ -2,12 +2,12 @@
 use Rattle.std.proofs.Common.{◌≡◌, true, Option, Some, None, refl, sym, ap, subst, ◌∙◌, true≢false}
 use Rattle.std.specs.Prelude.{is_some, IsTrue}
 use Rattle.ob_contracts.specs.Standard.{standard, with_added}
-use Rattle.ob_history.specs.Records.{is_value_kind}
 use Rattle.ob_machine.specs.History.{left_by}
 use Rattle.ob_machine.specs.declared.call.Answer.{Answer}
 use Rattle.ob_machine.specs.declared.call.Answer.TheVariants.{Done, NoMemory}
 use Rattle.ob_object.specs.declared.head.Head.{Head}
 use Rattle.ob_object.specs.Object.{Object}
+use Rattle.ob_object.specs.Kinds.{has_values}
 use Rattle.ob_site_rules.specs.State.{Plan, State, is_among}
 use Rattle.ob_site_rules.specs.Sites.{SiteState}
 use Rattle.ob_site_rules.specs.Shown.{node_of, dressed}
@@ -35,12 +35,12 @@ pub record Stands (start st : SiteState) : Type 0 where
 pub stands_itself : (start : SiteState) → Stands start start
 stands_itself start = record { plan = refl; values = (steps_alike start.plan).nothing start.world.site; contracts = refl }
 
-value_there : (a b : Option Object) → AreSame a b → IsTrue (is_some a) × ((x : Object) → a ≡ Some x → is_value_kind x.head.kind ≡ true)
-    → IsTrue (is_some b) × ((x : Object) → b ≡ Some x → is_value_kind x.head.kind ≡ true)
+value_there : (a b : Option Object) → AreSame a b → IsTrue (is_some a) × ((x : Object) → a ≡ Some x → has_values x.head.kind ≡ true)
+    → IsTrue (is_some b) × ((x : Object) → b ≡ Some x → has_values x.head.kind ≡ true)
 value_there None None d h = absurd (true≢false (sym h.0))
 value_there None (Some b) d h = absurd d
 value_there (Some a) None d h = absurd d
-value_there (Some a) (Some b) d h = (refl, λ x e. ap (λ (o : Object). is_value_kind o.head.kind) (some_one (sym e)) ∙ (ap (λ (u : Head). is_value_kind u.kind) (sym d.0) ∙ h.1 a refl))
+value_there (Some a) (Some b) d h = (refl, λ x e. ap (λ (o : Object). has_values o.head.kind) (some_one (sym e)) ∙ (ap (λ (u : Head). has_values u.kind) (sym d.0) ∙ h.1 a refl))
   where
     some_one : {x y : Object} → Some x ≡ Some y → x ≡ y
     some_one e = cc

@@ -10,11 +10,12 @@ use Rattle.ob_object.specs.declared.head.Head.{Head}
 use Rattle.ob_object.specs.Object.{Objects, none, node, Object, in_row, listed}
 use Rattle.ob_object.specs.Write.{verdict}
 use Rattle.ob_object.specs.WellFormed.{has_name, named}
+use Rattle.ob_object.specs.Paths.{node_path}
 use Rattle.ob_points.specs.Points.{suits, passes}
 use Rattle.ob_site_rules.specs.Build.{Text, Path}
 use Rattle.ob_site_rules.specs.Faults.{Fault}
 use Rattle.ob_site_rules.specs.State.{Plan, State}
-use Rattle.ob_site_rules.specs.Shown.{node_path, node_of, derived, with_roles, with_status, dressed, shown}
+use Rattle.ob_site_rules.specs.Shown.{node_of, derived, with_roles, with_status, dressed, shown}
 use Rattle.ob_site_rules.specs.Writes.{ranged, has_child, is_listed, verdict_fault, slot_fault}
 use Rattle.ob_shown_laws.specs.Alike.{row, without_values, AreAlike, DifferInSlots, DifferInValues}
 use Rattle.ob_shown_laws.specs.Changed.{head_in, PathsDiffer}

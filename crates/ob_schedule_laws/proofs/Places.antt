@@ -6,12 +6,13 @@ use Rattle.std.specs.List.{flat_map}
 use Rattle.ob_contracts.specs.Inherit.{or_else}
 use Rattle.ob_object.specs.Object.{Objects, none, node, Object, in_row, listed}
 use Rattle.ob_object.specs.declared.head.Head.{Head}
+use Rattle.ob_object.specs.Paths.{is_path, node_path}
 use Rattle.ob_site_laws.proofs.Same.{tells_text}
 use Rattle.ob_site_rules.specs.Build.{Path}
-use Rattle.ob_site_rules.specs.State.{Plan, State, at, is_among, is_path, board}
+use Rattle.ob_site_rules.specs.State.{Plan, State, at, is_among, board}
 use Rattle.ob_site_rules.specs.Paths.{below, about_path, batch_path, service_path, make_path}
 use Rattle.ob_site_rules.specs.Places.{Place, About, Batch, Service, Make, WritePointOf, Node, point_places, event_places, alarm_places, place_at}
-use Rattle.ob_site_rules.specs.Shown.{node_path, derived, derived_at, lobby_children, write_point_op, with_roles, with_status, dressed, shown}
+use Rattle.ob_site_rules.specs.Shown.{derived, derived_at, lobby_children, write_point_op, with_roles, with_status, dressed, shown}
 use Rattle.ob_shown_laws.specs.Alike.{row}
 use Rattle.ob_shown_laws.specs.Changed.{is_in, PathsDiffer}
 use Rattle.ob_shown_laws.proofs.Undressing.{in_behind, front_differs, not_behind}

@@ -12,6 +12,7 @@ use Rattle.ob_object.specs.declared.head.Slot.TheVariants.{Absent, Null, Is}
 use Rattle.ob_object.specs.declared.head.Head.{Head}
 use Rattle.ob_object.specs.Kinds.{same_kind}
 use Rattle.ob_object.specs.Object.{Object}
+use Rattle.ob_object.specs.Paths.{node_path}
 use Rattle.ob_schedule.specs.Forms.{is_written}
 use Rattle.ob_schedule_rules.specs.Merged.{post}
 use Rattle.ob_schedule_rules.specs.Rules.{rules_of}
@@ -25,7 +26,7 @@ use Rattle.ob_site_rules.specs.Paths.{below, watch_part}
 use Rattle.ob_site_rules.specs.State.{Plan, State, is_among, roll}
 use Rattle.ob_site_rules.specs.Sites.{SiteState}
 use Rattle.ob_site_rules.specs.Sameness.{same_slot}
-use Rattle.ob_site_rules.specs.Shown.{node_path, node_of, dressed, shown}
+use Rattle.ob_site_rules.specs.Shown.{node_of, dressed, shown}
 use Rattle.ob_site_rules.specs.Places.{WritePointOf, place_at}
 use Rattle.ob_site_rules.specs.Writes.{with_slot, write, written, overfills, slot_fault, value_fault, given_by, write_by, unless, showing}
 use Rattle.ob_site_rules.specs.Posts.{write_point}

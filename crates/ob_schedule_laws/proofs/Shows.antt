@@ -7,9 +7,10 @@ use Rattle.ob_object.specs.declared.head.Slot.{Slot}
 use Rattle.ob_object.specs.declared.head.Slot.TheVariants.{Absent, Null, Is}
 use Rattle.ob_object.specs.declared.head.Head.{Head}
 use Rattle.ob_object.specs.Object.{Objects, none, node, Object}
+use Rattle.ob_object.specs.Paths.{is_path, node_path}
 use Rattle.ob_site_rules.specs.Build.{Path}
-use Rattle.ob_site_rules.specs.State.{Plan, State, is_path}
-use Rattle.ob_site_rules.specs.Shown.{node_path, node_in, node_of, rule_of, with_status, with_status_at, with_status_by, dressed, shown}
+use Rattle.ob_site_rules.specs.State.{Plan, State}
+use Rattle.ob_site_rules.specs.Shown.{node_in, node_of, rule_of, with_status, with_status_at, with_status_by, dressed, shown}
 use Rattle.ob_shown_laws.specs.Alike.{row, without_slot, DifferInSlots, DifferInValues}
 use Rattle.ob_shown_laws.specs.Changed.{head_in, is_in, PathsDiffer}
 use Rattle.ob_shown_laws.specs.Own.{dressed_own}

@@ -4,10 +4,10 @@ use Rattle.ob_contracts.specs.Inherit.{or_else, only_if}
 use Rattle.ob_object.specs.declared.head.Slot.{Slot}
 use Rattle.ob_object.specs.declared.head.Head.{Head}
 use Rattle.ob_object.specs.Object.{Objects, none, node, Object}
+use Rattle.ob_object.specs.Paths.{is_path, node_path}
 use Rattle.ob_site_laws.proofs.Same.{tells_text}
 use Rattle.ob_site_rules.specs.Build.{Path}
-use Rattle.ob_site_rules.specs.State.{is_path}
-use Rattle.ob_site_rules.specs.Shown.{node_path, node_in}
+use Rattle.ob_site_rules.specs.Shown.{node_in}
 use Rattle.ob_site_rules.specs.Writes.{with_slot_in}
 use Rattle.ob_shown_laws.specs.Alike.{row, DifferInSlots}
 

@@ -6,10 +6,10 @@ use Rattle.std.proofs.lemmas.Bool.{le-ltb}
 use Rattle.ob_object.specs.declared.head.Head.{Head}
 use Rattle.ob_object.specs.Object.{Objects, none, node, Object, count, listed, children}
 use Rattle.ob_object.specs.WellFormed.{has_name, named}
+use Rattle.ob_object.specs.Paths.{is_path, node_path}
 use Rattle.ob_contracts.specs.Inherit.{Contracts, or_else, only_if}
 use Rattle.ob_site_rules.specs.Build.{Text, Path, child}
-use Rattle.ob_site_rules.specs.State.{is_path}
-use Rattle.ob_site_rules.specs.Shown.{node_path, node_in, node_of}
+use Rattle.ob_site_rules.specs.Shown.{node_in, node_of}
 use Rattle.ob_shown_laws.specs.Changed.{is_in, is_round}
 use Rattle.ob_tree.specs.Children.{named_from, child_at}
 use Rattle.ob_tree.specs.Laid.{paths}

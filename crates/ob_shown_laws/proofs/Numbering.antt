@@ -4,10 +4,10 @@ use Rattle.std.specs.Prelude.{is_some, nat_lt, nat_le, option_and_then}
 use Rattle.std.proofs.lemmas.Bool.Decides.{nat_tests}
 use Rattle.ob_object.specs.declared.head.Head.{Head}
 use Rattle.ob_object.specs.Object.{Objects, none, node, count, parts}
+use Rattle.ob_object.specs.Paths.{is_path, node_path}
 use Rattle.ob_contracts.specs.Inherit.{or_else, only_if}
 use Rattle.ob_site_rules.specs.Build.{Path}
-use Rattle.ob_site_rules.specs.State.{is_path}
-use Rattle.ob_site_rules.specs.Shown.{node_path, dressed}
+use Rattle.ob_site_rules.specs.Shown.{dressed}
 use Rattle.ob_standing.specs.Contexts.{Context, HandedDown, handed_down, under}
 use Rattle.ob_shown_laws.specs.Standing.{Standing, inside, standing_in}
 use Rattle.ob_shown_laws.specs.Changed.{is_in, is_round, PathsDiffer}

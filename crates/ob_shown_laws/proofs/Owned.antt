@@ -4,10 +4,11 @@ use Rattle.std.specs.Prelude.{is_some, nat_lt, nat_le, option_and_then, slice_ge
 use Rattle.std.proofs.lemmas.Bool.{ltb-true, ltb-false}
 use Rattle.ob_object.specs.declared.head.Head.{Head}
 use Rattle.ob_object.specs.Object.{Objects, none, node, Object, count, parts}
+use Rattle.ob_object.specs.Paths.{is_path, node_path}
 use Rattle.ob_contracts.specs.Inherit.{Contracts, or_else, only_if}
 use Rattle.ob_site_rules.specs.Build.{Path}
-use Rattle.ob_site_rules.specs.State.{Plan, State, is_path}
-use Rattle.ob_site_rules.specs.Shown.{node_path, derived_at, with_status, dressed, shown}
+use Rattle.ob_site_rules.specs.State.{Plan, State}
+use Rattle.ob_site_rules.specs.Shown.{derived_at, with_status, dressed, shown}
 use Rattle.ob_standing.specs.Contexts.{Context, HandedDown, handed_down, under, comes_to}
 use Rattle.ob_shown_laws.specs.Alike.{without_slot, without_values, DifferInSlots, DifferInValues}
 use Rattle.ob_shown_laws.specs.Standing.{Standing, effective, root_standing}

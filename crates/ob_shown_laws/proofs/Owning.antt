@@ -9,12 +9,13 @@ use Rattle.ob_object.specs.declared.head.Slot.{Slot}
 use Rattle.ob_object.specs.declared.head.Slot.TheVariants.{Absent, Null, Is}
 use Rattle.ob_object.specs.declared.head.Head.{Head}
 use Rattle.ob_object.specs.Object.{Objects, none, node, Object, listed, in_row, in_row-listed}
+use Rattle.ob_object.specs.Paths.{is_path, node_path}
 use Rattle.ob_contracts.specs.Inherit.{or_else, given, slot_of, slot_or_default}
 use Rattle.ob_contracts.specs.Standard.{standard, with_added}
 use Rattle.ob_times.specs.Times.{Instant}
 use Rattle.ob_site_rules.specs.Build.{Path, number_slot, time_slot, valued}
-use Rattle.ob_site_rules.specs.State.{Plan, Log, State, at, is_among, is_path, rolled_logs}
-use Rattle.ob_site_rules.specs.Shown.{node_path, lobby_children, write_point_op, count_child, first_record, subject_children, history_part, derived, with_status, with_status_by, with_status_at, with_roles, rule_of}
+use Rattle.ob_site_rules.specs.State.{Plan, Log, State, at, is_among, rolled_logs}
+use Rattle.ob_site_rules.specs.Shown.{lobby_children, write_point_op, count_child, first_record, subject_children, history_part, derived, with_status, with_status_by, with_status_at, with_roles, rule_of}
 use Rattle.ob_site_rules.specs.Sameness.{same_slot}
 use Rattle.ob_site_rules.specs.Writes.{with_slot, with_slot_in, site_contracts, recorded}
 use Rattle.ob_shown_laws.specs.Alike.{without_slot, AreAlike, DifferInSlots, paths_of}

@@ -1,12 +1,12 @@
 -- What is shown at a path is what the node there comes to where it stands.
 use Rattle.std.proofs.Common.{◌≡◌, ℕ, suc, Bool, true, false, not, ◌||◌, List, [], ◌∷◌, ◌++◌, map, Option, Some, None, option_map, refl, sym, ap, ◌∙◌, ap₂}
 use Rattle.std.specs.Prelude.{option_and_then, slice_get}
-use Rattle.ob_object.specs.Kinds.{is_ref}
+use Rattle.ob_object.specs.Kinds.{is_ref, is_err}
 use Rattle.ob_object.specs.Object.{Objects, none, node, Object, listed, in_row}
+use Rattle.ob_object.specs.Paths.{is_path, node_path}
 use Rattle.ob_contracts.specs.Inherit.{or_else, only_if, missing, bare, bare_row, row_results, result_of, row_with_defaults, head_with_default}
 use Rattle.ob_site_rules.specs.Build.{Path}
-use Rattle.ob_site_rules.specs.State.{is_path}
-use Rattle.ob_site_rules.specs.Shown.{is_err, node_path, node_in, node_of}
+use Rattle.ob_site_rules.specs.Shown.{node_in, node_of}
 use Rattle.ob_standing.specs.Contexts.{HandedDown, under, handed_down}
 use Rattle.ob_shown_laws.specs.Standing.{Standing, effective, inside, walk, standing_in, root_standing, ShownWhereItStands}
 

@@ -3,9 +3,9 @@ use Rattle.std.specs.Prelude.{◌≡◌, List, map, None}
 use Rattle.ob_object.specs.declared.head.Slot.TheVariants.{Absent}
 use Rattle.ob_object.specs.declared.head.Head.{Head}
 use Rattle.ob_object.specs.Object.{Objects, none, node, Object}
+use Rattle.ob_object.specs.Paths.{node_path}
 use Rattle.ob_site_rules.specs.Build.{Path}
 use Rattle.ob_site_rules.specs.State.{Log, State}
-use Rattle.ob_site_rules.specs.Shown.{node_path}
 
 -- an object as a row of one
 abbrev pub row : Object → Objects

@@ -2,8 +2,8 @@
 use Rattle.std.specs.Prelude.{◌≡◌, ℕ, ◌+◌, ◌&&◌, Bool, false, cond, nat_le, nat_lt, codes, List, [], ◌∷◌, ◌++◌, Option, Some, None, is_some}
 use Rattle.std.specs.List.{list_any}
 use Rattle.ob_object.specs.Object.{Objects, none, node, Object, count, parts}
+use Rattle.ob_object.specs.Paths.{node_path}
 use Rattle.ob_site_rules.specs.Build.{Path}
-use Rattle.ob_site_rules.specs.Shown.{node_path}
 use Rattle.ob_site_rules.specs.Writes.{is_in_contract}
 use Rattle.ob_tree.specs.Children.{child_at}
 use Rattle.ob_tree.specs.Laid.{paths}

@@ -1,10 +1,11 @@
 -- What a step has to look at: the nodes that it wrote to, and those whose records or alarms it changed.
 use Rattle.std.specs.Prelude.{◌≡◌, ℕ, true, false, List, filter, length, Some}
 use Rattle.ob_object.specs.Object.{Objects, none, node}
+use Rattle.ob_object.specs.Paths.{is_path, node_path}
 use Rattle.ob_alarms.specs.States.{status_of}
 use Rattle.ob_site_rules.specs.Build.{Path}
-use Rattle.ob_site_rules.specs.State.{Plan, State, at, is_among, is_path, numbered_from}
-use Rattle.ob_site_rules.specs.Shown.{node_path, rule_of}
+use Rattle.ob_site_rules.specs.State.{Plan, State, at, is_among, numbered_from}
+use Rattle.ob_site_rules.specs.Shown.{rule_of}
 use Rattle.ob_shown_laws.specs.Alike.{row, DifferInValues}
 use Rattle.ob_shown_laws.specs.Changed.{differs, AreTouched}
 

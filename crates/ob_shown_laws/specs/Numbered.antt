@@ -1,10 +1,11 @@
 -- Objects by their numbers in document order, the first being 0: where each stands, which is in which, and the nodes in one.
 use Rattle.std.specs.Prelude.{◌≡◌, ℕ, zero, suc, ◌+◌, ◌-◌, false, cond, ◌&&◌, nat_lt, nat_le, [], Option, Some, None, option_map, option_and_then}
 use Rattle.ob_object.specs.Object.{Objects, none, node, count, parts}
+use Rattle.ob_object.specs.Paths.{is_path, node_path}
 use Rattle.ob_contracts.specs.Inherit.{Contracts, or_else, only_if}
 use Rattle.ob_site_rules.specs.Build.{Path}
-use Rattle.ob_site_rules.specs.State.{Plan, State, is_path}
-use Rattle.ob_site_rules.specs.Shown.{node_path, dressed}
+use Rattle.ob_site_rules.specs.State.{Plan, State}
+use Rattle.ob_site_rules.specs.Shown.{dressed}
 use Rattle.ob_standing.specs.Contexts.{HandedDown, handed_down, under}
 use Rattle.ob_shown_laws.specs.Alike.{row}
 use Rattle.ob_shown_laws.specs.Standing.{Standing, inside, standing_in, standing_at}

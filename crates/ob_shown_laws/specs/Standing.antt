@@ -1,11 +1,12 @@
 -- Where the nodes of a site stand, and what they come to there. Source: oBIX 1.1, chapter 7 (Contracts).
 use Rattle.std.specs.Prelude.{◌≡◌, ℕ, List, [], ◌∷◌, Option, Some, None, option_map, option_and_then, slice_get}
 use Rattle.ob_object.specs.Object.{Objects, none, node, Object, children}
+use Rattle.ob_object.specs.Paths.{is_path, node_path}
 use Rattle.ob_contracts.specs.Inherit.{or_else, only_if}
 use Rattle.ob_standing.specs.Contexts.{Context, HandedDown, at_root, handed_down, under, comes_to}
 use Rattle.ob_site_rules.specs.Build.{Path}
-use Rattle.ob_site_rules.specs.State.{Plan, State, is_path}
-use Rattle.ob_site_rules.specs.Shown.{node_path, node_of, dressed, shown}
+use Rattle.ob_site_rules.specs.State.{Plan, State}
+use Rattle.ob_site_rules.specs.Shown.{node_of, dressed, shown}
 
 -- an object, and where it stands
 pub record Standing : Type 0 where

@@ -5,15 +5,16 @@ use Rattle.std.proofs.lemmas.Bool.{ltb-true, ltb-false}
 use Rattle.ob_object.specs.declared.kind.Kind.{Kind}
 use Rattle.ob_object.specs.declared.head.Head.{Head}
 use Rattle.ob_object.specs.Object.{Objects, none, node, Object, count}
+use Rattle.ob_object.specs.Paths.{is_path, node_path}
+use Rattle.ob_object.specs.Kinds.{has_values}
 use Rattle.ob_contracts.specs.Inherit.{Contracts, Words, result_of, effective_of}
-use Rattle.ob_history.specs.Records.{is_value_kind}
 use Rattle.ob_standing.specs.Contexts.{Context, comes_to}
 use Rattle.ob_shown_laws.specs.Alike.{row}
 use Rattle.ob_shown_laws.specs.Own.{dressed_own}
 use Rattle.ob_shown_laws.proofs.Looking.{at_path}
 use Rattle.ob_site_rules.specs.Build.{Path}
-use Rattle.ob_site_rules.specs.State.{Plan, State, is_path, source_of}
-use Rattle.ob_site_rules.specs.Shown.{node_path, node_of, rule_of, with_status_at, with_status_by}
+use Rattle.ob_site_rules.specs.State.{Plan, State, source_of}
+use Rattle.ob_site_rules.specs.Shown.{node_of, rule_of, with_status_at, with_status_by}
 use Rattle.ob_plain_state.specs.States.{NodesAre, IsOfKindAt}
 use Rattle.ob_plain_state.proofs.ShownKinds.{good_nodes, found_kind}
 use Rattle.ob_tree.specs.Laid.{heads, heads_of, head_at, paths}
@@ -110,10 +111,10 @@ pub points_have_values : PointsHaveValues
 points_have_values plan s consistent differ sources p history o among records shows =
     let kind_at = consistent.kind_at in
     let own = found (node_of p s.tree) (consistent.points p among) in
-    let value : is_value_kind own.0.head.kind ≡ true = sources history p own.0 (at_path p (source_of plan history) records) own.1 in
+    let value : has_values own.0.head.kind ≡ true = sources history p own.0 (at_path p (source_of plan history) records) own.1 in
     let kind : own.0.head.kind ≡ kind_at p = found_kind kind_at p own.0 (row s.tree) (good_nodes kind_at (row s.tree) consistent.kinds) own.1 value in
     let place = found (place_of p (paths s.tree)) (sym (is_there p s.tree) ∙ consistent.points p among) in
     let head = head_there s.tree place.0 (node_within s.tree p place.0 place.1) in
     let part = part_there place.0 s.tree head.0 head.1 in
     let shown : o.head.kind ≡ part.0.head.kind = number_kind plan s place.0 part.0 o part.1 (sym ((own_trees_tell plan s).shows_own p place.0 differ place.1) ∙ shows) in
-    ap is_value_kind (shown ∙ ap (λ (h : Head). h.kind) part.2 ∙ kind_of_place kind_at s.tree p place.0 head.0 consistent.kinds place.1 head.1 ∙ sym kind) ∙ value
+    ap has_values (shown ∙ ap (λ (h : Head). h.kind) part.2 ∙ kind_of_place kind_at s.tree p place.0 head.0 consistent.kinds place.1 head.1 ∙ sym kind) ∙ value

@@ -1,7 +1,7 @@
 -- Points that a history can record.
 use Rattle.std.specs.Prelude.{◌≡◌, true, Some}
 use Rattle.ob_object.specs.Object.{Object}
-use Rattle.ob_history.specs.Records.{is_value_kind}
+use Rattle.ob_object.specs.Kinds.{has_values}
 use Rattle.ob_shown_laws.specs.Alike.{row}
 use Rattle.ob_shown_laws.specs.Changed.{PathsDiffer}
 use Rattle.ob_site_rules.specs.Build.{Path}
@@ -15,4 +15,4 @@ use Rattle.ob_site_state.specs.Roles.{SourcesHaveValues}
 abbrev pub PointsHaveValues : Type 0
 PointsHaveValues =
     (plan : Plan) (s : State) → IsConsistent plan s → PathsDiffer (row (dressed plan s)) → SourcesHaveValues plan s
-    → (p history : Path) (o : Object) → is_among p plan.points ≡ true → records_from plan p history ≡ true → shown plan s p ≡ Some o → is_value_kind o.head.kind ≡ true
+    → (p history : Path) (o : Object) → is_among p plan.points ≡ true → records_from plan p history ≡ true → shown plan s p ≡ Some o → has_values o.head.kind ≡ true

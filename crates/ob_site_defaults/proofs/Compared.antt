@@ -6,10 +6,11 @@ use Rattle.ob_object.specs.declared.kind.Kind.TheVariants as kind
 use Rattle.ob_object.specs.declared.head.Head.{Head}
 use Rattle.ob_object.specs.Kinds.{same_kind}
 use Rattle.ob_object.specs.Object.{Objects, none, node, Object, parts}
+use Rattle.ob_object.specs.Paths.{node_path}
 use Rattle.ob_contracts.specs.Inherit.{Contracts, result_of}
 use Rattle.ob_site_rules.specs.Build.{Path}
 use Rattle.ob_site_rules.specs.State.{Plan, State}
-use Rattle.ob_site_rules.specs.Shown.{rule_of, node_path, with_status_at, with_status_by, dressed}
+use Rattle.ob_site_rules.specs.Shown.{rule_of, with_status_at, with_status_by, dressed}
 use Rattle.ob_site_rules.specs.Sameness.{same_object}
 use Rattle.ob_site_rules.specs.Sites.{plain_or_empty, watched_object}
 use Rattle.ob_site_laws.proofs.Same.{object_decides}

@@ -3,11 +3,11 @@ use Rattle.std.proofs.Common.{ℕ, ◌≡◌, zero, suc, Bool, true, false, ◌|
 use Rattle.std.specs.Prelude.{is_some, slice_get}
 use Rattle.ob_object.specs.declared.head.Head.{Head}
 use Rattle.ob_object.specs.Object.{Object}
+use Rattle.ob_object.specs.Paths.{node_path, is_path}
 use Rattle.ob_site_rules.specs.Build.{Path}
-use Rattle.ob_site_rules.specs.Shown.{node_path}
 use Rattle.ob_shown_laws.proofs.Touches.{bytes_itself}
 use Rattle.ob_tree.specs.Laid.{heads_of, head_at, paths}
-use Rattle.ob_tree.specs.Paths.{is_path, place_of, first_twice}
+use Rattle.ob_tree.specs.Paths.{place_of, first_twice}
 use Rattle.ob_shown_laws.proofs.Places.{has, has-append, in_parts, apart}
 
 got_map : {A B : Type 0} (f : A → B) (xs : List A) (n : ℕ) (x : A) → slice_get xs n ≡ Some x → slice_get (map f xs) n ≡ Some (f x)

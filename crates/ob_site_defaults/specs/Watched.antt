@@ -1,7 +1,7 @@
 -- Which own objects can be watched.
 use Rattle.std.specs.Prelude.{Bool, false, ◌&&◌, Option, Some, None, is_some}
 use Rattle.ob_object.specs.declared.head.Head.{Head}
-use Rattle.ob_site_rules.specs.Shown.{node_path}
+use Rattle.ob_object.specs.Paths.{node_path}
 use Rattle.ob_shown_laws.specs.Changed.{is_watchable}
 
 -- an object, told by its head, that is a node and can be watched

@@ -18,7 +18,6 @@ ghost use Rattle.ob_site_defaults.specs.Watched.{can_be_watched};
 
 use ob_contracts::{Library, Steps};
 use ob_object::{Kind, Obj};
-use ob_plain_state::node_path;
 use ob_replies::Plan;
 use ob_site_settled::library_before;
 use ob_site_shown::dressed_part;
@@ -31,7 +30,7 @@ use std::sync::ledger::Ledger;
 fn can_be_watched(own: &Obj) -> bool
     ensures { result ≡ can_be_watched (Some own.now.head) }
 {
-    node_path(own.head()).is_some() && !own.kind().same(Kind::Feed)
+    own.head().node_path().is_some() && !own.kind().same(Kind::Feed)
 }
 
 /// Puts the numbers of the nodes in an own object, itself counted, of which a watch shows something else where the one object

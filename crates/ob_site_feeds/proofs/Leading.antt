@@ -5,11 +5,12 @@ use Rattle.std.specs.List.{flat_map}
 use Rattle.std.proofs.lemmas.Slice.Eq.{bytes_eq-Decides}
 use Rattle.ob_object.specs.declared.head.Head.{Head}
 use Rattle.ob_object.specs.Object.{Objects, none, node, Object, listed, in_row, listed-in_row}
+use Rattle.ob_object.specs.Paths.{node_path, is_path}
 use Rattle.ob_site_rules.specs.Build.{Path}
 use Rattle.ob_site_rules.specs.Paths.{below, ends_with_slash}
 use Rattle.ob_site_rules.specs.Places.{Place, QueryOf, FeedOf, AlarmQuery, AlarmFeed, subject_places, event_places}
-use Rattle.ob_site_rules.specs.Shown.{node_path, write_point_op, history_part, subject_children, lobby_children, derived, with_status, with_roles, dressed}
-use Rattle.ob_site_rules.specs.State.{Plan, Log, State, at, is_among, is_path}
+use Rattle.ob_site_rules.specs.Shown.{write_point_op, history_part, subject_children, lobby_children, derived, with_status, with_roles, dressed}
+use Rattle.ob_site_rules.specs.State.{Plan, Log, State, at, is_among}
 use Rattle.ob_shown_laws.specs.Alike.{row}
 use Rattle.ob_shown_laws.specs.Changed.{is_in, PathsDiffer}
 use Rattle.ob_shown_laws.proofs.Touches.{bytes_itself, or_left, or_right}

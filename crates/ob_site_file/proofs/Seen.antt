@@ -13,11 +13,10 @@ use Rattle.std.proofs.lemmas.Slice.Eq.{bytes_eq-Decides}
 use Rattle.std.proofs.lemmas.List.{take_more, take_all}
 use Rattle.ob_object.specs.declared.kind.Kind.{Kind}
 use Rattle.ob_object.specs.Object.{Object}
+use Rattle.ob_object.specs.Paths.{is_path, node_path}
+use Rattle.ob_object.specs.Kinds.{has_values}
 use Rattle.ob_contracts.specs.Inherit.{or_else}
-use Rattle.ob_history.specs.Records.{is_value_kind}
 use Rattle.ob_site_rules.specs.Build.{Path}
-use Rattle.ob_site_rules.specs.State.{is_path}
-use Rattle.ob_site_rules.specs.Shown.{node_path}
 use Rattle.ob_opening.specs.Loading.{Part, node_there, is_number_kind}
 use Rattle.ob_roles.specs.Told.{part}
 use Rattle.ob_roles.specs.declared.part.Part.{Part as OwnPart}
@@ -76,20 +75,20 @@ nameless_none fits p q e =
 
 -- one node more outside the contracts
 pub sees_node : (old new : Nodes) (ps : List Part) (q : Part) (path : Path) → q.inside ≡ false → node_path q.own.head ≡ Some path
-    → ((p : Path) → has_path new.values p ≡ ((is_value_kind q.own.head.kind && bytes_eq path p) || has_path old.values p))
+    → ((p : Path) → has_path new.values p ≡ ((has_values q.own.head.kind && bytes_eq path p) || has_path old.values p))
     → ((p : Path) → kind_under new.numbers p ≡ or_this (kind_under old.numbers p) (is_number_kind q.own.head.kind && bytes_eq path p) q.own.head.kind)
     → Sees old ps → Sees new (ps ++ q ∷ [])
 sees_node old new ps q path out e values numbers s = record {
-  values = λ p. values p ∙ ap₂ (λ a b. a || b) (sym (node_is is_value_kind p path q out e)) (s.values p)
-      ∙ sym (ap is_some (there_more is_value_kind ps p q) ∙ some_more (node_there is_value_kind ps p) (is_there is_value_kind p q) q.own);
+  values = λ p. values p ∙ ap₂ (λ a b. a || b) (sym (node_is has_values p path q out e)) (s.values p)
+      ∙ sym (ap is_some (there_more has_values ps p q) ∙ some_more (node_there has_values ps p) (is_there has_values p q) q.own);
   numbers = λ p. numbers p ∙ ap₂ (λ a b. or_this a b q.own.head.kind) (s.numbers p) (sym (node_is is_number_kind p path q out e))
       ∙ sym (ap (option_map (λ (x : Object). x.head.kind)) (there_more is_number_kind ps p q) ∙ kind_more (node_there is_number_kind ps p) (is_there is_number_kind p q) q.own);
 }
 
 no_more : (nodes : Nodes) (ps : List Part) (q : Part) → ((fits : Kind → Bool) (p : Path) → is_there fits p q ≡ false) → Sees nodes ps → Sees nodes (ps ++ q ∷ [])
 no_more nodes ps q none s = record {
-  values = λ p. s.values p ∙ ap (λ b. b || is_some (node_there is_value_kind ps p)) (sym (none is_value_kind p))
-      ∙ sym (ap is_some (there_more is_value_kind ps p q) ∙ some_more (node_there is_value_kind ps p) (is_there is_value_kind p q) q.own);
+  values = λ p. s.values p ∙ ap (λ b. b || is_some (node_there has_values ps p)) (sym (none has_values p))
+      ∙ sym (ap is_some (there_more has_values ps p q) ∙ some_more (node_there has_values ps p) (is_there has_values p q) q.own);
   numbers = λ p. s.numbers p ∙ sym (this_none (option_map (λ (x : Object). x.head.kind) (node_there is_number_kind ps p)) q.own.head.kind)
       ∙ ap (λ b. or_this (option_map (λ (x : Object). x.head.kind) (node_there is_number_kind ps p)) b q.own.head.kind) (sym (none is_number_kind p))
       ∙ sym (ap (option_map (λ (x : Object). x.head.kind)) (there_more is_number_kind ps p q) ∙ kind_more (node_there is_number_kind ps p) (is_there is_number_kind p q) q.own);

@@ -7,11 +7,12 @@ use Rattle.ob_object.specs.declared.facet.Facets.{Facets}
 use Rattle.ob_object.specs.declared.head.Head.{Head}
 use Rattle.ob_object.specs.Object.{Object, Objects, none, node, listed, in_row, children, count, parts, in_row-listed, listed-in_row}
 use Rattle.ob_object.specs.WellFormed.{is_taken, has_name}
+use Rattle.ob_object.specs.Paths.{is_path, node_path}
 use Rattle.ob_contracts.specs.Inherit.{Contracts, Words, sources, overridden, implied_by, inherited_head, row_results, result_of, missing, bare, bare_row, row_with_defaults}
 use Rattle.ob_roles.proofs.Named.{taken_first}
 use Rattle.ob_site_rules.specs.Build.{Path}
-use Rattle.ob_site_rules.specs.State.{Plan, State, Log, is_among, is_path, at}
-use Rattle.ob_site_rules.specs.Shown.{node_path, derived, derived_at, lobby_children, write_point_op, history_part, subject_children, rule_of, with_status, with_status_at, with_status_by, with_roles, shown_root}
+use Rattle.ob_site_rules.specs.State.{Plan, State, Log, is_among, at}
+use Rattle.ob_site_rules.specs.Shown.{derived, derived_at, lobby_children, write_point_op, history_part, subject_children, rule_of, with_status, with_status_at, with_status_by, with_roles, shown_root}
 use Rattle.ob_site_file.specs.Sizes.{dressed_at, row_count, plain, stand_in}
 
 -- what is left of a limit

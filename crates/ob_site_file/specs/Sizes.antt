@@ -8,11 +8,12 @@ use Rattle.ob_object.specs.declared.kind.Kind.TheVariants as kind
 use Rattle.ob_object.specs.Kinds.{is_ref}
 use Rattle.ob_object.specs.Object.{Object, Objects, empty_head, listed, in_row, count}
 use Rattle.ob_object.specs.WellFormed.{is_taken}
+use Rattle.ob_object.specs.Paths.{node_path}
 use Rattle.ob_contracts.specs.Inherit.{Contracts, Words, row_results}
 use Rattle.ob_replies.specs.Plans.{plan as plan_of}
 use Rattle.ob_site_rules.specs.Build.{leaf}
 use Rattle.ob_site_rules.specs.State.{Plan, State, is_among, at}
-use Rattle.ob_site_rules.specs.Shown.{node_path, derived, with_status, with_roles}
+use Rattle.ob_site_rules.specs.Shown.{derived, with_status, with_roles}
 use Rattle.ob_site_file.specs.declared.derived.Counting.{Counting}
 use Rattle.ob_site_file.specs.declared.derived.Derived.{Derived}
 

@@ -5,7 +5,7 @@ use Rattle.std.specs.Cmp.Lexicographic.{slice_cmp}
 use Rattle.std.specs.BTreeMap.{BTreeMap, get}
 use Rattle.std.specs.BTreeSet.{BTreeSet, contains}
 use Rattle.ob_object.specs.declared.kind.Kind.{Kind}
-use Rattle.ob_history.specs.Records.{is_value_kind}
+use Rattle.ob_object.specs.Kinds.{has_values}
 use Rattle.ob_site_rules.specs.Build.{Path}
 use Rattle.ob_opening.specs.Loading.{Part, node_there, is_number_kind}
 use Rattle.ob_site_file.specs.declared.nodes.Nodes.{Nodes}
@@ -26,5 +26,5 @@ or_this (Some l) asked k = Some l
 -- Of the nodes among these parts outside the contracts, the paths of those with values, and at each path the kind of the first one
 -- with a number, as a source asks for them.
 pub record Sees (nodes : Nodes) (ps : List Part) : Type 0 where
-  pub values : (p : Path) → has_path nodes.values p ≡ is_some (node_there is_value_kind ps p)
+  pub values : (p : Path) → has_path nodes.values p ≡ is_some (node_there has_values ps p)
   pub numbers : (p : Path) → kind_under nodes.numbers p ≡ option_map (λ o. o.head.kind) (node_there is_number_kind ps p)

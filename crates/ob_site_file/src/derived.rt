@@ -1,7 +1,8 @@
 //! The children that the roles of a node derive, as far as their number of parts goes.
 ghost use Rattle.std.specs.Prelude.{◌≡◌, ◌++◌, ◌∷◌, [], ◌&&◌, true, false, is_some, bytes_eq, cond, codes, map, List, ℕ, IfOk};
-ghost use Rattle.ob_site_rules.specs.State.{Plan as SitePlan, State as SiteState, is_among, at, is_path};
-ghost use Rattle.ob_site_rules.specs.Shown.{node_path, derived, derived_at};
+ghost use Rattle.ob_object.specs.Paths.{is_path, node_path};
+ghost use Rattle.ob_site_rules.specs.State.{Plan as SitePlan, State as SiteState, is_among, at};
+ghost use Rattle.ob_site_rules.specs.Shown.{derived, derived_at};
 ghost use Rattle.ob_plain_state.specs.States.{entry_of};
 ghost use Rattle.ob_site_file.specs.Sizes.{has_text, IsCounting, stand_in, stood, plain};
 
@@ -9,7 +10,6 @@ use ob_contracts::Library;
 use ob_object::Attributes;
 use ob_plain_state::Log;
 use ob_replies::Plan;
-use ob_roles::node_path;
 use ob_values::Text;
 use std::alloc::{AllocError, Global};
 use std::collections::BTreeSet;
@@ -187,7 +187,7 @@ pub(crate) fn derived_children(
     ensures { IfOk result (λ ds. (plan : SitePlan) (s : SiteState) → IsCounting counting.now plan s → map stood ds.items ≡ map plain (derived plan s (node_path head.now))) }
 {
     let mut list = Vec::new(alloc);
-    match node_path(head) {
+    match head.node_path() {
         Some(path) => {
             put_derived(&mut list, counting, path)?;
             Ok(list)

@@ -3,7 +3,6 @@ ghost use Rattle.std.specs.Prelude.{◌≡◌, ◌+◌, ◌<◌, ◌^◌, map};
 ghost use Rattle.std.specs.Option.{option_copied};
 ghost use Rattle.ob_object.specs.Object.{in_row, count};
 ghost use Rattle.ob_object.specs.declared.kind.Kind.TheVariants as kind;
-ghost use Rattle.ob_history.specs.Records.{is_value_kind};
 ghost use Rattle.ob_opening.specs.Roles.{is_part};
 ghost use Rattle.ob_opening.specs.Loading.{numbered, items_of, child_of};
 ghost use Rattle.ob_roles.specs.Told.{part as site_part};
@@ -62,25 +61,6 @@ pub(crate) fn child_of<'a>(object: &'a Obj, name: &str, kind: Kind) -> Option<&'
             }
         }
         None => None,
-    }
-}
-
-/// Whether a kind is one of the ten that have values.
-pub(crate) fn is_value_kind(kind: Kind) -> bool
-    ensures { result ≡ is_value_kind kind }
-{
-    match kind {
-        Kind::Bool
-        | Kind::Int
-        | Kind::Real
-        | Kind::Str
-        | Kind::Enum
-        | Kind::Uri
-        | Kind::Abstime
-        | Kind::Reltime
-        | Kind::Date
-        | Kind::Time => true,
-        Kind::Obj | Kind::List | Kind::Op | Kind::Feed | Kind::Ref | Kind::Err => false,
     }
 }
 

@@ -1,13 +1,12 @@
 //! The nodes outside the contracts of a site, as sources name them by their paths.
 ghost use Rattle.std.specs.Prelude.{◌≡◌, ◌++◌, ◌∷◌, ◌&&◌, ◌||◌, [], bytes_eq, ℕ, List, map, is_some, option_map, IfOk};
-ghost use Rattle.ob_history.specs.Records.{is_value_kind};
+ghost use Rattle.ob_object.specs.Kinds.{has_values};
 ghost use Rattle.ob_opening.specs.Loading.{Part as SitePart, node_there, is_number_kind};
 ghost use Rattle.ob_roles.specs.Told.{part as site_part};
 ghost use Rattle.ob_site_file.specs.Sought.{Sees, has_path, kind_under, or_this};
 
-use crate::items::is_value_kind;
 use ob_object::Kind;
-use ob_roles::{Part, node_path};
+use ob_roles::Part;
 use ob_values::Text;
 use std::alloc::{AllocError, Global};
 use std::collections::{BTreeMap, BTreeSet};
@@ -41,9 +40,9 @@ fn is_number_kind(kind: Kind) -> bool
 
 // Puts the path of a node of a kind, if that has values.
 fn put_value(values: &mut Values, kind: Kind, path: &Text) -> Result<(), AllocError>
-    ensures { IfOk result (λ _. (p : List ℕ) → has_path values.new p ≡ ((is_value_kind kind && bytes_eq path.now p) || has_path values.old p)) }
+    ensures { IfOk result (λ _. (p : List ℕ) → has_path values.new p ≡ ((has_values kind && bytes_eq path.now p) || has_path values.old p)) }
 {
-    if is_value_kind(kind) {
+    if kind.has_values() {
         let path = path.copy()?;
         values.insert(path)?;
     }
@@ -69,7 +68,7 @@ impl Nodes {
         if part.inside {
             return Ok(());
         }
-        if let Some(path) = node_path(part.own.head()) {
+        if let Some(path) = part.own.head().node_path() {
             put_value(&mut self.values, part.own.kind(), path)?;
             put_number(&mut self.numbers, part.own.kind(), path)?;
         }
@@ -78,7 +77,7 @@ impl Nodes {
 
     /// Whether a node with a value has this path.
     pub(crate) fn has_value(&self, path: &Text) -> bool
-        ensures { (ps : List SitePart) → Sees self.now ps → result ≡ is_some (node_there is_value_kind ps path.now) }
+        ensures { (ps : List SitePart) → Sees self.now ps → result ≡ is_some (node_there has_values ps path.now) }
     {
         self.values.contains(path)
     }

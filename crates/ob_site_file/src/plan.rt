@@ -17,7 +17,7 @@ use ob_href::Base;
 use ob_object::Obj;
 use ob_plain_state::Log;
 use ob_replies::{Plan, PointRule};
-use ob_roles::{Part, node_path};
+use ob_roles::Part;
 use ob_times::Moment;
 use ob_values::Text;
 use std::alloc::{AllocError, Global};
@@ -25,7 +25,7 @@ use std::alloc::{AllocError, Global};
 fn path_of(part: &Part) -> Result<Text, AllocError>
     ensures { IfOk result (λ p. p ≡ path_of (site_part part.now)) }
 {
-    match node_path(part.own.head()) {
+    match part.own.head().node_path() {
         Some(path) => path.copy(),
         None => Ok(Text::empty()),
     }

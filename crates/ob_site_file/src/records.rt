@@ -10,7 +10,7 @@ ghost use Rattle.ob_history.specs.declared.records.Record.{Record as Stored};
 ghost use Rattle.ob_opening.specs.Loading.{time_of, child_of, value_of_record, record_in, is_late, is_bad_item, after_item, bad_records, numbered, least};
 ghost use Rattle.ob_site_file.specs.Told.{record_by};
 
-use crate::items::{Items, child_of, is_value_kind};
+use crate::items::{Items, child_of};
 use ob_history::Record;
 use ob_object::{Kind, Obj, Slot};
 use ob_values::{Abstime, Value};
@@ -44,7 +44,7 @@ fn own_value(item: &Obj) -> Option<&Obj>
 {
     match item.child("value") {
         Some(child) => {
-            if is_value_kind(child.kind()) {
+            if child.kind().has_values() {
                 Some(child)
             } else {
                 None

@@ -3,11 +3,12 @@ ghost use Rattle.std.specs.Prelude.{◌≡◌, ◌+◌, ◌-◌, ◌<◌, ◌++�
 ghost use Rattle.std.specs.Option.{option_copied};
 ghost use Rattle.ob_object.specs.Object.{Object, children, count, in_row, listed, parts};
 ghost use Rattle.ob_object.specs.WellFormed.{has_name};
+ghost use Rattle.ob_object.specs.Paths.{node_path};
 ghost use Rattle.ob_contracts.specs.Found.{found, lent};
 ghost use Rattle.ob_contracts.specs.Inherit.{contract_of, present, sources, overridden, missing, is_new, or_else, words_in, result_of};
 ghost use Rattle.ob_contracts.specs.Telling.{TellTheSame};
 ghost use Rattle.ob_site_rules.specs.State.{Plan as SitePlan, State as SiteState};
-ghost use Rattle.ob_site_rules.specs.Shown.{node_path, derived, with_roles, shown_root};
+ghost use Rattle.ob_site_rules.specs.Shown.{derived, with_roles, shown_root};
 ghost use Rattle.ob_site_file.specs.Sizes.{has_text, HasNames, is_fresh, IsCounting, dressed_at, stood, row_count};
 
 use crate::derived::{Counting, Derived, Texts, derived_children};

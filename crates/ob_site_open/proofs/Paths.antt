@@ -4,9 +4,9 @@ use Rattle.std.specs.Prelude.{is_some}
 use Rattle.std.proofs.lemmas.List.{map-append}
 use Rattle.std.proofs.lemmas.Slice.Eq.{bytes_eq-Decides}
 use Rattle.ob_object.specs.Object.{Objects, none, node, Object}
+use Rattle.ob_object.specs.Paths.{node_path}
 use Rattle.ob_site_rules.specs.Build.{Path}
 use Rattle.ob_site_rules.specs.State.{is_among}
-use Rattle.ob_site_rules.specs.Shown.{node_path}
 use Rattle.ob_opening.specs.Loading.{listed_path, row_of}
 use Rattle.ob_tree.specs.Laid.{heads, paths}
 use Rattle.ob_tree.specs.Paths.{place_of, first_twice}

@@ -10,9 +10,10 @@ use Rattle.ob_object.specs.declared.head.Slot.{Slot}
 use Rattle.ob_object.specs.declared.head.Slot.TheVariants.{Absent, Null, Is}
 use Rattle.ob_object.specs.Fits.{fits_slot}
 use Rattle.ob_object.specs.Object.{Object}
+use Rattle.ob_object.specs.Kinds.{has_values}
 use Rattle.ob_history.specs.declared.records.Record.{Record}
 use Rattle.ob_history.specs.declared.records.Filter.{Filter}
-use Rattle.ob_history.specs.Records.{passes, asked, holds_value, is_value_kind, IsRecord}
+use Rattle.ob_history.specs.Records.{passes, asked, holds_value, IsRecord}
 use Rattle.ob_replies.specs.Queries.{values_fit}
 use Rattle.ob_site_rules.specs.Entries.{record_object, query_out, records_out}
 
@@ -30,7 +31,7 @@ records_fit rs all =
     list_all-from_AllPass (λ (r : Record). fits_slot r.kind r.slot) rs
     (λ k d lt.
     let r : Record = slice_index_or rs k d in
-    fits r.kind r.slot (second (is_value_kind r.kind) (holds_value r.kind r.slot) (all k d lt)))
+    fits r.kind r.slot (second (has_values r.kind) (holds_value r.kind r.slot) (all k d lt)))
 
 both_true : (a b : Bool) → (a && b) ≡ true → (a ≡ true) × (b ≡ true)
 both_true true b e = (refl, e)

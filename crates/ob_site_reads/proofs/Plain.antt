@@ -6,11 +6,12 @@ use Rattle.ob_object.specs.declared.kind.Kind.{Kind}
 use Rattle.ob_object.specs.declared.kind.Kind.TheVariants as kind
 use Rattle.ob_object.specs.Kinds.{same_kind}
 use Rattle.ob_object.specs.Object.{Object, parts}
+use Rattle.ob_object.specs.Paths.{node_path}
 use Rattle.ob_contracts.specs.Inherit.{Contracts, Words, result_of, effective_of}
 use Rattle.ob_site_rules.specs.Build.{Path, nameless, under_href}
 use Rattle.ob_site_rules.specs.Entries.{empty_object}
 use Rattle.ob_site_rules.specs.Replies.{is_plain}
-use Rattle.ob_site_rules.specs.Shown.{node_path, rule_of, with_status, with_status_at, with_status_by}
+use Rattle.ob_site_rules.specs.Shown.{rule_of, with_status, with_status_at, with_status_by}
 use Rattle.ob_site_rules.specs.Sites.{plain_or_empty}
 use Rattle.ob_site_rules.specs.State.{Plan, State}
 use Rattle.ob_standing.specs.Contexts.{Context, comes_to, under}

@@ -1,31 +1,22 @@
 -- What a site shows at a path. Source: oBIX 1.1, chapters 4 (Object model), 6 (Naming) and 7 (Contracts).
 -- That roles derive children is this profile's own.
-use Rattle.std.specs.Prelude.{ℕ, pos, Bool, true, false, cond, not, ◌&&◌, ◌||◌, codes, List, [], ◌∷◌, ◌++◌, length, Option, Some, None, option_map, slice_get}
+use Rattle.std.specs.Prelude.{ℕ, pos, cond, ◌&&◌, codes, List, [], ◌∷◌, ◌++◌, length, Option, Some, None, option_map, slice_get}
 use Rattle.std.specs.Str.{bytes_eq}
 use Rattle.circular_buffer.specs.Buffer.{last_item}
 use Rattle.ob_values.specs.declared.value.Value.TheVariants as value
 use Rattle.ob_object.specs.declared.kind.Kind.{Kind}
 use Rattle.ob_object.specs.declared.kind.Kind.TheVariants as kind
 use Rattle.ob_object.specs.declared.head.Head.{Head}
-use Rattle.ob_object.specs.Kinds.{is_ref}
 use Rattle.ob_object.specs.Facets.{no_facets}
 use Rattle.ob_object.specs.Object.{Objects, none, node, Object, empty_head, listed, in_row}
+use Rattle.ob_object.specs.Paths.{node_path, is_path}
 use Rattle.ob_contracts.specs.Inherit.{or_else, only_if, effective_of}
 use Rattle.ob_history.specs.declared.records.Record.{Record}
 use Rattle.ob_alarms.specs.Lists.{first_place}
 use Rattle.ob_alarms.specs.States.{status_of}
 use Rattle.ob_site_rules.specs.Build.{Path, leaf, valued, word, ref_to, op_at, feed_at, number_slot, time_slot}
-use Rattle.ob_site_rules.specs.State.{Plan, Log, State, at, is_among, is_path, board}
+use Rattle.ob_site_rules.specs.State.{Plan, Log, State, at, is_among, board}
 use Rattle.ob_site_rules.specs.Paths.{below, about_path, batch_path, service_path}
-
--- whether a kind is err
-abbrev pub is_err : Kind → Bool
-is_err kind.Err = true
-is_err _ = false
-
--- the path of a node: its href, unless it is a ref or an err
-abbrev pub node_path : Head → Option Path
-node_path h = only_if (not (is_ref h.kind || is_err h.kind)) h.href
 
 -- what the root has as a lobby (chapter 5, Lobby)
 abbrev pub lobby_children : Plan → List Object

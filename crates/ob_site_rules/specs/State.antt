@@ -1,5 +1,5 @@
 -- The state of a site apart from its watches.
-use Rattle.std.specs.Prelude.{ℕ, ◌+◌, Bool, false, List, [], ◌∷◌, map, Option, Some, None, find, option_map, option_and_then}
+use Rattle.std.specs.Prelude.{ℕ, ◌+◌, Bool, List, [], ◌∷◌, map, Option, find, option_map, option_and_then}
 use Rattle.std.specs.Str.{bytes_eq}
 use Rattle.std.specs.List.{list_any}
 use Rattle.url.specs.Parts.{Parts}
@@ -58,11 +58,6 @@ at path es = option_map (λ e. e.1) (find (λ e. bytes_eq e.0 path) es)
 -- whether a path is one of these
 abbrev pub is_among : Path → List Path → Bool
 is_among path ps = list_any (λ p. bytes_eq p path) ps
-
--- whether a path is this one, if there is one
-abbrev pub is_path : Path → Option Path → Bool
-is_path path None = false
-is_path path (Some p) = bytes_eq p path
 
 -- the source of a history
 abbrev pub source_of : Plan → Path → Option Path

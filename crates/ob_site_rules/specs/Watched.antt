@@ -12,13 +12,14 @@ use Rattle.ob_object.specs.declared.head.Slot.{Slot}
 use Rattle.ob_object.specs.declared.head.Slot.TheVariants.{Null, Is}
 use Rattle.ob_object.specs.Kinds.{same_kind}
 use Rattle.ob_object.specs.Object.{Object, empty_head, children}
+use Rattle.ob_object.specs.Paths.{is_path}
 use Rattle.ob_history.specs.declared.records.Filter.{Filter}
 use Rattle.ob_history.specs.Filters.{filter_of}
 use Rattle.ob_watching.specs.Asked.{Operation, Look, Renew, Add, Remove, PollChanges, PollRefresh, Delete, Refuse, Target, Itself, Nowhere, NewWatch, OneWatch, Found, ObjectAt, FeedAt, NotFound}
 use Rattle.ob_site_rules.specs.declared.request.Request.{Request}
 use Rattle.ob_site_rules.specs.Build.{Text, Path, child, leaf, word}
 use Rattle.ob_site_rules.specs.Faults.{Fault, NoSuchObject, NotSupported, OtherShape, NotWatchable, OtherKind, LeaseOutOfRange}
-use Rattle.ob_site_rules.specs.State.{Plan, Log, State, at, is_path, board}
+use Rattle.ob_site_rules.specs.State.{Plan, Log, State, at, board}
 use Rattle.ob_site_rules.specs.Paths.{WatchPart, Lease, AddOp, RemoveOp, PollChangesOp, PollRefreshOp, DeleteOp, make_path, watch_part, below}
 use Rattle.ob_site_rules.specs.Entries.{record_object, event_objects, is_within}
 use Rattle.ob_site_rules.specs.Places.{Place, FeedOf, AlarmFeed, Node, place_at}

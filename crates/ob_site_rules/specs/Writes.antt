@@ -12,22 +12,22 @@ use Rattle.ob_object.specs.declared.head.Slot.TheVariants.{Is}
 use Rattle.ob_object.specs.declared.head.Head.{Head}
 use Rattle.ob_object.specs.declared.write.WriteFault.{WriteFault}
 use Rattle.ob_object.specs.declared.write.WriteFault.TheVariants.{WrongKind, Long, Below, Above, NotInRange}
-use Rattle.ob_object.specs.Kinds.{same_kind}
+use Rattle.ob_object.specs.Kinds.{same_kind, has_values}
 use Rattle.ob_object.specs.Object.{Objects, none, node, Object, children}
 use Rattle.ob_object.specs.Write.{verdict}
+use Rattle.ob_object.specs.Paths.{is_path, node_path}
 use Rattle.ob_contracts.specs.Inherit.{Contracts, contract_of, effective_of, or_else}
 use Rattle.ob_contracts.specs.Standard.{with_added, standard}
 use Rattle.ob_history.specs.declared.records.Record.{Record}
-use Rattle.ob_history.specs.Records.{is_value_kind}
 use Rattle.ob_alarms.specs.declared.rule.Num.{Num}
 use Rattle.ob_alarms.specs.declared.rule.Num.TheVariants as num
 use Rattle.ob_alarms.specs.Changes.{State as Board, on_value}
 use Rattle.ob_site_rules.specs.Build.{Text, Path, child}
 use Rattle.ob_site_rules.specs.Faults as faults
 use Rattle.ob_site_rules.specs.Faults.{Fault, NotSupported, OtherShape, NotWritable, OtherKind, BelowMin, AboveMax, TextTooLong, TooManyEntries, err, first_fault}
-use Rattle.ob_site_rules.specs.State.{Plan, Log, State, is_path, source_of, board, with_board}
+use Rattle.ob_site_rules.specs.State.{Plan, Log, State, source_of, board, with_board}
 use Rattle.ob_site_rules.specs.Sameness.{same_slot}
-use Rattle.ob_site_rules.specs.Shown.{node_path, node_of, rule_of, shown}
+use Rattle.ob_site_rules.specs.Shown.{node_of, rule_of, shown}
 use Rattle.ob_site_rules.specs.Places.{reply_at}
 
 -- the same objects, with another slot at the node of this path
@@ -167,7 +167,7 @@ is_writable (Some b) = b
 
 -- what is wrong with a node that is to be put to: it has no value, or isn't shown as writable
 abbrev pub target_fault : Head → Option Fault
-target_fault h = first_fault ((not (is_value_kind h.kind), NotSupported) ∷ (not (is_writable h.facets.writable), NotWritable) ∷ [])
+target_fault h = first_fault ((not (has_values h.kind), NotSupported) ∷ (not (is_writable h.facets.writable), NotWritable) ∷ [])
 
 -- the value that a body gives, with what it inherits by its own words, taken by itself
 abbrev pub given_by : State → Object → Head

@@ -7,6 +7,7 @@ use Rattle.std.proofs.lemmas.Slice.Eq.{bytes_eq-Decides}
 use Rattle.ob_object.specs.declared.head.Head.{Head}
 use Rattle.ob_object.specs.declared.head.Slot.{Slot}
 use Rattle.ob_object.specs.declared.status.Status.{Status}
+use Rattle.ob_object.specs.Paths.{is_path, node_path}
 use Rattle.ob_contracts.specs.Inherit.{Contracts}
 use Rattle.ob_standing.specs.Contexts.{Context, under}
 use Rattle.ob_alarms.specs.States.{status_of}
@@ -17,9 +18,9 @@ use Rattle.ob_tree.proofs.Within.{place_within}
 use Rattle.ob_shown_laws.proofs.Owned.{own_trees_tell, own_trees_tell_changes}
 use Rattle.ob_consistent_laws.specs.Laws.{Apart}
 use Rattle.ob_site_rules.specs.Build.{Path, number_slot}
-use Rattle.ob_site_rules.specs.State.{Plan, Log, State, at, is_among, is_path, numbered_from, rolled, rolled_logs, roll}
+use Rattle.ob_site_rules.specs.State.{Plan, Log, State, at, is_among, numbered_from, rolled, rolled_logs, roll}
 use Rattle.ob_site_rules.specs.Sameness.{same_slot, same_option, same_status}
-use Rattle.ob_site_rules.specs.Shown.{node_path, rule_of, with_status, with_status_at, with_status_by}
+use Rattle.ob_site_rules.specs.Shown.{rule_of, with_status, with_status_at, with_status_by}
 use Rattle.ob_site_laws.proofs.Same.{tells_slot, tells_option, tells_status}
 use Rattle.ob_shown_laws.specs.Alike.{DifferInValues}
 use Rattle.ob_shown_laws.specs.Changed.{differs, head_in, same_values, same_log, same_derived, start_slot, end_slot}

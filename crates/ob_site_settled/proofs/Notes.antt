@@ -7,10 +7,11 @@ use Rattle.std.proofs.lemmas.Slice.Eq.{bytes_eq-Decides}
 use Rattle.ob_object.specs.declared.head.Head.{Head}
 use Rattle.ob_object.specs.declared.head.Slot.{Slot}
 use Rattle.ob_object.specs.Object.{Objects, none, node, Object, count}
+use Rattle.ob_object.specs.Paths.{is_path, node_path}
 use Rattle.ob_alarms.specs.Lists.{first_place}
 use Rattle.ob_site_rules.specs.Build.{Path}
-use Rattle.ob_site_rules.specs.State.{Plan, PointRule, Log, State, at, is_among, is_path, rolled, rolled_logs, roll}
-use Rattle.ob_site_rules.specs.Shown.{node_path, rule_of}
+use Rattle.ob_site_rules.specs.State.{Plan, PointRule, Log, State, at, is_among, rolled, rolled_logs, roll}
+use Rattle.ob_site_rules.specs.Shown.{rule_of}
 use Rattle.ob_shown_laws.specs.Alike.{row}
 use Rattle.ob_shown_laws.specs.Looked.{NodesAreSame, IsLeft}
 use Rattle.ob_shown_laws.proofs.Leaving.{steps_leave}

@@ -6,12 +6,12 @@ use Rattle.std.proofs.lemmas.Slice.Eq.{bytes_eq-Decides}
 use Rattle.ob_object.specs.declared.head.Head.{Head}
 use Rattle.ob_object.specs.declared.head.Slot.{Slot}
 use Rattle.ob_object.specs.Object.{Objects, none, node, Object, count}
+use Rattle.ob_object.specs.Paths.{is_path, node_path}
 use Rattle.ob_tree.specs.Laid.{heads, heads_of, head_at, changed_in, changed, paths}
-use Rattle.ob_tree.specs.Paths.{is_path, place_of}
+use Rattle.ob_tree.specs.Paths.{place_of}
 use Rattle.ob_tree.proofs.Changing.{got_left, got_right, length-heads}
 use Rattle.ob_site_rules.specs.Build.{Path}
 use Rattle.ob_site_rules.specs.State.{Plan, Log, State, rolled_logs}
-use Rattle.ob_site_rules.specs.Shown.{node_path}
 use Rattle.ob_shown_laws.specs.Alike.{row, DifferInSlots, paths_of}
 use Rattle.ob_site_state.specs.declared.change.Change.{Change}
 use Rattle.ob_site_state.specs.declared.change.Change.TheVariants as change

@@ -6,6 +6,7 @@ use Rattle.std.proofs.lemmas.Bool.{eq-eqb, eqb-true}
 use Rattle.std.proofs.lemmas.Slice.Eq.{bytes_eq-Decides}
 use Rattle.ob_object.specs.declared.head.Slot.{Slot}
 use Rattle.ob_object.specs.declared.status.Status.{Status}
+use Rattle.ob_object.specs.Paths.{is_path}
 use Rattle.ob_contracts.specs.Inherit.{Contracts, or_else, only_if}
 use Rattle.ob_alarms.specs.States.{status_of}
 use Rattle.ob_tree.specs.Laid.{head_at, paths}
@@ -13,7 +14,7 @@ use Rattle.ob_tree.specs.Paths.{place_of}
 use Rattle.ob_tree.specs.Shown.{standing_at}
 use Rattle.ob_consistent_laws.specs.Laws.{Apart}
 use Rattle.ob_site_rules.specs.Build.{Path}
-use Rattle.ob_site_rules.specs.State.{Plan, PointRule, Log, State, is_path, numbered_from, roll}
+use Rattle.ob_site_rules.specs.State.{Plan, PointRule, Log, State, numbered_from, roll}
 use Rattle.ob_site_rules.specs.Sameness.{same_status}
 use Rattle.ob_site_rules.specs.Shown.{rule_of}
 use Rattle.ob_shown_laws.specs.Changed.{differs}

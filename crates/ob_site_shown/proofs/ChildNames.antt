@@ -4,11 +4,12 @@ use Rattle.std.specs.Prelude.{is_some, option_and_then}
 use Rattle.ob_object.specs.declared.head.Head.{Head}
 use Rattle.ob_object.specs.Object.{Objects, none, node, Object, count, listed, in_row, children, listed-in_row}
 use Rattle.ob_object.specs.WellFormed.{has_name, named}
+use Rattle.ob_object.specs.Paths.{node_path}
 use Rattle.ob_contracts.specs.Inherit.{Contracts, Words, implied_by, inherited_head, missing, bare, or_else, overridden, result_of, row_results, sources, with_defaults}
 use Rattle.ob_contracts.proofs.Children.{listed-row_results, listed-row_with_defaults, named-append, named-map, named-missing}
 use Rattle.ob_site_rules.specs.Build.{Path, child}
 use Rattle.ob_site_rules.specs.State.{Plan, State}
-use Rattle.ob_site_rules.specs.Shown.{derived, node_path, rule_of, with_roles, with_status, with_status_at, with_status_by}
+use Rattle.ob_site_rules.specs.Shown.{derived, rule_of, with_roles, with_status, with_status_at, with_status_by}
 use Rattle.ob_standing.specs.Contexts.{Context, comes_to, sources_in}
 use Rattle.ob_shown_laws.specs.Own.{dressed_own}
 use Rattle.ob_tree.specs.Children.{named_from, child_at}

@@ -2,10 +2,11 @@
 use Rattle.std.proofs.Common.{◌≡◌, ℕ, zero, suc, ◌+◌, ◌<◌, ◌≤◌, Bool, true, false, cond, ◌&&◌, ◌||◌, List, [], ◌∷◌, ◌++◌, length, drop, get_or, Option, Some, None, refl, sym, ap, ap₂, ◌∙◌, arith, add-one, drop-cons}
 use Rattle.std.specs.Str.{bytes_eq}
 use Rattle.ob_object.specs.Object.{Object, Objects, none, in_row}
+use Rattle.ob_object.specs.Paths.{is_path, node_path}
 use Rattle.ob_contracts.proofs.Names.{at_place}
 use Rattle.ob_site_rules.specs.Build.{Path}
-use Rattle.ob_site_rules.specs.State.{Plan, Log, State, at, is_among, is_path}
-use Rattle.ob_site_rules.specs.Shown.{node_path, lobby_children, write_point_op, history_part, subject_children, derived_at}
+use Rattle.ob_site_rules.specs.State.{Plan, Log, State, at, is_among}
+use Rattle.ob_site_rules.specs.Shown.{lobby_children, write_point_op, history_part, subject_children, derived_at}
 use Rattle.ob_shown_laws.specs.Changed.{is_in}
 use Rattle.ob_shown_laws.proofs.Looking.{at_path}
 use Rattle.ob_tree.specs.Laid.{AreLeaves}

@@ -5,10 +5,11 @@ use Rattle.std.specs.List.{starts_with}
 use Rattle.std.specs.Str.{bytes_eq}
 use Rattle.std.proofs.lemmas.Bool.Decides.{nat_tests}
 use Rattle.ob_object.specs.Object.{Object, Objects, none, node, in_row}
+use Rattle.ob_object.specs.Paths.{is_path, node_path}
 use Rattle.ob_site_rules.specs.Build.{Path}
-use Rattle.ob_site_rules.specs.State.{Plan, Log, State, at, is_among, is_path}
+use Rattle.ob_site_rules.specs.State.{Plan, Log, State, at, is_among}
 use Rattle.ob_site_rules.specs.Paths.{below, ends_with_slash}
-use Rattle.ob_site_rules.specs.Shown.{node_path, lobby_children, write_point_op, history_part, subject_children, derived_at, derived}
+use Rattle.ob_site_rules.specs.Shown.{lobby_children, write_point_op, history_part, subject_children, derived_at, derived}
 use Rattle.ob_shown_laws.specs.Alike.{row}
 use Rattle.ob_shown_laws.specs.Changed.{is_in}
 use Rattle.ob_shown_laws.specs.OwnShown.{IsNotDerived}

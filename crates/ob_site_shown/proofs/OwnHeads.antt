@@ -4,11 +4,12 @@ use Rattle.std.specs.Prelude.{option_and_then}
 use Rattle.ob_object.specs.declared.head.Head.{Head}
 use Rattle.ob_object.specs.declared.kind.Kind.{Kind}
 use Rattle.ob_object.specs.Object.{Object}
+use Rattle.ob_object.specs.Paths.{node_path}
 use Rattle.ob_contracts.specs.Inherit.{Contracts, result_of}
 use Rattle.ob_ground.specs.Grounds.{alone_at}
 use Rattle.ob_site_rules.specs.Build.{Path, leaf}
 use Rattle.ob_site_rules.specs.State.{Plan, State}
-use Rattle.ob_site_rules.specs.Shown.{dressed, node_path, rule_of, shown, with_status_at, with_status_by}
+use Rattle.ob_site_rules.specs.Shown.{dressed, rule_of, shown, with_status_at, with_status_by}
 use Rattle.ob_standing.specs.Contexts.{Context, comes_to, under}
 use Rattle.ob_shown_laws.specs.Alike.{row}
 use Rattle.ob_shown_laws.specs.Changed.{PathsDiffer, head_in}

@@ -1,10 +1,11 @@
 -- Which nodes the roles of an own node derive.
 use Rattle.std.specs.Prelude.{◌≡◌, ℕ, true, false, List, Option, Some, None, is_some, slice_get}
 use Rattle.ob_object.specs.Object.{Object, in_row}
+use Rattle.ob_object.specs.Paths.{node_path}
 use Rattle.ob_site_rules.specs.Build.{Path}
 use Rattle.ob_site_rules.specs.State.{Plan, State}
 use Rattle.ob_site_rules.specs.Paths.{below}
-use Rattle.ob_site_rules.specs.Shown.{node_path, derived_at, shown}
+use Rattle.ob_site_rules.specs.Shown.{derived_at, shown}
 use Rattle.ob_shown_laws.specs.Changed.{is_in}
 use Rattle.ob_tree.specs.Laid.{paths}
 use Rattle.ob_tree.specs.Paths.{place_of}

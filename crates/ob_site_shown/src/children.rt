@@ -11,7 +11,6 @@ ghost use Rattle.ob_shown_laws.specs.OwnTree.{own_shown_at};
 use crate::roles::derived;
 use ob_contracts::Steps;
 use ob_object::find_named;
-use ob_plain_state::node_path;
 use ob_replies::Plan;
 use ob_site_state::Contents;
 use ob_tree::NodeId;
@@ -42,6 +41,6 @@ pub fn shows_child<L: Ledger>(
     if view.child(name.as_str()).is_some() {
         return Ok(true);
     }
-    let derived = derived(alloc, plan, contents, node_path(own.head()))?;
+    let derived = derived(alloc, plan, contents, own.head().node_path())?;
     Ok(find_named(&derived, name.as_str()).is_some())
 }

@@ -12,7 +12,6 @@ ghost use Rattle.ob_site_state.specs.Kept.{keys};
 
 use crate::roles::derived;
 use ob_object::{Attributes, Obj};
-use ob_plain_state::node_path;
 use ob_replies::Plan;
 use ob_replies::build::whole;
 use ob_site_state::Contents;
@@ -24,7 +23,7 @@ fn dressed_head(contents: &Contents, head: &Attributes) -> Result<Attributes, Al
         → IfOk result (λ h. h ≡ with_status plan (state_in contents.now) head.now) }
 {
     let mut dressed = head.copy()?;
-    if let Some(path) = node_path(head) {
+    if let Some(path) = head.node_path() {
         if let Some(rule) = contents.roles.rule_of(path) {
             dressed.put_status(Some(contents.board.status_of(rule as u64)));
         }
@@ -59,7 +58,7 @@ pub fn dress(
     for child in object.children() {
         own.push(dress(alloc, plan, contents, child)?)?;
     }
-    let derived = derived(alloc, plan, contents, node_path(object.head()))?;
+    let derived = derived(alloc, plan, contents, object.head().node_path())?;
     let all = joined(own, derived)?;
     whole(alloc, head, all)
 }

@@ -17,7 +17,7 @@ use crate::parents::parent_path;
 use crate::roles::derived;
 use ob_contracts::Steps;
 use ob_object::Obj;
-use ob_plain_state::{is_path, node_path};
+use ob_plain_state::is_path;
 use ob_replies::Plan;
 use ob_site_state::Contents;
 use ob_tree::NodeId;
@@ -39,7 +39,7 @@ fn among<'a>(objects: &'a [Obj], path: &Text) -> Option<&'a Obj>
     ensures { IsAmong path.now objects.now (option_copied result) }
 {
     for object in objects {
-        if is_path(path, node_path(object.head())) {
+        if is_path(path, object.head().node_path()) {
             return Some(object);
         }
     }

@@ -5,7 +5,8 @@ use Rattle.std.specs.Str.{bytes_eq}
 use Rattle.std.proofs.lemmas.Slice.Eq.{bytes_eq-Decides}
 use Rattle.ob_consistent_laws.specs.Laws.{Apart}
 use Rattle.ob_site_rules.specs.Build.{Path}
-use Rattle.ob_site_rules.specs.State.{Plan, Log, at, is_among, is_path}
+use Rattle.ob_object.specs.Paths.{is_path}
+use Rattle.ob_site_rules.specs.State.{Plan, Log, at, is_among}
 use Rattle.ob_site_rules.specs.Writes.{records_from}
 
 pub same_path : (p : Path) → bytes_eq p p ≡ true

@@ -6,13 +6,14 @@ use Rattle.ob_object.specs.declared.kind.Kind.{Kind}
 use Rattle.ob_object.specs.declared.head.Head.{Head}
 use Rattle.ob_object.specs.declared.head.Slot.{Slot}
 use Rattle.ob_object.specs.Object.{Objects, none, node, Object}
+use Rattle.ob_object.specs.Paths.{is_path, node_path}
+use Rattle.ob_object.specs.Kinds.{has_values}
 use Rattle.ob_contracts.specs.Inherit.{or_else, only_if}
-use Rattle.ob_history.specs.Records.{is_value_kind}
 use Rattle.ob_tree.specs.Paths.{place_of}
 use Rattle.ob_tree.specs.Laid.{heads, paths}
 use Rattle.ob_site_rules.specs.Build.{Path}
-use Rattle.ob_site_rules.specs.State.{Plan, State, is_path}
-use Rattle.ob_site_rules.specs.Shown.{node_path, node_in, node_of}
+use Rattle.ob_site_rules.specs.State.{Plan, State}
+use Rattle.ob_site_rules.specs.Shown.{node_in, node_of}
 use Rattle.ob_site_rules.specs.Writes.{with_slot_in, with_slot}
 use Rattle.ob_site_state.specs.Roles.{RolesStand}
 
@@ -83,7 +84,7 @@ roles_stay plan s t same kinds stand = record {
   subject = λ p named. there p (stand.subject p named);
   values = λ history q o source found.
       let was = found_of_kind (node_of q s.tree) o.head.kind (sym (kinds q) ∙ ap kind_of found) in
-      ap is_value_kind (sym was.2) ∙ stand.values history q was.0 source was.1;
+      ap has_values (sym was.2) ∙ stand.values history q was.0 source was.1;
 }
   where
     there : (p : Path) → is_some (place_of p (paths s.tree)) ≡ true → is_some (place_of p (paths t.tree)) ≡ true

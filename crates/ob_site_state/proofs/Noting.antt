@@ -7,9 +7,10 @@ use Rattle.ob_object.specs.declared.status.Status.{Status}
 use Rattle.ob_object.specs.Fits.{fits_slot, fits_name, fits_lists, fits_facets}
 use Rattle.ob_object.specs.Object.{Object, parts}
 use Rattle.ob_object.specs.WellFormed.{IsWellFormed}
+use Rattle.ob_object.specs.Paths.{node_path}
 use Rattle.ob_contracts.specs.Inherit.{Contracts}
 use Rattle.ob_alarms.specs.Changes.{State as Board}
-use Rattle.ob_tree.specs.Paths.{Path as TreePath, first_twice, place_of, node_path}
+use Rattle.ob_tree.specs.Paths.{Path as TreePath, first_twice, place_of}
 use Rattle.ob_tree.specs.Laid.{heads_of, head_at, changed, paths}
 use Rattle.ob_tree.proofs.Changing.{heads-changed, length-heads, parts-changed}
 use Rattle.ob_tree.proofs.Naming.{well-changed, head_fits_at, slot_fits}

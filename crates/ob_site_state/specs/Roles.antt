@@ -2,7 +2,7 @@
 -- name nodes by their paths is this profile's own.
 use Rattle.std.specs.Prelude.{◌≡◌, true, map, is_some, Some}
 use Rattle.ob_object.specs.Object.{Object}
-use Rattle.ob_history.specs.Records.{is_value_kind}
+use Rattle.ob_object.specs.Kinds.{has_values}
 use Rattle.ob_tree.specs.Paths.{place_of}
 use Rattle.ob_tree.specs.Laid.{paths}
 use Rattle.ob_site_rules.specs.Build.{Path}
@@ -12,7 +12,7 @@ use Rattle.ob_site_rules.specs.Shown.{node_of}
 -- The own node at the path of a history's source is of a kind that has values.
 abbrev pub SourcesHaveValues : Plan → State → Type 0
 SourcesHaveValues plan s =
-    (history p : Path) (o : Object) → source_of plan history ≡ Some p → node_of p s.tree ≡ Some o → is_value_kind o.head.kind ≡ true
+    (history p : Path) (o : Object) → source_of plan history ≡ Some p → node_of p s.tree ≡ Some o → has_values o.head.kind ≡ true
 
 -- What roles name are own nodes of the tree: each history, the source of each rule, and the alarm subject; and sources of
 -- histories have values.

@@ -1,7 +1,6 @@
 //! What a rule looks at, and which history records a node.
 ghost use Rattle.std.specs.Prelude.{◌≡◌, ◌<◌, length, slice_get, Some};
 ghost use Rattle.ob_site_rules.specs.Build.{Path};
-ghost use Rattle.ob_site_rules.specs.State.{is_path};
 ghost use Rattle.ob_site_rules.specs.Writes.{number_in};
 ghost use Rattle.ob_site_state.specs.Recorded.{HasSource};
 

@@ -11,19 +11,20 @@ use Rattle.ob_object.specs.declared.kind.Kind.TheVariants as kind
 use Rattle.ob_object.specs.declared.head.Head.{Head}
 use Rattle.ob_object.specs.declared.head.Slot.{Slot}
 use Rattle.ob_object.specs.declared.head.Slot.TheVariants.{Absent, Null, Is}
-use Rattle.ob_object.specs.Kinds.{kind_of, same_kind}
+use Rattle.ob_object.specs.Kinds.{kind_of, same_kind, has_values}
 use Rattle.ob_object.specs.Fits.{fits_slot}
 use Rattle.ob_object.specs.Object.{Object, Objects, none, node}
+use Rattle.ob_object.specs.Paths.{is_path, node_path}
 use Rattle.ob_contracts.proofs.Fitting.{one_kind}
 use Rattle.ob_alarms.specs.declared.rule.Num.{Num}
 use Rattle.ob_alarms.specs.declared.rule.Num.TheVariants as num
 use Rattle.ob_alarms.specs.declared.rule.Rule.{Rule}
 use Rattle.ob_alarms.specs.Limits.{TakenBy, IsOfKind, same_kind as same_kind_num}
 use Rattle.ob_alarms.specs.Lists.{first_place}
-use Rattle.ob_history.specs.Records.{is_value_kind, holds_value, IsRecord}
+use Rattle.ob_history.specs.Records.{holds_value, IsRecord}
 use Rattle.ob_site_rules.specs.Build.{Path}
-use Rattle.ob_site_rules.specs.State.{Plan, PointRule, State, is_path, numbered_from}
-use Rattle.ob_site_rules.specs.Shown.{node_path, rule_of, shown}
+use Rattle.ob_site_rules.specs.State.{Plan, PointRule, State, numbered_from}
+use Rattle.ob_site_rules.specs.Shown.{rule_of, shown}
 use Rattle.ob_site_rules.specs.Writes.{number_in, records_from}
 use Rattle.ob_plain_state.specs.States.{NodesAre, IsOfKindAt, limits_fit, rule_in, is_int}
 use Rattle.ob_plain_state.specs.Fitting.{NodesTake, TakesIfRule}
@@ -32,7 +33,7 @@ use Rattle.ob_consistent_laws.specs.Consistent.{IsConsistent}
 use Rattle.ob_site_written.specs.Fitting.{CanBeWritten}
 
 -- the kind of a value is one that has values
-valued : (v : Value) → is_value_kind (kind_of v) ≡ true
+valued : (v : Value) → has_values (kind_of v) ≡ true
 valued (value.Bool b) = refl
 valued (value.Int i) = refl
 valued (value.Real r) = refl
@@ -45,12 +46,12 @@ valued (value.Date d) = refl
 valued (value.Time t) = refl
 
 -- a kind takes what another one does that is the same, if that is one of values
-takes_too : (k j : Kind) (slot : Slot) → (is_value_kind k ≡ true → k ≡ j) → IsTrue (fits_slot k slot) → IsTrue (fits_slot j slot)
+takes_too : (k j : Kind) (slot : Slot) → (has_values k ≡ true → k ≡ j) → IsTrue (fits_slot k slot) → IsTrue (fits_slot j slot)
 takes_too k j Absent same fits = refl
 takes_too k j Null same fits = refl
 takes_too k j (Is v) same fits =
     let is : k ≡ kind_of v = one_kind k (kind_of v) fits in
-    subst (λ (x : Kind). IsTrue (fits_slot x (Is v))) (same (ap is_value_kind is ∙ valued v)) fits
+    subst (λ (x : Kind). IsTrue (fits_slot x (Is v))) (same (ap has_values is ∙ valued v)) fits
 
 nodes_take : (kind_at : Path → Kind) (p : Path) (slot : Slot) → IsTrue (fits_slot (kind_at p) slot) → (r : Objects) → NodesAre kind_at r → NodesTake p slot r
 nodes_take kind_at p slot fits none n = tt
@@ -129,11 +130,11 @@ both false b e f = absurd (true≢false (sym e))
 
 -- and where a history records it, it is a record
 pub can_be_written : (plan : Plan) (s : State) (p : Path) (o : Object) (slot : Slot) → IsConsistent plan s → shown plan s p ≡ Some o → IsTrue (fits_slot o.head.kind slot)
-    → ((history : Path) → records_from plan p history ≡ true → is_value_kind o.head.kind ≡ true)
-    → (is_value_kind o.head.kind ≡ true → IsTrue (holds_value o.head.kind slot))
+    → ((history : Path) → records_from plan p history ≡ true → has_values o.head.kind ≡ true)
+    → (has_values o.head.kind ≡ true → IsTrue (holds_value o.head.kind slot))
     → CanBeWritten plan s p o.head.kind slot
 can_be_written plan s p o slot c shows f records held = record {
   nodes = nodes_take c.kind_at p slot (shown_fits plan s p o slot c shows f) (node s.tree.head s.tree.inner none) c.kinds;
   rule = rule_takes plan s p o slot c shows f;
-  is_record = λ history has now. both (is_value_kind o.head.kind) (holds_value o.head.kind slot) (records history has) (held (records history has));
+  is_record = λ history has now. both (has_values o.head.kind) (holds_value o.head.kind slot) (records history has) (held (records history has));
 }

@@ -17,4 +17,3 @@ pub use putting::{put, write_by};
 pub use reading::{replied, shown};
 pub use refusing::{put_fault, write_fault};
 pub use stop::Stop;
-pub use value::is_value_kind;

@@ -3,7 +3,8 @@ ghost use Rattle.std.specs.Prelude.{◌≡◌, Some, None, true, false, IsTrue, 
 ghost use Rattle.std.specs.Option.{option_copied};
 ghost use Rattle.ob_contracts.specs.Inherit.{effective_of};
 ghost use Rattle.ob_object.specs.Fits.{fits_slot};
-ghost use Rattle.ob_history.specs.Records.{is_value_kind, holds_value};
+ghost use Rattle.ob_object.specs.Kinds.{has_values};
+ghost use Rattle.ob_history.specs.Records.{holds_value};
 ghost use Rattle.ob_site_rules.specs.Build.{Path};
 ghost use Rattle.ob_site_rules.specs.Shown.{shown};
 ghost use Rattle.ob_site_rules.specs.Writes.{written, overfills, records_from, value_fault, showing, unless, write_by, put};
@@ -50,8 +51,8 @@ fn write_given<L: Ledger>(
     steps: &mut Steps<L>,
 ) -> Result<Obj, Stop>
     requires shows { shown state.old.plan state.old.now path.now ≡ Some object.now }
-    requires records { (history : Path) → records_from state.old.plan path.now history ≡ true → is_value_kind object.now.head.kind ≡ true }
-    requires held { is_value_kind new.now.kind ≡ true → IsTrue (fits_slot new.now.kind new.now.slot) → IsTrue (holds_value new.now.kind new.now.slot) }
+    requires records { (history : Path) → records_from state.old.plan path.now history ≡ true → has_values object.now.head.kind ≡ true }
+    requires held { has_values new.now.kind ≡ true → IsTrue (fits_slot new.now.kind new.now.slot) → IsTrue (holds_value new.now.kind new.now.slot) }
     ensures ok { IfOk result (IsDone state.old state.new (unless (value_fault state.old.plan state.old.now state.old.time path.now object.now.head new.now) state.old.now (showing state.old.plan path.now object.now (written state.old.plan state.old.time path.now object.now new.now.slot state.old.now)))) }
     ensures stop { IfErr result (Stops state.old state.new (unless (value_fault state.old.plan state.old.now state.old.time path.now object.now.head new.now) state.old.now (showing state.old.plan path.now object.now (written state.old.plan state.old.time path.now object.now new.now.slot state.old.now)))) }
 {
@@ -89,7 +90,7 @@ pub fn write_by<L: Ledger>(
     steps: &mut Steps<L>,
 ) -> Result<Obj, Stop>
     requires shows { shown state.old.plan state.old.now path.now ≡ Some object.now }
-    requires records { (history : Path) → records_from state.old.plan path.now history ≡ true → is_value_kind object.now.head.kind ≡ true }
+    requires records { (history : Path) → records_from state.old.plan path.now history ≡ true → has_values object.now.head.kind ≡ true }
     ensures ok { IfOk result (IsDone state.old state.new (write_by state.old.plan state.old.now state.old.time path.now object.now None body.now)) }
     ensures stop { IfErr result (Stops state.old state.new (write_by state.old.plan state.old.now state.old.time path.now object.now None body.now)) }
 {

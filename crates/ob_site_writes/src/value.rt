@@ -2,14 +2,14 @@
 ghost use Rattle.std.specs.Prelude.{◌≡◌, None, option_map, option_and_then, option_copied, IfOk};
 ghost use Rattle.ob_object.specs.declared.head.Slot.TheVariants.{Is};
 ghost use Rattle.ob_object.specs.Write.{verdict};
+ghost use Rattle.ob_object.specs.Kinds.{has_values};
 ghost use Rattle.ob_contracts.specs.Inherit.{contract_of};
-ghost use Rattle.ob_history.specs.Records.{is_value_kind};
 ghost use Rattle.ob_replies.specs.Told as told;
 ghost use Rattle.ob_site_rules.specs.Writes.{ranged, has_child, is_listed, fault_of, verdict_fault, slot_fault, value_fault, target_fault};
 ghost use Rattle.ob_site_writes.specs.Targets.{IsTarget};
 
 use ob_contracts::Steps;
-use ob_object::{Attributes, Kind, Obj, Slot, WriteFault, check_write};
+use ob_object::{Attributes, Obj, Slot, WriteFault, check_write};
 use ob_replies::Fault;
 use ob_site_shown::shows_child;
 use ob_site_state::State;
@@ -18,21 +18,11 @@ use ob_values::{Text, Value};
 use std::alloc::AllocError;
 use std::sync::ledger::Ledger;
 
-/// Whether a kind is one of the ten that have values.
-pub fn is_value_kind(kind: Kind) -> bool
-    ensures { result ≡ is_value_kind kind }
-{
-    match kind {
-        Kind::Obj | Kind::List | Kind::Op | Kind::Feed | Kind::Ref | Kind::Err => false,
-        _ => true,
-    }
-}
-
 /// What is wrong with a node that is to be put to: it has no value, or isn't shown as writable.
 pub(crate) fn target_fault(head: &Attributes) -> Option<Fault>
     ensures { option_map told.fault result ≡ target_fault head.now }
 {
-    if !is_value_kind(head.kind()) {
+    if !head.kind().has_values() {
         return Some(Fault::NotSupported);
     }
     match head.writable() {

@@ -3,10 +3,10 @@ use Rattle.std.proofs.Common.{ℕ, ◌≡◌, ◌<◌, Bool, true, false, ◌||�
 use Rattle.std.specs.Prelude.{is_some, codes, unwrap_or}
 use Rattle.std.specs.List.{cons_option, list_any}
 use Rattle.ob_object.specs.Object.{Objects, none, node, Object, parts, listed, children}
+use Rattle.ob_object.specs.Paths.{is_path, node_path}
 use Rattle.ob_contracts.specs.Inherit.{Contracts, or_else, only_if}
 use Rattle.ob_site_rules.specs.Build.{Path, child}
-use Rattle.ob_site_rules.specs.State.{is_path}
-use Rattle.ob_site_rules.specs.Shown.{node_path, node_in, node_of}
+use Rattle.ob_site_rules.specs.Shown.{node_in, node_of}
 use Rattle.ob_site_rules.specs.Writes.{site_contracts, is_in_contract}
 use Rattle.ob_shown_laws.specs.Changed.{is_in, is_round}
 use Rattle.ob_tree.specs.Children.{child_at}

@@ -6,9 +6,8 @@ use Rattle.ob_object.specs.declared.head.Head.{Head}
 use Rattle.ob_object.specs.declared.head.Slot.{Slot}
 use Rattle.ob_object.specs.Fits.{fits_slot}
 use Rattle.ob_object.specs.Object.{Objects, none, node, Object, count, parts}
+use Rattle.ob_object.specs.Paths.{is_path, node_path}
 use Rattle.ob_site_rules.specs.Build.{Path}
-use Rattle.ob_site_rules.specs.State.{is_path}
-use Rattle.ob_site_rules.specs.Shown.{node_path}
 use Rattle.ob_plain_state.specs.Fitting.{NodesTake}
 use Rattle.ob_tree.specs.Laid.{heads, heads_of, head_at, paths}
 use Rattle.ob_tree.specs.Paths.{place_of}

@@ -7,9 +7,10 @@ use Rattle.std.proofs.lemmas.List.{drop_all}
 use Rattle.std.proofs.Math.Seq.{drop-cons}
 use Rattle.ob_object.specs.declared.head.Head.{Head}
 use Rattle.ob_object.specs.Object.{Object}
+use Rattle.ob_object.specs.Paths.{node_path}
 use Rattle.ob_contracts.specs.Inherit.{Contracts}
 use Rattle.ob_site_rules.specs.Build.{Path}
-use Rattle.ob_site_rules.specs.Shown.{node_path, node_of}
+use Rattle.ob_site_rules.specs.Shown.{node_of}
 use Rattle.ob_site_written.specs.Parts.{contracts_in}
 
 in_front : (x : Object) (os : List Object) → contracts_in (x ∷ os) ≡ contracts_in (x ∷ []) ++ contracts_in os

@@ -1,8 +1,8 @@
 -- Parts of the definitions of writes, each for one object.
 use Rattle.std.specs.Prelude.{List, filter_map, option_map}
 use Rattle.ob_object.specs.Object.{Object}
+use Rattle.ob_object.specs.Paths.{node_path}
 use Rattle.ob_contracts.specs.Inherit.{Contracts}
-use Rattle.ob_site_rules.specs.Shown.{node_path}
 
 -- those of some objects that are nodes, each under its path
 abbrev pub contracts_in : List Object → Contracts

@@ -17,7 +17,7 @@ ghost use Rattle.ob_site_written.specs.Parts.{contracts_in};
 
 use ob_contracts::{LibFault, Library};
 use ob_object::Obj;
-use ob_plain_state::{node_of, node_path};
+use ob_plain_state::node_of;
 use ob_site_state::State;
 use ob_tree::{NodeId, Tree};
 use ob_values::Text;
@@ -27,7 +27,7 @@ use std::alloc::{AllocError, Global};
 fn has_node(contract: &Obj, path: &Text) -> bool
     ensures { result ≡ list_any (λ c. is_some (node_of path.now c.1)) (contracts_in (contract.now ∷ [])) }
 {
-    match node_path(contract.head()) {
+    match contract.head().node_path() {
         Some(_own) => node_of(contract, path).is_some(),
         None => false,
     }
@@ -62,7 +62,7 @@ fn put_contract(library: &mut Library, contract: &Obj) -> Result<(), AllocError>
     requires { AreTaken library.old (contracts_in (contract.now ∷ [])) }
     ensures { IfOk result (λ _. library.new ≡ with_added library.old (contracts_in (contract.now ∷ []))) }
 {
-    match node_path(contract.head()) {
+    match contract.head().node_path() {
         Some(path) => add_taken(library, path.copy()?, contract.copy()?),
         None => Ok(()),
     }

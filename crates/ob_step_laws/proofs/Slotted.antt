@@ -9,12 +9,13 @@ use Rattle.ob_object.specs.declared.head.Slot.TheVariants.{Absent, Null, Is}
 use Rattle.ob_object.specs.declared.head.Head.{Head}
 use Rattle.ob_object.specs.Object.{Objects, none, node, Object, listed, children}
 use Rattle.ob_object.specs.WellFormed.{named}
+use Rattle.ob_object.specs.Paths.{is_path, node_path}
+use Rattle.ob_object.specs.Kinds.{has_values}
 use Rattle.ob_contracts.specs.Inherit.{Contracts, or_else, only_if, slot_or_default, effective_of, result_of}
 use Rattle.ob_contracts.proofs.Children.{named-map}
-use Rattle.ob_history.specs.Records.{is_value_kind}
 use Rattle.ob_site_rules.specs.Build.{Path, child}
-use Rattle.ob_site_rules.specs.State.{State, is_path}
-use Rattle.ob_site_rules.specs.Shown.{node_path, node_in, node_of}
+use Rattle.ob_site_rules.specs.State.{State}
+use Rattle.ob_site_rules.specs.Shown.{node_in, node_of}
 use Rattle.ob_site_rules.specs.Writes.{with_slot_in, with_slot, site_contracts, is_in_contract, given_by}
 use Rattle.ob_shown_laws.specs.Alike.{row, without_slot, DifferInSlots}
 use Rattle.ob_step_laws.specs.Defaults.{unslotted_row, unslotted, StayGiven}
@@ -155,7 +156,7 @@ contracts_stay p slot t e =
         ∙ ap nodes (children_slotted p slot (child (codes "contracts") t))
 
 -- a kind with values has a default
-default_given : (k : Kind) (v : Slot) → is_value_kind k ≡ true → slot_or_default k v ≡ Absent → ⊥
+default_given : (k : Kind) (v : Slot) → has_values k ≡ true → slot_or_default k v ≡ Absent → ⊥
 default_given k Null is e = cc
 default_given k (Is v) is e = cc
 default_given kind.Bool Absent is e = cc
@@ -176,7 +177,7 @@ default_given kind.Ref Absent is e = true≢false (sym is)
 default_given kind.Err Absent is e = true≢false (sym is)
 
 -- so what a body gives has a value
-pub value_given : (s : State) (body : Object) → is_value_kind body.head.kind ≡ true → (given_by s body).slot ≡ Absent → ⊥
+pub value_given : (s : State) (body : Object) → has_values body.head.kind ≡ true → (given_by s body).slot ≡ Absent → ⊥
 unfolding result_of
 value_given s body is e = default_given body.head.kind (result_of s.library body None None).head.slot is e
 

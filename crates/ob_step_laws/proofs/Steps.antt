@@ -9,18 +9,18 @@ use Rattle.ob_object.specs.declared.kind.Kind.{Kind}
 use Rattle.ob_object.specs.declared.head.Slot.{Slot}
 use Rattle.ob_object.specs.declared.head.Slot.TheVariants.{Absent}
 use Rattle.ob_object.specs.declared.head.Head.{Head}
-use Rattle.ob_object.specs.Kinds.{same_kind}
+use Rattle.ob_object.specs.Kinds.{same_kind, has_values}
 use Rattle.ob_object.specs.Object.{Objects, none, node, Object, children}
+use Rattle.ob_object.specs.Paths.{is_path, node_path}
 use Rattle.ob_contracts.specs.Inherit.{Contracts, or_else, only_if, result_of}
 use Rattle.ob_contracts.specs.Standard.{standard, with_added}
 use Rattle.ob_contracts.proofs.Fitting.{one_kind}
-use Rattle.ob_history.specs.Records.{is_value_kind}
 use Rattle.ob_site_rules.specs.declared.request.Request.{Request}
 use Rattle.ob_site_rules.specs.Build.{Text, Path}
 use Rattle.ob_site_rules.specs.Faults.{Fault, NotSupported, NotWritable, OtherKind, NotInBatch, err, first_fault}
-use Rattle.ob_site_rules.specs.State.{Plan, Log, State, is_among, is_path}
+use Rattle.ob_site_rules.specs.State.{Plan, Log, State, is_among}
 use Rattle.ob_site_rules.specs.Sameness.{same_slot}
-use Rattle.ob_site_rules.specs.Shown.{rule_of, node_path, node_in, node_of, with_status_at, with_status_by, dressed, shown}
+use Rattle.ob_site_rules.specs.Shown.{rule_of, node_in, node_of, with_status_at, with_status_by, dressed, shown}
 use Rattle.ob_site_rules.specs.Places.{Place, About, Batch, Service, Make, AlarmAt, AckOf, WritePointOf, QueryOf, FeedOf, AlarmQuery, AlarmFeed, Node, place_at}
 use Rattle.ob_site_rules.specs.Writes.{with_slot, site_contracts, is_in_contract, recorded, write, written, unless, value_fault, is_writable, write_by, put, given_by, target_fault}
 use Rattle.ob_site_rules.specs.Posts.{call, write_point}
@@ -125,7 +125,7 @@ not_first : (b : Bool) (fault : Fault) (rows : List (Bool × Fault)) → first_f
 not_first true fault rows e = refl
 not_first false fault rows e = absurd cc
 
-write_by_follows : (plan : Plan) (s : State) (now : ℕ) (p : Path) (o : Object) (fault : Option Fault) (body : Object) → (fault ≡ None → is_value_kind o.head.kind ≡ true) → Follows s (write_by plan s now p o fault body).0
+write_by_follows : (plan : Plan) (s : State) (now : ℕ) (p : Path) (o : Object) (fault : Option Fault) (body : Object) → (fault ≡ None → has_values o.head.kind ≡ true) → Follows s (write_by plan s now p o fault body).0
 write_by_follows plan s now p o fault body value =
     unless_follows plan (option_or fault (value_fault plan s now p o.head (given_by s body))) s _
     (λ e. written_follows plan now p o (given_by s body).slot s (some e))
@@ -136,12 +136,12 @@ write_by_follows plan s now p o fault body value =
         let kind : same_kind (given_by s body).kind o.head.kind ≡ true =
         not_first (same_kind (given_by s body).kind o.head.kind) OtherKind [] (neither_fault (first_fault ((not (same_kind (given_by s body).kind o.head.kind), OtherKind) ∷ [])) _ parts.1).0 in
         value_given s body
-        (ap is_value_kind (sym (kind_given s body) ∙ one_kind (given_by s body).kind o.head.kind kind) ∙ value parts.0)
+        (ap has_values (sym (kind_given s body) ∙ one_kind (given_by s body).kind o.head.kind kind) ∙ value parts.0)
 
 put_follows : (plan : Plan) (s : State) (now : ℕ) (p : Path) (o : Object) (body : Option Object) → Follows s (put plan s now p o body).0
 put_follows plan s now p o None = unless_follows plan _ s _ (λ e. itself plan s)
 put_follows plan s now p o (Some body) =
-    write_by_follows plan s now p o (target_fault o.head) body (λ e. not_first (is_value_kind o.head.kind) NotSupported ((not (is_writable o.head.facets.writable), NotWritable) ∷ []) e)
+    write_by_follows plan s now p o (target_fault o.head) body (λ e. not_first (has_values o.head.kind) NotSupported ((not (is_writable o.head.facets.writable), NotWritable) ∷ []) e)
 
 put_at_follows : (plan : Plan) (s : State) (now : ℕ) (p : Path) (place : Place) (body : Option Object) → Follows s (put_at plan s now p place body).0
 put_at_follows plan s now p (Node o) body = put_follows plan s now p o body
@@ -163,12 +163,12 @@ kinds_of o = option_map (λ x. x.head.kind) o
 
 abbrev HasValue : Option Kind → Type 0
 HasValue None = ⊥
-HasValue (Some k) = is_value_kind k ≡ true
+HasValue (Some k) = has_values k ≡ true
 
 abbrev PointsShowValues : Plan → State → Type 0
 PointsShowValues plan s = (p : Path) → is_among p plan.points ≡ true → HasValue (kinds_of (shown plan s p))
 
-point_value : (new : Object) (shows : Option Object) → HasValue (kinds_of shows) → is_value_kind (unwrap_or shows new).head.kind ≡ true
+point_value : (new : Object) (shows : Option Object) → HasValue (kinds_of shows) → has_values (unwrap_or shows new).head.kind ≡ true
 point_value new None h = absurd h
 point_value new (Some o) h = h
 
@@ -315,7 +315,7 @@ is_there p os = ap (λ (o : Option Object). is_some o) (sym (own_node p no_conte
     some_object None = refl
     some_object (Some x) = refl
 
-has_value : (o : Option Object) → IsTrue (is_some o) → ((x : Object) → o ≡ Some x → is_value_kind x.head.kind ≡ true) → HasValue (kinds_of o)
+has_value : (o : Option Object) → IsTrue (is_some o) → ((x : Object) → o ≡ Some x → has_values x.head.kind ≡ true) → HasValue (kinds_of o)
 has_value None t h = absurd (true≢false (sym t))
 has_value (Some x) t h = h x refl
 
@@ -333,10 +333,10 @@ points_show plan s differ points p point =
     subst HasValue (sym (own_kind plan s p differ has.0)) (has_value (node_of p s.tree) has.0 has.1)
 
 -- and the other way round, after a step
-value_of : (o q : Option Object) → kinds_of o ≡ kinds_of q → IsTrue (is_some o) × ((x : Object) → o ≡ Some x → is_value_kind x.head.kind ≡ true) → IsTrue (is_some q) × ((x : Object) → q ≡ Some x → is_value_kind x.head.kind ≡ true)
+value_of : (o q : Option Object) → kinds_of o ≡ kinds_of q → IsTrue (is_some o) × ((x : Object) → o ≡ Some x → has_values x.head.kind ≡ true) → IsTrue (is_some q) × ((x : Object) → q ≡ Some x → has_values x.head.kind ≡ true)
 value_of None q e h = absurd (true≢false (sym h.0))
 value_of (Some x) None e h = absurd cc
-value_of (Some x) (Some y) e h = (h.0, λ z f. ap is_value_kind (kind_same (ap kinds_of (sym f) ∙ sym e)) ∙ h.1 x refl)
+value_of (Some x) (Some y) e h = (h.0, λ z f. ap has_values (kind_same (ap kinds_of (sym f) ∙ sym e)) ∙ h.1 x refl)
   where
     kind_same : {a b : Kind} → Some a ≡ Some b → a ≡ b
     kind_same g = cc

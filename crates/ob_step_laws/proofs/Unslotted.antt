@@ -10,11 +10,11 @@ use Rattle.ob_object.specs.declared.head.Head.{Head}
 use Rattle.ob_object.specs.Kinds.{is_ref, has_of}
 use Rattle.ob_object.specs.Object.{Object, Objects, none, node, listed, in_row, children}
 use Rattle.ob_object.specs.WellFormed.{has_name, named, is_taken}
+use Rattle.ob_object.specs.Paths.{node_path}
 use Rattle.ob_contracts.specs.Inherit.{Contracts, Words, contract_of, or_else, words_in, present, places, sources, first_given, only_if, inherited_head, overridden, implied_by, bare, bare_row, is_new, missing, row_results, result_of}
 use Rattle.ob_contracts.specs.Standard.{standard, with_added}
 use Rattle.ob_contracts.proofs.Children.{named-map}
 use Rattle.ob_site_rules.specs.Build.{Path, child}
-use Rattle.ob_site_rules.specs.Shown.{node_path}
 use Rattle.ob_site_rules.specs.Writes.{site_contracts}
 use Rattle.ob_shown_laws.specs.Alike.{without_slot}
 use Rattle.ob_step_laws.specs.Defaults.{unslotted_row, unslotted, defaults_off, DefaultsDiffer}

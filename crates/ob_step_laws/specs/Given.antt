@@ -3,8 +3,8 @@
 use Rattle.std.specs.Prelude.{◌≡◌, ℕ, true, List, Option, Some, IsTrue, is_some}
 use Rattle.url.specs.Parts.{Parts}
 use Rattle.ob_object.specs.Object.{Object}
+use Rattle.ob_object.specs.Kinds.{has_values}
 use Rattle.ob_contracts.specs.Standard.{standard, with_added}
-use Rattle.ob_history.specs.Records.{is_value_kind}
 use Rattle.ob_site_rules.specs.declared.request.Request.{Request}
 use Rattle.ob_site_rules.specs.Build.{Text, Path}
 use Rattle.ob_site_rules.specs.State.{Plan, State, is_among}
@@ -22,7 +22,7 @@ IsMade s = s.library ≡ with_added standard (site_contracts s.tree)
 -- each writable point is a node, of a kind that has values
 abbrev pub PointsHaveValues : Plan → State → Type 0
 PointsHaveValues plan s = (p : Path) → is_among p plan.points ≡ true
-    → IsTrue (is_some (node_of p s.tree)) × ((o : Object) → node_of p s.tree ≡ Some o → is_value_kind o.head.kind ≡ true)
+    → IsTrue (is_some (node_of p s.tree)) × ((o : Object) → node_of p s.tree ≡ Some o → has_values o.head.kind ≡ true)
 
 -- A step took no slot away, and left a library that has other slots alone.
 pub record TakesNoneAway (plan : Plan) (s u : State) : Type 0 where

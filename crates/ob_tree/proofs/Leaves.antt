@@ -7,8 +7,9 @@ use Rattle.std.proofs.lemmas.Option.{slice_get-map}
 use Rattle.ob_object.specs.declared.head.Head.{Head}
 use Rattle.ob_object.specs.Fits.{fits_head}
 use Rattle.ob_object.specs.Object.{Object, none, parts}
+use Rattle.ob_object.specs.Paths.{node_path}
 use Rattle.ob_tree.specs.declared.spot.Spot.{Spot}
-use Rattle.ob_tree.specs.Paths.{Path, node_path}
+use Rattle.ob_tree.specs.Paths.{Path}
 use Rattle.ob_tree.specs.Laid.{object, leaf, said, AreLeaves, heads_of, object_of, head_at, changed}
 use Rattle.ob_tree.specs.Shown.{AreLaid}
 use Rattle.ob_tree.specs.Trees.{IsLaid, IsArena}

@@ -4,8 +4,9 @@ use Rattle.std.specs.List.{AllByRecursion}
 use Rattle.ob_object.specs.declared.kind.Kind.TheVariants as kind
 use Rattle.ob_object.specs.declared.head.Head.{Head}
 use Rattle.ob_object.specs.Object.{Objects, none, node, Object, count, in_row, empty_head}
+use Rattle.ob_object.specs.Paths.{node_path}
 use Rattle.ob_tree.specs.declared.spot.Spot.{Spot}
-use Rattle.ob_tree.specs.Paths.{Path, node_path}
+use Rattle.ob_tree.specs.Paths.{Path}
 
 abbrev pub object : Head → Objects → Object
 object h inner = record { head = h; inner = inner }

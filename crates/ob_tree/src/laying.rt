@@ -2,10 +2,10 @@
 ghost use Rattle.std.specs.Prelude.{◌≡◌, [], ◌∷◌, ◌++◌, length, map, Some, None, cond, is_some, IfOk, OnOk, MatchResult};
 ghost use Rattle.std.specs.Str.{bytes_eq};
 ghost use Rattle.std.specs.BTreeMap.{get_by_text};
-ghost use Rattle.ob_tree.specs.Paths.{node_path, place_of, first_twice, Path};
+ghost use Rattle.ob_object.specs.Paths.{node_path};
+ghost use Rattle.ob_tree.specs.Paths.{place_of, first_twice, Path};
 ghost use Rattle.ob_tree.specs.Laid.{heads_of, spots_of, leaf, said};
 
-use crate::paths::node_path;
 use crate::spot::Spot;
 use ob_object::Obj;
 use ob_values::Text;
@@ -90,7 +90,7 @@ pub(crate) fn places_of(
 {
     let mut places = BTreeMap::new(alloc);
     for (place, leaf) in leaves.iter().enumerate() {
-        if let Some(path) = node_path(leaf.head()) {
+        if let Some(path) = leaf.head().node_path() {
             if is_known(&places, path) {
                 let path = path.copy()?;
                 return Ok(Err(path));

@@ -12,7 +12,6 @@ mod laws;
 mod laying;
 mod node;
 mod numbering;
-mod paths;
 mod shown;
 mod spot;
 mod telling;
@@ -22,7 +21,6 @@ mod tree;
 pub use fault::TreeFault;
 pub use laws::{depths_are_levels, last_touches_stamp};
 pub use node::NodeId;
-pub use paths::node_path;
 pub use tree::Tree;
 
 /// A tree may go to another thread, and several may read it.

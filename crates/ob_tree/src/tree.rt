@@ -6,7 +6,8 @@ ghost use Rattle.std.specs.BTreeMap.{get};
 ghost use Rattle.ob_object.specs.declared.head.Head.{Head};
 ghost use Rattle.ob_object.specs.Fits.{fits_slot};
 ghost use Rattle.ob_object.specs.Object.{parts};
-ghost use Rattle.ob_tree.specs.Paths.{node_path, place_of, first_twice};
+ghost use Rattle.ob_object.specs.Paths.{node_path};
+ghost use Rattle.ob_tree.specs.Paths.{place_of, first_twice};
 ghost use Rattle.ob_tree.specs.Laid.{head_at, leaf, parent_at, paths, changed};
 ghost use Rattle.ob_tree.specs.Stamps.{touched};
 ghost use Rattle.ob_tree.specs.Children.{AreNumbered, child_at, place_at};
@@ -21,7 +22,6 @@ use crate::fault::TreeFault;
 use crate::laying::{lay_leaves, lay_spots, places_of};
 use crate::node::NodeId;
 use crate::numbering::all_numbers;
-use crate::paths::node_path;
 use crate::shown::{Lore, grown, standing_of};
 use crate::spot::Spot;
 use crate::telling::{Arena, put_told};
@@ -158,7 +158,7 @@ impl Tree {
         requires { id.number < parts self.now.root }
         ensures { option_copied result ≡ option_and_then node_path (head_at id.number self.now.root) }
     {
-        node_path(self.own(id).head())
+        self.own(id).head().node_path()
     }
 
     /// The object that it is in.

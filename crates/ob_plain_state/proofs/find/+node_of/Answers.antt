@@ -2,10 +2,10 @@ use Rattle.std.proofs.Common.{◌≡◌, ◌<◌, ℕ, List, Some, sym, ap, ◌�
 use Rattle.std.specs.Prelude.{slice_get}
 use Rattle.std.specs.Option.{option_copied}
 use Rattle.ob_object.specs.Object.{Object, in_row, children, parts}
+use Rattle.ob_object.specs.Paths.{is_path, node_path}
 use Rattle.ob_contracts.proofs.At.{fewer_parts}
 use Rattle.ob_contracts.proofs.Names.{at_place}
-use Rattle.ob_site_rules.specs.State.{is_path}
-use Rattle.ob_site_rules.specs.Shown.{node_path, node_in}
+use Rattle.ob_site_rules.specs.Shown.{node_in}
 use Rattle.ob_plain_state.proofs.Finds.{in_child, in_none, within, copied_there}
 use Rattle.ob_plain_state.proofs.find.+node_of.Goals as goal
 

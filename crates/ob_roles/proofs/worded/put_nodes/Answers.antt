@@ -1,7 +1,7 @@
 use Rattle.std.proofs.Common.{◌≡◌, ◌++◌, ◌∷◌, [], Some, None, refl, sym, ap, ◌∙◌, subst}
 use Rattle.std.specs.Option.{option_copied}
 use Rattle.ob_contracts.specs.Inherit.{Contracts}
-use Rattle.ob_site_rules.specs.Shown.{node_path}
+use Rattle.ob_object.specs.Paths.{node_path}
 use Rattle.ob_opening.specs.Roles.{worded}
 use Rattle.ob_roles.specs.Few.{brief_contracts}
 use Rattle.ob_roles.specs.Tables.{Holds}

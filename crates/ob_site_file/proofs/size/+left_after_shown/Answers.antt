@@ -4,6 +4,7 @@ use Rattle.std.specs.Option.{option_copied}
 use Rattle.std.proofs.lemmas.Result.{IfOk-weaker}
 use Rattle.ob_object.specs.declared.head.Head.{Head}
 use Rattle.ob_object.specs.Object.{Object, parts, children, count, in_row, listed}
+use Rattle.ob_object.specs.Paths.{node_path}
 use Rattle.ob_contracts.specs.Found.{found, lent}
 use Rattle.ob_contracts.specs.Inherit.{Contracts, Words, or_else, sources, inherited_head, implied_by, overridden, result_of, missing}
 use Rattle.ob_contracts.specs.Telling.{TellTheSame}
@@ -11,7 +12,7 @@ use Rattle.ob_contracts.proofs.At.{fewer_parts}
 use Rattle.ob_contracts.proofs.Bare.{child_here}
 use Rattle.ob_roles.proofs.PartRows.{row_more, row_past, inner_row}
 use Rattle.ob_site_rules.specs.State.{Plan, State}
-use Rattle.ob_site_rules.specs.Shown.{node_path, derived, with_roles}
+use Rattle.ob_site_rules.specs.Shown.{derived, with_roles}
 use Rattle.ob_site_file.specs.Sizes.{row_count, dressed_at}
 use Rattle.ob_site_file.proofs.Sizes.{left_one, left_next, none_left, all_left, dressed_one, dressed_parts}
 use Rattle.ob_site_file.proofs.size.+left_after_shown.Goals as goal

@@ -4,10 +4,11 @@ use Rattle.std.proofs.lemmas.Result.{IfOk-weaker}
 use Rattle.ob_object.specs.declared.head.Head.{Head}
 use Rattle.ob_object.specs.Object.{Object, children, count, in_row, listed}
 use Rattle.ob_object.specs.WellFormed.{is_taken}
+use Rattle.ob_object.specs.Paths.{node_path}
 use Rattle.ob_contracts.specs.Found.{lent}
 use Rattle.ob_contracts.specs.Inherit.{missing}
 use Rattle.ob_contracts.proofs.Missing.{taken-append}
-use Rattle.ob_site_rules.specs.Shown.{node_path, derived, with_roles}
+use Rattle.ob_site_rules.specs.Shown.{derived, with_roles}
 use Rattle.ob_site_file.specs.Sizes.{row_count, stood, plain, HasNames}
 use Rattle.ob_site_file.proofs.Sizes.{left_both, derived_alike, dressed_names, plain_names}
 use Rattle.ob_site_file.proofs.size.left_after_added.Goals as goal

@@ -3,8 +3,9 @@ use Rattle.std.specs.Prelude.{is_some}
 use Rattle.ob_contracts.specs.Shown.{shown as shown_by}
 use Rattle.ob_object.specs.Object.{Object, children}
 use Rattle.ob_object.specs.WellFormed.{named}
+use Rattle.ob_object.specs.Paths.{node_path}
 use Rattle.ob_replies.specs.Plans.{plan as plan_of}
-use Rattle.ob_site_rules.specs.Shown.{derived, node_path}
+use Rattle.ob_site_rules.specs.Shown.{derived}
 use Rattle.ob_site_state.specs.Contents.{state_in}
 use Rattle.ob_standing.specs.Contexts.{comes_to}
 use Rattle.ob_tree.specs.Children.{child_at}

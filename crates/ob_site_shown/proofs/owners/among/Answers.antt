@@ -1,6 +1,5 @@
 use Rattle.std.proofs.Common.{sym, ap, ◌∙◌}
-use Rattle.ob_site_rules.specs.State.{is_path}
-use Rattle.ob_site_rules.specs.Shown.{node_path}
+use Rattle.ob_object.specs.Paths.{is_path, node_path}
 use Rattle.ob_site_shown.proofs.Leaves.{found_at}
 use Rattle.ob_site_shown.proofs.owners.among.Goals as goal
 

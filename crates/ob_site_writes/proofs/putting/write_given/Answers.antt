@@ -2,10 +2,10 @@ use Rattle.std.proofs.Common.{◌≡◌, true, Option, None, option_map, sym, ap
 use Rattle.ob_object.specs.declared.head.Slot.{Slot}
 use Rattle.ob_object.specs.declared.kind.Kind.{Kind}
 use Rattle.ob_object.specs.Fits.{fits_slot}
-use Rattle.ob_object.specs.Kinds.{same_kind}
+use Rattle.ob_object.specs.Kinds.{same_kind, has_values}
 use Rattle.ob_object.specs.Object.{Object}
 use Rattle.ob_contracts.proofs.Fitting.{one_kind}
-use Rattle.ob_history.specs.Records.{is_value_kind, holds_value}
+use Rattle.ob_history.specs.Records.{holds_value}
 use Rattle.ob_replies.specs.declared.fault.Fault.{Fault}
 use Rattle.ob_replies.specs.Told as told
 use Rattle.ob_site_rules.specs.Faults.{Fault as SiteFault}
@@ -31,7 +31,7 @@ show_written-requires-clause-can g c =
     let found = slot_fault k.plan k.now o.head new.slot in
     let fits : IsTrue (fits_slot o.head.kind new.slot) = slot_fits k.plan k.now o.head new.slot (nothing_of (same_kind new.kind o.head.kind) found over right).0 in
     let kind : new.kind ≡ o.head.kind = one_kind new.kind o.head.kind (same_of (same_kind new.kind o.head.kind) found over right) in
-    let held = subst (λ (x : Kind). is_value_kind x ≡ true → IsTrue (fits_slot x new.slot) → IsTrue (holds_value x new.slot)) kind c.requires.held in
+    let held = subst (λ (x : Kind). has_values x ≡ true → IsTrue (fits_slot x new.slot) → IsTrue (holds_value x new.slot)) kind c.requires.held in
     subst (λ (x : Kept). CanBeWritten x.plan x.now p o.head.kind c.slot.result.now) (sym c.in_ok-fault.ensures.same)
     (subst (λ (s : Slot). CanBeWritten k.plan k.now p o.head.kind s) (sym c.slot.ensures)
     (can_be_written k.plan k.now p o new.slot c.is_sound.ensures.sound.consistent c.requires.shows fits c.requires.records (λ v. held v fits)))

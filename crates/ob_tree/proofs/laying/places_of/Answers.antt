@@ -2,7 +2,8 @@ use Rattle.std.proofs.Common.{◌≡◌, ◌<◌, ℕ, List, Some, None, true, f
 use Rattle.std.specs.Prelude.{is_some, String}
 use Rattle.std.proofs.Common.{Global}
 use Rattle.std.specs.BTreeMap.{BTreeMap, get_by_text}
-use Rattle.ob_tree.specs.Paths.{node_path, is_twice}
+use Rattle.ob_object.specs.Paths.{node_path}
+use Rattle.ob_tree.specs.Paths.{is_twice}
 use Rattle.ob_tree.specs.Laid.{said}
 use Rattle.ob_tree.proofs.Leaves.{said_below, said_or}
 use Rattle.ob_tree.proofs.Placed.{put_more, skip_more, twice_if_known, twice_next, twice_here}

@@ -1,6 +1,7 @@
 use Rattle.std.proofs.Common.{◌≡◌, List, [], ℕ, map, take, drop}
 use Rattle.std.specs.BTreeMap.{get_by_text}
-use Rattle.ob_tree.specs.Paths.{node_path, place_of, first_twice}
+use Rattle.ob_object.specs.Paths.{node_path}
+use Rattle.ob_tree.specs.Paths.{place_of, first_twice}
 use Rattle.ob_tree.specs.Laid.{said}
 use Rattle.ob_tree.proofs.laying.places_of.Given as goal
 

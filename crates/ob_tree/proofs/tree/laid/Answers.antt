@@ -2,8 +2,9 @@ use Rattle.std.proofs.Common.{◌≡◌, ◌++◌, ℕ, List, [], length, map, r
 use Rattle.std.proofs.lemmas.List.{length-replicate}
 use Rattle.ob_object.specs.declared.head.Head.{Head}
 use Rattle.ob_object.specs.Object.{Object, parts}
+use Rattle.ob_object.specs.Paths.{node_path}
 use Rattle.ob_tree.specs.declared.spot.Spot.{Spot}
-use Rattle.ob_tree.specs.Paths.{node_path, first_twice, place_of}
+use Rattle.ob_tree.specs.Paths.{first_twice, place_of}
 use Rattle.ob_tree.specs.Laid.{heads_of, spots_of, leaf, said, AreLeaves}
 use Rattle.ob_tree.proofs.Standing.{laid_as, stands_for, same_tree}
 use Rattle.ob_tree.proofs.Leaves.{are_leaves, said_leaves, count_leaves}

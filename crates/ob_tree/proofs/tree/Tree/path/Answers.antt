@@ -1,5 +1,5 @@
 use Rattle.std.proofs.Common.{ap, ◌∙◌}
-use Rattle.ob_tree.specs.Paths.{node_path}
+use Rattle.ob_object.specs.Paths.{node_path}
 use Rattle.ob_tree.proofs.Leaves.{path_said}
 use Rattle.ob_tree.proofs.tree.Tree.path.Goals as goal
 
