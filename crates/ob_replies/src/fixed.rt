@@ -16,7 +16,8 @@ use crate::contract::Contract;
 use crate::paths::ack_path;
 use crate::plan::Plan;
 use ob_object::{Attributes, Kind, Obj, Slot};
-use ob_values::{Moment, Text, Value};
+use ob_times::Moment;
+use ob_values::{Text, Value};
 use std::alloc::{AllocError, Global};
 
 /// Nil: a null obj, the answer of an op that gives nothing.

@@ -1,7 +1,8 @@
 //! What is fixed when a site is opened.
 use ob_alarms::Num;
 use ob_href::Base;
-use ob_values::{Moment, Text};
+use ob_times::Moment;
+use ob_values::Text;
 
 /// Values of the source outside these limits raise an alarm.
 #[derive(Drop)]

@@ -14,7 +14,8 @@ use ob_replies::build::nameless;
 use ob_replies::{Fault, Plan, about, ack_op, alarm_object, batch_op, make_op, refusal, service};
 use ob_site_shown::shown_at;
 use ob_site_state::Contents;
-use ob_values::{Moment, Text};
+use ob_times::Moment;
+use ob_values::Text;
 use std::alloc::{AllocError, Global};
 use std::sync::ledger::Ledger;
 

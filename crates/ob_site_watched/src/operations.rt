@@ -28,7 +28,7 @@ use ob_object::Obj;
 use ob_replies::{Fault, Plan, WatchPart, nil, refusal, watch_out, watch_part};
 use ob_requests::{Operation, lease_asked};
 use ob_site_state::Contents;
-use ob_values::Moment;
+use ob_times::Moment;
 use ob_watch::{Item, Watch, Watches};
 use std::alloc::{AllocError, Global};
 use std::sync::ledger::Ledger;

@@ -1,7 +1,6 @@
 //! The values of objects: texts, and the ten kinds of values, each with its one reader and its one
 //! printer. A reader answers the value that its bytes spell, or which fault they have; what is printed
-//! of a value spells that value. Moments, bytes and a request's verb are here too, so that the crates
-//! above take all of these from one place.
+//! of a value spells that value. Bytes and a request's verb are here too.
 #![tactic(auto)]
 
 mod bytes;
@@ -24,8 +23,7 @@ pub use fault::TextFault;
 pub use integer::read_int;
 pub use ob_spelling::ValueFault;
 pub use ob_times::{
-    Abstime, CivilDate, Moment, Reltime, TimeOfDay, read_abstime, read_date, read_reltime,
-    read_time,
+    Abstime, CivilDate, Reltime, TimeOfDay, read_abstime, read_date, read_reltime, read_time,
 };
 pub use reading::one_reading;
 pub use real::read_dec;
@@ -33,6 +31,8 @@ pub use text::Text;
 pub use truth::read_bool;
 pub use value::{Value, print_value};
 pub use verb::Verb;
+
+use ob_times::Moment;
 
 /// Texts, values, bytes and moments may go to another thread, and several may read them.
 pub fn crosses_threads() {

@@ -3,7 +3,8 @@ use ob_alarms::{AckResult, Alarms, Event, Num, Rule, Turned, What};
 use ob_encoding::encode;
 use ob_object::{Obj, Status};
 use ob_rows::{Asked, Table, number_at, push_number, push_words, text_of, word_at};
-use ob_values::{Dec, Moment, Text, read_dec};
+use ob_times::Moment;
+use ob_values::{Dec, Text, read_dec};
 use std::alloc::{AllocError, Global};
 
 /// Rows that are asked of a board of alarms.

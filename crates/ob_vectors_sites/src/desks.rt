@@ -8,8 +8,8 @@ use ob_rows::{Asked, Table, split_bar};
 use ob_site::{Machine, Site};
 use ob_site_desk::{ask, open_desk};
 use ob_site_rules::Request;
+use ob_times::Moment;
 use ob_turn::{Answer, Desk, Pass};
-use ob_values::Moment;
 use std::alloc::{AllocError, Global};
 use std::sync::Wait;
 

@@ -7,7 +7,7 @@ use ob_object::Obj;
 use ob_rows::{Asked, Table, text_of};
 use ob_site::{Keeper, Site};
 use ob_site_rules::Request;
-use ob_values::Moment;
+use ob_times::Moment;
 use std::alloc::{AllocError, Global};
 
 /// A keeper that notes what it was asked last. At a make it notes two numbers more.

@@ -2,7 +2,7 @@
 use crate::sites::load_site;
 use ob_load::LoadFault;
 use ob_rows::{Asked, Table};
-use ob_values::Moment;
+use ob_times::Moment;
 use std::alloc::{AllocError, Global};
 
 /// Rows of site documents, each opened at 2026-01-05T08:00:00Z: `opens`, or the words of the refusal.

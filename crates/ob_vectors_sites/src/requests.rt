@@ -6,7 +6,8 @@ use ob_object::Obj;
 use ob_rows::{Asked, Table, push_bytes, split_word, text_of};
 use ob_site::{Machine, Site};
 use ob_site_rules::Request;
-use ob_values::{Moment, Text, Verb};
+use ob_times::Moment;
+use ob_values::{Text, Verb};
 use std::alloc::{AllocError, Global};
 
 /// Rows that a site answers:

@@ -3,7 +3,7 @@ use ob_io::{MemFiles, NamedFile};
 use ob_load::{LoadFault, Loaded, load};
 use ob_rows::named_part;
 use ob_site::Site;
-use ob_values::Moment;
+use ob_times::Moment;
 use std::alloc::{AllocError, Global};
 
 /// A document that opens a site, and the moment at which it opens it, in milliseconds since 1970.

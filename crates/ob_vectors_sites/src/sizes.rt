@@ -5,7 +5,7 @@ use ob_object::Obj;
 use ob_rows::{Asked, Table};
 use ob_site::{Machine, Site};
 use ob_site_rules::Request;
-use ob_values::Moment;
+use ob_times::Moment;
 use std::alloc::{AllocError, Global};
 
 /// Rows on a site that a row opens, all done at the moment of its opening:

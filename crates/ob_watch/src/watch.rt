@@ -13,8 +13,9 @@ use crate::change::Change;
 use crate::fault::WatchFault;
 use crate::item::Item;
 use crate::items::Items;
+use ob_times::Moment;
 use ob_tree::Tree;
-use ob_values::{Moment, Text};
+use ob_values::Text;
 use std::alloc::{AllocError, Global};
 use std::marker::Model;
 

@@ -16,8 +16,9 @@ use crate::item::Item;
 use crate::items::Items;
 use crate::watch::{Due, Watch};
 use indexmap::IndexMap;
+use ob_times::Moment;
 use ob_tree::Tree;
-use ob_values::{Abstime, Moment, Text};
+use ob_values::{Abstime, Text};
 use std::alloc::{AllocError, Global};
 use std::marker::Model;
 
