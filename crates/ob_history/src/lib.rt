@@ -5,12 +5,14 @@
 //! limit: `read_filter` reads it from an object, and `Log::range` lends what it asks for.
 #![tactic(auto)]
 
+mod ends;
 mod log;
 mod reading;
 mod records;
 mod ring;
 mod slices;
 
+pub use ends::{first_time, last_time};
 pub use log::Log;
 pub use reading::read_filter;
 pub use records::{Filter, Record};

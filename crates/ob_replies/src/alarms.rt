@@ -1,7 +1,7 @@
 //! Alarms and their events.
 ghost use Rattle.std.specs.Prelude.{◌≡◌, ◌<◌, Some, IfOk, length, slice_get};
 ghost use Rattle.ob_alarms.specs.declared.alarm.Alarm.{Alarm};
-ghost use Rattle.ob_site_rules.specs.Entries.{alarm_object, event_object, event_objects, alarms_out, raised_at};
+ghost use Rattle.ob_site_rules.specs.Entries.{alarm_object, alarms_out, raised_at};
 
 use crate::build::put;
 use crate::contract::Contract;
@@ -22,30 +22,6 @@ pub fn alarm_object(alloc: Global, alarms: &Alarms, number: u64) -> Result<Obj, 
         Some(object) => Ok(object),
         None => Ok(Obj::new(alloc, Kind::Obj)),
     }
-}
-
-/// The alarm of an event as it was just after it, or an empty obj where there is no such event.
-fn event_object(alloc: Global, alarms: &Alarms, event: u64) -> Result<Obj, AllocError>
-    ensures { IfOk result (λ o. o ≡ event_object alarms.now event) }
-{
-    match alarms.event_obj(event)? {
-        Some(object) => Ok(object),
-        None => Ok(Obj::new(alloc, Kind::Obj)),
-    }
-}
-
-/// All alarm events as objects, the oldest first.
-///
-/// Source: oBIX 1.1, chapter 15 (AlarmSubject: feed).
-pub fn event_objects(alloc: Global, alarms: &Alarms) -> Result<Vec<Obj>, AllocError>
-    ensures { IfOk result (λ os. os.items ≡ event_objects alarms.now) }
-{
-    let mut objects = Vec::new(alloc);
-    let count = alarms.events(0).len() as u64;
-    for event in 0..count {
-        put(&mut objects, event_object(alloc, alarms, event)?)?;
-    }
-    Ok(objects)
 }
 
 /// AlarmQueryOut: the first alarms that the filter passes by their timestamps, as many as it asks for. Only

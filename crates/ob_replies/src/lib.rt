@@ -18,7 +18,7 @@ mod records;
 mod roles;
 mod watches;
 
-pub use alarms::{alarm_object, alarms_out, event_objects};
+pub use alarms::{alarm_object, alarms_out};
 pub use contract::Contract;
 pub use fault::{Fault, refusal};
 pub use feeds::{feed_entry, feed_there};
@@ -26,6 +26,6 @@ pub use fixed::{about, ack_op, ack_out, batch_op, batch_out, make_op, nil, servi
 pub use paths::{ack_path, alarm_path, below};
 pub use plan::{Plan, PointRule};
 pub use query::passes;
-pub use records::{history_children, record_object, record_objects, records_out};
+pub use records::{record_object, records_out};
 pub use roles::{count_child, lobby_children, subject_children, write_point_op};
 pub use watches::{WatchPart, entry, watch, watch_out, watch_part};

@@ -2,7 +2,6 @@
 use Rattle.std.proofs.Common.{◌≡◌, ℕ, zero, suc, ◌+◌, ◌-◌, ◌<◌, ◌≤◌, Bool, true, false, not, ◌&&◌, List, [], ◌∷◌, ◌++◌, length, drop, take, Option, Some, None, option_map, refl, sym, ap, ◌∙◌, subst, true≢false, arith, length-drop, length-take, take_all}
 use Rattle.std.specs.Prelude.{slice_get}
 use Rattle.circular_buffer.specs.Buffer.{last_item}
-use Rattle.ob_contracts.specs.Inherit.{or_else}
 use Rattle.ob_history.specs.declared.records.Record.{Record}
 use Rattle.ob_history.specs.Logs.{History, kept_since}
 use Rattle.ob_times.specs.Times.{Instant}
@@ -16,11 +15,6 @@ use Rattle.ob_site_state.specs.Kept.{log_of}
 use Rattle.ob_site_laws.proofs.Same.{tells_slot}
 use Rattle.ob_site_settled.specs.declared.spans.Span.{Span}
 use Rattle.ob_site_settled.specs.Spans.{span_of, same_spans, dropped_by}
-
--- the first of the records in two lists is that of the first one, if it has one
-pub first_of : (xs ys : List Record) → or_else (option_map (λ r. r.time) (slice_get xs 0)) (option_map (λ r. r.time) (slice_get ys 0)) ≡ option_map (λ r. r.time) (first_record (xs ++ ys))
-first_of [] ys = refl
-first_of (x ∷ xs) ys = refl
 
 got_drop : {A : Type 0} (n k : ℕ) (xs : List A) → slice_get (drop n xs) k ≡ slice_get xs (n + k)
 got_drop zero k xs = let e : k ≡ 0 + k = omega arith in ap (slice_get xs) e

@@ -1,15 +1,12 @@
 //! What histories show of their records.
-ghost use Rattle.std.specs.Prelude.{◌≡◌, ◌↔◌, ◌≤◌, ◌<◌, ◌++◌, drop, take, not, length, slice_get, option_map, Some, IsTrue};
-ghost use Rattle.std.specs.Option.{option_copied};
-ghost use Rattle.ob_contracts.specs.Inherit.{or_else};
+ghost use Rattle.std.specs.Prelude.{◌≡◌, ◌↔◌, ◌≤◌, ◌<◌, drop, take, not, length, slice_get, option_map, Some, IsTrue};
 ghost use Rattle.ob_site_rules.specs.State.{rolled};
-ghost use Rattle.ob_site_rules.specs.Shown.{first_record};
 ghost use Rattle.ob_shown_laws.specs.Changed.{same_log};
 ghost use Rattle.ob_site_state.specs.Changes.{cut};
 ghost use Rattle.ob_site_state.specs.Kept.{log_of};
 ghost use Rattle.ob_site_settled.specs.Spans.{span_of, same_spans, dropped_by};
 
-use ob_history::{Log, Record};
+use ob_history::{Log, first_time};
 use ob_times::Abstime;
 
 /// What a history shows of its records: how many there are, and the times of the first and of the last.
@@ -46,34 +43,6 @@ impl Span {
     {
         self.is_same(other)
     }
-}
-
-/// The time of a record, if it is one.
-fn time_of(kept: Option<&Record>) -> Option<Abstime>
-    ensures { result ≡ option_map (λ r. r.time) (option_copied kept.entry) }
-{
-    match kept {
-        Some(kept) => Some(kept.time),
-        None => None,
-    }
-}
-
-/// The first of two times, if there is one.
-fn either(first: Option<Abstime>, second: Option<Abstime>) -> Option<Abstime>
-    ensures { result ≡ or_else first second }
-{
-    match first {
-        Some(time) => Some(time),
-        None => second,
-    }
-}
-
-/// The time of the first of some records, which stand in two slices.
-#[tactic(auto, using(crate::proofs::Records::first_of))]
-fn first_time(front: &[Record], back: &[Record]) -> Option<Abstime>
-    ensures { result ≡ option_map (λ r. r.time) (first_record (front.now ++ back.now)) }
-{
-    either(time_of(front.first()), time_of(back.first()))
 }
 
 /// The time of the record at a place among those that a history keeps.

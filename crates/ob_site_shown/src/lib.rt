@@ -14,7 +14,7 @@ mod shown;
 pub use children::shows_child;
 pub use dressing::dress;
 pub use heads::{own_kind, own_target, shown_kind};
-pub use logs::{history_log, log_at};
+pub use logs::history_log;
 pub use owners::{begins_with, shown_derived};
 pub use parents::parent_path;
 pub use roles::derived;

@@ -1,35 +1,20 @@
 //! The logs of histories by their paths, and what they show.
 ghost use Rattle.std.specs.Prelude.{◌≡◌, ◌++◌, map, option_map, IfOk};
 ghost use Rattle.std.specs.Option.{option_copied};
-ghost use Rattle.circular_buffer.specs.Buffer.{last_item};
-ghost use Rattle.ob_contracts.specs.Inherit.{or_else};
 ghost use Rattle.ob_replies.specs.Histories.{span_children, query_child, feed_child};
 ghost use Rattle.ob_site_rules.specs.State.{Plan, at};
-ghost use Rattle.ob_site_rules.specs.Shown.{first_record, history_children};
+ghost use Rattle.ob_site_rules.specs.Shown.{history_children};
 ghost use Rattle.ob_site_roles.specs.Roles.{AreRoles};
 ghost use Rattle.ob_site_state.specs.Contents.{state_in};
-ghost use Rattle.ob_site_state.specs.Kept.{entry_of, keys, log_of};
+ghost use Rattle.ob_site_state.specs.Kept.{keys, log_of};
 
-use ob_history::{Log, Record};
+use ob_history::{Log, Record, first_time, last_time};
 use ob_object::Obj;
 use ob_replies::build::{feed_at, op_at, put, timed};
 use ob_replies::{Contract, below, count_child};
 use ob_site_state::Contents;
-use ob_times::Abstime;
 use ob_values::Text;
 use std::alloc::{AllocError, Global};
-
-/// The log of the history at a path.
-pub fn log_at<'a>(logs: &'a [(Text, Log)], path: &Text) -> Option<&'a Log>
-    ensures { option_map log_of (option_copied result) ≡ at path.now (map entry_of logs.now) }
-{
-    for entry in logs {
-        if entry.0.as_str() == path.as_str() {
-            return Some(&entry.1);
-        }
-    }
-    None
-}
 
 /// The log of the history at a path, by a look-up: of the contents of a plan whose histories have these logs, in their order,
 /// the log that stands first under the path.
@@ -44,42 +29,6 @@ pub fn history_log<'a>(contents: &'a Contents, path: &Text) -> Option<&'a Log>
         Some(entry) => Some(&entry.1),
         None => None,
     }
-}
-
-/// The time of a record, if it is one.
-fn time_of(kept: Option<&Record>) -> Option<Abstime>
-    ensures { result ≡ option_map (λ r. r.time) (option_copied kept.entry) }
-{
-    match kept {
-        Some(kept) => Some(kept.time),
-        None => None,
-    }
-}
-
-/// The first of two times, if there is one.
-fn either(first: Option<Abstime>, second: Option<Abstime>) -> Option<Abstime>
-    ensures { result ≡ or_else first second }
-{
-    match first {
-        Some(time) => Some(time),
-        None => second,
-    }
-}
-
-/// The time of the first of some records, which stand in two slices.
-#[tactic(auto, using(crate::proofs::Spans::first_of))]
-fn first_time(front: &[Record], back: &[Record]) -> Option<Abstime>
-    ensures { result ≡ option_map (λ r. r.time) (first_record (front.now ++ back.now)) }
-{
-    either(time_of(front.first()), time_of(back.first()))
-}
-
-/// The time of the last of some records, which stand in two slices.
-#[tactic(auto, using(crate::proofs::Spans::last_of))]
-fn last_time(front: &[Record], back: &[Record]) -> Option<Abstime>
-    ensures { result ≡ option_map (λ r. r.time) (last_item (front.now ++ back.now)) }
-{
-    either(time_of(back.last()), time_of(front.last()))
 }
 
 /// All records that a history keeps, in two slices.
