@@ -4,7 +4,7 @@ ghost use Rattle.ob_site_file.specs.Words.{contract_words};
 
 use ob_contracts::LibFault;
 use ob_values::Text;
-use ob_xml::{Refused, Why};
+use ob_xml::Refused;
 use std::alloc::{AllocError, AllocFailed, Global};
 use thiserror::Error;
 
@@ -81,14 +81,6 @@ impl LoadFault {
             LoadFault::Rule { part } => format!(in alloc; "Rule {part}"),
             LoadFault::Size => String::from_str(alloc, "Size"),
             LoadFault::Memory => String::from_str(alloc, "Memory"),
-        }
-    }
-
-    /// The fault of a document, where want of memory is that of the whole.
-    pub fn of_document(refused: Refused) -> LoadFault {
-        match refused.why {
-            Why::Memory => LoadFault::Memory,
-            _ => LoadFault::Document(refused),
         }
     }
 

@@ -11,4 +11,4 @@ mod objects;
 
 pub use feeds::{Since, count_at, feed_since, whole_feed};
 pub use finding::found;
-pub use objects::{watched_node, watched_object};
+pub use objects::watched_node;

@@ -14,10 +14,9 @@ ghost use Rattle.ob_site_reads.specs.Watchable.{IsWatchableAt};
 use ob_contracts::Steps;
 use ob_object::{Kind, Obj};
 use ob_replies::Plan;
-use ob_site_shown::{shown_at, shown_own};
+use ob_site_shown::shown_own;
 use ob_site_state::Contents;
 use ob_tree::NodeId;
-use ob_values::Text;
 use std::alloc::{AllocError, Global};
 use std::sync::ledger::Ledger;
 
@@ -37,29 +36,11 @@ fn unnamed(alloc: Global, mut object: Obj) -> Obj
     }
 }
 
-/// The object at a path as a watch reports it: without its name and its href, and the empty obj where nothing that is
-/// watched is there. An error only for want of memory.
+/// The own node of a number as a watch reports it: without its name and its href, and the empty obj where nothing that is
+/// watched is there. Where it succeeds at a node that can be watched, it counts one step for each object round the node,
+/// and one for each object of the answer (`Obj::parts`). An error only for want of memory.
 ///
 /// Source: oBIX 1.1, chapter 12 (Watches).
-pub fn watched_object<L: Ledger>(
-    alloc: Global,
-    plan: &Plan,
-    contents: &Contents,
-    path: &Text,
-    steps: &mut Steps<L>,
-) -> Result<Obj, AllocError>
-    requires { IsReadable (plan_of plan.now) contents.now }
-    ensures { IfOk result (λ o. o ≡ watched_object (plan_of plan.now) (state_in contents.now) path.now) }
-{
-    match shown_at(alloc, plan, contents, path, steps)? {
-        Some(object) => Ok(unnamed(alloc, object)),
-        None => Ok(Obj::new(alloc, Kind::Obj)),
-    }
-}
-
-/// The same of an own node by its number, without looking for its path. Where it succeeds at a node that can be watched, it
-/// counts one step for each object round the node, and one for each object of the answer (`Obj::parts`). An error only for
-/// want of memory.
 pub fn watched_node<L: Ledger>(
     alloc: Global,
     plan: &Plan,

@@ -22,6 +22,7 @@ pub use decimal::Dec;
 pub use fault::TextFault;
 pub use integer::read_int;
 pub use ob_spelling::ValueFault;
+use ob_times::Moment;
 pub use ob_times::{
     Abstime, CivilDate, Reltime, TimeOfDay, read_abstime, read_date, read_reltime, read_time,
 };
@@ -31,8 +32,6 @@ pub use text::Text;
 pub use truth::read_bool;
 pub use value::{Value, print_value};
 pub use verb::Verb;
-
-use ob_times::Moment;
 
 /// Texts, values, bytes and moments may go to another thread, and several may read them.
 pub fn crosses_threads() {

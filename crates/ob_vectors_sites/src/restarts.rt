@@ -7,7 +7,7 @@ use ob_object::Obj;
 use ob_rows::{Asked, Table, text_of};
 use ob_site::{Machine, Site};
 use ob_site_rules::Request;
-use ob_values::Moment;
+use ob_times::Moment;
 use std::alloc::{AllocError, Global};
 
 /// A request, and the moment at which it is done.
