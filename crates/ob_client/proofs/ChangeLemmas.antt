@@ -1,10 +1,11 @@
 -- That what is made of all entries before any is put is what the definition of replay makes of one after the other.
-use Rattle.std.proofs.Common.{◌≡◌, Bool, true, false, cond, not, ◌||◌, List, [], ◌∷◌, ◌++◌, map, refl, sym, ap, ◌∙◌, append-nil}
+use Rattle.std.proofs.Common.{◌≡◌, Bool, true, false, cond, not, List, [], ◌∷◌, ◌++◌, map, refl, sym, ap, ◌∙◌, append-nil}
 use Rattle.std.specs.Prelude.{Option, Some, None}
 use Rattle.std.specs.Option.{option_map_or}
 use Rattle.std.specs.Str.{bytes_eq}
 use Rattle.std.proofs.lemmas.List.{map-append}
 use Rattle.std.proofs.lemmas.Slice.Eq.{bytes_eq-Decides}
+use Rattle.ob_values.proofs.Bools.{neither_left, neither_right}
 use Rattle.ob_object.specs.declared.kind.Kind.{Kind}
 use Rattle.ob_object.specs.declared.kind.Kind.TheVariants as kind
 use Rattle.ob_object.specs.Kinds.{same_kind}
@@ -119,20 +120,12 @@ found_put u n (h ∷ hs) e = go (bytes_eq h.text n.text) refl (found_put u n hs 
 abbrev nexts : List Held → List Object → List Held
 nexts held os = map (λ o. next held (entry_read true o)) (without_errs os)
 
-or_left : (a b : Bool) → (a || b) ≡ false → a ≡ false
-or_left true b h = h
-or_left false b h = refl
-
-or_right : (a b : Bool) → (a || b) ≡ false → b ≡ false
-or_right true b h = absurd (let f : true ≡ false = h in cc)
-or_right false b h = h
-
 nexts_same : (os : List Object) (n : Held) (held : List Held) → is_among bytes_eq (map text_of os) n.text ≡ false → nexts (put_new n held) os ≡ nexts held os
 nexts_same [] n held e = refl
-nexts_same (o ∷ os) n held e = go (is_err o) (nexts_same os n held (or_right (bytes_eq n.text (text_of o)) (is_among bytes_eq (map text_of os) n.text) e))
+nexts_same (o ∷ os) n held e = go (is_err o) (nexts_same os n held (neither_right (bytes_eq n.text (text_of o)) (is_among bytes_eq (map text_of os) n.text) e))
   where
     other : bytes_eq (text_of o) n.text ≡ false
-    other = bytes_eq_sym (text_of o) n.text ∙ or_left (bytes_eq n.text (text_of o)) (is_among bytes_eq (map text_of os) n.text) e
+    other = bytes_eq_sym (text_of o) n.text ∙ neither_left (bytes_eq n.text (text_of o)) (is_among bytes_eq (map text_of os) n.text) e
 
     go : (b : Bool) → nexts (put_new n held) os ≡ nexts held os → map (λ x. next (put_new n held) (entry_read true x)) (cond (not b) (o ∷ without_errs os) (without_errs os)) ≡ map (λ x. next held (entry_read true x)) (cond (not b) (o ∷ without_errs os) (without_errs os))
     go true later = later
@@ -165,9 +158,9 @@ texts_of us = map (λ (u : Held). u.text) us
 put_last : (new : Held) (us : List Held) → is_among bytes_eq (texts_of us) new.text ≡ false → put_new new us ≡ us ++ new ∷ []
 put_last new [] h = refl
 put_last new (u ∷ us) h =
-    let other : bytes_eq u.text new.text ≡ false = bytes_eq_sym u.text new.text ∙ or_left (bytes_eq new.text u.text) (is_among bytes_eq (texts_of us) new.text) h in
+    let other : bytes_eq u.text new.text ≡ false = bytes_eq_sym u.text new.text ∙ neither_left (bytes_eq new.text u.text) (is_among bytes_eq (texts_of us) new.text) h in
     ap (λ b. cond b (new ∷ us) (u ∷ put_new new us)) other
-    ∙ ap (λ (xs : List Held). u ∷ xs) (put_last new us (or_right (bytes_eq new.text u.text) (is_among bytes_eq (texts_of us) new.text) h))
+    ∙ ap (λ (xs : List Held). u ∷ xs) (put_last new us (neither_right (bytes_eq new.text u.text) (is_among bytes_eq (texts_of us) new.text) h))
 
 append_more : (us : List Held) (h : Held) (hs : List Held) → (us ++ h ∷ []) ++ hs ≡ us ++ h ∷ hs
 append_more [] h hs = refl

@@ -9,6 +9,7 @@ use Rattle.std.specs.Map.Calls.{RetainsPairs}
 use Rattle.std.proofs.lemmas.Slice.Eq.{bytes_eq-Decides}
 use Rattle.indexmap.specs.IndexMap.{insert_entry}
 use Rattle.indexmap.proofs.CallerLemmas.{filter-RetainsPairs}
+use Rattle.ob_values.proofs.Bools.{bool_same}
 use Rattle.ob_watching.specs.Tables.{is_among}
 use Rattle.ob_watching.specs.WatchOuts.{Text, Held}
 use Rattle.ob_client.specs.declared.new_entry.NewEntry.{NewEntry}
@@ -16,11 +17,6 @@ use Rattle.ob_client.specs.Mirrors.{Mirrored, found, removed}
 use Rattle.ob_client.specs.Tables.{Entries, values, StandUnderOwn, put_new, put_all}
 
 -- ---- texts
-
-bool_same : (a b : Bool) → (a ≡ true → b ≡ true) → (b ≡ true → a ≡ true) → a ≡ b
-bool_same true b f g = sym (f refl)
-bool_same false true f g = g refl
-bool_same false false f g = refl
 
 pub bytes_eq_sym : (a b : Text) → bytes_eq a b ≡ bytes_eq b a
 bytes_eq_sym a b =

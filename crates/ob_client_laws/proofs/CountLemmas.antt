@@ -13,7 +13,8 @@ use Rattle.ob_consistent_laws.specs.Opens as opens
 use Rattle.ob_plain_state.specs.States as plain
 use Rattle.ob_client.specs.Mirrors.{most_missed}
 use Rattle.ob_client_laws.specs.Counting.{AreCounted, CountsStay, OpensCounted}
-use Rattle.ob_client_laws.proofs.LimitLemmas.{neither, stays}
+use Rattle.ob_values.proofs.Bools.{neither}
+use Rattle.ob_client_laws.proofs.LimitLemmas.{stays}
 
 abbrev Logs : Type 0
 Logs = List (Path × Log)

@@ -6,6 +6,7 @@ use Rattle.std.proofs.lemmas.Slice.Eq.{bytes_eq-Decides}
 use Rattle.std.specs.Prelude.{codes, find, option_map, nat_eq, unwrap_or, is_none}
 use Rattle.std.specs.List.{AllByRecursion, filter}
 use Rattle.std.specs.Str.{bytes_eq}
+use Rattle.ob_values.proofs.Bools.{not_true, neither_left, neither_right}
 use Rattle.ob_object.specs.declared.kind.Kind.TheVariants as kind
 use Rattle.ob_object.specs.Object.{Object, none, children, listed-in_row}
 use Rattle.ob_object.specs.WellFormed.{has_name, named}
@@ -34,7 +35,7 @@ use Rattle.ob_client.specs.Shown.{Content}
 use Rattle.ob_client.proofs.TableLemmas.{bytes_eq_sym}
 use Rattle.ob_client.proofs.OnceLemmas.{left_new, right_once}
 use Rattle.ob_client_laws.specs.Counting.{AreCounted}
-use Rattle.ob_client_laws.proofs.TextLemmas.{all_behind, or_left, or_right}
+use Rattle.ob_values.proofs.Lists.{all_both}
 
 -- ---- how many events a feed has had
 
@@ -169,8 +170,8 @@ put_same r f (x ∷ held) h e = go (bytes_eq r.text x.text) refl e (put_same r f
 found_past : (u : Text) (rs held : List Held) → is_among bytes_eq (texts_of rs) u ≡ false → found u (changed_by bytes_eq rs held) ≡ found u held
 found_past u [] held e = refl
 found_past u (r ∷ rs) held e =
-    found_past u rs (change bytes_eq r r.content held) (or_right (bytes_eq u r.text) (is_among bytes_eq (texts_of rs) u) e)
-    ∙ change_other u r r.content held (or_left (bytes_eq u r.text) (is_among bytes_eq (texts_of rs) u) e)
+    found_past u rs (change bytes_eq r r.content held) (neither_right (bytes_eq u r.text) (is_among bytes_eq (texts_of rs) u) e)
+    ∙ change_other u r r.content held (neither_left (bytes_eq u r.text) (is_among bytes_eq (texts_of rs) u) e)
 
 -- of a feed that is held, what was missed with what these tell is few
 abbrev pub GoesOn : List Held → Held → Type 0
@@ -183,8 +184,8 @@ AllGoOn held rs = AllByRecursion (λ r. GoesOn held r) rs
 still_on : (r : Held) (held rs : List Held) → is_among bytes_eq (texts_of rs) r.text ≡ false → AllGoOn (change bytes_eq r r.content held) rs → AllGoOn held rs
 still_on r held [] e h = tt
 still_on r held (q ∷ rs) e h = (
-  λ x there feed dropped es is. h.0 x (change_other q.text r r.content held (bytes_eq_sym q.text r.text ∙ or_left (bytes_eq r.text q.text) (is_among bytes_eq (texts_of rs) r.text) e) ∙ there) feed dropped es is,
-  still_on r held rs (or_right (bytes_eq r.text q.text) (is_among bytes_eq (texts_of rs) r.text) e) h.1,
+  λ x there feed dropped es is. h.0 x (change_other q.text r r.content held (bytes_eq_sym q.text r.text ∙ neither_left (bytes_eq r.text q.text) (is_among bytes_eq (texts_of rs) r.text) e) ∙ there) feed dropped es is,
+  still_on r held rs (neither_right (bytes_eq r.text q.text) (is_among bytes_eq (texts_of rs) r.text) e) h.1,
 )
 
 pub all_go_on : (rs held : List Held) → each_once (texts_of rs) ≡ true → AllFew (changed_by bytes_eq rs held) → AllGoOn held rs
@@ -209,10 +210,6 @@ all_go_on (r ∷ rs) held once few = (
 -- no feed; or one whose child `dropped`, if there is one, is an int from 1 on
 abbrev pub Tells : Object → Type 0
 Tells o = (is_feed o ≡ false) ⊎ ((named (codes "dropped") (children o) ≡ None) ⊎ ((k : ℕ) × (named (codes "dropped") (children o) ≡ Some (valued kind.Int (codes "dropped") (number_slot (suc k))))))
-
-not_true : (b : Bool) → not b ≡ true → b ≡ false
-not_true true h = absurd (let e : false ≡ true = h in cc)
-not_true false h = refl
 
 first_of_three : (a b c : Bool) → (a && (b && c)) ≡ true → b ≡ true
 first_of_three true true c h = refl
@@ -270,7 +267,7 @@ module _ (plan : Plan) where
   pub changes_tell : (s : State) (items : List (Item (of_plan plan))) → AllTell (changes (of_plan plan) s items)
   changes_tell s [] = tt
   changes_tell s (item ∷ items) =
-      all_behind (λ (r : Reading (of_plan plan)). Tells (entry r)) (changes_of (of_plan plan) s item.text item.path item.tracked) (changes (of_plan plan) s items)
+      all_both (λ (r : Reading (of_plan plan)). Tells (entry r)) (changes_of (of_plan plan) s item.text item.path item.tracked) (changes (of_plan plan) s items)
       (one_tells s item.text item.path item.tracked) (changes_tell s items)
 
   -- ---- so they can be counted

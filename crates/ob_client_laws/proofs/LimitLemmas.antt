@@ -1,6 +1,6 @@
 -- What holds of each state that isn't over the limits of what is stored, and of a state that it held of before, holds behind every
 -- call too: a write, or an acknowledgement that is an event, that would lead over them is refused.
-use Rattle.std.proofs.Common.{◌≡◌, ℕ, Bool, true, false, cond, not, ◌&&◌, ◌||◌, List, [], ◌∷◌, Option, Some, None, refl, sym, subst}
+use Rattle.std.proofs.Common.{◌≡◌, ℕ, Bool, true, false, cond, not, ◌&&◌, List, [], ◌∷◌, Option, Some, None, refl, sym, subst}
 use Rattle.std.specs.Prelude.{codes, is_none, is_some, slice_get}
 use Rattle.std.specs.Option.{option_or}
 use Rattle.ob_values.specs.declared.verb.Verb.{Verb}
@@ -34,10 +34,6 @@ use Rattle.ob_site_rules.specs.Sites.{SiteState}
 use Rattle.ob_site_laws.specs.SiteLaws.{acts, of_plan, Call}
 
 -- ---- what isn't over, and what isn't refused
-
-pub neither : (a b : Bool) → (a || b) ≡ false → (a ≡ false) × (b ≡ false)
-neither true b h = absurd cc
-neither false b h = (refl, h)
 
 none_or : (a b : Option Fault) → option_or a b ≡ None → b ≡ None
 none_or None b h = h

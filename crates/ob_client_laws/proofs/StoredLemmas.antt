@@ -9,7 +9,8 @@ use Rattle.ob_site_rules.specs.State.{Plan, Log, State, board, rolled, rolled_lo
 use Rattle.ob_site_rules.specs.Writes.{stored, stored_in, stored_logs, events_ever, is_over}
 use Rattle.ob_consistent_laws.specs.Ordered.{OpensOrdered}
 use Rattle.ob_client_laws.specs.Storing.{StoresFew, StoredStays, OpenedStoresFew}
-use Rattle.ob_client_laws.proofs.LimitLemmas.{neither, stays}
+use Rattle.ob_values.proofs.Bools.{neither}
+use Rattle.ob_client_laws.proofs.LimitLemmas.{stays}
 
 few : (n : ℕ) → nat_lt 1_000_000 n ≡ false → n ≤ 1_000_000
 few n e = grind (arith, nat_tests)

@@ -2,6 +2,8 @@
 use Rattle.std.proofs.Common.{◌≡◌, ℕ, zero, suc, ◌-◌, Bool, true, false, cond, not, ◌&&◌, ◌||◌, List, [], ◌∷◌, ◌++◌, map, length, nat_le, refl, sym, ap, ◌∙◌, subst, Option}
 use Rattle.std.specs.List.{AllByRecursion, filter}
 use Rattle.std.specs.Str.{bytes_eq}
+use Rattle.ob_values.proofs.Bools.{neither_left, neither_right}
+use Rattle.ob_values.proofs.Lists.{all_both}
 use Rattle.ob_object.specs.Object.{Object}
 use Rattle.ob_history.specs.declared.records.Filter.{Filter}
 use Rattle.ob_watching.specs.Asked.{Refuses, Found, ObjectAt, FeedAt, NotFound}
@@ -17,18 +19,6 @@ use Rattle.ob_client.specs.Entries.{text_of, each_once}
 use Rattle.ob_client.proofs.TableLemmas.{bytes_eq_sym}
 
 -- ---- hrefs that stand once
-
-pub or_left : (a b : Bool) → (a || b) ≡ false → a ≡ false
-or_left true b h = h
-or_left false b h = refl
-
-pub or_right : (a b : Bool) → (a || b) ≡ false → b ≡ false
-or_right true b h = absurd (let e : true ≡ false = h in cc)
-or_right false b h = h
-
-pub all_behind : {A : Type 0} (P : A → Type 0) (xs ys : List A) → AllByRecursion P xs → AllByRecursion P ys → AllByRecursion P (xs ++ ys)
-all_behind P [] ys h g = g
-all_behind P (x ∷ xs) ys h g = (h.0, all_behind P xs ys h.1 g)
 
 module _ (plan : Plan) where
   -- this href isn't that of one of these
@@ -91,7 +81,7 @@ module _ (plan : Plan) where
   changes_from : (s : State) (t : Text) (items : List (Item (of_plan plan))) → Differs t items → StandsApart t (changes (of_plan plan) s items)
   changes_from s t [] h = tt
   changes_from s t (item ∷ items) h =
-      all_behind (λ (r : Reading (of_plan plan)). bytes_eq t r.text ≡ false) (changes_of (of_plan plan) s item.text item.path item.tracked) (changes (of_plan plan) s items)
+      all_both (λ (r : Reading (of_plan plan)). bytes_eq t r.text ≡ false) (changes_of (of_plan plan) s item.text item.path item.tracked) (changes (of_plan plan) s items)
       (apart_from t item.text (changes_of (of_plan plan) s item.text item.path item.tracked) (one_changed s item.text item.path item.tracked) h.0)
       (changes_from s t items h.1)
 
@@ -112,7 +102,7 @@ module _ (plan : Plan) where
     where
       weaker : (others : List Input) → AllByRecursion (λ b. is_among bytes_eq (a.0 ∷ seen) b.0 ≡ false) others → AllByRecursion (λ b. is_among bytes_eq seen b.0 ≡ false) others
       weaker [] h = tt
-      weaker (b ∷ others) h = (or_right (bytes_eq b.0 a.0) (is_among bytes_eq seen b.0) h.0, weaker others h.1)
+      weaker (b ∷ others) h = (neither_right (bytes_eq b.0 a.0) (is_among bytes_eq seen b.0) h.0, weaker others h.1)
 
       go : (b : Bool) → is_among bytes_eq seen a.0 ≡ b → AllByRecursion (λ c. is_among bytes_eq seen c.0 ≡ false) (firsts (of_plan plan) seen asked)
           → AllByRecursion (λ c. is_among bytes_eq (a.0 ∷ seen) c.0 ≡ false) (firsts (of_plan plan) (a.0 ∷ seen) asked)
@@ -130,7 +120,7 @@ module _ (plan : Plan) where
     where
       other : (others : List Input) → AllByRecursion (λ b. is_among bytes_eq (a.0 ∷ seen) b.0 ≡ false) others → AllByRecursion (λ b. bytes_eq a.0 b.0 ≡ false) others
       other [] h = tt
-      other (b ∷ others) h = (bytes_eq_sym a.0 b.0 ∙ or_left (bytes_eq b.0 a.0) (is_among bytes_eq seen b.0) h.0, other others h.1)
+      other (b ∷ others) h = (bytes_eq_sym a.0 b.0 ∙ neither_left (bytes_eq b.0 a.0) (is_among bytes_eq seen b.0) h.0, other others h.1)
 
       go : (b : Bool) → AskedApart (firsts (of_plan plan) seen asked) → AskedApart (firsts (of_plan plan) (a.0 ∷ seen) asked)
           → AskedApart (cond b (firsts (of_plan plan) seen asked) (a ∷ firsts (of_plan plan) (a.0 ∷ seen) asked))

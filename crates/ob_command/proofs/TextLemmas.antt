@@ -1,20 +1,17 @@
 -- Words as texts.
-use Rattle.std.proofs.Common.{if◌then◌else◌, ◌≡◌, ℕ, Bool, true, false, ◌&&◌, List, [], ◌∷◌, ◌++◌, Some, None, option_map, refl, ap, append_assoc}
+use Rattle.std.proofs.Common.{if◌then◌else◌, ◌≡◌, ℕ, true, false, List, [], ◌∷◌, ◌++◌, Some, None, option_map, refl, ap, append_assoc}
 use Rattle.std.specs.List.{AllByRecursion, list_all}
 use Rattle.std.specs.Str.{IsUtf8, chars}
 use Rattle.ob_values.specs.XmlText.{IsXmlChar, IsXmlText}
 use Rattle.ob_values.proofs.XmlTextLemmas.{encodes_chars}
+use Rattle.ob_values.proofs.Bools.{both_true}
 use Rattle.ob_scan.specs.Constructs.{is_char}
 use Rattle.ob_scan.proofs.XmlTexts.{xml_char}
 use Rattle.ob_command.specs.Texts.{is_text, text_if, texts_if}
 
-both : (a b : Bool) → (a && b) ≡ true → (a ≡ true) × (b ≡ true)
-both true b e = (refl, e)
-both false b e = cc
-
 all_chars : (cs : List ℕ) → list_all is_char cs ≡ true → AllByRecursion IsXmlChar cs
 all_chars [] all = tt
-all_chars (c ∷ cs) all = let parts = both (is_char c) (list_all is_char cs) all in (xml_char c parts.0, all_chars cs parts.1)
+all_chars (c ∷ cs) all = let parts = both_true (is_char c) (list_all is_char cs) all in (xml_char c parts.0, all_chars cs parts.1)
 
 -- a text of such characters
 pub is_xml_text : (word : List ℕ) → IsUtf8 word → is_text word ≡ true → IsXmlText word

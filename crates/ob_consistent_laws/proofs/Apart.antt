@@ -20,11 +20,13 @@ use Rattle.ob_opening.specs.Opening.{standard_words}
 use Rattle.ob_opening.specs.Loading.{Part, row_of, kept_root, kept_row, parts_of, paths_in, listed_path, derived_paths, is_computed, taken_twice, path_of, histories_in, subjects, root_lobby, opened}
 use Rattle.ob_consistent_laws.specs.Laws.{Apart, row_paths}
 use Rattle.ob_consistent_laws.proofs.Lists.{each_first, each_second, each_more, each_two}
-use Rattle.ob_consistent_laws.proofs.Once.{or_first, or_second, or_none, cond_none, taken_once}
+use Rattle.ob_values.proofs.Bools.{neither_left, neither_right, both_false}
+use Rattle.ob_consistent_laws.proofs.Once.{cond_none, taken_once}
 use Rattle.ob_consistent_laws.proofs.OneKind.{among_append, apart_first, apart_second, apart_not, listed_is}
 use Rattle.ob_consistent_laws.proofs.Fit.{Fit, all_fit}
 use Rattle.ob_consistent_laws.proofs.Walk.{part_here, root_parts, none_dropped}
-use Rattle.ob_consistent_laws.proofs.Kept.{part_paths, root_paths, root_apart, same_self, unless, Under, under_same, under_both}
+use Rattle.ob_values.proofs.Lists.{bytes_itself}
+use Rattle.ob_consistent_laws.proofs.Kept.{part_paths, root_paths, root_apart, unless, Under, under_same, under_both}
 use Rattle.ob_consistent_laws.proofs.Found.{IsNodeIf, IsTold, all_told}
 use Rattle.ob_consistent_laws.proofs.Roled.{is_lobby, is_point, is_history, is_subject, IsPlaced, all_placed, none_lobby, root_placed}
 use Rattle.ob_consistent_laws.proofs.Flags.{IsOneAtMost, Tells, lobby_flag, history_flag, subject_flag}
@@ -192,17 +194,17 @@ under_dressed plan s rs n inside above (node h inner rest) each =
 apart_both : (xs ys : List Path) → Apart xs → Apart ys → ((p : Path) → is_among p ys ≡ true → is_among p xs ≡ false) → Apart (xs ++ ys)
 apart_both [] ys a b c = b
 apart_both (x ∷ xs) ys a b c =
-    let own : is_among x ys ≡ true → true ≡ false = λ h. sym (ap (λ t. t || is_among x xs) (same_self x)) ∙ c x h in (
-      among_append x xs ys ∙ or_none (is_among x xs) (is_among x ys) a.0 (unless (is_among x ys) false (λ h. sym (own h)) refl),
-      apart_both xs ys a.1 b (λ p h. or_second (bytes_eq x p) (is_among p xs) (c p h)),
+    let own : is_among x ys ≡ true → true ≡ false = λ h. sym (ap (λ t. t || is_among x xs) (bytes_itself x)) ∙ c x h in (
+      among_append x xs ys ∙ both_false (is_among x xs) (is_among x ys) a.0 (unless (is_among x ys) false (λ h. sym (own h)) refl),
+      apart_both xs ys a.1 b (λ p h. neither_right (bytes_eq x p) (is_among p xs) (c p h)),
     )
 
 -- a path that isn't there is put between others
 put_between : (b : Bool) (p : Path) (xs ys : List Path) → Apart (xs ++ ys) → is_among p (xs ++ ys) ≡ false → Apart (xs ++ (cond b (p ∷ []) [] ++ ys))
 put_between false p xs ys a out = a
 put_between true p xs ys a out =
-    let before : is_among p xs ≡ false = or_first (is_among p xs) (is_among p ys) (sym (among_append p xs ys) ∙ out) in
-    let behind : is_among p ys ≡ false = or_second (is_among p xs) (is_among p ys) (sym (among_append p xs ys) ∙ out) in
+    let before : is_among p xs ≡ false = neither_left (is_among p xs) (is_among p ys) (sym (among_append p xs ys) ∙ out) in
+    let behind : is_among p ys ≡ false = neither_right (is_among p xs) (is_among p ys) (sym (among_append p xs ys) ∙ out) in
     apart_both xs (p ∷ ys) (apart_first xs ys a) (behind, apart_second xs ys a) (λ q h. go q (bytes_eq p q) refl h before)
   where
     go : (q : Path) (c : Bool) → bytes_eq p q ≡ c → (c || is_among q ys) ≡ true → is_among p xs ≡ false → is_among q xs ≡ false
@@ -213,7 +215,7 @@ none_computed : (r : Path) (seen ps : List Path) → taken_twice r seen ps ≡ N
 none_computed r seen [] h = tt
 none_computed r seen (p ∷ ps) h =
     let t = cond_none (is_computed r p || is_among p seen) p (taken_twice r (p ∷ seen) ps) h in
-    (or_first (is_computed r p) (is_among p seen) t.0, none_computed r (p ∷ seen) ps t.1)
+    (neither_left (is_computed r p) (is_among p seen) t.0, none_computed r (p ∷ seen) ps t.1)
 
 each_at : (P : Path → Type 0) (ys : List Path) (p : Path) → AllByRecursion P ys → is_among p ys ≡ true → P p
 each_at P [] p e h = absurd (true≢false (sym h))
@@ -231,7 +233,7 @@ batch_computed : (r : Path) → is_computed r (r ++ codes "batch") ≡ true
 batch_computed r =
     let p : Path = r ++ codes "batch" in
     let others : Bool = is_some (behind (r ++ codes "watch/") p) || is_some (behind (r ++ codes "alarm/") p) in
-    ap (λ b. (bytes_eq (r ++ codes "about") p || (b || is_among p ((r ++ codes "watchService") ∷ (r ++ codes "watchService/make") ∷ []))) || others) (same_self p)
+    ap (λ b. (bytes_eq (r ++ codes "about") p || (b || is_among p ((r ++ codes "watchService") ∷ (r ++ codes "watchService/make") ∷ []))) || others) (bytes_itself p)
     ∙ or_middle (bytes_eq (r ++ codes "about") p) others
 
 -- the roles of a root, whatever the library, its parts and what is kept of it

@@ -1,6 +1,7 @@
 -- The roles of the objects of a row, by their numbers.
-use Rattle.std.proofs.Common.{◌≡◌, ℕ, ◌+◌, Bool, true, false, ◌&&◌, ◌||◌, List, [], ◌∷◌, ◌++◌, length, Option, None, refl, sym, subst, append_assoc, length-append, arith, true≢false, is_some}
+use Rattle.std.proofs.Common.{◌≡◌, ℕ, ◌+◌, Bool, true, false, ◌||◌, List, [], ◌∷◌, ◌++◌, length, Option, None, refl, sym, subst, append_assoc, length-append, arith, true≢false, is_some}
 use Rattle.std.proofs.lemmas.List.{length_push}
+use Rattle.ob_values.proofs.Bools.{and_first}
 use Rattle.ob_object.specs.declared.head.Head.{Head}
 use Rattle.ob_object.specs.Object.{Object, Objects, none, node, count}
 use Rattle.ob_object.specs.Paths.{node_path}
@@ -57,10 +58,6 @@ pub record IsRoleOf (root inside : Bool) (h : Head) (r : Roles) : Type 0 where
   pub point : r.point ≡ true → is_some (node_path h) ≡ true
   pub history : r.history ≡ true → is_some (node_path h) ≡ true
   pub subject : r.subject ≡ true → is_some (node_path h) ≡ true
-
-and_first : (a b : Bool) → (a && b) ≡ true → a ≡ true
-and_first true b e = refl
-and_first false b e = e
 
 role_is : (lib : Contracts) (root inside : Bool) (h : Head) (ws : Option Words) → IsRoleOf root inside h (roles_there lib root inside h ws)
 role_is lib root true h ws = record {

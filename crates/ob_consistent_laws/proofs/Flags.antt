@@ -4,6 +4,7 @@ use Rattle.std.proofs.lemmas.List.{map-append}
 use Rattle.std.specs.Prelude.{is_some, unwrap_or}
 use Rattle.std.specs.List.{AllByRecursion}
 use Rattle.std.proofs.lemmas.Slice.Eq.{bytes_eq-Decides}
+use Rattle.ob_values.proofs.Bools.{bool_same}
 use Rattle.ob_object.specs.Object.{Object}
 use Rattle.ob_object.specs.Paths.{is_path, node_path}
 use Rattle.ob_site_rules.specs.Build.{Text, Path}
@@ -18,14 +19,9 @@ use Rattle.ob_consistent_laws.proofs.Kept.{unless}
 use Rattle.ob_consistent_laws.proofs.Found.{IsNodeIf}
 use Rattle.ob_consistent_laws.proofs.Free.{IsNamed}
 
-same_test : (a b : Bool) → (a ≡ true → b ≡ true) → (b ≡ true → a ≡ true) → a ≡ b
-same_test true b f g = sym (f refl)
-same_test false true f g = g refl
-same_test false false f g = refl
-
 pub turned : (p q : Path) → bytes_eq p q ≡ bytes_eq q p
 turned p q =
-    same_test (bytes_eq p q) (bytes_eq q p) (λ h. (bytes_eq-Decides q p).1 (sym ((bytes_eq-Decides p q).0 h))) (λ h. (bytes_eq-Decides p q).1 (sym ((bytes_eq-Decides q p).0 h)))
+    bool_same (bytes_eq p q) (bytes_eq q p) (λ h. (bytes_eq-Decides q p).1 (sym ((bytes_eq-Decides p q).0 h))) (λ h. (bytes_eq-Decides p q).1 (sym ((bytes_eq-Decides q p).0 h)))
 
 none_so : (F : Part → Bool) (ps : List Part) → AllByRecursion (λ (q : Part). F q ≡ false) ps → filter F ps ≡ []
 none_so F [] e = refl

@@ -7,8 +7,10 @@ use Rattle.ob_object.specs.Paths.{is_path, node_path}
 use Rattle.ob_site_rules.specs.State.{is_among}
 use Rattle.ob_opening.specs.Loading.{Part, listed_path, path_of}
 use Rattle.ob_consistent_laws.specs.Laws.{Apart}
-use Rattle.ob_consistent_laws.proofs.OneKind.{among_append, apart_second, apart_not, listed_is, or_true}
-use Rattle.ob_consistent_laws.proofs.Kept.{part_paths, same_self}
+use Rattle.ob_values.proofs.Bools.{or_true}
+use Rattle.ob_consistent_laws.proofs.OneKind.{among_append, apart_second, apart_not, listed_is}
+use Rattle.ob_values.proofs.Lists.{bytes_itself}
+use Rattle.ob_consistent_laws.proofs.Kept.{part_paths}
 
 abbrev pub part_at : Path → List Part → Option Part
 part_at p ps = find (λ q. is_path p (node_path q.own.head)) ps
@@ -38,7 +40,7 @@ found_by look [] a t = tt
 found_by look (q ∷ ps) a t =
     let own : List Path = listed_path (node_path q.own.head) in
     let first : FoundBy look q = λ p e.
-    let here : is_path p (node_path q.own.head) ≡ true = ap (is_path p) e ∙ same_self p in
+    let here : is_path p (node_path q.own.head) ≡ true = ap (is_path p) e ∙ bytes_itself p in
     t p (among_append p own (part_paths ps) ∙ ap (λ b. b || is_among p (part_paths ps)) (listed_is p (node_path q.own.head) ∙ here))
     ∙ ap (λ b. cond b (Some q) (part_at p ps)) here in
     let others : (p : Path) → is_among p (part_paths ps) ≡ true → look p ≡ part_at p ps = λ p h.

@@ -16,7 +16,7 @@ use Rattle.ob_opening.specs.declared.roles.Roles.{Roles}
 use Rattle.ob_opening.specs.Roles.{derived_names, name_among, is_dropped, holds_contracts, role_at}
 use Rattle.ob_opening.specs.Loading.{Part, parts_of, kept_row}
 use Rattle.ob_consistent_laws.proofs.Lists.{each_first, each_second}
-use Rattle.ob_consistent_laws.proofs.Once.{or_first, or_second, or_none}
+use Rattle.ob_values.proofs.Bools.{neither_left, neither_right, both_false}
 use Rattle.ob_consistent_laws.proofs.Names.{distinct}
 use Rattle.ob_consistent_laws.proofs.Sound.{Sound}
 use Rattle.ob_consistent_laws.proofs.Walk.{part_here}
@@ -65,7 +65,7 @@ module _ (rs : List Roles) (own : Roles) where
   not_kept : (n : ℕ) (name : Option Text) (r : Objects) → is_taken name (listed r) ≡ false → is_taken name (listed (kept_row rs n own r)) ≡ false
   not_kept n name none h = h
   not_kept n name (node k inner rest) h =
-      go (is_dropped own k) (not_kept (n + 1 + count inner) name rest (or_second (is_taken name (record { head = k; inner = inner } ∷ [])) (is_taken name (listed rest)) (sym (taken_first name (record { head = k; inner = inner }) (listed rest)) ∙ h)))
+      go (is_dropped own k) (not_kept (n + 1 + count inner) name rest (neither_right (is_taken name (record { head = k; inner = inner } ∷ [])) (is_taken name (listed rest)) (sym (taken_first name (record { head = k; inner = inner }) (listed rest)) ∙ h)))
     where
       both : (is_taken name (record { head = k; inner = inner } ∷ []) || is_taken name (listed rest)) ≡ false
       both = sym (taken_first name (record { head = k; inner = inner }) (listed rest)) ∙ h
@@ -76,8 +76,8 @@ module _ (rs : List Roles) (own : Roles) where
           let kept : Objects = kept_row rs (n + 1) (role_at rs n) inner in
           let others : Objects = kept_row rs (n + 1 + count inner) own rest in
           taken_first name (record { head = k; inner = kept }) (listed others)
-          ∙ or_none (is_taken name (record { head = k; inner = kept } ∷ [])) (is_taken name (listed others))
-          (same_one name k kept inner ∙ or_first (is_taken name (record { head = k; inner = inner } ∷ [])) (is_taken name (listed rest)) both) more
+          ∙ both_false (is_taken name (record { head = k; inner = kept } ∷ [])) (is_taken name (listed others))
+          (same_one name k kept inner ∙ neither_left (is_taken name (record { head = k; inner = inner } ∷ [])) (is_taken name (listed rest)) both) more
 
   -- kept children, and objects of the names that the roles of their parent derive
   free_behind : (n : ℕ) (r : Objects) (os : List Object) → names_of os ≡ map Some (derived_names own) → NamesDiffer os → NamesDiffer (listed r) → NamesDiffer (listed (kept_row rs n own r) ++ os)
@@ -89,9 +89,9 @@ module _ (rs : List Roles) (own : Roles) where
       go false is more =
           let others : Objects = kept_row rs (n + 1 + count inner) own rest in (
             taken_both k.name (listed others) os
-                ∙ or_none (is_taken k.name (listed others)) (is_taken k.name os)
+                ∙ both_false (is_taken k.name (listed others)) (is_taken k.name os)
                 (not_kept (n + 1 + count inner) k.name rest differ.0)
-                (names_taken k.name os (derived_names own) e ∙ or_first (name_among (derived_names own) k.name) _ is),
+                (names_taken k.name os (derived_names own) e ∙ neither_left (name_among (derived_names own) k.name) _ is),
             more,
           )
 

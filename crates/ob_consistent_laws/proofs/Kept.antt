@@ -1,6 +1,6 @@
 -- The paths of what is kept are among those of the root, and those of its parts.
 use Rattle.std.proofs.Common.{◌≡◌, ℕ, ◌+◌, Bool, true, false, cond, ◌||◌, bytes_eq, List, [], ◌∷◌, ◌++◌, refl, sym, ap, ap₂, ◌∙◌, subst, append_assoc, true≢false}
-use Rattle.std.proofs.lemmas.Slice.Eq.{bytes_eq-Decides}
+use Rattle.ob_values.proofs.Lists.{bytes_itself}
 use Rattle.ob_object.specs.Object.{Object, Objects, none, node, count}
 use Rattle.ob_object.specs.Paths.{node_path}
 use Rattle.ob_site_rules.specs.Build.{Path}
@@ -9,8 +9,8 @@ use Rattle.ob_opening.specs.declared.roles.Roles.{Roles}
 use Rattle.ob_opening.specs.Roles.{no_roles, is_dropped, holds_contracts, role_at}
 use Rattle.ob_opening.specs.Loading.{Part, parts_of, kept_row, kept_root, row_of, paths_in, listed_path, derived_paths}
 use Rattle.ob_consistent_laws.specs.Laws.{Apart, row_paths}
-use Rattle.ob_consistent_laws.proofs.Once.{or_second, or_none}
-use Rattle.ob_consistent_laws.proofs.OneKind.{among_append, apart_first, apart_second, apart_not, or_true}
+use Rattle.ob_values.proofs.Bools.{neither_right, both_false, or_true}
+use Rattle.ob_consistent_laws.proofs.OneKind.{among_append, apart_first, apart_second, apart_not}
 use Rattle.ob_consistent_laws.proofs.Walk.{part_here, root_kept}
 
 -- the paths of parts
@@ -51,15 +51,12 @@ pub unless : (b c : Bool) → (b ≡ true → c ≡ true) → c ≡ false → b 
 unless true c f h = absurd (true≢false (sym (f refl) ∙ h))
 unless false c f h = refl
 
-pub same_self : (p : Path) → bytes_eq p p ≡ true
-same_self p = (bytes_eq-Decides p p).1 refl
-
 apart_both : (xs ys : List Path) → Apart xs → Apart ys → ((p : Path) → is_among p ys ≡ true → is_among p xs ≡ false) → Apart (xs ++ ys)
 apart_both [] ys a b c = b
 apart_both (x ∷ xs) ys a b c =
-    let own : is_among x ys ≡ true → true ≡ false = λ h. sym (ap (λ t. t || is_among x xs) (same_self x)) ∙ c x h in (
-      among_append x xs ys ∙ or_none (is_among x xs) (is_among x ys) a.0 (unless (is_among x ys) false (λ h. sym (own h)) refl),
-      apart_both xs ys a.1 b (λ p h. or_second (bytes_eq x p) (is_among p xs) (c p h)),
+    let own : is_among x ys ≡ true → true ≡ false = λ h. sym (ap (λ t. t || is_among x xs) (bytes_itself x)) ∙ c x h in (
+      among_append x xs ys ∙ both_false (is_among x xs) (is_among x ys) a.0 (unless (is_among x ys) false (λ h. sym (own h)) refl),
+      apart_both xs ys a.1 b (λ p h. neither_right (bytes_eq x p) (is_among p xs) (c p h)),
     )
 
 or_if : (a b c d : Bool) → (a ≡ true → c ≡ true) → (b ≡ true → d ≡ true) → (a || b) ≡ true → (c || d) ≡ true

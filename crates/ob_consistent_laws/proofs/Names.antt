@@ -1,6 +1,7 @@
 -- The names that roles derive.
 use Rattle.std.proofs.Common.{◌≡◌, Bool, true, false, cond, not, ◌&&◌, ◌||◌, codes, List, [], ◌∷◌, ◌++◌, Option, Some, None, refl, ap, ◌∙◌, true≢false}
 use Rattle.std.proofs.lemmas.Slice.Eq.{bytes_eq-Decides}
+use Rattle.ob_values.proofs.Bools.{and_false, both_false}
 use Rattle.ob_object.specs.declared.kind.Kind.{Kind}
 use Rattle.ob_object.specs.declared.kind.Kind.TheVariants as kind
 use Rattle.ob_object.specs.declared.head.Head.{Head}
@@ -10,7 +11,6 @@ use Rattle.ob_site_rules.specs.Build.{Text}
 use Rattle.ob_site_rules.specs.State.{is_among}
 use Rattle.ob_opening.specs.declared.roles.Roles.{Roles}
 use Rattle.ob_opening.specs.Roles.{derived_names, name_among, is_dropped}
-use Rattle.ob_consistent_laws.proofs.Once.{or_none}
 
 -- the names that roles derive, by the flags of a lobby, a point, a history and a subject
 abbrev pub names : Bool → Bool → Bool → Bool → List Text
@@ -72,18 +72,14 @@ dropped_by r n k =
     || ((r.subject && (has_name (codes "rules") n && same_kind k kind.List))
     || (r.root && (has_name (codes "about") n && same_kind k kind.Obj))))
 
-and_false : (b : Bool) → (b && false) ≡ false
-and_false true = refl
-and_false false = refl
-
 name_is : (m : Text) (o : Option Text) → has_name m o ≡ true → o ≡ Some m
 name_is m None h = absurd (let e : false ≡ true = h in cc)
 name_is m (Some n) h = ap Some ((bytes_eq-Decides n m).0 h)
 
 none_of_contracts : (r : Roles) (k : Kind) → dropped_by r (Some (codes "contracts")) k ≡ false
 none_of_contracts r k =
-    or_none (name_among (derived_names r) (Some (codes "contracts"))) _ (contracts_among r.lobby r.point r.history r.subject)
-    (or_none (r.history && false) _ (and_false r.history) (or_none (r.subject && false) _ (and_false r.subject) (and_false r.root)))
+    both_false (name_among (derived_names r) (Some (codes "contracts"))) _ (contracts_among r.lobby r.point r.history r.subject)
+    (both_false (r.history && false) _ (and_false r.history) (both_false (r.subject && false) _ (and_false r.subject) (and_false r.root)))
 
 -- no role drops a child `contracts`
 pub contracts_stay : (r : Roles) (h : Head) → has_name (codes "contracts") h.name ≡ true → is_dropped r h ≡ false

@@ -1,6 +1,7 @@
 -- Paths that are apart.
 use Rattle.std.proofs.Common.{◌≡◌, Bool, true, false, cond, ◌||◌, bytes_eq, List, [], ◌∷◌, Option, Some, None, refl, sym, ◌∙◌, true≢false}
 use Rattle.std.proofs.lemmas.Slice.Eq.{bytes_eq-Decides}
+use Rattle.ob_values.proofs.Bools.{neither_left, neither_right, both_false}
 use Rattle.ob_site_rules.specs.Build.{Path}
 use Rattle.ob_site_rules.specs.State.{is_among}
 use Rattle.ob_opening.specs.Loading.{is_computed, taken_twice}
@@ -10,18 +11,6 @@ use Rattle.ob_consistent_laws.specs.Laws.{Apart, TakenOnce}
 abbrev pub Free : List Path → List Path → Type 0
 Free seen [] = Unit {0}
 Free seen (p ∷ ps) = (is_among p seen ≡ false) × Free seen ps
-
-pub or_first : (a b : Bool) → (a || b) ≡ false → a ≡ false
-or_first true b h = h
-or_first false b h = refl
-
-pub or_second : (a b : Bool) → (a || b) ≡ false → b ≡ false
-or_second true b h = absurd (true≢false h)
-or_second false b h = h
-
-pub or_none : (a b : Bool) → a ≡ false → b ≡ false → (a || b) ≡ false
-or_none true b h g = h
-or_none false b h g = g
 
 pub not_same : (p q : Path) → bytes_eq p q ≡ false → bytes_eq q p ≡ false
 not_same p q h = go (bytes_eq q p) refl
@@ -34,7 +23,7 @@ pub free_less : (p : Path) (seen ps : List Path) → Free (p ∷ seen) ps → (i
 free_less p seen [] f = (refl, tt)
 free_less p seen (q ∷ ps) f =
     let rest : (is_among p ps ≡ false) × Free seen ps = free_less p seen ps f.1 in
-    (or_none (bytes_eq q p) (is_among p ps) (not_same p q (or_first (bytes_eq p q) (is_among q seen) f.0)) rest.0, (or_second (bytes_eq p q) (is_among q seen) f.0, rest.1))
+    (both_false (bytes_eq q p) (is_among p ps) (not_same p q (neither_left (bytes_eq p q) (is_among q seen) f.0)) rest.0, (neither_right (bytes_eq p q) (is_among q seen) f.0, rest.1))
 
 pub cond_none : (b : Bool) (p : Path) (r : Option Path) → cond b (Some p) r ≡ None → (b ≡ false) × (r ≡ None)
 cond_none true p r h = absurd (let e : Some p ≡ None = h in cc)
@@ -46,7 +35,7 @@ once r seen (p ∷ ps) h =
     let t : ((is_computed r p || is_among p seen) ≡ false) × (taken_twice r (p ∷ seen) ps ≡ None) = cond_none (is_computed r p || is_among p seen) p (taken_twice r (p ∷ seen) ps) h in
     let rest : Apart ps × Free (p ∷ seen) ps = once r (p ∷ seen) ps t.1 in
     let less : (is_among p ps ≡ false) × Free seen ps = free_less p seen ps rest.1 in
-    ((less.0, rest.0), (or_second (is_computed r p) (is_among p seen) t.0, less.1))
+    ((less.0, rest.0), (neither_right (is_computed r p) (is_among p seen) t.0, less.1))
 
 pub taken_once : TakenOnce
 taken_once r ps h = (once r [] ps h).0

@@ -2,6 +2,7 @@
 use Rattle.std.proofs.Common.{◌≡◌, Bool, true, false, ◌||◌, bytes_eq, List, [], ◌∷◌, ◌++◌, Option, Some, None, refl, sym, ap, ◌∙◌, true≢false}
 use Rattle.std.specs.Prelude.{is_some}
 use Rattle.std.proofs.lemmas.Slice.Eq.{bytes_eq-Decides}
+use Rattle.ob_values.proofs.Bools.{or_true, neither_left, neither_right, both_false}
 use Rattle.ob_object.specs.declared.kind.Kind.{Kind}
 use Rattle.ob_object.specs.declared.head.Head.{Head}
 use Rattle.ob_object.specs.Object.{Objects, none, node, Object}
@@ -13,7 +14,6 @@ use Rattle.ob_site_rules.specs.Shown.{node_in}
 use Rattle.ob_opening.specs.Loading.{listed_path}
 use Rattle.ob_plain_state.specs.States.{IsOfKindAt, NodesAre}
 use Rattle.ob_consistent_laws.specs.Laws.{Apart, row_paths, kind_or_obj, ApartAreOfOneKind}
-use Rattle.ob_consistent_laws.proofs.Once.{or_first, or_second, or_none}
 
 assoc : (a b c : Bool) → (a || (b || c)) ≡ ((a || b) || c)
 assoc true b c = refl
@@ -25,7 +25,7 @@ among_append p (x ∷ xs) ys = ap (λ b. bytes_eq x p || b) (among_append p xs y
 
 pub apart_first : (xs ys : List Path) → Apart (xs ++ ys) → Apart xs
 apart_first [] ys a = tt
-apart_first (x ∷ xs) ys a = (or_first (is_among x xs) (is_among x ys) (sym (among_append x xs ys) ∙ a.0), apart_first xs ys a.1)
+apart_first (x ∷ xs) ys a = (neither_left (is_among x xs) (is_among x ys) (sym (among_append x xs ys) ∙ a.0), apart_first xs ys a.1)
 
 pub apart_second : (xs ys : List Path) → Apart (xs ++ ys) → Apart ys
 apart_second [] ys a = a
@@ -35,7 +35,7 @@ apart_second (x ∷ xs) ys a = apart_second xs ys a.1
 pub apart_not : (xs ys : List Path) (p : Path) → Apart (xs ++ ys) → is_among p ys ≡ true → is_among p xs ≡ false
 apart_not [] ys p a h = refl
 apart_not (x ∷ xs) ys p a h =
-    or_none (bytes_eq x p) (is_among p xs) (other x (bytes_eq x p) refl (or_second (is_among x xs) (is_among x ys) (sym (among_append x xs ys) ∙ a.0)) h) (apart_not xs ys p a.1 h)
+    both_false (bytes_eq x p) (is_among p xs) (other x (bytes_eq x p) refl (neither_right (is_among x xs) (is_among x ys) (sym (among_append x xs ys) ∙ a.0)) h) (apart_not xs ys p a.1 h)
   where
     other : (x : Path) (b : Bool) → bytes_eq x p ≡ b → is_among x ys ≡ false → is_among p ys ≡ true → b ≡ false
     other x false e out hit = refl
@@ -95,10 +95,6 @@ found_rest p h inner rest out other =
 -- a function that tells the kind of each node that is found in a row
 abbrev Tells : (Path → Kind) → Objects → Type 0
 Tells g r = (p : Path) → is_among p (row_paths r) ≡ true → g p ≡ kind_or_obj (node_in p r)
-
-pub or_true : (a : Bool) → (a || true) ≡ true
-or_true true = refl
-or_true false = refl
 
 own_kind : (g : Path → Kind) (h : Head) (inner rest : Objects) (q : Option Path) → node_path h ≡ q → Tells g (node h inner rest) → IsOfKindAt g q h.kind
 own_kind g h inner rest None e t = tt

@@ -21,8 +21,10 @@ use Rattle.ob_opening.specs.Loading.{Part, row_of, kept_root, parts_of, paths_in
 use Rattle.ob_consistent_laws.specs.Laws.{Apart, row_paths}
 use Rattle.ob_consistent_laws.specs.Ordered.{IsBy, IsOrdered, whole_log, moment_from, OpensInTime, OpensOrdered}
 use Rattle.ob_consistent_laws.proofs.Lists.{each_more, each_map, each_first, each_second}
-use Rattle.ob_consistent_laws.proofs.Once.{or_first, cond_none, Free, free_less, taken_once}
-use Rattle.ob_consistent_laws.proofs.Kept.{part_paths, root_paths, root_among, root_apart, Under, under_same, under_both, under_behind, same_self}
+use Rattle.ob_values.proofs.Bools.{neither_left}
+use Rattle.ob_consistent_laws.proofs.Once.{cond_none, Free, free_less, taken_once}
+use Rattle.ob_values.proofs.Lists.{bytes_itself}
+use Rattle.ob_consistent_laws.proofs.Kept.{part_paths, root_paths, root_among, root_apart, Under, under_same, under_both, under_behind}
 use Rattle.ob_consistent_laws.proofs.Fit.{all_fit}
 use Rattle.ob_consistent_laws.proofs.Found.{IsNodeIf}
 use Rattle.ob_consistent_laws.proofs.Roled.{is_history, IsPlaced, all_placed}
@@ -39,7 +41,7 @@ none_computed : (r : Path) (seen ps : List Path) → taken_twice r seen ps ≡ N
 none_computed r seen [] h = tt
 none_computed r seen (p ∷ ps) h =
     let t = cond_none (is_computed r p || is_among p seen) p (taken_twice r (p ∷ seen) ps) h in
-    (or_first (is_computed r p) (is_among p seen) t.0, none_computed r (p ∷ seen) ps t.1)
+    (neither_left (is_computed r p) (is_among p seen) t.0, none_computed r (p ∷ seen) ps t.1)
 
 each_at : (P : Path → Type 0) (ys : List Path) (p : Path) → AllByRecursion P ys → is_among p ys ≡ true → P p
 each_at P [] p e h = absurd (true≢false (sym h))
@@ -52,7 +54,7 @@ each_at P (y ∷ ys) p e h = go (bytes_eq y p) refl h (λ g. each_at P ys p e.1 
 each_among : (P : Path → Type 0) (xs ys : List Path) → ((p : Path) → is_among p xs ≡ true → is_among p ys ≡ true) → AllByRecursion P ys → AllByRecursion P xs
 each_among P [] ys f e = tt
 each_among P (x ∷ xs) ys f e = (
-  each_at P ys x e (f x (ap (λ b. b || is_among x xs) (same_self x))),
+  each_at P ys x e (f x (ap (λ b. b || is_among x xs) (bytes_itself x))),
   each_among P xs ys (λ p h. f p (ap (λ b. bytes_eq x p || b) h ∙ or_true (bytes_eq x p))) e,
 )
   where

@@ -7,7 +7,7 @@ use Rattle.ob_history.specs.declared.records.Record.{Record}
 use Rattle.ob_history.specs.Records.{InOrder, IsNotBefore}
 use Rattle.ob_site_rules.specs.State.{rolled}
 use Rattle.ob_opening.specs.Loading.{Part, items_of, record_in, records_of, bad_records, bad_history, bad_part, after_item, is_bad_item, is_late, is_earlier, has_bad_source, has_bad_capacity, histories_in, ms_up, last_moment}
-use Rattle.ob_consistent_laws.proofs.Once.{or_first, or_second}
+use Rattle.ob_values.proofs.Bools.{neither_left, neither_right}
 use Rattle.ob_consistent_laws.proofs.Inverted.{all_good, first_none, second_none}
 use Rattle.ob_consistent_laws.proofs.Times.{ms_up_most, not_before}
 
@@ -33,8 +33,8 @@ none_behind (Some t) = tt
 not_late : (before : Option Instant) (r : Record) (rs : List Record) → is_late before r ≡ false → IsBehind before (r ∷ rs) × (is_earlier (moment_instant last_moment) r.time ≡ false)
 not_late None r rs h = (tt, h)
 not_late (Some t) r rs h = (
-  not_before t r.time (or_first (is_earlier r.time t) (is_earlier (moment_instant last_moment) r.time) h),
-  or_second (is_earlier r.time t) (is_earlier (moment_instant last_moment) r.time) h,
+  not_before t r.time (neither_left (is_earlier r.time t) (is_earlier (moment_instant last_moment) r.time) h),
+  neither_right (is_earlier r.time t) (is_earlier (moment_instant last_moment) r.time) h,
 )
 
 first_in_order : (r : Record) (rs : List Record) → IsBehind (Some r.time) rs → IsNotBefore r rs

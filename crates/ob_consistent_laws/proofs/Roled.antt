@@ -11,11 +11,12 @@ use Rattle.ob_opening.specs.declared.roles.Roles.{Roles}
 use Rattle.ob_opening.specs.Roles.{no_roles, is_dropped, role_at}
 use Rattle.ob_opening.specs.Loading.{Part, parts_of, paths_in, listed_path, derived_paths, row_of}
 use Rattle.ob_consistent_laws.specs.Laws.{Apart}
-use Rattle.ob_consistent_laws.proofs.Once.{or_first, or_second}
+use Rattle.ob_values.proofs.Bools.{neither_left, neither_right}
 use Rattle.ob_consistent_laws.proofs.OneKind.{apart_first, apart_second}
 use Rattle.ob_consistent_laws.proofs.Fit.{Fit}
 use Rattle.ob_consistent_laws.proofs.Found.{IsNodeIf}
-use Rattle.ob_consistent_laws.proofs.Kept.{same_self, unless}
+use Rattle.ob_values.proofs.Lists.{bytes_itself}
+use Rattle.ob_consistent_laws.proofs.Kept.{unless}
 use Rattle.ob_consistent_laws.proofs.Walk.{Walks, each_part, root_parts}
 
 abbrev pub is_lobby : Part → Bool
@@ -82,7 +83,7 @@ module _ (rs : List Roles) where
     pub apart : Apart (paths_in rs n above r)
 
   not_both : (h s : Bool) (p q : Path) → Apart (cond h (p ∷ q ∷ []) [] ++ cond s (p ∷ q ∷ []) []) → (h && s) ≡ false
-  not_both true true p q a = absurd (true≢false (sym (same_self p) ∙ or_first (bytes_eq p p) _ (or_second (bytes_eq q p) _ a.0)))
+  not_both true true p q a = absurd (true≢false (sym (bytes_itself p) ∙ neither_left (bytes_eq p p) _ (neither_right (bytes_eq q p) _ a.0)))
   not_both true false p q a = refl
   not_both false s p q a = refl
 

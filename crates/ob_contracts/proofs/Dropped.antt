@@ -3,6 +3,7 @@ use Rattle.std.proofs.Common.{◌≡◌, ℕ, Bool, true, false, not, ◌&&◌, 
 use Rattle.std.specs.Prelude.{is_some}
 use Rattle.std.specs.Option.{option_copied}
 use Rattle.std.proofs.lemmas.Slice.Eq.{bytes_eq-Decides}
+use Rattle.ob_values.proofs.Bools.{or_false, or_second}
 use Rattle.ob_object.specs.declared.head.Head.{Head}
 use Rattle.ob_object.specs.declared.kind.Kind.{Kind}
 use Rattle.ob_object.specs.Kinds.{is_ref, same_kind, has_of, has_input, has_output}
@@ -140,10 +141,6 @@ regroup : (a b c : Bool) → (a || (b || c)) ≡ ((a || b) || c)
 regroup true b c = refl
 regroup false b c = refl
 
-or_false : (a : Bool) → (a || false) ≡ a
-or_false true = refl
-or_false false = refl
-
 missing_dropped : (there P : List Object) (s : Object) (R : List Object)
     → ((n : List ℕ) → is_some (named n (children s)) ≡ true → (is_some (named n there) || is_some (overridden (Some n) P)) ≡ true)
     → missing there (P ++ s ∷ R) ≡ missing there (P ++ R)
@@ -161,10 +158,6 @@ missing_dropped there (p ∷ ps) s R h =
     ∙ ap (λ b. is_some (named n there) || b) (sym (is_some_or (named n (children p)) (overridden (Some n) ps)))
     ∙ h n has))
 
-or_true : (a b : Bool) → b ≡ true → (a || b) ≡ true
-or_true true b h = refl
-or_true false b h = h
-
 pub same_refl : (ss : List Object) → Same ss ss
 same_refl ss = record { head = λ h. refl; over = λ n. refl; missing = λ t. refl }
 
@@ -176,7 +169,7 @@ pub same_dropped : (P : List Object) (s : Object) (R : List Object) → IsTold P
 same_dropped P s R t = record {
   head = λ h. sym (head_dropped h P s R t.head);
   over = λ n. sym (over_dropped n P s R t);
-  missing = λ there. sym (missing_dropped there P s R (λ n has. or_true (is_some (named n there)) (is_some (overridden (Some n) P)) (t.names n has)));
+  missing = λ there. sym (missing_dropped there P s R (λ n has. or_second (is_some (named n there)) (is_some (overridden (Some n) P)) (t.names n has)));
 }
 
 rows_same : (lib : Contracts) (implied : Option Words) (ss ts : List Object) → ((n : Option (List ℕ)) → overridden n ss ≡ overridden n ts) → (r : Objects) → row_results lib implied ss r ≡ row_results lib implied ts r

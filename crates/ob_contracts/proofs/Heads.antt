@@ -13,6 +13,7 @@ use Rattle.std.specs.BTreeMap.{is_at}
 use Rattle.std.proofs.lemmas.Map.Text.{is_eq-slice_cmp}
 use Rattle.std.proofs.lemmas.List.Folds.{list_any-append}
 use denote.Ref.{Bor}
+use Rattle.ob_values.proofs.Bools.{or_false, or_assoc, neither, or_first, or_second, and_first, and_second}
 use Rattle.ob_object.specs.Kinds.{has_of, has_input, has_output}
 use Rattle.ob_contracts.specs.Inherit.{Contracts, Words, contract_of, present, only_if, given, first_given, overridden, or_else}
 use Rattle.ob_contracts.specs.Telling.{Knows, IsPut, IsHeadTold, IsTold, IsTelling, StandFor, Same, named_by, tells_part, Gave}
@@ -28,7 +29,8 @@ use Rattle.ob_contracts.specs.Found.{lent}
 use Rattle.ob_contracts.specs.Parts.{has_part}
 use Rattle.ob_contracts.specs.Telling.{has_one, has_text, ArePut}
 use Rattle.ob_contracts.specs.declared.reading.Part.{Part}
-use Rattle.ob_contracts.proofs.Missing.{drop_all, taken-append}
+use Rattle.ob_values.proofs.Lists.{drop_all}
+use Rattle.ob_contracts.proofs.Missing.{taken-append}
 
 abbrev is_one : Kind → Part → Object → Bool
 is_one k p x = same_kind x.head.kind k && has_part p x
@@ -60,20 +62,8 @@ taken_next n cs i x h is =
 abbrev Texts : Type 0
 Texts = BTreeSet (Bor (List ℕ))
 
-or_false : (a : Bool) → (a || false) ≡ a
-or_false true = refl
-or_false false = refl
-
 pub put_begun : (known : Texts) (cs : List Object) → ArePut known known (take 0 cs) false
 put_begun known cs = record { names = λ n. sym (or_false (has_text known n)); none = λ e n taken. absurd (true≢false (sym taken)) }
-
-joined : (a b c : Bool) → ((a || b) || c) ≡ (a || (b || c))
-joined true b c = refl
-joined false b c = refl
-
-neither : (a b : Bool) → (a || b) ≡ false → (a ≡ false) × (b ≡ false)
-neither true b h = absurd (true≢false h)
-neither false b h = (refl, h)
 
 either : (a b c : Bool) → (a ≡ true → c ≡ true) → (b ≡ true → c ≡ true) → (a || b) ≡ true → c ≡ true
 either true b c f g h = f refl
@@ -85,7 +75,7 @@ pub put_more : (old cur new : Texts) (cs : List Object) (i : ℕ) (x : Object) (
     → ArePut old cur (take i cs) a → ArePut old new (take (i + 1) cs) (a || b)
 put_more old cur new cs i x a b h is names fresh put = record {
   names = λ n.
-      names n ∙ ap (λ c. c || has_name n x.head.name) (put.names n) ∙ joined (has_text old n) (is_taken (Some n) (take i cs)) (has_name n x.head.name)
+      names n ∙ ap (λ c. c || has_name n x.head.name) (put.names n) ∙ or_assoc (has_text old n) (is_taken (Some n) (take i cs)) (has_name n x.head.name)
       ∙ ap (λ c. has_text old n || c) (sym (taken_next n cs i x h is));
   none = λ e n taken.
       let off = neither a b e in
@@ -106,26 +96,10 @@ text_more set new key up t =
     ∙ ap (λ b. cond b true (has_text set t)) (is_eq-slice_cmp key.now t)
     ∙ or_cond (bytes_eq key.now t) (has_text set t)
 
-or_first : (a b : Bool) → a ≡ true → (a || b) ≡ true
-or_first true b h = refl
-or_first false b h = absurd (true≢false (sym h))
-
-or_second : (a b : Bool) → b ≡ true → (a || b) ≡ true
-or_second true b h = refl
-or_second false b h = h
-
 all_there : (a b : Bool) → (a && not b) ≡ false → a ≡ true → b ≡ true
 all_there true true h e = refl
 all_there true false h e = absurd (true≢false h)
 all_there false b h e = absurd (true≢false (sym e))
-
-and_first : (a b : Bool) → (a && b) ≡ true → a ≡ true
-and_first true b h = refl
-and_first false b h = absurd (true≢false (sym h))
-
-and_second : (a b : Bool) → (a && b) ≡ true → b ≡ true
-and_second true b h = h
-and_second false b h = absurd (true≢false (sym h))
 
 module _ {A : Type 0} where
   -- an object that passes a test gives a part

@@ -3,6 +3,7 @@ use Rattle.std.proofs.Common.{◌≡◌, ℕ, suc, ◌<◌, Bool, true, false, �
 use Rattle.std.specs.Prelude.{reverse}
 use Rattle.std.proofs.Math.Seq.{take-suc}
 use Rattle.std.proofs.lemmas.List.{reverse-append, take_all}
+use Rattle.ob_values.proofs.Bools.{or_false, or_true}
 use Rattle.ob_object.specs.Object.{Object}
 use Rattle.ob_contracts.specs.Inherit.{Contracts, Words, words_in}
 use Rattle.ob_contracts.specs.Adding.{is_among}
@@ -17,14 +18,6 @@ spread false false true n true = refl
 spread false false true true false = refl
 spread false false true false false = refl
 spread false false false n x = refl
-
-or_false : (a : Bool) → (a || false) ≡ a
-or_false true = refl
-or_false false = refl
-
-or_true : (a : Bool) → (a || true) ≡ true
-or_true true = refl
-or_true false = refl
 
 -- By contracts of which the latest stands first, and words that are known by a test: one of the words is the one
 -- asked for, or names a contract that is one by its own words.

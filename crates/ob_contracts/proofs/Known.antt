@@ -5,21 +5,13 @@ use Rattle.std.proofs.lemmas.Bool.Decides.{same_from_decides}
 use Rattle.std.specs.Str.{bytes_eq}
 use Rattle.std.specs.BTreeSet.{BTreeSet, contains_text}
 use Rattle.std.proofs.lemmas.Slice.Eq.{bytes_eq-Decides}
+use Rattle.ob_values.proofs.Bools.{or_first, or_second}
 use Rattle.ob_object.specs.declared.head.Head.{Head}
 use Rattle.ob_object.specs.Object.{Object, in_row, children, in_row-listed}
 use Rattle.ob_contracts.specs.Inherit.{Contracts, words_in}
 use Rattle.ob_contracts.specs.Adding.{is_among, head_names, row_names, names_word, library_names}
 use Rattle.ob_contracts.specs.Named.{HasAll, KeepsKnown, HasNamed}
 use Rattle.ob_contracts.proofs.Names.{row_names-cons}
-
--- one or the other
-pub or_first : (a b : Bool) → a ≡ true → (a || b) ≡ true
-or_first true b h = refl
-or_first false b h = cc
-
-pub or_second : (a b : Bool) → b ≡ true → (a || b) ≡ true
-or_second true b h = refl
-or_second false b h = h
 
 pub either : (a b c : Bool) → (a ≡ true → c ≡ true) → (b ≡ true → c ≡ true) → (a || b) ≡ true → c ≡ true
 either true b c f g h = f refl

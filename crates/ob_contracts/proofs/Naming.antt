@@ -10,7 +10,8 @@ use Rattle.ob_object.specs.WellFormed.{has_name, named}
 use Rattle.ob_contracts.specs.Adding.{is_among, head_names, row_names, names_word, library_names}
 use Rattle.ob_contracts.specs.Inherit.{Contracts, Words, words_in, contract_of, present, or_else, only_if, first_given, overridden, is_new, missing, bare, bare_row, sources, implied_by, inherited_head, row_results, result_of}
 use Rattle.ob_contracts.specs.Named.{HasAll, KeepsKnown, HasNamed}
-use Rattle.ob_contracts.proofs.Known.{or_first, or_second, either}
+use Rattle.ob_values.proofs.Bools.{or_first, or_second}
+use Rattle.ob_contracts.proofs.Known.{either}
 
 module _ (w : List ℕ) (k : Bool) where
   -- that words name w decides k

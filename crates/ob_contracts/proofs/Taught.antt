@@ -10,6 +10,7 @@ use Rattle.std.specs.Map.{lookup}
 use Rattle.std.proofs.lemmas.Map.Text.{is_eq-slice_cmp}
 use Rattle.std.proofs.lemmas.List.Folds.{list_any-append}
 use Rattle.std.proofs.lemmas.Slice.Eq.{bytes_eq-Decides}
+use Rattle.ob_values.proofs.Bools.{or_false}
 use Rattle.ob_object.specs.declared.head.Head.{Head}
 use Rattle.ob_object.specs.declared.kind.Kind.{Kind}
 use Rattle.ob_object.specs.Kinds.{is_ref, same_kind}
@@ -286,10 +287,6 @@ words_next old now w n cs i x m h is name held =
     ∙ next_word old w (is_taken (Some n) (take i cs)) (bytes_eq m n)
     ∙ ap (λ (k : Option (List ℕ)). or_else old (cond (is_taken (Some n) (take i cs) || has_name n k) (Some w) None)) name
     ∙ sym (ap (λ (b : Bool). or_else old (cond b (Some w) None)) (taken_next n cs i x h is))
-
-or_false : (a : Bool) → (a || false) ≡ a
-or_false true = refl
-or_false false = refl
 
 pub words_pass : (old now : Option (List ℕ)) (w n : List ℕ) (cs : List Object) (i : ℕ) (x : Object) → i < length cs → x ≡ get_or cs i x → None ≡ x.head.name
     → now ≡ or_else old (cond (is_taken (Some n) (take i cs)) (Some w) None) → now ≡ or_else old (cond (is_taken (Some n) (take (i + 1) cs)) (Some w) None)

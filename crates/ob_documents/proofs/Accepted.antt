@@ -1,5 +1,5 @@
 -- What bytes spell is judged to be it.
-use Rattle.std.proofs.Common.{◌≡◌, ℕ, suc, ◌<◌, ◌≤◌, Bool, true, false, cond, ◌||◌, List, [], ◌∷◌, ◌++◌, length, Option, Some, None, Result, Ok, Err, refl, sym, ap, ◌∙◌, subst, append_assoc, arith}
+use Rattle.std.proofs.Common.{◌≡◌, ℕ, suc, ◌<◌, ◌≤◌, Bool, true, false, cond, List, [], ◌∷◌, ◌++◌, length, Option, Some, None, Result, Ok, Err, refl, sym, ap, ◌∙◌, subst, append_assoc, arith}
 use Rattle.std.specs.Prelude.{codes, is_some, nat_le}
 use Rattle.std.specs.Ordering.{nat_cmp, eq_by_cmp}
 use Rattle.std.specs.Cmp.Lexicographic.{slice_cmp, nat_list_cmp_total}
@@ -11,6 +11,7 @@ use Rattle.std.proofs.lemmas.Bool.Decides.{nat_tests}
 use Rattle.std.proofs.lemmas.Map.Text.{is_eq-slice_cmp}
 use Rattle.std.proofs.lemmas.Slice.Eq.{bytes_eq-Decides}
 use Rattle.ob_values.specs.Faults.{ValueFault, NotName}
+use Rattle.ob_values.proofs.Bools.{both_false, neither_left, neither_right}
 use Rattle.ob_scan.specs.declared.piece.Place.{Place}
 use Rattle.ob_scan.specs.declared.piece.Place.TheVariants as places
 use Rattle.ob_scan.specs.Constructs.{Construct, found, scan}
@@ -37,7 +38,6 @@ use Rattle.ob_documents.specs.Grammar.{attributes_of, name_of, Element, empty, f
 use Rattle.ob_documents.specs.Spelling.{place_behind, Cuts, none as no_more, some, Spells}
 use Rattle.ob_documents.proofs.One.{kind_back}
 use Rattle.ob_documents.proofs.Fitting.{same_true, known_parts, no_name, fit_parts, fit_whole, same_part, part_keeps, IsNoNamePart, no_name_part, kind_stays, tell_name}
-use Rattle.ob_documents.proofs.SpelledTexts.{neither_left, neither_right}
 use Rattle.ob_xml.specs.declared.doc.Doc.{Doc}
 use Rattle.ob_xml.specs.declared.refused.Why.{Why}
 use Rattle.ob_xml.specs.declared.refused.Why.TheVariants as causes
@@ -63,14 +63,10 @@ abbrev pub Unseen : NameSet → List (List ℕ × List ℕ) → Type 0
 Unseen names [] = Unit {0}
 Unseen names (x ∷ xs) = (set.contains names x.0 ≡ false) × Unseen names xs
 
-pub or_false : (a b : Bool) → a ≡ false → b ≡ false → (a || b) ≡ false
-or_false true b p q = absurd cc
-or_false false b p q = q
-
 unseen_more : (names : NameSet) (n : List ℕ) (xs : List (List ℕ × List ℕ)) → has_name xs n ≡ false → Unseen names xs → Unseen (set.insert names n) xs
 unseen_more names n [] h u = tt
 unseen_more names n (x ∷ xs) h u = (
-  set.contains-insert nat_list_cmp_total names n x.0 ∙ or_false (eq_by_cmp (slice_cmp nat_cmp) x.0 n) (set.contains names x.0) (is_eq-slice_cmp x.0 n ∙ neither_left (same x.0 n) (has_name xs n) h) u.0,
+  set.contains-insert nat_list_cmp_total names n x.0 ∙ both_false (eq_by_cmp (slice_cmp nat_cmp) x.0 n) (set.contains names x.0) (is_eq-slice_cmp x.0 n ∙ neither_left (same x.0 n) (has_name xs n) h) u.0,
   unseen_more names n xs (neither_right (same x.0 n) (has_name xs n) h) u.1,
 )
 

@@ -8,6 +8,7 @@ use Rattle.std.proofs.lemmas.Bool.{eqb-true}
 use Rattle.std.proofs.lemmas.Bool.Decides.{nat_tests}
 use Rattle.std.proofs.lemmas.Map.Text.{is_eq-slice_cmp}
 use Rattle.ob_values.specs.Faults.{ValueFault, NotName}
+use Rattle.ob_values.proofs.Bools.{neither_left, neither_right, both_false}
 use Rattle.ob_scan.specs.declared.piece.Place.{Place}
 use Rattle.ob_scan.specs.declared.piece.Place.TheVariants as places
 use Rattle.ob_scan.specs.declared.piece.Why.TheVariants.{Text}
@@ -36,11 +37,10 @@ use Rattle.ob_encoding.specs.Names.{kind_name}
 use Rattle.ob_documents.specs.Attributes.{has_name, AreDistinct, Says, Tell, Describe, NamespaceBy, NamespaceIs}
 use Rattle.ob_documents.specs.Grammar.{attributes_of, name_of, Element, empty, full, Content, nothing, pause, child, IsMark, AreSkipped, IsDocument}
 use Rattle.ob_documents.specs.Spelling.{Cuts, none as no_more, some, Spells}
-use Rattle.ob_documents.proofs.SpelledTexts.{neither_left, neither_right}
 use Rattle.ob_documents.proofs.Fitting.{same_true, kind_stays}
 use Rattle.ob_xml.proofs.Frees.{still_free}
 use Rattle.ob_xml.proofs.Ends.{NotEnd, not_whole, only_at_end}
-use Rattle.ob_documents.proofs.Accepted.{Leads, done, on, Unseen, NsStep, NsAfter, ns_inner, ns_none, root_none, xmlns_unknown, or_false, place_in, NotEnding, next_place, same_state, by_meaning, empty_fits, doc_of, object_with}
+use Rattle.ob_documents.proofs.Accepted.{Leads, done, on, Unseen, NsStep, NsAfter, ns_inner, ns_none, root_none, xmlns_unknown, place_in, NotEnding, next_place, same_state, by_meaning, empty_fits, doc_of, object_with}
 use Rattle.ob_xml.specs.declared.doc.Doc.{Doc}
 use Rattle.ob_xml.specs.declared.refused.Why.{Why}
 use Rattle.ob_xml.specs.declared.refused.Why.TheVariants as causes
@@ -301,7 +301,7 @@ unseen_less names n (x ∷ xs) u = (neither_right (same x.0 n) (set.contains nam
 
 not_again : (names : NameSet) (n : List ℕ) (xs : List (List ℕ × List ℕ)) → Unseen (set.insert names n) xs → has_name xs n ≡ false
 not_again names n [] u = refl
-not_again names n (x ∷ xs) u = or_false (same x.0 n) (has_name xs n) (neither_left (same x.0 n) (set.contains names x.0) (insert_misses names n x.0 u.0)) (not_again names n xs u.1)
+not_again names n (x ∷ xs) u = both_false (same x.0 n) (has_name xs n) (neither_left (same x.0 n) (set.contains names x.0) (insert_misses names n x.0 u.0)) (not_again names n xs u.1)
 
 namespace_is : (k : Kind) (xs : List (List ℕ × List ℕ)) (b : Option (List ℕ)) → AreDistinct xs → NsAfter [] k xs None b → NamespaceIs xs b
 namespace_is k [] b d n = n

@@ -9,6 +9,7 @@ use Rattle.std.proofs.lemmas.Bool.{cases_lt, eqb-true}
 use Rattle.std.proofs.lemmas.Bool.Decides.{nat_tests}
 use Rattle.ob_values.specs.Faults.{ValueFault}
 use Rattle.ob_values.specs.declared.value.Value.{Value}
+use Rattle.ob_values.proofs.Bools.{and_true, and_first, and_second, neither_left, neither_right}
 use Rattle.ob_values.specs.declared.value.Value.TheVariants as value
 use Rattle.ob_object.specs.declared.kind.Kind.{Kind}
 use Rattle.ob_object.specs.declared.kind.Kind.TheVariants as kind
@@ -34,8 +35,6 @@ use Rattle.ob_encoding.specs.Parts.{read_as, ReadAs, ReadsValue, ReadsLimit, Rea
 use Rattle.ob_encoding.specs.WordLists.{is_blank, ended, words_from, words_of}
 use Rattle.ob_documents.specs.Attributes.{has_name, Says, Tell}
 use Rattle.ob_documents.proofs.Characters.{encode_1, encode_2, encode_3, encode_4}
-use Rattle.ob_documents.proofs.Pieces.{left, right}
-use Rattle.ob_documents.proofs.SpelledTexts.{neither_left, neither_right}
 
 -- ---- names
 
@@ -44,7 +43,7 @@ same_true [] [] e = refl
 same_true [] (y ∷ ys) e = absurd cc
 same_true (x ∷ xs) [] e = absurd cc
 same_true (x ∷ xs) (y ∷ ys) e =
-    ap (λ (n : ℕ). n ∷ xs) (eqb-true x y (left (eqb x y) (same xs ys) e)) ∙ ap (λ (t : List ℕ). y ∷ t) (same_true xs ys (right (eqb x y) (same xs ys) e))
+    ap (λ (n : ℕ). n ∷ xs) (eqb-true x y (and_first (eqb x y) (same xs ys) e)) ∙ ap (λ (t : List ℕ). y ∷ t) (same_true xs ys (and_second (eqb x y) (same xs ys) e))
 
 -- the first of eight tests
 text_name : (a b c d e f g h : Bool) → cond a (Some texts.Name) (cond b (Some texts.Href) (cond c (Some texts.Display) (cond d (Some texts.DisplayName) (cond e (Some texts.Icon) (cond f (Some texts.Range) (cond g (Some texts.Tz) (cond h (Some texts.Unit) None))))))) ≡ Some texts.Name → a ≡ true
@@ -131,10 +130,6 @@ plain_high b h = let e : is_white b ≡ false = grind (arith, nat_tests) in rw e
 abbrev is_plain : List ℕ → Bool
 is_plain bytes = list_all (λ b. not (is_white b)) bytes
 
-and2 : (a b : Bool) → a ≡ true → b ≡ true → (a && b) ≡ true
-and2 true b p q = q
-and2 false b p q = absurd cc
-
 char_plain : (c : ℕ) → is_blank c ≡ false → is_plain (encode_utf8 c) ≡ true
 char_plain c h =
     elim (cases_lt c 128) [
@@ -156,7 +151,7 @@ ended_words word words p q = by (eqb (length word) 0) refl
   where
     by : (t : Bool) → eqb (length word) 0 ≡ t → list_all is_word (cond t words (word ∷ words)) ≡ true
     by true e = q
-    by false e = and2 (is_word word) (list_all is_word words) (rw (e, p) refl) q
+    by false e = and_true (is_word word) (list_all is_word words) (rw (e, p) refl) q
 
 words_words : (cs word : List ℕ) → is_plain word ≡ true → list_all is_word (words_from word cs) ≡ true
 words_words [] word p = ended_words word [] p refl
@@ -165,7 +160,7 @@ words_words (c ∷ cs) word p = by (is_blank c) refl (words_words cs [] refl) (�
     by : (t : Bool) → is_blank c ≡ t → list_all is_word (words_from [] cs) ≡ true → ((w : List ℕ) → is_plain w ≡ true → list_all is_word (words_from w cs) ≡ true)
         → list_all is_word (cond t (ended word (words_from [] cs)) (words_from (word ++ encode_utf8 c) cs)) ≡ true
     by true e rest on = ended_words word (words_from [] cs) p rest
-    by false e rest on = on (word ++ encode_utf8 c) (list_all-append (λ b. not (is_white b)) word (encode_utf8 c) ∙ and2 (is_plain word) (is_plain (encode_utf8 c)) p (char_plain c e))
+    by false e rest on = on (word ++ encode_utf8 c) (list_all-append (λ b. not (is_white b)) word (encode_utf8 c) ∙ and_true (is_plain word) (is_plain (encode_utf8 c)) p (char_plain c e))
 
 pub words_good : (t : List ℕ) → list_all is_word (words_of t) ≡ true
 words_good t = words_words (chars t) [] refl
@@ -240,33 +235,33 @@ pub fit_parts : (h : Head) → fits_head h ≡ true → FitParts h
 fit_parts h fits =
     let k = h.kind in
     let f = h.facets in
-    let names = left (fits_name h.name && fits_lists h) (fits_slot k h.slot && fits_facets k f) fits in
-    let values = right (fits_name h.name && fits_lists h) (fits_slot k h.slot && fits_facets k f) fits in
-    let words = right (fits_name h.name) (fits_lists h) names in
-    let others = right (fits_words true h.is) (fits_words (has_of k) h.of && (fits_words (has_input k) h.input && fits_words (has_output k) h.output)) words in
-    let calls = right (fits_words (has_of k) h.of) (fits_words (has_input k) h.input && fits_words (has_output k) h.output) others in
-    let limits = right (fits_slot k h.slot) (fits_facets k f) values in
+    let names = and_first (fits_name h.name && fits_lists h) (fits_slot k h.slot && fits_facets k f) fits in
+    let values = and_second (fits_name h.name && fits_lists h) (fits_slot k h.slot && fits_facets k f) fits in
+    let words = and_second (fits_name h.name) (fits_lists h) names in
+    let others = and_second (fits_words true h.is) (fits_words (has_of k) h.of && (fits_words (has_input k) h.input && fits_words (has_output k) h.output)) words in
+    let calls = and_second (fits_words (has_of k) h.of) (fits_words (has_input k) h.input && fits_words (has_output k) h.output) others in
+    let limits = and_second (fits_slot k h.slot) (fits_facets k f) values in
     record {
-      name = left (fits_name h.name) (fits_lists h) names;
-      is = left (fits_words true h.is) (fits_words (has_of k) h.of && (fits_words (has_input k) h.input && fits_words (has_output k) h.output)) words;
-      of = left (fits_words (has_of k) h.of) (fits_words (has_input k) h.input && fits_words (has_output k) h.output) others;
-      input = left (fits_words (has_input k) h.input) (fits_words (has_output k) h.output) calls;
-      output = right (fits_words (has_input k) h.input) (fits_words (has_output k) h.output) calls;
-      slot = left (fits_slot k h.slot) (fits_facets k f) values;
-      min = left (fits_if_there k f.min) (fits_if_there k f.max) limits;
-      max = right (fits_if_there k f.min) (fits_if_there k f.max) limits;
+      name = and_first (fits_name h.name) (fits_lists h) names;
+      is = and_first (fits_words true h.is) (fits_words (has_of k) h.of && (fits_words (has_input k) h.input && fits_words (has_output k) h.output)) words;
+      of = and_first (fits_words (has_of k) h.of) (fits_words (has_input k) h.input && fits_words (has_output k) h.output) others;
+      input = and_first (fits_words (has_input k) h.input) (fits_words (has_output k) h.output) calls;
+      output = and_second (fits_words (has_input k) h.input) (fits_words (has_output k) h.output) calls;
+      slot = and_first (fits_slot k h.slot) (fits_facets k f) values;
+      min = and_first (fits_if_there k f.min) (fits_if_there k f.max) limits;
+      max = and_second (fits_if_there k f.min) (fits_if_there k f.max) limits;
     }
 
 pub fit_whole : (h : Head) → FitParts h → fits_head h ≡ true
 fit_whole h p =
     let k = h.kind in
     let f = h.facets in
-    let calls = and2 (fits_words (has_input k) h.input) (fits_words (has_output k) h.output) p.input p.output in
-    let others = and2 (fits_words (has_of k) h.of) (fits_words (has_input k) h.input && fits_words (has_output k) h.output) p.of calls in
-    let words = and2 (fits_words true h.is) (fits_words (has_of k) h.of && (fits_words (has_input k) h.input && fits_words (has_output k) h.output)) p.is others in
-    and2 (fits_name h.name && fits_lists h) (fits_slot k h.slot && fits_facets k f)
-    (and2 (fits_name h.name) (fits_lists h) p.name words)
-    (and2 (fits_slot k h.slot) (fits_facets k f) p.slot (and2 (fits_if_there k f.min) (fits_if_there k f.max) p.min p.max))
+    let calls = and_true (fits_words (has_input k) h.input) (fits_words (has_output k) h.output) p.input p.output in
+    let others = and_true (fits_words (has_of k) h.of) (fits_words (has_input k) h.input && fits_words (has_output k) h.output) p.of calls in
+    let words = and_true (fits_words true h.is) (fits_words (has_of k) h.of && (fits_words (has_input k) h.input && fits_words (has_output k) h.output)) p.is others in
+    and_true (fits_name h.name && fits_lists h) (fits_slot k h.slot && fits_facets k f)
+    (and_true (fits_name h.name) (fits_lists h) p.name words)
+    (and_true (fits_slot k h.slot) (fits_facets k f) p.slot (and_true (fits_if_there k f.min) (fits_if_there k f.max) p.min p.max))
 
 text_keeps : (f : TextField) (t : List ℕ) (h : Head) → IsNoNameText f → fits_head h ≡ true → fits_head (put_text f h t) ≡ true
 text_keeps texts.Name t h n fits = absurd n
@@ -284,13 +279,13 @@ words_keeps lists.Is ws h a w fits =
     fit_whole (put_words lists.Is h ws) (record { name = p.name; is = w; of = p.of; input = p.input; output = p.output; slot = p.slot; min = p.min; max = p.max })
 words_keeps lists.Of ws h a w fits =
     let p = fit_parts h fits in
-    fit_whole (put_words lists.Of h ws) (record { name = p.name; is = p.is; of = and2 (has_of h.kind) (list_all is_word ws) a w; input = p.input; output = p.output; slot = p.slot; min = p.min; max = p.max })
+    fit_whole (put_words lists.Of h ws) (record { name = p.name; is = p.is; of = and_true (has_of h.kind) (list_all is_word ws) a w; input = p.input; output = p.output; slot = p.slot; min = p.min; max = p.max })
 words_keeps lists.In ws h a w fits =
     let p = fit_parts h fits in
-    fit_whole (put_words lists.In h ws) (record { name = p.name; is = p.is; of = p.of; input = and2 (has_input h.kind) (list_all is_word ws) a w; output = p.output; slot = p.slot; min = p.min; max = p.max })
+    fit_whole (put_words lists.In h ws) (record { name = p.name; is = p.is; of = p.of; input = and_true (has_input h.kind) (list_all is_word ws) a w; output = p.output; slot = p.slot; min = p.min; max = p.max })
 words_keeps lists.Out ws h a w fits =
     let p = fit_parts h fits in
-    fit_whole (put_words lists.Out h ws) (record { name = p.name; is = p.is; of = p.of; input = p.input; output = and2 (has_output h.kind) (list_all is_word ws) a w; slot = p.slot; min = p.min; max = p.max })
+    fit_whole (put_words lists.Out h ws) (record { name = p.name; is = p.is; of = p.of; input = p.input; output = and_true (has_output h.kind) (list_all is_word ws) a w; slot = p.slot; min = p.min; max = p.max })
 
 slot_keeps : (h : Head) (s : Slot) → fits_head h ≡ true → fits_slot h.kind s ≡ true → fits_head (record h { slot = s }) ≡ true
 slot_keeps h s fits e =

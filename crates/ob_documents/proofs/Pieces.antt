@@ -4,6 +4,7 @@ use Rattle.std.specs.Prelude.{IsTrue}
 use Rattle.std.specs.List.{list_all}
 use Rattle.std.proofs.lemmas.Bool.Decides.{nat_tests}
 use Rattle.ob_values.specs.XmlText.{IsXmlText}
+use Rattle.ob_values.proofs.Bools.{and_first, and_second}
 use Rattle.ob_scan.specs.declared.stop.Stop.TheVariants.{Malformed}
 use Rattle.ob_scan.specs.declared.character.Progress.{Progress}
 use Rattle.ob_scan.specs.declared.character.Progress.TheVariants.{Whole}
@@ -30,17 +31,9 @@ abbrev pub is_written_name : List ℕ → Bool
 is_written_name [] = false
 is_written_name (x ∷ name) = within 65 122 x && list_all (is_ascii Name) (x ∷ name)
 
-pub left : (a b : Bool) → (a && b) ≡ true → a ≡ true
-left true b e = refl
-left false b e = absurd cc
-
-pub right : (a b : Bool) → (a && b) ≡ true → b ≡ true
-right true b e = e
-right false b e = absurd cc
-
 word_again : (x : ℕ) (name : List ℕ) (b : ℕ) (rest : List ℕ) → IsTrue (is_written_name (x ∷ name)) → ends_at Name b ≡ true → word Name (x ∷ (name ++ (b ∷ rest))) ≡ Ok (x ∷ name, b ∷ rest)
 word_again x name b rest h e =
-    let plain : list_all (is_ascii Name) (x ∷ name) ≡ true = right (within 65 122 x) (list_all (is_ascii Name) (x ∷ name)) h in
+    let plain : list_all (is_ascii Name) (x ∷ name) ≡ true = and_second (within 65 122 x) (list_all (is_ascii Name) (x ∷ name)) h in
     let runs : RunsTo Name Whole (x ∷ name) = bare (run_ascii Name (x ∷ name) [] plain refl) in
     let some : eqb (length (x ∷ name)) 0 ≡ false = grind (arith, nat_tests) in
     rw (run_again Name Whole (x ∷ name) b rest runs e, some) refl
@@ -82,7 +75,7 @@ attribute_is_found (x ∷ name) text rest n t =
     let value : List ℕ = escaped text in
     let here : List ℕ = x ∷ (name ++ (61 ∷ 34 ∷ (value ++ (34 ∷ rest)))) in
     let read : attribute_at here ≡ Ok ((x ∷ name, value), rest) = attribute_again x name value rest n back.runs in
-    let l = letter x (left (within 65 122 x) (list_all (is_ascii Name) (x ∷ name)) n) in
+    let l = letter x (and_first (within 65 122 x) (list_all (is_ascii Name) (x ∷ name)) n) in
     let apart : eqb (length (32 ∷ here)) (length here) ≡ false = grind (arith, nat_tests) in
     rw (l.space, l.close, l.slash, apart, read, back.fine) refl
 
@@ -99,7 +92,7 @@ pub opening_is_found : (name xs : List ℕ) → IsTrue (is_written_name name) �
 opening_is_found [] xs n f = absurd cc
 opening_is_found (x ∷ name) [] n f = absurd f
 opening_is_found (x ∷ name) (b ∷ xs) n f =
-    let l = letter x (left (within 65 122 x) (list_all (is_ascii Name) (x ∷ name)) n) in
+    let l = letter x (and_first (within 65 122 x) (list_all (is_ascii Name) (x ∷ name)) n) in
     rw (l.bang, l.mark, l.slash, tag_name_again x name b xs n f) refl
 
 declares_nothing : (x : ℕ) (rest : List ℕ) → eqb x 63 ≡ false → declares (60 ∷ x ∷ rest) ≡ Err Malformed
@@ -111,7 +104,7 @@ pub first_opening_is_found : (name xs : List ℕ) → IsTrue (is_written_name na
 first_opening_is_found [] xs n f = absurd cc
 first_opening_is_found (x ∷ name) [] n f = absurd f
 first_opening_is_found (x ∷ name) (b ∷ xs) n f =
-    let l = letter x (left (within 65 122 x) (list_all (is_ascii Name) (x ∷ name)) n) in
+    let l = letter x (and_first (within 65 122 x) (list_all (is_ascii Name) (x ∷ name)) n) in
     ap (declared true (60 ∷ x ∷ (name ++ (b ∷ xs)))) (declares_nothing x (name ++ (b ∷ xs)) l.mark) ∙ opening_is_found (x ∷ name) (b ∷ xs) n f
 
 pub closing_is_found : (name rest : List ℕ) → IsTrue (is_written_name name) → scan Between true (60 ∷ 47 ∷ (name ++ (62 ∷ rest))) ≡ found (closing name) rest

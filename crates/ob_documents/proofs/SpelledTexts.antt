@@ -9,6 +9,7 @@ use Rattle.ob_values.specs.declared.value.Value.{Value}
 use Rattle.ob_values.specs.declared.value.Value.TheVariants as value
 use Rattle.ob_values.specs.Spelled.{printed}
 use Rattle.ob_values.specs.XmlText.{IsXmlChar, IsXmlText}
+use Rattle.ob_values.proofs.Bools.{not_true, neither_left, neither_right, and_first, and_second}
 use Rattle.ob_scan.specs.Characters.{within}
 use Rattle.ob_object.specs.declared.status.Status.{Status}
 use Rattle.ob_object.specs.declared.status.Status.TheVariants as status
@@ -29,7 +30,6 @@ use Rattle.ob_documents.specs.Spelling.{Spells}
 use Rattle.ob_documents.specs.Carried.{IsTextIfThere, AreTextsIfThere, IsWrittenIfThere, IsSlotWritten, IsHeadCarried, IsRowCarried, IsCarried}
 use Rattle.ob_documents.proofs.Characters.{encode_1}
 use Rattle.ob_documents.proofs.Texts.{text_back}
-use Rattle.ob_documents.proofs.Pieces.{left, right}
 use Rattle.ob_documents.proofs.Cutting.{present, AreWritable, IsReadable, IsRowReadable, document_cut}
 use Rattle.ob_documents.proofs.Ascii.{printed_xml}
 use Rattle.ob_documents.proofs.Words.{joined_xml}
@@ -51,20 +51,20 @@ ascii_low c h = grind (arith, nat_tests)
 
 ascii_chars : (cs : List ℕ) → list_all (within 0x20 0x7E) cs ≡ true → AllByRecursion IsXmlChar cs
 ascii_chars [] h = tt
-ascii_chars (c ∷ cs) h = (ascii_char c (left (within 0x20 0x7E c) (list_all (within 0x20 0x7E) cs) h), ascii_chars cs (right (within 0x20 0x7E c) (list_all (within 0x20 0x7E) cs) h))
+ascii_chars (c ∷ cs) h = (ascii_char c (and_first (within 0x20 0x7E c) (list_all (within 0x20 0x7E) cs) h), ascii_chars cs (and_second (within 0x20 0x7E c) (list_all (within 0x20 0x7E) cs) h))
 
 ascii_bytes : (cs : List ℕ) → list_all (within 0x20 0x7E) cs ≡ true → encode_utf8_all cs ≡ cs
 ascii_bytes [] h = refl
 ascii_bytes (c ∷ cs) h =
-    ap (λ (t : List ℕ). t ++ encode_utf8_all cs) (encode_1 c (ascii_low c (left (within 0x20 0x7E c) (list_all (within 0x20 0x7E) cs) h)))
-    ∙ ap (λ (t : List ℕ). c ∷ t) (ascii_bytes cs (right (within 0x20 0x7E c) (list_all (within 0x20 0x7E) cs) h))
+    ap (λ (t : List ℕ). t ++ encode_utf8_all cs) (encode_1 c (ascii_low c (and_first (within 0x20 0x7E c) (list_all (within 0x20 0x7E) cs) h)))
+    ∙ ap (λ (t : List ℕ). c ∷ t) (ascii_bytes cs (and_second (within 0x20 0x7E c) (list_all (within 0x20 0x7E) cs) h))
 
 ascii_text : (cs : List ℕ) → list_all (within 0x20 0x7E) cs ≡ true → IsXmlText cs
 ascii_text cs h = (cs, ascii_chars cs h, ascii_bytes cs h)
 
 words_text : (has : Bool) (o : Option (List (List ℕ))) → AreTextsIfThere o → fits_words has o ≡ true → IsTextIfThere (option_map joined o)
 words_text has None t h = tt
-words_text has (Some ws) t h = joined_xml ws t (right has (list_all is_word ws) h)
+words_text has (Some ws) t h = joined_xml ws t (and_second has (list_all is_word ws) h)
 
 value_text : (o : Option Value) → IsWrittenIfThere o → IsTextIfThere (option_map printed o)
 value_text None w = tt
@@ -108,14 +108,14 @@ truth_text (Some b) = truth_is_text b
 
 writable : (ns : Option (List ℕ)) (h : Head) → IsTextIfThere ns → IsHeadCarried h → fits_head h ≡ true → AreWritable (attributes ns h)
 writable ns h n c fits =
-    let names = left (fits_name h.name && fits_lists h) (fits_slot h.kind h.slot && fits_facets h.kind h.facets) fits in
-    let words = right (fits_name h.name) (fits_lists h) names in
-    let is_fits = left (fits_words true h.is) (fits_words (has_of h.kind) h.of && (fits_words (has_input h.kind) h.input && fits_words (has_output h.kind) h.output)) words in
-    let others = right (fits_words true h.is) (fits_words (has_of h.kind) h.of && (fits_words (has_input h.kind) h.input && fits_words (has_output h.kind) h.output)) words in
-    let of_fits = left (fits_words (has_of h.kind) h.of) (fits_words (has_input h.kind) h.input && fits_words (has_output h.kind) h.output) others in
-    let calls = right (fits_words (has_of h.kind) h.of) (fits_words (has_input h.kind) h.input && fits_words (has_output h.kind) h.output) others in
-    let in_fits = left (fits_words (has_input h.kind) h.input) (fits_words (has_output h.kind) h.output) calls in
-    let out_fits = right (fits_words (has_input h.kind) h.input) (fits_words (has_output h.kind) h.output) calls in (
+    let names = and_first (fits_name h.name && fits_lists h) (fits_slot h.kind h.slot && fits_facets h.kind h.facets) fits in
+    let words = and_second (fits_name h.name) (fits_lists h) names in
+    let is_fits = and_first (fits_words true h.is) (fits_words (has_of h.kind) h.of && (fits_words (has_input h.kind) h.input && fits_words (has_output h.kind) h.output)) words in
+    let others = and_second (fits_words true h.is) (fits_words (has_of h.kind) h.of && (fits_words (has_input h.kind) h.input && fits_words (has_output h.kind) h.output)) words in
+    let of_fits = and_first (fits_words (has_of h.kind) h.of) (fits_words (has_input h.kind) h.input && fits_words (has_output h.kind) h.output) others in
+    let calls = and_second (fits_words (has_of h.kind) h.of) (fits_words (has_input h.kind) h.input && fits_words (has_output h.kind) h.output) others in
+    let in_fits = and_first (fits_words (has_input h.kind) h.input) (fits_words (has_output h.kind) h.output) calls in
+    let out_fits = and_second (fits_words (has_input h.kind) h.input) (fits_words (has_output h.kind) h.output) calls in (
       refl,
       n,
       (
@@ -206,18 +206,6 @@ abbrev differ : List (List ℕ) → Bool
 differ [] = true
 differ (n ∷ ns) = not (is_among n ns) && differ ns
 
-not_true : (a : Bool) → not a ≡ true → a ≡ false
-not_true true e = absurd cc
-not_true false e = refl
-
-pub neither_left : (a b : Bool) → (a || b) ≡ false → a ≡ false
-neither_left true b e = absurd cc
-neither_left false b e = refl
-
-pub neither_right : (a b : Bool) → (a || b) ≡ false → b ≡ false
-neither_right true b e = absurd cc
-neither_right false b e = e
-
 absent : (es : List (List ℕ × Option (List ℕ))) (n : List ℕ) → is_among n (names_of es) ≡ false → has_name (present es) n ≡ false
 absent [] n h = refl
 absent ((m, None) ∷ es) n h = absent es n (neither_right (same m n) (is_among n (names_of es)) h)
@@ -225,8 +213,8 @@ absent ((m, Some t) ∷ es) n h = rw (neither_left (same m n) (is_among n (names
 
 distinct : (es : List (List ℕ × Option (List ℕ))) → differ (names_of es) ≡ true → AreDistinct (present es)
 distinct [] h = tt
-distinct ((n, None) ∷ es) h = distinct es (right (not (is_among n (names_of es))) (differ (names_of es)) h)
-distinct ((n, Some t) ∷ es) h = (absent es n (not_true (is_among n (names_of es)) (left (not (is_among n (names_of es))) (differ (names_of es)) h)), distinct es (right (not (is_among n (names_of es))) (differ (names_of es)) h))
+distinct ((n, None) ∷ es) h = distinct es (and_second (not (is_among n (names_of es))) (differ (names_of es)) h)
+distinct ((n, Some t) ∷ es) h = (absent es n (not_true (is_among n (names_of es)) (and_first (not (is_among n (names_of es))) (differ (names_of es)) h)), distinct es (and_second (not (is_among n (names_of es))) (differ (names_of es)) h))
 
 pub readable : (ns : Option (List ℕ)) (h : Head) → IsTextIfThere ns → IsHeadCarried h → IsTrue (fits_head h) → IsReadable ns h
 readable ns h n c fits =

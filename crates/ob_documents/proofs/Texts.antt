@@ -6,6 +6,7 @@ use Rattle.std.specs.Str.{encode_utf8_all}
 use Rattle.std.specs.List.{AllByRecursion, list_all}
 use Rattle.std.proofs.lemmas.Bool.Decides.{nat_tests}
 use Rattle.ob_values.specs.XmlText.{IsXmlChar, IsXmlText}
+use Rattle.ob_values.proofs.Bools.{and_first, and_second, not_true}
 use Rattle.ob_scan.specs.declared.character.Progress.TheVariants.{Whole}
 use Rattle.ob_scan.specs.declared.reading.Ends.{Ends}
 use Rattle.ob_scan.specs.declared.reading.Ends.TheVariants.{Value}
@@ -22,28 +23,16 @@ use Rattle.ob_documents.proofs.Characters.{RunsTo, Walk, walk_item, walk_runs, A
 abbrev pub is_ascii : Ends → ℕ → Bool
 is_ascii ends b = within 0x20 0x7F b && not (ends_at ends b)
 
-left : (a b : Bool) → (a && b) ≡ true → a ≡ true
-left true b e = refl
-left false b e = absurd cc
-
-right : (a b : Bool) → (a && b) ≡ true → b ≡ true
-right true b e = e
-right false b e = absurd cc
-
-not_true : (a : Bool) → not a ≡ true → a ≡ false
-not_true true e = absurd cc
-not_true false e = refl
-
 ascii_byte : (b : ℕ) → within 0x20 0x7F b ≡ true → after_byte Whole b ≡ Ok Whole
 ascii_byte b e = grind (arith, nat_tests)
 
 pub run_ascii : (ends : Ends) (bytes more : List ℕ) → IsTrue (list_all (is_ascii ends) bytes) → RunsTo ends Whole more → RunsTo ends Whole (bytes ++ more)
 run_ascii ends [] more h r = r
 run_ascii ends (b ∷ bytes) more h r =
-    let here : is_ascii ends b ≡ true = left (is_ascii ends b) (list_all (is_ascii ends) bytes) h in
-    let rest : list_all (is_ascii ends) bytes ≡ true = right (is_ascii ends b) (list_all (is_ascii ends) bytes) h in
-    let inner : ends_at ends b ≡ false = not_true (ends_at ends b) (right (within 0x20 0x7F b) (not (ends_at ends b)) here) in
-    (inner, Whole, ascii_byte b (left (within 0x20 0x7F b) (not (ends_at ends b)) here), run_ascii ends bytes more rest r)
+    let here : is_ascii ends b ≡ true = and_first (is_ascii ends b) (list_all (is_ascii ends) bytes) h in
+    let rest : list_all (is_ascii ends) bytes ≡ true = and_second (is_ascii ends b) (list_all (is_ascii ends) bytes) h in
+    let inner : ends_at ends b ≡ false = not_true (ends_at ends b) (and_second (within 0x20 0x7F b) (not (ends_at ends b)) here) in
+    (inner, Whole, ascii_byte b (and_first (within 0x20 0x7F b) (not (ends_at ends b)) here), run_ascii ends bytes more rest r)
 
 -- ---- high bytes
 

@@ -5,6 +5,7 @@ use Rattle.std.specs.List.{list_all}
 use Rattle.ob_values.specs.declared.value.Value.{Value}
 use Rattle.ob_values.specs.declared.value.Value.TheVariants as value
 use Rattle.ob_values.specs.Spelled.{printed}
+use Rattle.ob_values.proofs.Bools.{and_first, and_second}
 use Rattle.ob_object.specs.declared.kind.Kind.{Kind}
 use Rattle.ob_object.specs.declared.status.Status.{Status}
 use Rattle.ob_object.specs.declared.head.Head.{Head}
@@ -31,7 +32,6 @@ use Rattle.ob_encoding.specs.Canonical.{joined, null_text, val_text, attributes}
 use Rattle.ob_documents.specs.Attributes.{Says, Tell}
 use Rattle.ob_documents.specs.Carried.{AreTextsIfThere, IsWrittenIfThere, IsSlotWritten, IsHeadCarried}
 use Rattle.ob_documents.proofs.Texts.{text_back}
-use Rattle.ob_documents.proofs.Pieces.{left, right}
 use Rattle.ob_documents.proofs.Cutting.{present, AreWritable}
 use Rattle.ob_documents.proofs.Words.{words_back}
 use Rattle.ob_documents.proofs.Readers.{value_read, has_value_of, limit_read, has_limit_of, status_back}
@@ -161,10 +161,10 @@ words_read : (k : Kind) (f : WordsField) (has : Bool) (o : Option (List (List �
 words_read k f has o ws t h e =
     let texts = subst AreTextsIfThere e t in
     let fits = subst (λ (x : Option (List (List ℕ))). fits_words has x ≡ true) e h in
-    ap (λ (x : List (List ℕ)). Ok (part.Words f x)) (sym (words_back ws texts (right has (list_all is_word ws) fits)))
+    ap (λ (x : List (List ℕ)). Ok (part.Words f x)) (sym (words_back ws texts (and_second has (list_all is_word ws) fits)))
 
 has_words : (has : Bool) (o : Option (List (List ℕ))) (ws : List (List ℕ)) → fits_words has o ≡ true → o ≡ Some ws → has ≡ true
-has_words has o ws h e = left has (list_all is_word ws) (subst (λ (x : Option (List (List ℕ))). fits_words has x ≡ true) e h)
+has_words has o ws h e = and_first has (list_all is_word ws) (subst (λ (x : Option (List (List ℕ))). fits_words has x ≡ true) e h)
 
 slot_stage : (k : Kind) (s : Slot) (head : Slot → Head) (es : List (List ℕ × Option (List ℕ))) (after : Head)
     → put_part (part.Null true) (head Absent) ≡ head Null → ((v : Value) → put_part (part.Val v) (head Absent) ≡ head (Is v))
@@ -236,19 +236,19 @@ pub told : (ns : Option (List ℕ)) (h : Head) → IsHeadCarried h → fits_head
 told ns h c fits =
     let k : Kind = h.kind in
     let f : Facets = h.facets in
-    let names = left (fits_name h.name && fits_lists h) (fits_slot k h.slot && fits_facets k f) fits in
-    let values = right (fits_name h.name && fits_lists h) (fits_slot k h.slot && fits_facets k f) fits in
-    let words = right (fits_name h.name) (fits_lists h) names in
-    let is_fits = left (fits_words true h.is) (fits_words (has_of k) h.of && (fits_words (has_input k) h.input && fits_words (has_output k) h.output)) words in
-    let others = right (fits_words true h.is) (fits_words (has_of k) h.of && (fits_words (has_input k) h.input && fits_words (has_output k) h.output)) words in
-    let of_fits = left (fits_words (has_of k) h.of) (fits_words (has_input k) h.input && fits_words (has_output k) h.output) others in
-    let calls = right (fits_words (has_of k) h.of) (fits_words (has_input k) h.input && fits_words (has_output k) h.output) others in
-    let in_fits = left (fits_words (has_input k) h.input) (fits_words (has_output k) h.output) calls in
-    let out_fits = right (fits_words (has_input k) h.input) (fits_words (has_output k) h.output) calls in
-    let slot_fits = left (fits_slot k h.slot) (fits_facets k f) values in
-    let limits = right (fits_slot k h.slot) (fits_facets k f) values in
-    let min_fits = left (fits_if_there k f.min) (fits_if_there k f.max) limits in
-    let max_fits = right (fits_if_there k f.min) (fits_if_there k f.max) limits in
+    let names = and_first (fits_name h.name && fits_lists h) (fits_slot k h.slot && fits_facets k f) fits in
+    let values = and_second (fits_name h.name && fits_lists h) (fits_slot k h.slot && fits_facets k f) fits in
+    let words = and_second (fits_name h.name) (fits_lists h) names in
+    let is_fits = and_first (fits_words true h.is) (fits_words (has_of k) h.of && (fits_words (has_input k) h.input && fits_words (has_output k) h.output)) words in
+    let others = and_second (fits_words true h.is) (fits_words (has_of k) h.of && (fits_words (has_input k) h.input && fits_words (has_output k) h.output)) words in
+    let of_fits = and_first (fits_words (has_of k) h.of) (fits_words (has_input k) h.input && fits_words (has_output k) h.output) others in
+    let calls = and_second (fits_words (has_of k) h.of) (fits_words (has_input k) h.input && fits_words (has_output k) h.output) others in
+    let in_fits = and_first (fits_words (has_input k) h.input) (fits_words (has_output k) h.output) calls in
+    let out_fits = and_second (fits_words (has_input k) h.input) (fits_words (has_output k) h.output) calls in
+    let slot_fits = and_first (fits_slot k h.slot) (fits_facets k f) values in
+    let limits = and_second (fits_slot k h.slot) (fits_facets k f) values in
+    let min_fits = and_first (fits_if_there k f.min) (fits_if_there k f.max) limits in
+    let max_fits = and_second (fits_if_there k f.min) (fits_if_there k f.max) limits in
     let whole = head_of k h.name h.href h.is h.slot h.of h.input h.output in
     ns_stage k ns _ (empty_head k) h
     (text_stage k (codes "name") texts.Name h.name (λ o. head_of k o None None Absent None None None (facets_of None None None None None None None None None None None)) _ h (known_text k (codes "name") texts.Name is_name) (λ t. refl)

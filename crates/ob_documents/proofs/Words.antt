@@ -10,11 +10,12 @@ use Rattle.std.proofs.lemmas.Bool.{cases_lt}
 use Rattle.std.proofs.lemmas.Bool.Decides.{nat_tests}
 use lib.Utf8.{scalar, scalars}
 use Rattle.ob_values.specs.XmlText.{IsXmlChar, IsXmlText}
+use Rattle.ob_values.proofs.Bools.{and_first, and_second}
+use Rattle.ob_values.proofs.Lists.{all_both}
 use Rattle.ob_object.specs.Words.{is_white, is_word}
 use Rattle.ob_encoding.specs.WordLists.{is_blank, ended, words_from, words_of}
 use Rattle.ob_encoding.specs.Canonical.{joined}
 use Rattle.ob_documents.proofs.Characters.{encode_1}
-use Rattle.ob_documents.proofs.Pieces.{left, right}
 
 xml_scalar : (c : ℕ) → IsXmlChar c → scalar c ≡ true
 xml_scalar c (inl h) = grind (arith, nat_tests)
@@ -34,7 +35,7 @@ not_blank c h =
     elim (cases_lt c 128) [
       | inl low ↦
           let one : list_all (λ b. not (is_white b)) (c ∷ []) ≡ true = subst (λ (bs : List ℕ). list_all (λ b. not (is_white b)) bs ≡ true) (encode_1 c low) h in
-          plain (is_white c) (left (not (is_white c)) true one)
+          plain (is_white c) (and_first (not (is_white c)) true one)
       | inr high ↦ beyond c high
     ]
   where
@@ -50,8 +51,8 @@ word_on : (word cs more : List ℕ) → list_all (λ b. not (is_white b)) (encod
 word_on word [] more h = ap (λ (w : List ℕ). words_from w more) (sym (append-nil word))
 word_on word (c ∷ cs) more h =
     let parts : (list_all (λ b. not (is_white b)) (encode_utf8 c) && list_all (λ b. not (is_white b)) (encode_utf8_all cs)) ≡ true = sym (list_all-append (λ b. not (is_white b)) (encode_utf8 c) (encode_utf8_all cs)) ∙ h in
-    let here : is_blank c ≡ false = not_blank c (left (list_all (λ b. not (is_white b)) (encode_utf8 c)) (list_all (λ b. not (is_white b)) (encode_utf8_all cs)) parts) in
-    let rest = right (list_all (λ b. not (is_white b)) (encode_utf8 c)) (list_all (λ b. not (is_white b)) (encode_utf8_all cs)) parts in
+    let here : is_blank c ≡ false = not_blank c (and_first (list_all (λ b. not (is_white b)) (encode_utf8 c)) (list_all (λ b. not (is_white b)) (encode_utf8_all cs)) parts) in
+    let rest = and_second (list_all (λ b. not (is_white b)) (encode_utf8 c)) (list_all (λ b. not (is_white b)) (encode_utf8_all cs)) parts in
     step c word (cs ++ more) here ∙ word_on (word ++ encode_utf8 c) cs more rest ∙ ap (λ (w : List ℕ). words_from w more) (append_assoc word (encode_utf8 c) (encode_utf8_all cs))
   where
     step : (c : ℕ) (word cs : List ℕ) → is_blank c ≡ false → words_from word (c ∷ cs) ≡ words_from (word ++ encode_utf8 c) cs
@@ -75,23 +76,19 @@ space_1 : encode_utf8 32 ≡ 32 ∷ []
 unfolding encode_utf8
 space_1 = refl
 
-all_both : (P : ℕ → Type 0) (xs ys : List ℕ) → AllByRecursion P xs → AllByRecursion P ys → AllByRecursion P (xs ++ ys)
-all_both P [] ys h k = k
-all_both P (x ∷ xs) ys h k = (h.0, all_both P xs ys h.1 k)
-
 joined_words : (ws : List (List ℕ)) → AllByRecursion IsXmlText ws → list_all is_word ws ≡ true → Joined ws
 joined_words [] t h = record { cs = []; good = tt; bytes = refl; words = refl }
 joined_words (w ∷ []) t h =
-    let word : is_word w ≡ true = left (is_word w) true h in
-    let some = left (not (eqb (length w) 0)) (list_all (λ b. not (is_white b)) w) word in
-    let plain : list_all (λ b. not (is_white b)) (encode_utf8_all t.0.0) ≡ true = subst (λ (bs : List ℕ). list_all (λ b. not (is_white b)) bs ≡ true) (sym t.0.2) (right (not (eqb (length w) 0)) (list_all (λ b. not (is_white b)) w) word) in
+    let word : is_word w ≡ true = and_first (is_word w) true h in
+    let some = and_first (not (eqb (length w) 0)) (list_all (λ b. not (is_white b)) w) word in
+    let plain : list_all (λ b. not (is_white b)) (encode_utf8_all t.0.0) ≡ true = subst (λ (bs : List ℕ). list_all (λ b. not (is_white b)) bs ≡ true) (sym t.0.2) (and_second (not (eqb (length w) 0)) (list_all (λ b. not (is_white b)) w) word) in
     let read : words_from [] t.0.0 ≡ ended w [] = ap (words_from []) (sym (append-nil t.0.0)) ∙ word_on [] t.0.0 [] plain ∙ ap (λ (v : List ℕ). words_from v []) t.0.2 in
     record { cs = t.0.0; good = t.0.1; bytes = t.0.2; words = read ∙ some_ended w [] some }
 joined_words (w ∷ (v ∷ ws)) t h =
-    let word : is_word w ≡ true = left (is_word w) (list_all is_word (v ∷ ws)) h in
-    let some = left (not (eqb (length w) 0)) (list_all (λ b. not (is_white b)) w) word in
-    let plain : list_all (λ b. not (is_white b)) (encode_utf8_all t.0.0) ≡ true = subst (λ (bs : List ℕ). list_all (λ b. not (is_white b)) bs ≡ true) (sym t.0.2) (right (not (eqb (length w) 0)) (list_all (λ b. not (is_white b)) w) word) in
-    let rest = joined_words (v ∷ ws) t.1 (right (is_word w) (list_all is_word (v ∷ ws)) h) in
+    let word : is_word w ≡ true = and_first (is_word w) (list_all is_word (v ∷ ws)) h in
+    let some = and_first (not (eqb (length w) 0)) (list_all (λ b. not (is_white b)) w) word in
+    let plain : list_all (λ b. not (is_white b)) (encode_utf8_all t.0.0) ≡ true = subst (λ (bs : List ℕ). list_all (λ b. not (is_white b)) bs ≡ true) (sym t.0.2) (and_second (not (eqb (length w) 0)) (list_all (λ b. not (is_white b)) w) word) in
+    let rest = joined_words (v ∷ ws) t.1 (and_second (is_word w) (list_all is_word (v ∷ ws)) h) in
     let cs : List ℕ = 32 ∷ rest.cs in
     record {
       cs = t.0.0 ++ cs;

@@ -10,6 +10,7 @@ use Rattle.std.proofs.lemmas.Bool.Decides.{nat_tests}
 use Rattle.std.proofs.lemmas.Grind.{common_steps}
 use lib.Utf8.{scalar, scalars}
 use Rattle.ob_values.specs.XmlText.{IsXmlChar, IsXmlText}
+use Rattle.ob_values.proofs.Lists.{all_both}
 use Rattle.ob_object.specs.Words.{is_white}
 use Rattle.ob_encoding.specs.WordLists.{is_blank, ended, words_from, words_of}
 
@@ -48,10 +49,6 @@ pub record Turn (text : List ℕ) (n c : ℕ) : Type 0 where
 
 pub turn : (text : List ℕ) (n c : ℕ) → IsXmlText text → n < length (chars text) → c ≡ get_or (chars text) n c → Turn text n c
 turn text n c h lt e = record { xml = all_at IsXmlChar (chars text) n c lt e (chars_xml text h); rest = drop_at (chars text) n c lt e }
-
-all_both : (P : ℕ → Type 0) (xs ys : List ℕ) → AllByRecursion P xs → AllByRecursion P ys → AllByRecursion P (xs ++ ys)
-all_both P [] ys h k = k
-all_both P (x ∷ xs) ys h k = (h.0, all_both P xs ys h.1 k)
 
 pub xml_none : IsXmlText []
 xml_none = ([], tt, refl)

@@ -1,5 +1,5 @@
 -- Fields that are written, and the length that they tell.
-use Rattle.std.proofs.Common.{◌≡◌, ℕ, ◌+◌, ◌%◌, ◌^◌, ◌<◌, ◌≤◌, IsTrue, Bool, true, false, not, ◌&&◌, List, [], ◌∷◌, ◌++◌, length, reverse, codes, decimal, Some, Result, Ok, refl, sym, ap, ◌∙◌, arith, All, eq-eqb, lit<, nat_lt, nat_le}
+use Rattle.std.proofs.Common.{◌≡◌, ℕ, ◌+◌, ◌%◌, ◌^◌, ◌<◌, ◌≤◌, IsTrue, Bool, true, false, not, ◌&&◌, List, [], ◌∷◌, ◌++◌, length, reverse, codes, decimal, Some, Result, Ok, refl, ap, ◌∙◌, arith, All, eq-eqb, lit<, nat_lt, nat_le}
 use Rattle.std.proofs.lemmas.Bool.{cond-true, cond-false, and_parts, ltb-true, lt-ltb, le-leb}
 use Rattle.std.proofs.lemmas.Bool.Decides.{nat_tests}
 use Rattle.std.proofs.lemmas.Fmt.{decimal_by_steps, length-decimal-le, decimal_nonempty, decimal_is_IsNumeral}
@@ -10,6 +10,7 @@ use Rattle.std.specs.Char.{is_ascii_digit}
 use Rattle.std.specs.List.{list_all}
 use Rattle.httparse.specs.Grammar.{AllPass, IsToken, is_token, is_token_byte, is_value_byte, is_ows, skip_ows, trim_ows, crlf, Field, IsField}
 use Rattle.httparse.proofs.TrimLemmas.{AllPass-reverse, trim_ows_space}
+use Rattle.ob_values.proofs.Bools.{not_true}
 use Rattle.ob_http.specs.declared.fault.FrameFault.{FrameFault}
 use Rattle.ob_http.specs.Fields.{Fields, length_value, is_length, body_length, has_field, first_value, each_value, agreed, length_from, within}
 use Rattle.ob_http.proofs.FieldLemmas.{fits}
@@ -28,13 +29,9 @@ digits_pass = decimal_by_steps (λ n ds. list_all is_ascii_digit ds ≡ true) on
 abbrev no_ows : ℕ → Bool
 no_ows b = not (is_ows b)
 
-turned : (b : Bool) → not b ≡ true → b ≡ false
-turned true h = sym h
-turned false h = refl
-
 skip_none : (v : List ℕ) → AllPass no_ows v → skip_ows v ≡ v
 skip_none [] all = refl
-skip_none (b ∷ v) all = cond-false _ _ _ (turned (is_ows b) (All-head (λ x. IsTrue (no_ows x)) b v all))
+skip_none (b ∷ v) all = cond-false _ _ _ (not_true (is_ows b) (All-head (λ x. IsTrue (no_ows x)) b v all))
 
 -- a value behind a space
 trim_space : (v : List ℕ) → AllPass no_ows v → trim_ows (32 ∷ v) ≡ v

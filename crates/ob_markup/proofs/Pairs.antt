@@ -2,6 +2,7 @@
 use Rattle.std.proofs.Common.{◌≡◌, ℕ, ◌<◌, ◌≤◌, Bool, true, false, ◌&&◌, cond, eqb, List, [], ◌∷◌, ◌++◌, Result, Ok, Err, refl, sym, ap, ◌∙◌, subst, append_assoc, arith}
 use Rattle.std.proofs.lemmas.Bool.{eqb-true, eq-eqb}
 use Rattle.std.proofs.lemmas.Bool.Decides.{nat_tests}
+use Rattle.ob_values.proofs.Bools.{both_true}
 use Rattle.ob_scan.specs.declared.stop.Stop.{Stop}
 use Rattle.ob_scan.specs.declared.stop.Stop.TheVariants.{Want}
 use Rattle.ob_scan.specs.declared.character.Progress.{Progress}
@@ -29,10 +30,6 @@ record PairFound (a b : ℕ) (seen : Bool) (p : Progress) (bytes rest : List ℕ
   chars : Chars p body
   apart : NoPair a b seen body
   last : ends_in a seen body ≡ true
-
-both_true : (a b : Bool) → (a && b) ≡ true → (a ≡ true) × (b ≡ true)
-both_true true b e = (refl, e)
-both_true false b e = absurd cc
 
 -- a pair's first byte: it stands for itself
 pub record Stands (a : ℕ) : Type 0 where

@@ -7,6 +7,7 @@ use Rattle.std.specs.Str.Parse.{digits_value, digits_value_after}
 use Rattle.std.proofs.lemmas.Bool.{eqb-true}
 use Rattle.std.proofs.lemmas.Bool.Decides.{nat_tests}
 use Rattle.ob_values.specs.XmlText.{IsXmlChar}
+use Rattle.ob_values.proofs.Bools.{both_true, not_both}
 use Rattle.ob_scan.specs.declared.stop.Stop.{Stop}
 use Rattle.ob_scan.specs.Characters.{within}
 use Rattle.ob_scan.specs.Reading.{literal}
@@ -71,10 +72,6 @@ record NumberFound (hex some : Bool) (value : ℕ) (bytes : List ℕ) (x : ℕ �
   number : x.0 ≡ digits_value_after (base hex) value digits
   is_char : is_char x.0 ≡ true
 
-both_true : (a b : Bool) → (a && b) ≡ true → (a ≡ true) × (b ≡ true)
-both_true true b e = (refl, e)
-both_true false b e = absurd cc
-
 some_read : (x y : ℕ × List ℕ) → Some x ≡ Some y → x ≡ y
 some_read x y e = cc
 
@@ -87,9 +84,6 @@ then_ok : {A : Type 0} (o : Option A) (f : A → Option (ℕ × List ℕ)) (x : 
 then_ok None f x e = absurd cc
 then_ok (Some a) f x e = record { mid = a; first = refl; second = e }
 
-true_not : (s : Bool) → s ≡ true → s ≡ false → ⊥
-true_not s e f = let g : true ≡ false = sym e ∙ f in cc
-
 number_ok : (hex some : Bool) (value : ℕ) (bytes : List ℕ) (x : ℕ × List ℕ) → number_from hex some value bytes ≡ Some x → NumberFound hex some value bytes x
 number_ok hex some value [] x e = absurd cc
 number_ok hex some value (b ∷ bytes) x e = on (eqb b 59) refl e (λ d h. number_ok hex true (value * base hex + d) bytes x h)
@@ -101,7 +95,7 @@ number_ok hex some value (b ∷ bytes) x e = on (eqb b 59) refl e (λ d h. numbe
         record {
           digits = [];
           are_digits = tt;
-          enough = λ f. absurd (true_not some both.0 f);
+          enough = λ f. absurd (not_both some both.0 f);
           parts = ap (λ (y : ℕ). y ∷ bytes) is ∙ ap (λ (y : ℕ × List ℕ). 59 ∷ y.1) same;
           number = sym (ap (λ (y : ℕ × List ℕ). y.0) same);
           is_char = ap (λ (y : ℕ × List ℕ). is_char y.0) (sym same) ∙ both.1;
@@ -281,7 +275,7 @@ good_here b bytes e is = on (is_some (reference_at bytes)) refl
     on true t = some_begins bytes (reference_at bytes) refl t
     on false t =
         let bad : is_bad_at b bytes ≡ true = rw (is, t) refl in
-        absurd (true_not (is_bad_at b bytes) bad e)
+        absurd (not_both (is_bad_at b bytes) bad e)
 
 -- an & of a value is its first byte, or one of those behind
 ampersand_in : (b : ℕ) (bytes rest : List ℕ) (k : ℕ) → HasAmpersandAt (b ∷ bytes) k rest → ((b ≡ 38) × (bytes ≡ rest) × (k ≡ 0)) ⊎ ((j : ℕ) × (k ≡ suc j) × HasAmpersandAt bytes j rest)

@@ -1,6 +1,7 @@
 -- Runs of characters up to a byte that ends them.
 use Rattle.std.proofs.Common.{◌≡◌, ℕ, ◌<◌, ◌≤◌, ◌⊎◌, inl, inr, Bool, true, false, ◌&&◌, not, cond, eqb, List, [], ◌∷◌, ◌++◌, length, Result, Ok, Err, refl, ap, subst, arith}
 use Rattle.std.proofs.lemmas.Bool.Decides.{nat_tests}
+use Rattle.ob_values.proofs.Bools.{both_true}
 use Rattle.ob_scan.specs.declared.stop.Stop.{Stop}
 use Rattle.ob_scan.specs.declared.stop.Stop.TheVariants.{Want, Malformed}
 use Rattle.ob_scan.specs.declared.character.Progress.{Progress}
@@ -40,10 +41,6 @@ pub record RunFound (ends : Ends) (p : Progress) (bytes : List ℕ) (x : List �
   pub chars : Chars p x.0
   pub within : AllPass (goes_on ends) x.0
   pub stops : EndsRun ends x.1
-
-both_true : (a b : Bool) → (a && b) ≡ true → (a ≡ true) × (b ≡ true)
-both_true true b e = (refl, e)
-both_true false b e = absurd cc
 
 not_both : (a b : Bool) → (a && b) ≡ false → (a ≡ false) ⊎ (not b ≡ true)
 not_both true false e = inr refl

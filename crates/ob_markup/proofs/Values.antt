@@ -4,6 +4,7 @@ use Rattle.std.specs.List.{flat_map}
 use Rattle.std.specs.Char.{encode_utf8}
 use Rattle.std.proofs.lemmas.Bool.{eqb-true, eq-eqb}
 use Rattle.std.proofs.lemmas.Bool.Decides.{nat_tests}
+use Rattle.ob_values.proofs.Bools.{neither, or_parts}
 use Rattle.ob_scan.specs.declared.stop.Stop.{Stop}
 use Rattle.ob_scan.specs.declared.character.Progress.{Progress}
 use Rattle.ob_scan.specs.declared.character.Progress.TheVariants.{Whole}
@@ -150,15 +151,6 @@ reference_item bytes text rest (Some x) e h =
 at_byte : (b c : ℕ) (bytes text rest : List ℕ) → b ≡ c → ItemFound (c ∷ bytes) text rest → ItemFound (b ∷ bytes) text rest
 at_byte b c bytes text rest e h = subst (λ (x : ℕ). ItemFound (x ∷ bytes) text rest) (sym e) h
 
-or_false : (s t : Bool) → (s || t) ≡ false → (s ≡ false) × (t ≡ false)
-or_false false false e = (refl, refl)
-or_false true t e = absurd cc
-or_false false true e = absurd cc
-
-or_true : (s t : Bool) → (s || t) ≡ true → (s ≡ true) ⊎ (t ≡ true)
-or_true true t e = inl refl
-or_true false t e = inr e
-
 item_ok : (bytes text rest : List ℕ) → item_at bytes ≡ Some (text, rest) → ItemFound bytes text rest
 item_ok [] text rest e = absurd cc
 item_ok (b ∷ bytes) text rest e = on (eqb b 38) (eqb b 13) (eqb b 10 || eqb b 9) refl refl refl e
@@ -171,8 +163,8 @@ item_ok (b ∷ bytes) text rest e = on (eqb b 38) (eqb b 13) (eqb b 10 || eqb b 
         → cond s (then_read (reference_at bytes) (λ x. Some (encode_utf8 x.0, x.1))) (cond t (Some (32 ∷ [], behind_line_feed bytes)) (cond u (Some (32 ∷ [], bytes)) (character_from Whole (b ∷ bytes)))) ≡ Some (text, rest) → ItemFound (b ∷ bytes) text rest
     on true t u p q r h = at_byte b 38 bytes text rest (eqb-true b 38 p) (reference_item bytes text rest (reference_at bytes) refl h)
     on false true u p q r h = at_byte b 13 bytes text rest (eqb-true b 13 q) (return_ok bytes text rest h)
-    on false false true p q r h = blank (or_true (eqb b 10) (eqb b 9) r) (some_pair (32 ∷ []) bytes text rest h)
-    on false false false p q r h = let o = or_false (eqb b 10) (eqb b 9) r in character_ok b bytes text rest (record { ampersand = p; return = q; feed = o.0; tab = o.1 }) h
+    on false false true p q r h = blank (or_parts (eqb b 10) (eqb b 9) r) (some_pair (32 ∷ []) bytes text rest h)
+    on false false false p q r h = let o = neither (eqb b 10) (eqb b 9) r in character_ok b bytes text rest (record { ampersand = p; return = q; feed = o.0; tab = o.1 }) h
 
 -- ---- and back
 

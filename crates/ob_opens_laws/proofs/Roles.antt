@@ -22,8 +22,10 @@ use Rattle.ob_opening.specs.Opening.{standard_words}
 use Rattle.ob_opening.specs.Loading.{Part, row_of, kept_root, parts_of, path_of, listed_path, items_of, source_ref, node_there, is_number_kind, own_number, truth_in, child_of, rule_from, rule_on, rule_in, subjects, opened}
 use Rattle.ob_consistent_laws.specs.Laws.{row_paths}
 use Rattle.ob_consistent_laws.proofs.Lists.{each_flat_map, each_filter_map, each_more}
-use Rattle.ob_consistent_laws.proofs.OneKind.{among_append, listed_is, or_true}
-use Rattle.ob_consistent_laws.proofs.Kept.{part_paths, root_paths, same_self}
+use Rattle.ob_values.proofs.Bools.{or_true}
+use Rattle.ob_consistent_laws.proofs.OneKind.{among_append, listed_is}
+use Rattle.ob_values.proofs.Lists.{bytes_itself}
+use Rattle.ob_consistent_laws.proofs.Kept.{part_paths, root_paths}
 use Rattle.ob_consistent_laws.proofs.Fit.{all_fit}
 use Rattle.ob_consistent_laws.proofs.Found.{IsNodeIf}
 use Rattle.ob_consistent_laws.proofs.Roled.{is_subject, IsPlaced, all_placed}
@@ -129,7 +131,7 @@ source_among ps p (r ∷ rules) e h = go (bytes_eq r.source p) refl h (λ g. sou
 -- so is the path of the subject
 path_there : (o : Option Path) → is_some o ≡ true → is_path (unwrap_or o []) o ≡ true
 path_there None h = absurd (true≢false (sym h))
-path_there (Some p) h = same_self p
+path_there (Some p) h = bytes_itself p
 
 no_path : (p : Path) → None ≡ Some p → ⊥
 no_path p e = cc

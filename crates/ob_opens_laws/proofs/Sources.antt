@@ -21,7 +21,8 @@ use Rattle.ob_opening.specs.Opening.{standard_words}
 use Rattle.ob_opening.specs.Loading.{Part, row_of, kept_root, kept_row, parts_of, paths_in, path_of, histories_in, source_ref, node_there, has_bad_source, has_bad_capacity, bad_history, bad_part, bad_records, items_of, taken_twice, opened}
 use Rattle.ob_consistent_laws.specs.Laws.{Apart, row_paths, kind_or_obj}
 use Rattle.ob_consistent_laws.proofs.Lists.{each_found}
-use Rattle.ob_consistent_laws.proofs.Once.{or_first, taken_once}
+use Rattle.ob_values.proofs.Bools.{neither_left}
+use Rattle.ob_consistent_laws.proofs.Once.{taken_once}
 use Rattle.ob_consistent_laws.proofs.OneKind.{apart_are_of_one_kind}
 use Rattle.ob_consistent_laws.proofs.Walk.{root_kept}
 use Rattle.ob_consistent_laws.proofs.Kept.{root_apart}
@@ -52,7 +53,7 @@ good_source ps q h is =
     let items : List ℕ = bad_records None (items_of (codes "data") q) in
     let both : wrong ++ items ≡ [] = subst (λ (b : Bool). cond b (wrong ++ items) [] ≡ []) is h in
     source_there ps (source_ref q.own)
-    (or_first (has_bad_source ps q) (has_bad_capacity q) (none_if (has_bad_source ps q || has_bad_capacity q) q.number (first_none wrong items both)))
+    (neither_left (has_bad_source ps q) (has_bad_capacity q) (none_if (has_bad_source ps q || has_bad_capacity q) q.number (first_none wrong items both)))
 
 good_sources : (ps qs : List Part) → flat_map (bad_history ps) qs ≡ [] → AllByRecursion (HasGoodSource ps) (histories_in qs)
 good_sources ps [] e = tt

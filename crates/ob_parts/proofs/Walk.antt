@@ -1,7 +1,8 @@
 -- Walks over objects side by side, with their numbers.
-use Rattle.std.proofs.Common.{◌≡◌, ℕ, ◌+◌, ◌<◌, ◌≤◌, zero, suc, List, [], ◌∷◌, ◌++◌, length, take, drop, get_or, Option, Some, None, refl, ap, sym, ◌∙◌, arith, drop-cons, add-one, Bool, true, false, find}
+use Rattle.std.proofs.Common.{◌≡◌, ℕ, ◌+◌, ◌<◌, ◌≤◌, zero, suc, List, [], ◌∷◌, ◌++◌, length, take, drop, get_or, Option, Some, None, refl, ap, sym, ◌∙◌, drop-cons, add-one, Bool, true, false, find}
 use Rattle.std.specs.Prelude.{slice_get}
 use Rattle.std.proofs.lemmas.List.{take_more}
+use Rattle.ob_values.proofs.Lists.{drop_all}
 use Rattle.ob_object.specs.Object.{Object, parts}
 use Rattle.ob_object.specs.WellFormed.{has_name}
 use Rattle.ob_parts.specs.Numbered.{Part, plus, numbered_from}
@@ -21,12 +22,6 @@ got (y ∷ ys) (suc k) x e = got ys k x e
 -- the rest of the objects from a place on
 pub ahead : (xs : List Object) (k : ℕ) (x : Object) → k < length xs → x ≡ get_or xs k x → drop k xs ≡ x ∷ drop (k + 1) xs
 ahead xs k x h is = drop-cons xs k x h ∙ (ap (λ (n : ℕ). get_or xs k x ∷ drop n xs) (sym (add-one k)) ∙ ap (λ y. y ∷ drop (k + 1) xs) (sym is))
-
-pub drop_past : (xs : List Object) (k : ℕ) → length xs ≤ k → drop k xs ≡ []
-drop_past [] zero h = refl
-drop_past [] (suc k) h = refl
-drop_past (x ∷ xs) zero h = absurd (omega (arith, h))
-drop_past (x ∷ xs) (suc k) h = drop_past xs k (omega (arith, h))
 
 pub taken : (xs : List Object) (k : ℕ) (x : Object) → k < length xs → x ≡ get_or xs k x → take (k + 1) xs ≡ take k xs ++ x ∷ []
 taken xs k x h is = take_more xs k x h ∙ ap (λ y. take k xs ++ y ∷ []) (sym is)
@@ -56,7 +51,7 @@ found name n xs k x h is same =
 
 -- none has it
 pub none_found : (name : List ℕ) (n : ℕ) (xs : List Object) (k : ℕ) → length xs ≤ k → find (named_part name) (numbered_from n (drop k xs)) ≡ None
-none_found name n xs k h = ap (λ l. find (named_part name) (numbered_from n l)) (drop_past xs k h)
+none_found name n xs k h = ap (λ l. find (named_part name) (numbered_from n l)) (drop_all xs k h)
 
 -- one more object is judged
 pub walk_more : (judge : List Object → Part → List ℕ) (first : Option ℕ) (n : ℕ) (xs : List Object) (k : ℕ) (x : Object) → k < length xs → x ≡ get_or xs k x
@@ -74,4 +69,4 @@ walk_more judge first n xs k x h is =
 -- all are judged
 pub walk_end : (judge : List Object → Part → List ℕ) (first : Option ℕ) (n : ℕ) (xs : List Object) (k : ℕ) → length xs ≤ k
     → earlier first (least (each judge (take k xs) (numbered_from n (drop k xs)))) ≡ first
-walk_end judge first n xs k h = ap (λ l. earlier first (least (each judge (take k xs) (numbered_from n l)))) (drop_past xs k h) ∙ earlier_none first
+walk_end judge first n xs k h = ap (λ l. earlier first (least (each judge (take k xs) (numbered_from n l)))) (drop_all xs k h) ∙ earlier_none first

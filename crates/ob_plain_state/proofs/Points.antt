@@ -1,6 +1,7 @@
 -- A node of the tree is shown.
 use Rattle.std.proofs.Common.{◌≡◌, ℕ, Bool, true, false, ◌||◌, List, [], ◌∷◌, ◌++◌, map, Option, Some, None, refl, sym, ap, ◌∙◌, true≢false}
 use Rattle.std.specs.Prelude.{is_some}
+use Rattle.ob_values.proofs.Bools.{or_first, or_second}
 use Rattle.ob_object.specs.Object.{Object, Objects, none, node, listed, in_row, in_row-listed}
 use Rattle.ob_object.specs.declared.head.Head.{Head}
 use Rattle.ob_object.specs.Paths.{is_path, node_path}
@@ -12,17 +13,9 @@ use Rattle.ob_plain_state.specs.States.{state_of, IsOf}
 use Rattle.ob_plain_state.specs.declared.state.State.{State}
 use Rattle.ob_plain_state.proofs.Kept.{is_in, in_row_there}
 
-or_left : (c d : Bool) → c ≡ true → (c || d) ≡ true
-or_left true d h = refl
-or_left false d h = absurd (true≢false (sym h))
-
-or_right : (c d : Bool) → d ≡ true → (c || d) ≡ true
-or_right true d h = refl
-or_right false d h = h
-
 or_both : (a b c d : Bool) → (a ≡ true → c ≡ true) → (b ≡ true → d ≡ true) → (a || b) ≡ true → (c || d) ≡ true
-or_both true b c d f g h = or_left c d (f refl)
-or_both false b c d f g h = or_right c d (g h)
+or_both true b c d f g h = or_first c d (f refl)
+or_both false b c d f g h = or_second c d (g h)
 
 in_front : (q : Path) (xs ys : List Object) → is_in q (in_row xs) ≡ true → is_in q (in_row (xs ++ ys)) ≡ true
 in_front q [] ys h = absurd (true≢false (sym h))

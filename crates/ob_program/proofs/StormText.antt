@@ -1,11 +1,12 @@
 -- The text of the storm's site is the canonical text of its root, and so it spells it.
-use Rattle.std.proofs.Common.{◌≡◌, ℕ, zero, suc, ◌+◌, ◌<◌, ◌^◌, Bool, true, false, ◌&&◌, List, [], ◌∷◌, length, Option, Some, None, refl, subst, arith, inl}
+use Rattle.std.proofs.Common.{◌≡◌, ℕ, zero, suc, ◌+◌, ◌<◌, ◌^◌, Bool, true, ◌&&◌, List, [], ◌∷◌, length, Option, Some, None, refl, subst, arith, inl}
 use Rattle.std.specs.Prelude.{pos, codes}
 use Rattle.std.specs.Fmt.{digits}
 use Rattle.ob_values.specs.declared.value.Value.TheVariants as value
 use Rattle.ob_values.specs.XmlText.{IsXmlText, is_printable}
 use Rattle.ob_values.proofs.PrintedLemmas.{spelled_integer}
 use Rattle.ob_values.proofs.XmlTextLemmas.{printable_xml}
+use Rattle.ob_values.proofs.Bools.{both_true}
 use Rattle.ob_object.specs.declared.kind.Kind.{Kind}
 use Rattle.ob_object.specs.declared.kind.Kind.TheVariants as kind
 use Rattle.ob_object.specs.declared.head.Slot.{Slot}
@@ -39,10 +40,6 @@ are_printable k (suc n) = is_printable (point_href k) && are_printable (k + 1) n
 all_printable : are_printable 0 100 ≡ true
 unfolding digits
 all_printable = refl
-
-both : (a b : Bool) → (a && b) ≡ true → (a ≡ true) × (b ≡ true)
-both true b h = (refl, h)
-both false b h = absurd (cc)
 
 written : (n : ℕ) → n < 2 ^ 63 → IsWritten (value.Int (pos n))
 written n h = (spelled_integer (pos n) (omega (arith, h)), record { sfits = h })
@@ -147,7 +144,7 @@ rest_carried = (
 points_carried : (n k : ℕ) (others : Objects) → are_printable k n ≡ true → IsRowCarried 1 others → IsRowCarried 1 (points k n others)
 points_carried zero k others h c = c
 points_carried (suc n) k others h c =
-    let each = both (is_printable (point_href k)) (are_printable (k + 1) n) h in
+    let each = both_true (is_printable (point_href k)) (are_printable (k + 1) n) h in
     (omega arith, point_carried k each.0, tt, points_carried n (k + 1) others each.1 c)
 
 -- ---- it is well formed

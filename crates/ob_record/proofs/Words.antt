@@ -10,6 +10,7 @@ use Rattle.ob_spelling.specs.Numeral.{number}
 use Rattle.ob_spelling.proofs.DigitsLemmas.{splits_digits, front_and_after, front_digits, digits_front-other}
 use Rattle.ob_spelling.proofs.NumeralLemmas.{decimal_numerals}
 use Rattle.std.proofs.lemmas.Option.{some_pair_parts}
+use Rattle.ob_values.proofs.Bools.{both_true}
 use Rattle.ob_record.specs.Parts.{number_word}
 use Rattle.ob_record.specs.Reading.{◌>>=◌, after, is_plain, behind, number_at}
 
@@ -26,11 +27,6 @@ chosen false x y e = absurd cc
 pub skipped : {A : Type 0} (b : Bool) (x : Option A) (y : A) → cond b None x ≡ Some y → (b ≡ false) × (x ≡ Some y)
 skipped true x y e = absurd cc
 skipped false x y e = (refl, e)
-
-pub both_true : (a b : Bool) → (a && b) ≡ true → (a ≡ true) × (b ≡ true)
-both_true true true e = (refl, refl)
-both_true true false e = absurd cc
-both_true false b e = absurd cc
 
 -- ---- words
 

@@ -6,6 +6,7 @@ use Rattle.std.proofs.lemmas.List.{append-nil, map-append, length-map, length-ap
 use Rattle.std.proofs.lemmas.List.Elements.{filter_more, filter-append}
 use Rattle.std.proofs.lemmas.Bool.{ltb-true, ltb-false}
 use Rattle.ob_times.specs.Times.{Instant}
+use Rattle.ob_values.proofs.Bools.{and_first, and_second}
 use Rattle.ob_object.specs.Object.{Object}
 use Rattle.ob_site_rules.specs.Build.{Text}
 use Rattle.ob_site_rules.specs.Entries.{query_out}
@@ -48,18 +49,10 @@ no_more n p xs i x true true lt at room is h = absurd (let e : true ≡ false = 
 no_more n p xs i x true false lt at room is h = not_passing n p xs i x lt at is
 no_more n p xs i x false c lt at room is h = no_room n p xs i x lt at (ltb-false _ n room)
 
-left : (a b : Bool) → (a && b) ≡ true → a ≡ true
-left true b h = refl
-left false b h = h
-
-right : (a b : Bool) → (a && b) ≡ true → b ≡ true
-right true b h = h
-right false b h = absurd (let e : false ≡ true = h in cc)
-
 pub at_all : {A : Type 0} (p : A → Bool) (xs : List A) (i : ℕ) (d : A) → list_all p xs ≡ true → i < length xs → p (get_or xs i d) ≡ true
 at_all p [] i d h lt = absurd (omega arith)
-at_all p (x ∷ xs) zero d h lt = left _ _ h
-at_all p (x ∷ xs) (suc i) d h lt = at_all p xs i d (right (p x) _ h) (omega arith)
+at_all p (x ∷ xs) zero d h lt = and_first _ _ h
+at_all p (x ∷ xs) (suc i) d h lt = at_all p xs i d (and_second (p x) _ h) (omega arith)
 
 -- the times and the objects of the first that pass
 pub record IsGiven {A : Type 0} (n : ℕ) (p : A → Bool) (time : A → Instant) (object : A → Object) (xs : List A) (ts : List Instant) (os : List Object) : Type 0 where
@@ -71,9 +64,9 @@ so_many f xs ys e = ap length e ∙ length-map xs f
 
 pub given_more : {A : Type 0} (n : ℕ) (p : A → Bool) (time : A → Instant) (object : A → Object) (xs : List A) (times : List Instant) (objects : List Object) (i : ℕ) (x : A) → IsGiven n p time object (take i xs) times objects → i < length xs → x ≡ get_or xs i x → (nat_lt (length objects) n && p x) ≡ true → IsGiven n p time object (take (i + 1) xs) (times ++ time x ∷ []) (objects ++ object x ∷ [])
 given_more n p time object xs times objects i x g lt at is =
-    let few : length objects < n = ltb-true (length objects) n (left (nat_lt (length objects) n) (p x) is) in
+    let few : length objects < n = ltb-true (length objects) n (and_first (nat_lt (length objects) n) (p x) is) in
     let many = so_many object (firsts n p (take i xs)) objects g.objects in
-    let e : firsts n p (take (i + 1) xs) ≡ firsts n p (take i xs) ++ x ∷ [] = one_more n p xs i x lt at (omega arith) (right (nat_lt (length objects) n) (p x) is) in
+    let e : firsts n p (take (i + 1) xs) ≡ firsts n p (take i xs) ++ x ∷ [] = one_more n p xs i x lt at (omega arith) (and_second (nat_lt (length objects) n) (p x) is) in
     record {
       times = ap (λ ts. ts ++ time x ∷ []) g.times ∙ (sym (map-append time (firsts n p (take i xs)) (x ∷ [])) ∙ ap (map time) (sym e));
       objects = ap (λ os. os ++ object x ∷ []) g.objects ∙ (sym (map-append object (firsts n p (take i xs)) (x ∷ [])) ∙ ap (map object) (sym e));

@@ -1,8 +1,9 @@
 -- What is made of names and contracts fits its kind.
-use Rattle.std.proofs.Common.{◌≡◌, ℕ, Bool, true, false, ◌&&◌, List, refl}
+use Rattle.std.proofs.Common.{◌≡◌, ℕ, true, List, refl}
 use Rattle.std.specs.Prelude.{Option, Some, None}
 use Rattle.ob_times.specs.Times.{Instant}
 use Rattle.ob_values.specs.XmlText.{is_printable}
+use Rattle.ob_values.proofs.Bools.{and_first, and_second}
 use Rattle.ob_object.specs.declared.kind.Kind.{Kind}
 use Rattle.ob_object.specs.declared.kind.Kind.TheVariants as kind
 use Rattle.ob_object.specs.declared.head.Slot.{Slot}
@@ -60,19 +61,11 @@ contract_word named.AlarmQueryOut = refl
 contract_word named.AckAlarmIn = refl
 contract_word named.AckAlarmOut = refl
 
-left : (a b : Bool) → (a && b) ≡ true → a ≡ true
-left true b h = refl
-left false b h = h
-
-right : (a b : Bool) → (a && b) ≡ true → b ≡ true
-right true b h = h
-right false b h = absurd (let e : false ≡ true = h in cc)
-
 pub name_printable : (n : List ℕ) → is_name n ≡ true → is_printable n ≡ true
-name_printable n h = left _ _ h
+name_printable n h = and_first _ _ h
 
 pub name_fits : (n : List ℕ) → is_name n ≡ true → fits_name (Some n) ≡ true
-name_fits n h = right (is_printable n) _ h
+name_fits n h = and_second (is_printable n) _ h
 
 pub valued_fits : (k : Kind) (n : List ℕ) (s : Slot) → is_name n ≡ true → fits_slot k s ≡ true → fits_head (valued k n s).head ≡ true
 valued_fits k n s h i = rw (name_fits n h, i) refl

@@ -1,32 +1,21 @@
 -- Names that no object before has.
-use Rattle.std.proofs.Common.{◌≡◌, ℕ, ◌+◌, ◌<◌, zero, suc, Bool, true, false, not, ◌&&◌, List, [], ◌∷◌, ◌++◌, length, take, get_or, refl, sym, ap, ◌∙◌, arith, append_assoc}
+use Rattle.std.proofs.Common.{◌≡◌, ℕ, ◌+◌, ◌<◌, zero, suc, true, false, List, [], ◌∷◌, ◌++◌, length, take, get_or, refl, sym, ap, ◌∙◌, arith, append_assoc}
 use Rattle.std.specs.Prelude.{Option, Some, None, is_none}
 use Rattle.std.specs.List.{list_all}
 use Rattle.std.proofs.lemmas.List.{take_more, take_all, append-nil}
+use Rattle.ob_values.proofs.Bools.{and_first, and_second, not_true}
 use Rattle.ob_object.specs.declared.head.Head.{Head}
 use Rattle.ob_object.specs.Object.{Object, in_row, children, listed-in_row}
 use Rattle.ob_object.specs.WellFormed.{is_taken, with_child}
 use Rattle.ob_replies.specs.Names.{are_new}
 
-left : (a b : Bool) → (a && b) ≡ true → a ≡ true
-left true b h = refl
-left false b h = h
-
-right : (a b : Bool) → (a && b) ≡ true → b ≡ true
-right true b h = h
-right false b h = absurd (let e : false ≡ true = h in cc)
-
-not_true : (a : Bool) → not a ≡ true → a ≡ false
-not_true true h = sym h
-not_true false h = refl
-
 -- the object behind k others has the name of none of them
 new_behind : (before os : List Object) (k : ℕ) (o : Object) → are_new before os ≡ true → k < length os → is_taken (get_or os k o).head.name (before ++ take k os) ≡ false
 new_behind before [] k o h lt = absurd (omega arith)
-new_behind before (x ∷ os) zero o h lt = ap (is_taken x.head.name) (append-nil before) ∙ not_true _ (left _ _ h)
+new_behind before (x ∷ os) zero o h lt = ap (is_taken x.head.name) (append-nil before) ∙ not_true _ (and_first _ _ h)
 new_behind before (x ∷ os) (suc k) o h lt =
     ap (is_taken (get_or os k o).head.name) (sym (append_assoc before (x ∷ []) (take k os)))
-    ∙ new_behind (before ++ x ∷ []) os k o (right _ _ h) (omega arith)
+    ∙ new_behind (before ++ x ∷ []) os k o (and_second _ _ h) (omega arith)
 
 -- an object with these children
 abbrev pub with_all : Head → List Object → Object
@@ -52,7 +41,7 @@ is_none_taken (Some n) os h = absurd (let e : false ≡ true = h in cc)
 pub nameless_behind : (before os : List Object) → list_all (λ o. is_none o.head.name) os ≡ true → are_new before os ≡ true
 nameless_behind before [] h = refl
 nameless_behind before (o ∷ os) h =
-    rw (is_none_taken o.head.name before (left _ _ h)) (nameless_behind (before ++ o ∷ []) os (right _ _ h))
+    rw (is_none_taken o.head.name before (and_first _ _ h)) (nameless_behind (before ++ o ∷ []) os (and_second _ _ h))
 
 -- objects without names
 pub nameless_new : (os : List Object) → list_all (λ o. is_none o.head.name) os ≡ true → are_new [] os ≡ true

@@ -5,6 +5,7 @@ use Rattle.std.specs.List.{list_all, AllWithin}
 use Rattle.std.proofs.lemmas.Bool.{ltb-false}
 use Rattle.std.proofs.lemmas.Bool.Decides.{eqb_tells}
 use Rattle.ob_times.specs.Times.{Instant}
+use Rattle.ob_values.proofs.Bools.{not_true}
 use Rattle.ob_object.specs.Object.{Object}
 use Rattle.ob_object.specs.declared.kind.Kind.TheVariants as kind
 use Rattle.ob_object.specs.declared.head.Slot.TheVariants.{Null}
@@ -149,14 +150,10 @@ alarms_gone f b ts os from to k has g le =
     given_rest f.limit (λ e. is_within f (raised_at e.1)) (λ e. raised_at e.1) (λ e. alarm_object b e.0) (numbered 1 b.alarms) ts os k g
     (none_behind f 1 b.alarms k (λ place d low high. has.after place d (omega arith) high))
 
-not_is : (b : Bool) → not b ≡ true → b ≡ false
-not_is true h = sym h
-not_is false h = refl
-
 -- as many were given as are asked for
 pub alarms_enough : (f : Filter) (b : Board) (ts : List Instant) (objects given : List Object) (k : ℕ) (all : Bool) → IsGivenOf f b (take k (numbered 1 b.alarms)) ts objects → all ≡ not (nat_lt (length given) f.limit) → given ≡ objects → all ≡ true → IsGivenOf f b (numbered 1 b.alarms) ts objects
 alarms_enough f b ts objects given k all g e same is =
-    let few : nat_lt (length objects) f.limit ≡ false = not_is _ (ap (λ (os : List Object). not (nat_lt (length os) f.limit)) (sym same) ∙ (sym e ∙ is)) in
+    let few : nat_lt (length objects) f.limit ≡ false = not_true _ (ap (λ (os : List Object). not (nat_lt (length os) f.limit)) (sym same) ∙ (sym e ∙ is)) in
     given_enough f.limit (λ x. is_within f (raised_at x.1)) (λ x. raised_at x.1) (λ x. alarm_object b x.0) (numbered 1 b.alarms) ts objects k g (ltb-false (length objects) f.limit few)
 
 -- the answer, once all that are asked for were given

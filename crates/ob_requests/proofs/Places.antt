@@ -1,10 +1,11 @@
 -- What a path names: a node is what is shown there, and the point of a writePoint is one of the plan's.
-use Rattle.std.proofs.Common.{◌≡◌, ℕ, ◌+◌, Bool, true, false, cond, ◌&&◌, ◌||◌, List, [], ◌∷◌, ◌++◌, refl, sym, ap, ◌∙◌}
+use Rattle.std.proofs.Common.{◌≡◌, ℕ, ◌+◌, Bool, true, false, cond, ◌||◌, List, [], ◌∷◌, ◌++◌, refl, sym, ap, ◌∙◌}
 use Rattle.std.specs.Prelude.{codes, Option, Some, None, option_map, slice_get, find}
 use Rattle.std.specs.List.{list_all, flat_map}
 use Rattle.std.specs.Str.{bytes_eq}
 use Rattle.std.proofs.lemmas.List.Folds.{list_all-append}
-use Rattle.std.proofs.lemmas.Slice.Eq.{bytes_eq-Decides}
+use Rattle.ob_values.proofs.Bools.{and_first, and_second, and_true, or_true}
+use Rattle.ob_values.proofs.Lists.{bytes_itself}
 use Rattle.ob_object.specs.Object.{Object}
 use Rattle.ob_contracts.specs.Inherit.{or_else}
 use Rattle.ob_alarms.specs.States.{needs_ack}
@@ -19,17 +20,6 @@ use Rattle.ob_plain_state.specs.declared.place.Place.{Place as Named}
 use Rattle.ob_plain_state.specs.declared.place.Place.TheVariants as named
 use Rattle.ob_site_rules.specs.Places.{Place, AckOf, WritePointOf, QueryOf, FeedOf, Node, fixed_places, point_places, history_places, subject_places, alarm_places, event_places, computed_places, place_at}
 
-left : (a b : Bool) → (a && b) ≡ true → a ≡ true
-left true b h = refl
-left false b h = h
-
-right : (a b : Bool) → (a && b) ≡ true → b ≡ true
-right true b h = h
-right false b h = absurd (let e : false ≡ true = h in cc)
-
-both : (a b : Bool) → a ≡ true → b ≡ true → (a && b) ≡ true
-both a b h k = rw (h, k) refl
-
 -- what a computed path may name
 abbrev good : Plan → Place → Bool
 good plan (WritePointOf q) = is_among q plan.points
@@ -39,18 +29,11 @@ good plan _ = true
 abbrev all_good : Plan → List (Path × Place) → Bool
 all_good plan es = list_all (λ e. good plan e.1) es
 
-same_bytes : (p : Path) → bytes_eq p p ≡ true
-same_bytes p = (bytes_eq-Decides p p).1 refl
-
-or_true : (a : Bool) → (a || true) ≡ true
-or_true true = refl
-or_true false = refl
-
 points_good : (plan : Plan) (ps : List Path) → ((q : Path) → is_among q ps ≡ true → is_among q plan.points ≡ true) → all_good plan (flat_map (λ q. (below q (codes "writePoint"), WritePointOf q) ∷ []) ps) ≡ true
 points_good plan [] sub = refl
 points_good plan (p ∷ ps) sub =
-    both (is_among p plan.points) (all_good plan (flat_map (λ q. (below q (codes "writePoint"), WritePointOf q) ∷ []) ps))
-    (sub p (ap (λ b. b || is_among p ps) (same_bytes p)))
+    and_true (is_among p plan.points) (all_good plan (flat_map (λ q. (below q (codes "writePoint"), WritePointOf q) ∷ []) ps))
+    (sub p (ap (λ b. b || is_among p ps) (bytes_itself p)))
     (points_good plan ps (λ q h. sub q (ap (λ b. bytes_eq p q || b) h ∙ or_true (bytes_eq p q))))
 
 histories_good : (plan : Plan) (hs : List (Path × Option Path)) → all_good plan (flat_map (λ h. (below h.0 (codes "query"), QueryOf h.0) ∷ (below h.0 (codes "feed"), FeedOf h.0) ∷ []) hs) ≡ true
@@ -71,7 +54,7 @@ alarms_good plan rules n (a ∷ alarms) =
     behind_ack plan n (needs_ack (slice_get rules a.rule)) (alarm_places plan rules (n + 1) alarms) (alarms_good plan rules (n + 1) alarms)
 
 appended : (plan : Plan) (xs ys : List (Path × Place)) → all_good plan xs ≡ true → all_good plan ys ≡ true → all_good plan (xs ++ ys) ≡ true
-appended plan xs ys h k = list_all-append (λ (e : Path × Place). good plan e.1) xs ys ∙ both (all_good plan xs) (all_good plan ys) h k
+appended plan xs ys h k = list_all-append (λ (e : Path × Place). good plan e.1) xs ys ∙ and_true (all_good plan xs) (all_good plan ys) h k
 
 computed_good : (plan : Plan) (s : State) → all_good plan (computed_places plan s) ≡ true
 computed_good plan s =
@@ -94,7 +77,7 @@ first_good plan false x rest place h later i = later i
 found_good : (plan : Plan) (p : Path) (es : List (Path × Place)) (place : Place) → all_good plan es ≡ true → at p es ≡ Some place → good plan place ≡ true
 found_good plan p [] place h e = absurd (mutual_none place e)
 found_good plan p (x ∷ es) place h e =
-    first_good plan (bytes_eq x.0 p) x (find (λ (y : Path × Place). bytes_eq y.0 p) es) place (left (good plan x.1) (all_good plan es) h) (λ i. found_good plan p es place (right (good plan x.1) (all_good plan es) h) i) e
+    first_good plan (bytes_eq x.0 p) x (find (λ (y : Path × Place). bytes_eq y.0 p) es) place (and_first (good plan x.1) (all_good plan es) h) (λ i. found_good plan p es place (and_second (good plan x.1) (all_good plan es) h) i) e
 
 node_by : (plan : Plan) (c : Option Place) (shows : Option Object) (o : Object) → ((q : Place) → c ≡ Some q → good plan q ≡ true) → or_else c (option_map Node shows) ≡ Some (Node o) → shows ≡ Some o
 node_by plan (Some q) shows o h e =

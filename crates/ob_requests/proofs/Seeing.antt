@@ -1,5 +1,5 @@
 -- The hrefs that were seen, as a set.
-use Rattle.std.proofs.Common.{◌≡◌, ℕ, Bool, true, false, not, ◌||◌, cond, List, [], ◌∷◌, ◌++◌, refl, sym, ap, ap₂, ◌∙◌, true≢false}
+use Rattle.std.proofs.Common.{◌≡◌, ℕ, Bool, true, false, ◌||◌, cond, List, [], ◌∷◌, ◌++◌, refl, sym, ap, ap₂, ◌∙◌, true≢false}
 use Rattle.std.proofs.Math.Bool.{or-false}
 use Rattle.std.specs.BTreeSet.{BTreeSet}
 use Rattle.std.specs.Str.{bytes_eq}
@@ -44,7 +44,3 @@ module _ (set new : BTreeSet (Bor (List ℕ))) (kept : List Asked) (a : Asked) (
         ∙ sym (list_any-append (λ (x : Asked). bytes_eq t x.0) kept (a ∷ []))
         ∙ ap (λ (l : List Asked). holds_text l t) (sym is);
   }
-
-pub not_true : (b : Bool) → not b ≡ true → b ≡ false
-not_true false e = refl
-not_true true e = absurd (true≢false (sym e))

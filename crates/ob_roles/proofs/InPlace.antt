@@ -4,6 +4,7 @@ use Rattle.std.specs.Prelude.{is_some, slice_get}
 use Rattle.std.specs.List.{list_any}
 use Rattle.std.proofs.lemmas.List.{append-nil}
 use Rattle.std.proofs.lemmas.List.Elements.{filter-append}
+use Rattle.ob_values.proofs.Bools.{and_false}
 use Rattle.ob_object.specs.declared.head.Head.{Head}
 use Rattle.ob_object.specs.Kinds.{is_ref, has_of}
 use Rattle.ob_object.specs.Object.{Object, children, listed-in_row}
@@ -24,10 +25,6 @@ use Rattle.ob_roles.proofs.Taken.{implied_is, present_behind}
 and_true : (a : Bool) → (a && true) ≡ a
 and_true true = refl
 and_true false = refl
-
-and_false : (a : Bool) → (a && false) ≡ false
-and_false true = refl
-and_false false = refl
 
 -- a name is new behind two lists where it is new behind each
 new_both : (xs cs : List Object) (n : Option (List ℕ)) → ((is_some n && not (is_taken n xs)) && (is_some n && not (is_taken n cs))) ≡ (is_some n && not (is_taken n (xs ++ cs)))

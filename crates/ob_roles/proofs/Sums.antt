@@ -1,8 +1,9 @@
 -- Contracts that are added one after another.
-use Rattle.std.proofs.Common.{◌≡◌, ℕ, suc, zero, ◌+◌, ◌<◌, ◌≤◌, List, [], ◌∷◌, ◌++◌, length, drop, get_or, Option, Some, None, option_map, refl, sym, ap, ◌∙◌, subst, inl, inr, add-one, arith, ⊎_elim}
+use Rattle.std.proofs.Common.{◌≡◌, ℕ, suc, ◌+◌, ◌<◌, ◌≤◌, List, [], ◌∷◌, ◌++◌, length, drop, get_or, Option, Some, None, option_map, refl, sym, ap, ◌∙◌, subst, inl, inr, add-one, ⊎_elim}
 use Rattle.std.specs.Prelude.{◌⊎◌, Result, Ok, Err}
 use Rattle.std.specs.List.{cons_option}
 use Rattle.std.proofs.Math.Seq.{drop-cons}
+use Rattle.ob_values.proofs.Lists.{drop_all}
 use Rattle.ob_object.specs.Object.{Object}
 use Rattle.ob_object.specs.Paths.{node_path}
 use Rattle.ob_contracts.specs.Inherit.{Contracts, result_of}
@@ -27,12 +28,6 @@ refused_stays fault (c ∷ cs) = refused_stays fault cs
 pub rest_more : (xs : List Object) (i : ℕ) (x : Object) → i < length xs → x ≡ get_or xs i x → drop i xs ≡ x ∷ drop (i + 1) xs
 rest_more xs i x h is = drop-cons xs i x h ∙ ap (λ y. y ∷ drop (suc i) xs) (sym is) ∙ rw add-one refl
 
-pub rest_end : (xs : List Object) (i : ℕ) → length xs ≤ i → drop i xs ≡ []
-rest_end [] zero h = refl
-rest_end [] (suc i) h = refl
-rest_end (x ∷ xs) zero h = absurd (omega arith)
-rest_end (x ∷ xs) (suc i) h = rest_end xs i (omega arith)
-
 abbrev pub Sum : Contracts → List Object → Result Contracts LibFault
 Sum lib os = add_contracts (Ok lib) (nodes_of os)
 
@@ -56,4 +51,4 @@ sum_refused all first lib new i o fault h is e p =
     subst (Gives (Err fault)) (sym (p ∙ ap (Sum lib) (rest_more all i o h is))) (fault_at lib new o (drop (i + 1) all) (node_path o.head) fault refl e)
 
 pub sum_all : (all : List Object) (first lib : Contracts) (i : ℕ) → length all ≤ i → Sum first all ≡ Sum lib (drop i all) → Gives (Ok lib) (Sum first all)
-sum_all all first lib i h p = p ∙ ap (Sum lib) (rest_end all i h)
+sum_all all first lib i h p = p ∙ ap (Sum lib) (drop_all all i h)

@@ -15,7 +15,8 @@ use Rattle.ob_site_rules.specs.Build.{Path}
 use Rattle.ob_roles.specs.Few.{brief_contracts}
 use Rattle.ob_roles.specs.Sums.{nodes_of}
 use Rattle.ob_roles.specs.Tables.{Holds}
-use Rattle.ob_roles.proofs.Sums.{nodes_past, nodes_here, rest_more, rest_end}
+use Rattle.ob_values.proofs.Lists.{drop_all}
+use Rattle.ob_roles.proofs.Sums.{nodes_past, nodes_here, rest_more}
 
 abbrev pub Table : Type 0
 Table = BTreeMap (List ℕ) Object
@@ -101,4 +102,4 @@ pub nodes_passed : (all : List Object) (i : ℕ) (x : Object) (lib : Contracts) 
 nodes_passed all i x lib h is at = ap (λ l. worded_contracts lib (nodes_of l)) (rest_more all i x h is) ∙ ap (worded_contracts lib) (nodes_past x (drop (i + 1) all) at)
 
 pub nodes_done : (all : List Object) (i : ℕ) (lib : Contracts) → length all ≤ i → worded_contracts lib (nodes_of (drop i all)) ≡ lib
-nodes_done all i lib h = ap (λ l. worded_contracts lib (nodes_of l)) (rest_end all i h)
+nodes_done all i lib h = ap (λ l. worded_contracts lib (nodes_of l)) (drop_all all i h)

@@ -1,22 +1,19 @@
 -- Texts of XML characters.
-use Rattle.std.proofs.Common.{◌≡◌, ℕ, ◌≤◌, Bool, true, false, ◌&&◌, ◌||◌, eqb, List, [], ◌∷◌, ◌++◌, refl, sym, ap, subst, ◌∙◌, ◌⊎◌, inl, inr, arith}
+use Rattle.std.proofs.Common.{◌≡◌, ℕ, ◌≤◌, true, ◌&&◌, ◌||◌, eqb, List, [], ◌∷◌, ◌++◌, refl, sym, ap, subst, ◌∙◌, ◌⊎◌, inl, inr, arith}
 use Rattle.std.specs.Char.{encode_utf8}
 use Rattle.std.specs.Str.{IsUtf8, encode_utf8_all}
-use Rattle.std.specs.List.{AllByRecursion}
 use Rattle.std.proofs.lemmas.Str.{encodes-append}
 use Rattle.std.proofs.lemmas.List.{append-nil}
 use Rattle.std.proofs.lemmas.Bool.{eqb-true}
 use Rattle.ob_values.specs.XmlText.{IsXmlChar, IsXmlText}
+use Rattle.ob_values.proofs.Lists.{all_both}
+use Rattle.ob_values.proofs.Bools.{or_parts}
 use Rattle.ob_scan.specs.Characters.{within}
 use Rattle.ob_scan.specs.Constructs.{is_char}
 use Rattle.ob_scan.specs.declared.value.Item.{Item}
 use Rattle.ob_scan.specs.declared.value.Item.TheVariants.{Char, Space, Plain}
 use Rattle.ob_scan.specs.Items.{item_text, IsItem}
 use Rattle.ob_scan.proofs.Expanding.{range, IsCharacter}
-
-or_parts : (a b : Bool) → (a || b) ≡ true → (a ≡ true) ⊎ (b ≡ true)
-or_parts true b e = inl refl
-or_parts false b e = inr e
 
 pub xml_char : (c : ℕ) → is_char c ≡ true → IsXmlChar c
 xml_char c e = by_last (or_parts _ _ e)
@@ -40,10 +37,6 @@ xml_char c e = by_last (or_parts _ _ e)
     by_last : ((eqb c 9 || eqb c 10 || eqb c 13 || within 0x20 0xD7FF c || within 0xE000 0xFFFD c) ≡ true) ⊎ (within 0x10000 0x10FFFF c ≡ true) → IsXmlChar c
     by_last (inl h) = fourth (or_parts _ _ h)
     by_last (inr h) = inr (inr (inr (inr (inr (range 0x10000 0x10FFFF c h)))))
-
-all_both : (P : ℕ → Type 0) (xs ys : List ℕ) → AllByRecursion P xs → AllByRecursion P ys → AllByRecursion P (xs ++ ys)
-all_both P [] ys h k = k
-all_both P (x ∷ xs) ys h k = (h.0, all_both P xs ys h.1 k)
 
 pub xml_none : IsXmlText []
 xml_none = ([], tt, refl)

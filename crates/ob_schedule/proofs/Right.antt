@@ -1,10 +1,11 @@
 -- What holds of the parts of a document of the form.
-use Rattle.std.proofs.Common.{◌≡◌, ℕ, zero, suc, ◌+◌, ◌<◌, ◌≤◌, ◌/◌, ◌%◌, Bool, true, false, ◌&&◌, nat_lt, nat_le, List, [], ◌∷◌, ◌++◌, map, length, Option, Some, None, refl, ap, sym, subst, ◌∙◌, arith, pos, ℤ, codes}
+use Rattle.std.proofs.Common.{◌≡◌, ℕ, zero, suc, ◌+◌, ◌<◌, ◌≤◌, ◌/◌, ◌%◌, true, false, ◌&&◌, nat_lt, nat_le, List, [], ◌∷◌, ◌++◌, map, length, Option, Some, None, refl, ap, sym, subst, ◌∙◌, arith, pos, ℤ, codes}
 use Rattle.std.specs.Prelude.{option_map, unwrap_or, unsigned_abs, int_le, is_some, not, ◌==◌}
 use Rattle.std.specs.List.{All, list_any}
 use Rattle.std.proofs.lemmas.Bool.{leb-true, ltb-true}
 use Rattle.std.proofs.lemmas.Int.{ints}
 use Rattle.jiff_tz.specs.PosixReader.{read_whole}
+use Rattle.ob_values.proofs.Bools.{both_true}
 use Rattle.ob_object.specs.Object.{Object, children, parts}
 use Rattle.ob_object.specs.Kinds.{same_kind}
 use Rattle.ob_object.specs.declared.kind.Kind.{Kind}
@@ -22,10 +23,6 @@ use Rattle.ob_schedule.specs.Weeks.{week, week_of, entry_of, listed_in}
 pub append_nil : (xs ys : List ℕ) → xs ++ ys ≡ [] → (xs ≡ []) × (ys ≡ [])
 append_nil [] ys e = (refl, e)
 append_nil (x ∷ xs) ys e = absurd (let f : x ∷ (xs ++ ys) ≡ [] = e in cc)
-
-pub both_true : (a b : Bool) → (a && b) ≡ true → (a ≡ true) × (b ≡ true)
-both_true true b e = (refl, e)
-both_true false b e = absurd (let f : false ≡ true = e in cc)
 
 pub right_entry : (site : PointRules) (point : Option (Text × Kind)) (before : List Object) (p : Part) → entry_offences site point before p ≡ [] → IsRightEntry p.object
 right_entry site point before p e =

@@ -4,6 +4,7 @@ use Rattle.std.specs.Prelude.{slice_get, option_and_then, unwrap_or, IfSome}
 use Rattle.std.specs.List.{Contains}
 use Rattle.std.proofs.lemmas.Bool.{eqb-true}
 use Rattle.jiff.specs.Words.{plain_zone}
+use Rattle.ob_values.proofs.Lists.{some_same}
 use Rattle.ob_machine.specs.History.{after, IsLegal}
 use Rattle.ob_machine.proofs.HistoryLemmas.{after-snoc, legal_back}
 use Rattle.ob_object.specs.declared.head.Slot.{Slot}
@@ -33,9 +34,6 @@ use Rattle.ob_schedule_laws.proofs.Posting.{Sets, point_of, sets}
 use Rattle.ob_schedule_laws.proofs.Right.{AllFitSite, schedules_fit}
 use Rattle.ob_schedule_laws.proofs.Staying.{stays}
 
-one_of : {A : Type 0} {a b : A} → Some a ≡ Some b → a ≡ b
-one_of e = cc
-
 append_nil : {A : Type 0} (xs : List A) → xs ++ [] ≡ xs
 append_nil [] = refl
 append_nil (x ∷ xs) = ap (λ l. x ∷ l) (append_nil xs)
@@ -46,7 +44,7 @@ among_calls (x ∷ before) e rest = later_in x e (before ++ e ∷ rest) (among_c
 
 entry_there : (o : Option Entry) (slot : Slot) → option_map (λ (x : Entry). x.slot) o ≡ Some slot → (x : Entry) × (o ≡ Some x) × (x.slot ≡ slot)
 entry_there None slot e = absurd cc
-entry_there (Some x) slot e = (x, refl, one_of e)
+entry_there (Some x) slot e = (x, refl, some_same e)
 
 below_or : (a b : ℕ) → (a < b) ⊎ (b ≤ a)
 below_or a b = grind arith
@@ -114,7 +112,7 @@ module _ (s : Schedules) (boot : ℕ) (start : SiteState) (ready : IsReady start
           → (j : ℕ) (jt : Schedule) (v : Slot) → slice_get list j ≡ Some jt → shown_slot (at_call before) jt.point ≡ Some v
           → (b : Bool) → nat_eq f.schedule j ≡ b → shown_slot (at_call (before ++ e ∷ [])) jt.point ≡ Some (cond b (unwrap_or (slot_of list f) v) v)
       after_one f before e it written slot here slot_is is one j jt v at shown true same =
-          let point : it ≡ jt = one_of (sym here ∙ (ap (slice_get list) (eqb-true f.schedule j same) ∙ at)) in
+          let point : it ≡ jt = some_same (sym here ∙ (ap (slice_get list) (eqb-true f.schedule j same) ∙ at)) in
           ap (λ (t : Schedule). shown_slot (at_call (before ++ e ∷ [])) t.point) (sym point) ∙ (one.at ∙ ap Some (is ∙ sym (ap (λ o. unwrap_or o v) slot_is)))
       after_one f before e it written slot here slot_is is one j jt v at shown false other =
           one.others jt.point (among j jt at) (λ points. apart f.schedule j other (fit.apart f.schedule j it jt here at points)) ∙ shown
@@ -133,7 +131,7 @@ module _ (s : Schedules) (boot : ℕ) (start : SiteState) (ready : IsReady start
   -- what is in force may be written
   force_fits : (k : ℕ) (it : Schedule) (slot : Slot) → slice_get list k ≡ Some it → IsInForce (plain_zone s.zone) list k boot slot → is_written (rules_of start) it.point slot ≡ true
   force_fits k it slot at force =
-      let same : force.is.schedule ≡ it = one_of (sym force.is.schedule_is ∙ (ap (slice_get list) force.of ∙ at)) in
+      let same : force.is.schedule ≡ it = some_same (sym force.is.schedule_is ∙ (ap (slice_get list) force.of ∙ at)) in
       ap (is_written (rules_of start) it.point) force.slot_is
       ∙ (fit.fits k it at).slots force.last.entry force.is.entry (ap (λ (t : Schedule). slice_get t.entries.items force.last.entry) (sym same) ∙ force.is.entry_is)
 
@@ -164,7 +162,7 @@ module _ (s : Schedules) (boot : ℕ) (start : SiteState) (ready : IsReady start
             | inl less ↦ (let h = below j jt at less in (h.0, h.1, one.others jt.point (among j jt at) (λ points. (let same = fit.apart n j it jt here at points in omega (arith, same, less))) ∙ h.2))
             | inr from ↦ (
                 let same : n ≡ j = omega (arith, from, lt) in
-                let point : it ≡ jt = one_of (sym here ∙ (ap (slice_get list) same ∙ at)) in
+                let point : it ≡ jt = some_same (sym here ∙ (ap (slice_get list) same ∙ at)) in
                 (slot, subst (λ (i : ℕ). IsInForce (plain_zone s.zone) list i boot slot) same force, ap (λ (t : Schedule). shown_slot (at_call (before ++ e ∷ [])) t.point) (sym point) ∙ one.at)
                 )
           ]

@@ -1,8 +1,9 @@
 -- The path of the op of a writable point names that op, of that point alone.
-use Rattle.std.proofs.Common.{◌≡◌, Bool, true, false, cond, ◌&&◌, ◌||◌, List, [], ◌∷◌, ◌++◌, Option, Some, None, refl, sym, ap, subst, ◌∙◌, true≢false}
+use Rattle.std.proofs.Common.{◌≡◌, Bool, true, false, cond, ◌&&◌, ◌||◌, List, [], ◌∷◌, ◌++◌, Option, Some, None, refl, sym, ap, subst, ◌∙◌}
 use Rattle.std.specs.Prelude.{codes, find, option_map}
 use Rattle.std.specs.Str.{bytes_eq}
 use Rattle.std.specs.List.{flat_map}
+use Rattle.ob_values.proofs.Bools.{or_first, or_second, not_both}
 use Rattle.ob_contracts.specs.Inherit.{or_else}
 use Rattle.ob_object.specs.Object.{Objects, none, node, Object, in_row, listed}
 use Rattle.ob_object.specs.declared.head.Head.{Head}
@@ -22,30 +23,19 @@ or_cases : (a b : Bool) (A : Type 0) → (a || b) ≡ true → (a ≡ true → A
 or_cases true b A e f g = f refl
 or_cases false b A e f g = g e
 
-in_first : (a b : Bool) → a ≡ true → (a || b) ≡ true
-in_first true b e = refl
-in_first false b e = absurd cc
-
-in_second : (a b : Bool) → b ≡ true → (a || b) ≡ true
-in_second true b e = refl
-in_second false b e = e
-
-clash : (a : Bool) → a ≡ true → a ≡ false → ⊥
-clash a e f = true≢false (sym e ∙ f)
-
 -- what stands in the second of two rows stands in both
 in_more : (p : Path) (xs ys : List Object) → is_in p (in_row ys) ≡ true → is_in p (in_row (xs ++ ys)) ≡ true
 in_more p [] ys e = e
-in_more p (x ∷ xs) ys e = in_second (is_path p (node_path x.head)) _ (in_second (is_in p x.inner) _ (in_more p xs ys e))
+in_more p (x ∷ xs) ys e = or_second (is_path p (node_path x.head)) _ (or_second (is_in p x.inner) _ (in_more p xs ys e))
 
 in_front : (p : Path) (xs ys : List Object) → is_in p (in_row xs) ≡ true → is_in p (in_row (xs ++ ys)) ≡ true
 in_front p [] ys e = absurd cc
 in_front p (x ∷ xs) ys e =
     or_cases (is_path p (node_path x.head)) (is_in p x.inner || is_in p (in_row xs)) _ e
-    (λ f. in_first (is_path p (node_path x.head)) _ f)
-    (λ f. in_second (is_path p (node_path x.head)) _ (or_cases (is_in p x.inner) (is_in p (in_row xs)) _ f
-    (λ g. in_first (is_in p x.inner) _ g)
-    (λ g. in_second (is_in p x.inner) _ (in_front p xs ys g))))
+    (λ f. or_first (is_path p (node_path x.head)) _ f)
+    (λ f. or_second (is_path p (node_path x.head)) _ (or_cases (is_in p x.inner) (is_in p (in_row xs)) _ f
+    (λ g. or_first (is_in p x.inner) _ g)
+    (λ g. or_second (is_in p x.inner) _ (in_front p xs ys g))))
 
 -- the op of a writable point is among what roles derive of it
 op_derived : (plan : Plan) (s : State) (q : Path) → is_among q plan.points ≡ true → is_in (below q (codes "writePoint")) (in_row (derived_at plan s q)) ≡ true
@@ -53,7 +43,7 @@ op_derived plan s q point =
     in_more w (cond (plan.lobby && bytes_eq q plan.root) (lobby_children plan) []) _
     (in_front w (cond (is_among q plan.points) (write_point_op q ∷ []) []) _
     (subst (λ (b : Bool). is_in w (in_row (cond b (write_point_op q ∷ []) [])) ≡ true) (sym point)
-    (in_first (bytes_eq w w) false (tells_text.itself w))))
+    (or_first (bytes_eq w w) false (tells_text.itself w))))
   where
     w : Path
     w = below q (codes "writePoint")
@@ -76,12 +66,12 @@ module _ (plan : Plan) (s : State) (w : Path) where
   op_in : (q : Path) (os : Objects) → Op q → is_in q os ≡ true → is_in w (with_roles plan s os) ≡ true
   op_in q none op e = absurd cc
   op_in q (node h inner rest) op e =
-      in_second (is_path w (node_path (with_status plan s h))) _
+      or_second (is_path w (node_path (with_status plan s h))) _
       (or_cases (is_path q (node_path h)) (is_in q inner || is_in q rest) _ e
-      (λ f. in_first (is_in w deep) _ (in_behind w (with_roles plan s inner) (derived plan s (node_path h)) ∙ in_second (is_in w (with_roles plan s inner)) _ (op_here q h op f)))
+      (λ f. or_first (is_in w deep) _ (in_behind w (with_roles plan s inner) (derived plan s (node_path h)) ∙ or_second (is_in w (with_roles plan s inner)) _ (op_here q h op f)))
       (λ f. or_cases (is_in q inner) (is_in q rest) _ f
-      (λ g. in_first (is_in w deep) _ (in_behind w (with_roles plan s inner) (derived plan s (node_path h)) ∙ in_first (is_in w (with_roles plan s inner)) _ (op_in q inner op g)))
-      (λ g. in_second (is_in w deep) _ (op_in q rest op g))))
+      (λ g. or_first (is_in w deep) _ (in_behind w (with_roles plan s inner) (derived plan s (node_path h)) ∙ or_first (is_in w (with_roles plan s inner)) _ (op_in q inner op g)))
+      (λ g. or_second (is_in w deep) _ (op_in q rest op g))))
     where
       deep : Objects
       deep = in_row (listed (with_roles plan s inner) ++ derived plan s (node_path h))
@@ -99,9 +89,9 @@ module _ (plan : Plan) (s : State) (w : Path) where
       (λ q_in. or_cases (is_in p inner) (is_in p rest) (p ≡ q) p_in
       (λ p_deep. or_cases (is_in q inner) (is_in q rest) (p ≡ q) q_in
       (λ q_deep. one_point p q inner a b (front_differs (with_roles plan s inner) more d.2) p_deep q_deep)
-      (λ q_later. absurd (clash (is_in w (with_roles plan s rest)) (op_in q rest b q_later) (d.1 w (deep_in p a p_deep)))))
+      (λ q_later. absurd (not_both (is_in w (with_roles plan s rest)) (op_in q rest b q_later) (d.1 w (deep_in p a p_deep)))))
       (λ p_later. or_cases (is_in q inner) (is_in q rest) (p ≡ q) q_in
-      (λ q_deep. absurd (clash (is_in w (with_roles plan s rest)) (op_in p rest a p_later) (d.1 w (deep_in q b q_deep))))
+      (λ q_deep. absurd (not_both (is_in w (with_roles plan s rest)) (op_in p rest a p_later) (d.1 w (deep_in q b q_deep))))
       (λ q_later. one_point p q rest a b d.3 p_later q_later))))
     where
       more : List Object
@@ -114,13 +104,13 @@ module _ (plan : Plan) (s : State) (w : Path) where
       same_some g = cc
 
       deep_in : (x : Path) → Op x → is_in x inner ≡ true → is_in w deep ≡ true
-      deep_in x op g = in_behind w (with_roles plan s inner) more ∙ in_first (is_in w (with_roles plan s inner)) _ (op_in x inner op g)
+      deep_in x op g = in_behind w (with_roles plan s inner) more ∙ or_first (is_in w (with_roles plan s inner)) _ (op_in x inner op g)
 
       one_here : (x y : Path) → Op x → Op y → is_path x (node_path h) ≡ true → (is_in y inner || is_in y rest) ≡ true → ⊥
       one_here x y c b here y_in =
           or_cases (is_in y inner) (is_in y rest) ⊥ y_in
-          (λ g. clash (is_in w (in_row more)) (op_here x h c here) (not_behind w (with_roles plan s inner) more d.2 (op_in y inner b g)))
-          (λ g. clash (is_in w (with_roles plan s rest)) (op_in y rest b g) (d.1 w (in_behind w (with_roles plan s inner) more ∙ in_second (is_in w (with_roles plan s inner)) _ (op_here x h c here))))
+          (λ g. not_both (is_in w (in_row more)) (op_here x h c here) (not_behind w (with_roles plan s inner) more d.2 (op_in y inner b g)))
+          (λ g. not_both (is_in w (with_roles plan s rest)) (op_in y rest b g) (d.1 w (in_behind w (with_roles plan s inner) more ∙ or_second (is_in w (with_roles plan s inner)) _ (op_here x h c here))))
 
 -- what stands first under a path
 at_front : (p : Path) (es fs : List (Path × Place)) (x : Place) → at p es ≡ Some x → at p (es ++ fs) ≡ Some x
@@ -140,7 +130,7 @@ module _ (plan : Plan) (p : Path) where
   point_first : (ps : List Path) → ((q : Path) → is_among q ps ≡ true → below q (codes "writePoint") ≡ below p (codes "writePoint") → q ≡ p) → is_among p ps ≡ true
       → at (below p (codes "writePoint")) (flat_map (λ q. (below q (codes "writePoint"), WritePointOf q) ∷ []) ps) ≡ Some (WritePointOf p)
   point_first [] one e = absurd cc
-  point_first (q ∷ ps) one e = go (bytes_eq (below q (codes "writePoint")) (below p (codes "writePoint"))) refl (λ later. point_first ps (λ r a. one r (in_second (bytes_eq q r) _ a)) later)
+  point_first (q ∷ ps) one e = go (bytes_eq (below q (codes "writePoint")) (below p (codes "writePoint"))) refl (λ later. point_first ps (λ r a. one r (or_second (bytes_eq q r) _ a)) later)
     where
       rest : List (Path × Place)
       rest = flat_map (λ r. (below r (codes "writePoint"), WritePointOf r) ∷ []) ps
@@ -148,10 +138,10 @@ module _ (plan : Plan) (p : Path) where
       go : (b : Bool) → bytes_eq (below q (codes "writePoint")) (below p (codes "writePoint")) ≡ b
           → (is_among p ps ≡ true → at (below p (codes "writePoint")) rest ≡ Some (WritePointOf p))
           → option_map (λ (z : Path × Place). z.1) (cond b (Some (below q (codes "writePoint"), WritePointOf q)) (find (λ z. bytes_eq z.0 (below p (codes "writePoint"))) rest)) ≡ Some (WritePointOf p)
-      go true is more = ap (λ (r : Path). Some (WritePointOf r)) (one q (in_first (bytes_eq q q) _ (tells_text.itself q)) (tells_text.equal (below q (codes "writePoint")) (below p (codes "writePoint")) is))
+      go true is more = ap (λ (r : Path). Some (WritePointOf r)) (one q (or_first (bytes_eq q q) _ (tells_text.itself q)) (tells_text.equal (below q (codes "writePoint")) (below p (codes "writePoint")) is))
       go false is more =
           more (or_cases (bytes_eq q p) (is_among p ps) _ e
-          (λ same. absurd (clash (bytes_eq (below q (codes "writePoint")) (below p (codes "writePoint")))
+          (λ same. absurd (not_both (bytes_eq (below q (codes "writePoint")) (below p (codes "writePoint")))
           (subst (λ (r : Path). bytes_eq (below q (codes "writePoint")) (below r (codes "writePoint")) ≡ true) (tells_text.equal q p same) (tells_text.itself (below q (codes "writePoint")))) is))
           (λ later. later))
 

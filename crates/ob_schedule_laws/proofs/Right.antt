@@ -14,7 +14,8 @@ use Rattle.ob_parts.proofs.Needed.{said_some, judged_nil}
 use Rattle.ob_weekly.specs.declared.schedule.Entry.{Entry}
 use Rattle.ob_weekly.specs.declared.schedule.Schedule.{Schedule}
 use Rattle.ob_schedule.specs.Forms.{point_text, point_said, is_text, right_point, is_point, is_written, slot_given, is_value, is_day, is_time, is_zone, is_list, is_same_time, week_time, entry_offences, point_of, schedule_offences, offences}
-use Rattle.ob_schedule.proofs.Right.{append_nil, both_true, listed_is}
+use Rattle.ob_values.proofs.Bools.{both_true}
+use Rattle.ob_schedule.proofs.Right.{append_nil, listed_is}
 use Rattle.ob_schedule.specs.PointRules.{PointRules, Text}
 use Rattle.ob_schedule.specs.Weeks.{Week, week, week_of, entry_of, listed_in, said_or, slot_in, kind_in, kind_of}
 use Rattle.ob_site_laws.proofs.Same.{tells_text, tells_kind}

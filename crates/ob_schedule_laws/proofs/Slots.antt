@@ -1,5 +1,6 @@
 -- The own slots of nodes, where slots are set.
 use Rattle.std.proofs.Common.{◌≡◌, Bool, true, false, cond, Option, Some, None, option_map, refl, sym, ap, ◌∙◌, true≢false}
+use Rattle.ob_values.proofs.Bools.{is_false}
 use Rattle.ob_contracts.specs.Inherit.{or_else, only_if}
 use Rattle.ob_object.specs.declared.head.Slot.{Slot}
 use Rattle.ob_object.specs.declared.head.Head.{Head}
@@ -89,16 +90,12 @@ found_other false false x y None (Some d) i j e same g h = absurd cc
 found_other false false x y (Some c) None i j e same g h = absurd cc
 found_other false false x y (Some c) (Some d) i j e same g h = g
 
-false_of : (b : Bool) → (b ≡ true → ⊥) → b ≡ false
-false_of true isnt = absurd (isnt refl)
-false_of false isnt = refl
-
 -- and the nodes at other paths what they had
 pub slot_kept : (p q : Path) (slot : Slot) (os : Objects) → (p ≡ q → ⊥) → option_map (λ o. o.head.slot) (node_in q (with_slot_in p slot os)) ≡ option_map (λ o. o.head.slot) (node_in q os)
 slot_kept p q slot none apart = refl
 slot_kept p q slot (node h below rest) apart =
     found_other (is_path q (node_path (set_if b slot h))) (is_path q (node_path h)) _ _ (node_in q (with_slot_in p slot below)) (node_in q below) (node_in q (with_slot_in p slot rest)) (node_in q rest)
-    (ap (is_path q) (path_if b slot h)) (λ e. keep_if b slot h (false_of b (λ f. apart (one_path p q (node_path h) f e)))) (slot_kept p q slot below apart) (slot_kept p q slot rest apart)
+    (ap (is_path q) (path_if b slot h)) (λ e. keep_if b slot h (is_false b (λ f. apart (one_path p q (node_path h) f e)))) (slot_kept p q slot below apart) (slot_kept p q slot rest apart)
   where
     b : Bool
     b = is_path p (node_path h)

@@ -16,7 +16,8 @@ use Rattle.ob_schedule.specs.Forms.{slot_given, is_zone, is_day, is_time, is_lis
 use Rattle.ob_parts.specs.Numbered.{Part, plus, numbered_from, inside, child, inside_child, root}
 use Rattle.ob_parts.specs.Offences.{unless, needs, each}
 use Rattle.ob_parts.proofs.Needed.{named_some, said_some, judged_nil}
-use Rattle.ob_schedule.proofs.Right.{append_nil, both_true}
+use Rattle.ob_values.proofs.Bools.{both_true}
+use Rattle.ob_schedule.proofs.Right.{append_nil}
 use Rattle.ob_schedule.specs.PointRules.{PointRules, Text}
 use Rattle.ob_schedule.specs.Weeks.{Says, week, week_of, entry_of, kind_of, kind_in, slot_in, listed_in, said_or}
 use Rattle.ob_weekly.specs.declared.schedule.Entry.{Entry}

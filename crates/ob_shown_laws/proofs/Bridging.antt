@@ -3,6 +3,7 @@ use Rattle.std.proofs.Common.{ℕ, ◌≡◌, zero, suc, ◌+◌, ◌-◌, ◌<�
 use Rattle.std.specs.Prelude.{is_some, nat_lt, nat_le, option_and_then}
 use Rattle.std.proofs.lemmas.Bool.Decides.{nat_tests}
 use Rattle.std.proofs.lemmas.List.{map-append}
+use Rattle.ob_values.proofs.Bools.{neither}
 use Rattle.ob_object.specs.declared.head.Head.{Head}
 use Rattle.ob_object.specs.declared.head.Slot.{Slot}
 use Rattle.ob_object.specs.Object.{Objects, none, node, Object, count, parts}
@@ -80,11 +81,6 @@ row_differs (node h inner rest) before e =
 
 pub paths_differ : PathsAreDifferent
 paths_differ o e = row_differs (row o) [] (ap (first_twice []) (sym (paths_by_row o)) ∙ e)
-
--- a slot that is set
-neither : (a b : Bool) → (a || b) ≡ false → (a ≡ false) × (b ≡ false)
-neither true b e = absurd cc
-neither false b e = (refl, e)
 
 slot_off : (p : Path) (slot : Slot) (r : Objects) → is_in p r ≡ false → with_slot_in p slot r ≡ r
 slot_off p slot none e = refl

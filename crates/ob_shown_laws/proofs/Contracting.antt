@@ -3,6 +3,7 @@ use Rattle.std.proofs.Common.{ℕ, ◌≡◌, suc, ◌+◌, ◌-◌, ◌<◌, �
 use Rattle.std.specs.Prelude.{is_some, codes, filter_map, unwrap_or}
 use Rattle.std.specs.List.{cons_option, list_any}
 use Rattle.std.proofs.lemmas.Bool.{le-ltb}
+use Rattle.ob_values.proofs.Bools.{or_false}
 use Rattle.ob_object.specs.declared.head.Head.{Head}
 use Rattle.ob_object.specs.Object.{Objects, none, node, Object, count, listed, children}
 use Rattle.ob_object.specs.WellFormed.{has_name, named}
@@ -35,10 +36,6 @@ found_in p (node h inner rest) =
     some_either (only_if (is_path p (node_path h)) (Some (record { head = h; inner = inner }))) (or_else (node_in p inner) (node_in p rest))
     ∙ ap₂ (λ a b. a || b) (some_if (is_path p (node_path h)) (record { head = h; inner = inner }))
     (some_either (node_in p inner) (node_in p rest) ∙ ap₂ (λ a b. a || b) (found_in p inner) (found_in p rest))
-
-or_false : (a : Bool) → (a || false) ≡ a
-or_false true = refl
-or_false false = refl
 
 found_round : (p : Path) (x : Object) → is_some (node_of p x) ≡ is_round p x
 found_round p x = found_in p (row x) ∙ ap (λ b. is_path p (node_path x.head) || b) (or_false (is_in p x.inner))

@@ -7,6 +7,7 @@ use Rattle.ob_object.specs.declared.head.Head.{Head}
 use Rattle.ob_object.specs.declared.status.Status.{Status}
 use Rattle.ob_object.specs.Object.{Objects, none, node, Object, listed, in_row}
 use Rattle.circular_buffer.specs.Buffer.{last_item}
+use Rattle.ob_values.proofs.Bools.{and_false, and_true}
 use Rattle.ob_object.specs.declared.head.Slot.{Slot}
 use Rattle.ob_object.specs.Paths.{is_path, node_path}
 use Rattle.ob_site_rules.specs.Sameness.{same_slot}
@@ -22,7 +23,7 @@ use Rattle.ob_shown_laws.specs.Changed.{same_values, head_in, same_leaves, same_
 use Rattle.ob_shown_laws.specs.Own.{dressed_own}
 use Rattle.ob_shown_laws.specs.Looked.{NodesAreSame, IsLeft, LookingIsEnough}
 use Rattle.ob_shown_laws.proofs.Standings.{or_else-assoc}
-use Rattle.ob_shown_laws.proofs.Itself.{and_true, slot_itself, values_itself}
+use Rattle.ob_shown_laws.proofs.Itself.{slot_itself, values_itself}
 use Rattle.ob_shown_laws.proofs.Alikes.{under_alike, handed_alike}
 use Rattle.ob_shown_laws.proofs.Touches.{path_alike, in_alike, there}
 use Rattle.ob_shown_laws.proofs.Reaching.{alike_append, alike_itself, alike_listed, history_alike, derived_alike, roles_alike, status_alike, at_both, at_row, at_row_of, root_row}
@@ -235,10 +236,6 @@ left_alone plan s t values p left =
     ap not
     (ap₂ (λ i j. same_standing i j) (at_row plan s p) (at_row_of plan s t p values.library)
     ∙ same_roles plan s t values p left (root_row s.library) (node s.tree.head s.tree.inner none) (node t.tree.head t.tree.inner none) values.tree left.own)
-
-and_false : (x : Bool) → (x && false) ≡ false
-and_false true = refl
-and_false false = refl
 
 -- what is among those of a list that pass a test
 among_filter : (P : Path → Bool) (p : Path) (ps : List Path) → is_among p (filter P ps) ≡ (is_among p ps && P p)

@@ -2,6 +2,7 @@
 use Rattle.std.proofs.Common.{ℕ, ◌≡◌, zero, suc, ◌+◌, ◌-◌, ◌<◌, ◌≤◌, Bool, true, false, ◌&&◌, ◌||◌, cond, Option, Some, None, option_map, refl, sym, ap, ap₂, ◌∙◌, true≢false, arith}
 use Rattle.std.specs.Prelude.{is_some, nat_lt, nat_le, option_and_then}
 use Rattle.std.proofs.lemmas.Bool.Decides.{nat_tests}
+use Rattle.ob_values.proofs.Bools.{bool_same, or_first, or_second, neither}
 use Rattle.ob_object.specs.declared.head.Head.{Head}
 use Rattle.ob_object.specs.Object.{Objects, none, node, count, parts}
 use Rattle.ob_object.specs.Paths.{is_path, node_path}
@@ -37,16 +38,11 @@ not_lt a b h = grind (arith, nat_tests)
 is_le : (a b : ℕ) → nat_le a b ≡ true → a ≤ b
 is_le a b h = grind (arith, nat_tests)
 
-same_tests : (a b : Bool) → (a ≡ true → b ≡ true) → (b ≡ true → a ≡ true) → a ≡ b
-same_tests true b f g = sym (f refl)
-same_tests false true f g = g refl
-same_tests false false f g = refl
-
 same_le : (a b c d : ℕ) → (a ≤ b → c ≤ d) → (c ≤ d → a ≤ b) → nat_le a b ≡ nat_le c d
-same_le a b c d f g = same_tests (nat_le a b) (nat_le c d) (λ e. le_true c d (f (is_le a b e))) (λ e. le_true a b (g (is_le c d e)))
+same_le a b c d f g = bool_same (nat_le a b) (nat_le c d) (λ e. le_true c d (f (is_le a b e))) (λ e. le_true a b (g (is_le c d e)))
 
 same_lt : (a b c d : ℕ) → (a < b → c < d) → (c < d → a < b) → nat_lt a b ≡ nat_lt c d
-same_lt a b c d f g = same_tests (nat_lt a b) (nat_lt c d) (λ e. lt_true c d (f (is_lt a b e))) (λ e. lt_true a b (g (is_lt c d e)))
+same_lt a b c d f g = bool_same (nat_lt a b) (nat_lt c d) (λ e. lt_true c d (f (is_lt a b e))) (λ e. lt_true a b (g (is_lt c d e)))
 
 some_number : (a b : ℕ) → Some a ≡ Some b → a ≡ b
 some_number a b e = cc
@@ -231,18 +227,10 @@ or_in : (a b c : Bool) → (b ≡ true → c ≡ true) → (a || b) ≡ true →
 or_in true b c f e = refl
 or_in false b c f e = f e
 
-in_first : (a b : Bool) → a ≡ true → (a || b) ≡ true
-in_first true b e = refl
-in_first false b e = absurd cc
-
-in_second : (a b : Bool) → b ≡ true → (a || b) ≡ true
-in_second true b e = refl
-in_second false b e = e
-
 round_in : (p : Path) (r : HandedDown) (os : Objects) (k : ℕ) (x : Standing) → numbered k r os ≡ Some x → is_round p x.object ≡ true → is_in p os ≡ true
 round_in p r none k x e f = absurd cc
 round_in p r (node h below rest) zero x e f =
-    or_in (is_path p (node_path h)) (is_in p below) (is_in p below || is_in p rest) (in_first (is_in p below) (is_in p rest))
+    or_in (is_path p (node_path h)) (is_in p below) (is_in p below || is_in p rest) (or_first (is_in p below) (is_in p rest))
     (ap (λ (y : Standing). is_round p y.object) (some_standing e) ∙ f)
   where
     some_standing : {a b : Standing} → Some a ≡ Some b → a ≡ b
@@ -253,8 +241,8 @@ round_in p r (node h below rest) (suc k) x e f =
     go : (b : Bool) → cond b (numbered k (handed_down (under r h.name) h) below) (numbered (k - count below) r rest) ≡ Some x
         → (numbered k (handed_down (under r h.name) h) below ≡ Some x → is_in p below ≡ true) → (numbered (k - count below) r rest ≡ Some x → is_in p rest ≡ true)
         → (is_path p (node_path h) || (is_in p below || is_in p rest)) ≡ true
-    go true e deep later = in_second (is_path p (node_path h)) (is_in p below || is_in p rest) (in_first (is_in p below) (is_in p rest) (deep e))
-    go false e deep later = in_second (is_path p (node_path h)) (is_in p below || is_in p rest) (in_second (is_in p below) (is_in p rest) (later e))
+    go true e deep later = or_second (is_path p (node_path h)) (is_in p below || is_in p rest) (or_first (is_in p below) (is_in p rest) (deep e))
+    go false e deep later = or_second (is_path p (node_path h)) (is_in p below || is_in p rest) (or_second (is_in p below) (is_in p rest) (later e))
 
 parts_in : (r : HandedDown) (os : Objects) (k : ℕ) (x : Standing) → numbered k r os ≡ Some x → k + parts x.object ≤ count os
 parts_in r none k x e = absurd cc
@@ -305,10 +293,6 @@ moved_by k n w m =
     (same_le k n (k + m) (n + m) (λ a. omega (arith, a)) (λ a. omega (arith, a)))
     (same_lt n (k + w) (n + m) (k + m + w) (λ a. omega (arith, a)) (λ a. omega (arith, a)))
 
-neither : (a b : Bool) → (a || b) ≡ false → (a ≡ false) × (b ≡ false)
-neither true b e = absurd cc
-neither false b e = (refl, e)
-
 pub round_by : (r : HandedDown) (os : Objects) → PathsDiffer os → (p : Path) (n k : ℕ) (x : Standing) → number_in p os ≡ Some n → numbered k r os ≡ Some x → is_round p x.object ≡ is_within k n (parts x.object)
 round_by r none d p n k x e f = absurd cc
 round_by r (node h below rest) d p n zero x e f =
@@ -321,9 +305,9 @@ round_by r (node h below rest) d p n zero x e f =
     is = some_standing f
 
     go : Found p h below rest n → (is_path p (node_path h) || is_in p below) ≡ is_within 0 n (count below + 1)
-    go (Here a b) = in_first (is_path p (node_path h)) (is_in p below) a ∙ sym (within_true 0 n (count below + 1) (omega arith) (omega (arith, b)))
+    go (Here a b) = or_first (is_path p (node_path h)) (is_in p below) a ∙ sym (within_true 0 n (count below + 1) (omega arith) (omega (arith, b)))
     go (Below m a b c) =
-        in_second (is_path p (node_path h)) (is_in p below) (sym (number_there p below) ∙ ap is_some b)
+        or_second (is_path p (node_path h)) (is_in p below) (sym (number_there p below) ∙ ap is_some b)
         ∙ sym (within_true 0 n (count below + 1) (omega arith) (omega (arith, c, number_less p below m b)))
     go (Behind m a b c e) =
         ap₂ (λ u v. u || v) a (sym (number_there p below) ∙ ap is_some b)

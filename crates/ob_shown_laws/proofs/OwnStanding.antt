@@ -1,6 +1,7 @@
 -- What is shown, told by the own objects.
 use Rattle.std.proofs.Common.{ℕ, ◌≡◌, zero, suc, ◌-◌, Bool, true, false, not, ◌||◌, cond, List, [], ◌∷◌, ◌++◌, Option, Some, None, option_map, refl, sym, ap, ap₂, ◌∙◌, subst}
 use Rattle.std.specs.Prelude.{is_some, nat_lt, slice_get}
+use Rattle.ob_values.proofs.Bools.{or_false, neither, or_first, or_second}
 use Rattle.ob_object.specs.declared.head.Head.{Head}
 use Rattle.ob_object.specs.Object.{Objects, none, node, Object, count, listed, in_row}
 use Rattle.ob_object.specs.Paths.{is_path, node_path}
@@ -16,7 +17,8 @@ use Rattle.ob_shown_laws.specs.Numbered.{root_row, numbered}
 use Rattle.ob_shown_laws.specs.Own.{dressed_own}
 use Rattle.ob_shown_laws.specs.OwnShown.{IsNotDerived, own_standing, dressed_standing, derived_standing, OwnIsEnough, OwnTellsDifferences}
 use Rattle.ob_shown_laws.proofs.Standings.{or_else-none, node_of-effective}
-use Rattle.ob_shown_laws.proofs.Touches.{bytes_itself, in_alike, there, found_here, found_behind, not_both, or_left, or_right}
+use Rattle.ob_values.proofs.Lists.{bytes_itself}
+use Rattle.ob_shown_laws.proofs.Touches.{in_alike, there, found_here, found_behind, not_both}
 use Rattle.ob_shown_laws.proofs.Reaching.{status_off, derived_alike, at_row}
 use Rattle.ob_shown_laws.proofs.Owning.{path_off, own_nodes}
 use Rattle.ob_shown_laws.proofs.Looking.{first_alike, standing_in-behind, at_path}
@@ -66,12 +68,12 @@ stands_own plan s p off = at_row plan s p ∙ dressed_in plan s p (root_row s.li
 in_it : (p : Path) (ys : List Object) (i : ℕ) (d : Object) → slice_get ys i ≡ Some d → node_path d.head ≡ Some p → is_in p (in_row ys) ≡ true
 in_it p [] i d is path = absurd cc
 in_it p (y ∷ ys) zero d is path =
-    or_left (is_path p (node_path y.head)) (is_in p y.inner || is_in p (in_row ys)) (ap (λ (o : Object). is_path p (node_path o.head)) (same is) ∙ ap (is_path p) path ∙ bytes_itself p)
+    or_first (is_path p (node_path y.head)) (is_in p y.inner || is_in p (in_row ys)) (ap (λ (o : Object). is_path p (node_path o.head)) (same is) ∙ ap (is_path p) path ∙ bytes_itself p)
   where
     same : {a b : Object} → Some a ≡ Some b → a ≡ b
     same e = cc
 in_it p (y ∷ ys) (suc i) d is path =
-    or_right (is_path p (node_path y.head)) (is_in p y.inner || is_in p (in_row ys)) (or_right (is_in p y.inner) (is_in p (in_row ys)) (in_it p ys i d is path))
+    or_second (is_path p (node_path y.head)) (is_in p y.inner || is_in p (in_row ys)) (or_second (is_in p y.inner) (is_in p (in_row ys)) (in_it p ys i d is path))
 
 found_it : (p : Path) (r : HandedDown) (ys : List Object) (i : ℕ) (d : Object) → PathsDiffer (in_row ys) → slice_get ys i ≡ Some d → node_path d.head ≡ Some p
     → standing_in p r (in_row ys) ≡ Some (record { context = under r d.head.name; object = d })
@@ -84,7 +86,7 @@ found_it p r (y ∷ ys) zero d differ is path =
     same e = cc
 found_it p r (y ∷ ys) (suc i) d differ is path =
     let behind : is_in p (in_row ys) ≡ true = in_it p ys i d is path in
-    let own : is_path p (node_path y.head) ≡ false = not_both (is_path p (node_path y.head)) (is_in p y.inner || is_in p (in_row ys)) (differ.0 p) (or_right (is_in p y.inner) (is_in p (in_row ys)) behind) in
+    let own : is_path p (node_path y.head) ≡ false = not_both (is_path p (node_path y.head)) (is_in p y.inner || is_in p (in_row ys)) (differ.0 p) (or_second (is_in p y.inner) (is_in p (in_row ys)) behind) in
     let deep : is_in p y.inner ≡ false = not_both (is_in p y.inner) (is_in p (in_row ys)) (differ.1 p) behind in
     found_behind p r y.head y.inner (in_row ys) own deep ∙ found_it p r ys i d differ.3 is path
 
@@ -143,30 +145,25 @@ derived_in plan s p q r (node h below rest) x i d differ e is path =
         let its : slice_get more i ≡ Some d = ap (λ (l : List Object). slice_get l i) all ∙ is in
         let last : is_in p (in_row more) ≡ true = in_it p more i d its path in
         let front : is_in p (with_roles plan s below) ≡ false = not_both (is_in p (with_roles plan s below)) (is_in p (in_row more)) (not_behind p (with_roles plan s below) more differ.2) last in
-        let in_inner : is_in p inner ≡ true = in_behind p (with_roles plan s below) more ∙ or_right (is_in p (with_roles plan s below)) (is_in p (in_row more)) last in
+        let in_inner : is_in p inner ≡ true = in_behind p (with_roles plan s below) more ∙ or_second (is_in p (with_roles plan s below)) (is_in p (in_row more)) last in
         let found : standing_in p c inner ≡ Some (record { context = under c d.head.name; object = d }) =
         standing_in-behind p c (with_roles plan s below) more
         ∙ ap₂ or_else (nothing_there p c (with_roles plan s below) front) (found_it p c more i d (back_differs (with_roles plan s below) more differ.2) its path) in
-        found_there (Some (record { context = under c d.head.name; object = d })) found (not_here (or_left (is_in p inner) (is_in p (with_roles plan s rest)) in_inner))
+        found_there (Some (record { context = under c d.head.name; object = d })) found (not_here (or_first (is_in p inner) (is_in p (with_roles plan s rest)) in_inner))
         (ap (λ (y : Standing). Some (derived_standing y d)) same)
     go false (Some u) f g e deep later =
         let lower : standing_in p c (with_roles plan s below) ≡ Some (derived_standing x d) = deep (g ∙ e) in
         let front : is_in p (with_roles plan s below) ≡ true = sym (there p c (with_roles plan s below)) ∙ in_some (standing_in p c (with_roles plan s below)) (derived_standing x d) lower in
-        let in_inner : is_in p inner ≡ true = in_behind p (with_roles plan s below) more ∙ or_left (is_in p (with_roles plan s below)) (is_in p (in_row more)) front in
+        let in_inner : is_in p inner ≡ true = in_behind p (with_roles plan s below) more ∙ or_first (is_in p (with_roles plan s below)) (is_in p (in_row more)) front in
         found_there (Some (derived_standing x d))
         (standing_in-behind p c (with_roles plan s below) more ∙ ap (λ o. or_else o (standing_in p c (in_row more))) lower)
-        (not_here (or_left (is_in p inner) (is_in p (with_roles plan s rest)) in_inner))
+        (not_here (or_first (is_in p inner) (is_in p (with_roles plan s rest)) in_inner))
         refl
     go false None f g e deep later =
         let behind : standing_in p r (with_roles plan s rest) ≡ Some (derived_standing x d) = later e in
         let last : is_in p (with_roles plan s rest) ≡ true = sym (there p r (with_roles plan s rest)) ∙ in_some (standing_in p r (with_roles plan s rest)) (derived_standing x d) behind in
         let lower : is_in p inner ≡ false = not_both (is_in p inner) (is_in p (with_roles plan s rest)) (differ.1 p) last in
-        found_there None (nothing_there p c inner lower) (not_here (or_right (is_in p inner) (is_in p (with_roles plan s rest)) last)) behind
-
--- the same nodes are in an object with derived children as without
-or_false : (a : Bool) → (a || false) ≡ a
-or_false true = refl
-or_false false = refl
+        found_there None (nothing_there p c inner lower) (not_here (or_second (is_in p inner) (is_in p (with_roles plan s rest)) last)) behind
 
 in_dressed : (plan : Plan) (s : State) (p : Path) (os : Objects) → IsNotDerived plan s p os → is_in p (with_roles plan s os) ≡ is_in p os
 in_dressed plan s p none off = refl
@@ -205,10 +202,6 @@ part_not_derived plan s p r (node h below rest) (suc k) x off e =
 off_in : (plan : Plan) (s : State) (p : Path) (os : Objects) → is_in p (with_roles plan s os) ≡ false → is_in p os ≡ false
 off_in plan s p os e = not_both (is_in p os) (not (is_in p (with_roles plan s os))) (λ f. ap not (own_there plan s p os f)) (ap not e)
 
-neither : (a b : Bool) → (a || b) ≡ false → (a ≡ false) × (b ≡ false)
-neither true b e = absurd cc
-neither false b e = (refl, e)
-
 own_differ : (plan : Plan) (s : State) (os : Objects) → PathsDiffer (with_roles plan s os) → PathsDiffer os
 own_differ plan s none d = tt
 own_differ plan s (node h below rest) d = (
@@ -218,7 +211,7 @@ own_differ plan s (node h below rest) d = (
       ap₂ (λ a b. a || b) (off_in plan s p below deep.0) (off_in plan s p rest both.1)),
   λ p e.
       off_in plan s p rest
-      (d.1 p (in_behind p (with_roles plan s below) more ∙ or_left (is_in p (with_roles plan s below)) (is_in p (in_row more)) (own_there plan s p below e))),
+      (d.1 p (in_behind p (with_roles plan s below) more ∙ or_first (is_in p (with_roles plan s below)) (is_in p (in_row more)) (own_there plan s p below e))),
   own_differ plan s below (front_differs (with_roles plan s below) more d.2),
   own_differ plan s rest d.3,
 )

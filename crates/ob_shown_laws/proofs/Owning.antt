@@ -13,6 +13,7 @@ use Rattle.ob_object.specs.Paths.{is_path, node_path}
 use Rattle.ob_contracts.specs.Inherit.{or_else, given, slot_of, slot_or_default}
 use Rattle.ob_contracts.specs.Standard.{standard, with_added}
 use Rattle.ob_times.specs.Times.{Instant}
+use Rattle.ob_values.proofs.Bools.{or_second, or_first, and_true}
 use Rattle.ob_site_rules.specs.Build.{Path, number_slot, time_slot, valued}
 use Rattle.ob_site_rules.specs.State.{Plan, Log, State, at, is_among, rolled_logs}
 use Rattle.ob_site_rules.specs.Shown.{lobby_children, write_point_op, count_child, first_record, subject_children, history_part, derived, with_status, with_status_by, with_status_at, with_roles, rule_of}
@@ -22,13 +23,9 @@ use Rattle.ob_shown_laws.specs.Alike.{without_slot, AreAlike, DifferInSlots, pat
 use Rattle.ob_standing.specs.Contexts.{Context, HandedDown, handed_down, under}
 use Rattle.ob_shown_laws.specs.Changed.{same_values, head_in, same_leaves, same_log, same_derived}
 use Rattle.ob_shown_laws.specs.Own.{OwnNodesDiffer, StepsLeaveAlike}
-use Rattle.ob_shown_laws.proofs.Itself.{and_drop, and_keep, and_true, values_itself, some_status_itself}
+use Rattle.ob_shown_laws.proofs.Itself.{and_drop, and_keep, values_itself, some_status_itself}
 use Rattle.ob_shown_laws.proofs.Touches.{differ_alike}
 use Rattle.ob_shown_laws.proofs.Reaching.{alike_itself, alike_listed, history_alike, roles_alike, at_both}
-
-leaf_if : (b c : Bool) → c ≡ true → (b || c) ≡ true
-leaf_if true c e = refl
-leaf_if false c e = e
 
 pub leaves_itself : (r : HandedDown) (os : Objects) → same_leaves r os os ≡ true
 leaves_itself r none = refl
@@ -36,7 +33,7 @@ leaves_itself r (node h below rest) =
     let own : Bool = same_values (head_in (under r h.name) h) (head_in (under r h.name) h) in
     let deep : Bool = same_leaves (handed_down (under r h.name) h) below below in
     and_true (is_some (node_path h) || (own && deep)) (same_leaves r rest rest)
-    (leaf_if (is_some (node_path h)) (own && deep) (and_true own deep (values_itself (head_in (under r h.name) h)) (leaves_itself (handed_down (under r h.name) h) below)))
+    (or_second (is_some (node_path h)) (own && deep) (and_true own deep (values_itself (head_in (under r h.name) h)) (leaves_itself (handed_down (under r h.name) h) below)))
     (leaves_itself r rest)
 
 and_assoc : (a b c : Bool) → (a && (b && c)) ≡ ((a && b) && c)
@@ -71,10 +68,6 @@ path_off plan s h (Some p) = by_rule (rule_of plan p)
     by_rule None = refl
     by_rule (Some r) = refl
 
-or_first : (b c : Bool) → b ≡ true → (b || c) ≡ true
-or_first true c e = refl
-or_first false c e = absurd cc
-
 -- of own objects that differ in the slots of nodes alone, those that are no nodes show the same
 own_leaves : (plan : Plan) (s t : State) → paths_of s.logs ≡ paths_of t.logs → (r : HandedDown) (os qs : Objects) → DifferInSlots os qs → same_leaves r (with_roles plan s os) (with_roles plan t qs) ≡ true
 own_leaves plan s t e r none none d = refl
@@ -93,7 +86,7 @@ own_leaves plan s t e r (node h below rest) (node k inner more) d =
 
     leaf : node_path h ≡ None → same_leaves (handed_down (under r h.name) h) (with_roles plan s below) (with_roles plan t inner) ≡ true → first h h [] [] ≡ true
     leaf is deep =
-        leaf_if (is_some (node_path h)) _
+        or_second (is_some (node_path h)) _
         (and_true (same_values (head_in (under r h.name) h) (head_in (under r h.name) h)) _ (values_itself (head_in (under r h.name) h))
         (leaves_behind (handed_down (under r h.name) h) (with_roles plan s below) (with_roles plan t inner) [] [] (roles_alike plan s t e below inner d.2)
         ∙ and_keep (same_leaves (handed_down (under r h.name) h) (with_roles plan s below) (with_roles plan t inner)) true refl

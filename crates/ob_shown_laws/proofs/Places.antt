@@ -2,6 +2,7 @@
 use Rattle.std.proofs.Common.{ℕ, ◌≡◌, suc, ◌+◌, Bool, true, false, ◌||◌, cond, List, [], ◌∷◌, ◌++◌, map, length, Option, Some, None, option_map, refl, sym, ap, ap₂, ◌∙◌, true≢false, arith, append_assoc, length-append}
 use Rattle.std.specs.Prelude.{is_some}
 use Rattle.std.proofs.lemmas.List.{map-append}
+use Rattle.ob_values.proofs.Bools.{or_first}
 use Rattle.ob_object.specs.declared.head.Head.{Head}
 use Rattle.ob_object.specs.Object.{Objects, none, node, Object, count}
 use Rattle.ob_object.specs.Paths.{is_path, node_path}
@@ -87,14 +88,6 @@ has-append p xs ys =
     ap is_some (place-append p xs ys)
     ∙ some_either (place_of p xs) (option_map (λ n. n + length xs) (place_of p ys))
     ∙ ap (λ b. has p xs || b) (some_mapped (λ n. n + length xs) (place_of p ys))
-
-either_false : (a b : Bool) → (a || b) ≡ false → (a ≡ false) × (b ≡ false)
-either_false true b e = absurd cc
-either_false false b e = (refl, e)
-
-or_first : (a b : Bool) → a ≡ true → (a || b) ≡ true
-or_first true b e = refl
-or_first false b e = absurd cc
 
 -- a list of paths in two parts
 pub in_parts : (before xs ys : List (Option Path)) → first_twice before (xs ++ ys) ≡ None → (first_twice before xs ≡ None) × (first_twice (before ++ xs) ys ≡ None)

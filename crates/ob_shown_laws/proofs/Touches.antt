@@ -1,8 +1,8 @@
 -- Each own part has the same values exactly where no node shows itself otherwise.
-use Rattle.std.proofs.Common.{ℕ, ◌≡◌, Bool, true, false, not, ◌&&◌, ◌||◌, List, Option, Some, None, refl, sym, ap, ap₂, ◌∙◌, true≢false}
+use Rattle.std.proofs.Common.{◌≡◌, Bool, true, false, not, ◌&&◌, ◌||◌, Option, Some, None, refl, sym, ap, ap₂, ◌∙◌, true≢false}
 use Rattle.std.specs.Prelude.{is_some}
-use Rattle.std.specs.Str.{bytes_eq}
-use Rattle.std.proofs.lemmas.Slice.Eq.{bytes_eq-Decides}
+use Rattle.ob_values.proofs.Bools.{or_first, or_second, not_not}
+use Rattle.ob_values.proofs.Lists.{bytes_itself}
 use Rattle.ob_object.specs.declared.head.Head.{Head}
 use Rattle.ob_object.specs.Object.{Objects, none, node}
 use Rattle.ob_object.specs.Paths.{is_path, node_path}
@@ -96,10 +96,6 @@ node_by_nodes test c h k below inner p is a here deep =
     whole true true false A e = refl
     whole true true true A e = absurd cc
 
--- Lookups tell the nodes: where no two have one path, each node is found at its own.
-pub bytes_itself : (t : List ℕ) → bytes_eq t t ≡ true
-bytes_itself t = (bytes_eq-Decides t t).1 refl
-
 pub path_alike : (h k : Head) → without_values h ≡ without_values k → node_path h ≡ node_path k
 path_alike h k e = ap (λ (u : Head). node_path u) e
 
@@ -164,22 +160,10 @@ found_behind p r h below rest e f =
     x : Standing
     x = record { context = under r h.name; object = record { head = h; inner = below } }
 
-pub or_left : (a b : Bool) → a ≡ true → (a || b) ≡ true
-or_left true b e = refl
-or_left false b e = absurd cc
-
-pub or_right : (a b : Bool) → b ≡ true → (a || b) ≡ true
-or_right true b e = refl
-or_right false b e = e
-
 -- what is true of the one side can't be where none may be
 pub not_both : (a b : Bool) → (a ≡ true → b ≡ false) → b ≡ true → a ≡ false
 not_both true b f e = absurd (true≢false (sym e ∙ f refl))
 not_both false b f e = refl
-
-not_not : (b : Bool) → not (not b) ≡ b
-not_not true = refl
-not_not false = refl
 
 -- a test that is told by lookups in the rows tells their nodes
 abbrev IsLookup : (Path → Bool) → HandedDown → Objects → Objects → Type 0
@@ -206,15 +190,15 @@ tells_nodes test r (node h below rest) (node k inner more) a d look = (
         let own : is_path p (node_path h) ≡ true = ap (is_path p) e ∙ bytes_itself p in
         let its : is_path p (node_path k) ≡ true = ap (is_path p) (sym (path_alike h k a.0)) ∙ own in
         let is : test p ≡ not (same_standing (Some x) (Some y)) =
-        look p (or_left (is_path p (node_path h)) (is_in p below || is_in p rest) own)
+        look p (or_first (is_path p (node_path h)) (is_in p below || is_in p rest) own)
         ∙ ap₂ (λ u v. not (same_standing u v)) (found_here p r h below rest own) (found_here p r k inner more its) in
         sym (ap not is ∙ not_not (same_standing (Some x) (Some y)))
 
     deep : IsLookup test (handed_down (under r h.name) h) below inner
     deep p e =
-        let own : is_path p (node_path h) ≡ false = not_both (is_path p (node_path h)) (is_in p below || is_in p rest) (d.0 p) (or_left (is_in p below) (is_in p rest) e) in
+        let own : is_path p (node_path h) ≡ false = not_both (is_path p (node_path h)) (is_in p below || is_in p rest) (d.0 p) (or_first (is_in p below) (is_in p rest) e) in
         let its : is_path p (node_path k) ≡ false = ap (is_path p) (sym (path_alike h k a.0)) ∙ own in
-        look p (or_right (is_path p (node_path h)) (is_in p below || is_in p rest) (or_left (is_in p below) (is_in p rest) e))
+        look p (or_second (is_path p (node_path h)) (is_in p below || is_in p rest) (or_first (is_in p below) (is_in p rest) e))
         ∙ ap₂ (λ u v. not (same_standing u v)) (found_below p r h below rest own e)
         (found_below p r k inner more its (sym (in_alike p below inner a.1) ∙ e)
         ∙ ap (λ (c : Context). standing_in p (handed_down c k) inner) (under_alike r h k a.0)
@@ -222,10 +206,10 @@ tells_nodes test r (node h below rest) (node k inner more) a d look = (
 
     behind : IsLookup test r rest more
     behind p e =
-        let own : is_path p (node_path h) ≡ false = not_both (is_path p (node_path h)) (is_in p below || is_in p rest) (d.0 p) (or_right (is_in p below) (is_in p rest) e) in
+        let own : is_path p (node_path h) ≡ false = not_both (is_path p (node_path h)) (is_in p below || is_in p rest) (d.0 p) (or_second (is_in p below) (is_in p rest) e) in
         let its : is_path p (node_path k) ≡ false = ap (is_path p) (sym (path_alike h k a.0)) ∙ own in
         let lower : is_in p below ≡ false = not_both (is_in p below) (is_in p rest) (d.1 p) e in
-        look p (or_right (is_path p (node_path h)) (is_in p below || is_in p rest) (or_right (is_in p below) (is_in p rest) e))
+        look p (or_second (is_path p (node_path h)) (is_in p below || is_in p rest) (or_second (is_in p below) (is_in p rest) e))
         ∙ ap₂ (λ u v. not (same_standing u v)) (found_behind p r h below rest own lower)
         (found_behind p r k inner more its (sym (in_alike p below inner a.1) ∙ lower))
 

@@ -1,5 +1,6 @@
 -- A step that leaves the state as it is.
-use Rattle.std.proofs.Common.{◌≡◌, ℕ, Bool, true, false, not, ◌||◌, List, [], ◌∷◌, map, refl, sym, ap, ap₂, ◌∙◌, subst}
+use Rattle.std.proofs.Common.{◌≡◌, ℕ, Bool, true, not, ◌||◌, List, [], ◌∷◌, map, refl, sym, ap, ap₂, ◌∙◌, subst}
+use Rattle.ob_values.proofs.Bools.{or_false}
 use Rattle.ob_object.specs.Object.{Object as Node}
 use Rattle.ob_history.specs.declared.records.Filter.{Filter}
 use Rattle.ob_tree.specs.Trees.{Stamped}
@@ -29,10 +30,6 @@ Flagged = ItemOf Text Path Filter
 
 abbrev Watched : Type 0
 Watched = WatchOf Text Path Filter
-
-or_false : (a : Bool) → (a || false) ≡ a
-or_false true = refl
-or_false false = refl
 
 -- what a watch shows is the same as itself
 itself : (o : Node) → same_object o o ≡ true

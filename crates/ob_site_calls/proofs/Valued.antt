@@ -2,6 +2,7 @@
 use Rattle.std.proofs.Common.{◌≡◌, ℕ, zero, suc, ◌-◌, ◌<◌, ◌≤◌, Bool, true, false, cond, List, [], ◌∷◌, ◌++◌, length, map, Option, Some, None, option_map, refl, sym, ap, ◌∙◌, subst, arith}
 use Rattle.std.specs.Prelude.{is_some, slice_get, nat_lt, option_and_then}
 use Rattle.std.proofs.lemmas.Bool.{ltb-true, ltb-false}
+use Rattle.ob_values.proofs.Lists.{some_same}
 use Rattle.ob_object.specs.declared.kind.Kind.{Kind}
 use Rattle.ob_object.specs.declared.head.Head.{Head}
 use Rattle.ob_object.specs.Object.{Objects, none, node, Object, count}
@@ -91,9 +92,6 @@ effective_kind lib o implied over = refl
 
 comes_to_kind : (plan : Plan) (s : State) (c : Context) (x : Object) → (comes_to c (dressed_own plan s x)).head.kind ≡ x.head.kind
 comes_to_kind plan s c x = effective_kind c.library (dressed_own plan s x) c.implied c.over ∙ status_at plan s x.head (node_path x.head)
-
-some_same : {a b : Object} → Some a ≡ Some b → a ≡ b
-some_same e = cc
 
 number_kind : (plan : Plan) (s : State) (n : ℕ) (x o : Object) → part_at n s.tree ≡ Some x → own_shown_at plan s n ≡ Some o → o.head.kind ≡ x.head.kind
 number_kind plan s n x o there shows =

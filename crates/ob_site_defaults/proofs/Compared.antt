@@ -1,6 +1,8 @@
 -- What is compared of a node tells whether a watch shows something else of it.
-use Rattle.std.proofs.Common.{ℕ, ◌≡◌, ◌<◌, Bool, true, false, not, ◌&&◌, [], Option, Some, None, option_map, refl, sym, ap, ap₂, ◌∙◌, subst, true≢false}
+use Rattle.std.proofs.Common.{ℕ, ◌≡◌, ◌<◌, Bool, true, false, not, ◌&&◌, [], Option, Some, None, option_map, refl, sym, ap, ap₂, ◌∙◌, subst}
 use Rattle.std.specs.Prelude.{is_some}
+use Rattle.ob_values.proofs.Bools.{and_first, and_second, is_false, not_both}
+use Rattle.ob_values.proofs.Lists.{some_same}
 use Rattle.ob_object.specs.declared.kind.Kind.{Kind}
 use Rattle.ob_object.specs.declared.kind.Kind.TheVariants as kind
 use Rattle.ob_object.specs.declared.head.Head.{Head}
@@ -117,24 +119,9 @@ some_path : (o : Option Path) → is_some o ≡ true → (p : Path) × (o ≡ So
 some_path None e = absurd cc
 some_path (Some p) e = (p, refl)
 
-and_first : (a b : Bool) → (a && b) ≡ true → a ≡ true
-and_first true b e = refl
-and_first false b e = absurd cc
-
-and_second : (a b : Bool) → (a && b) ≡ true → b ≡ true
-and_second true b e = e
-and_second false b e = absurd cc
-
 second_false : (a b : Bool) → a ≡ true → (a && b) ≡ false → b ≡ false
 second_false true b e f = f
 second_false false b e f = absurd cc
-
-is_false : (b : Bool) → (b ≡ true → ⊥) → b ≡ false
-is_false true never = absurd (never refl)
-is_false false never = refl
-
-no_both : (b : Bool) → b ≡ true → b ≡ false → ⊥
-no_both b e f = true≢false (sym e ∙ f)
 
 -- an own object with its status can be watched where it could without
 dressed_watchable : (plan : Plan) (s : State) (n : ℕ) (h : Head) (x : Object) → x.head ≡ h → is_watchable (dressed_own plan s x).head ≡ is_watchable h
@@ -154,13 +141,10 @@ not_otherwise plan s old n differ hidden otherwise =
     let c : Context = stands_at old n s h.0 in
     let k : Context = stands_at s.library n s h.0 in
     let same : as_watched (Some (standing c d)) ≡ as_watched (Some (standing k d)) = hidden_same c k d (dressed_watchable plan s n h.0 x.0 x.2 ∙ off) in
-    no_both (is_same plan (with_library old s) (with_library s.library s) p)
+    not_both (is_same plan (with_library old s) (with_library s.library s) p)
     (both_watched plan s old s.library p n x.0 c k differ at_n (stands_there old n s h.0 h.1) (stands_there s.library n s h.0 h.1) x.1
     ∙ (object_decides (as_watched (Some (standing c d))) (as_watched (Some (standing k d)))).1 same)
     otherwise.2
-
-some_object : {a b : Object} → Some a ≡ Some b → a ≡ b
-some_object e = cc
 
 -- what is compared tells it
 pub record Compared (plan : Plan) (s : State) (old : Contracts) (n : ℕ) (same : Bool) : Type 0 where
@@ -176,10 +160,10 @@ compared plan s old n h x c k same differ once here part head watched before aft
   told = λ e.
       (let p : (p : Path) × (node_path h ≡ Some p) = some_path (node_path h) (and_first (is_some (node_path h)) (is_watchable h) watched) in
       let at_n : place_of p.0 (paths s.tree) ≡ Some n = placed_at s.tree n h p.0 once here p.1 in
-      (p.0, at_n, is_false (is_same plan (with_library old s) (with_library s.library s) p.0) (λ t. no_both same (from (comes_same c k d watchable (seen p.0 at_n t))) e)));
+      (p.0, at_n, is_false (is_same plan (with_library old s) (with_library s.library s) p.0) (λ t. not_both same (from (comes_same c k d watchable (seen p.0 at_n t))) e)));
   tells = λ o.
       is_false same
-      (λ t. no_both (is_same plan (with_library old s) (with_library s.library s) o.0)
+      (λ t. not_both (is_same plan (with_library old s) (with_library s.library s) o.0)
       (both_watched plan s old s.library o.0 n x c k differ o.1 before after part
       ∙ (object_decides (as_watched (Some (standing c d))) (as_watched (Some (standing k d)))).1 (watched_same c k d (to t)))
       o.2);
@@ -206,7 +190,7 @@ pub told_otherwise : (plan : Plan) (s : State) (old : Contracts) (n : ℕ) (d : 
 told_otherwise plan s old n d c k same differ once within watched made before after to from =
     let h : (h : Head) × (head_at n s.tree ≡ Some h) = head_there s.tree n within in
     let x : (x : Object) × (part_at n s.tree ≡ Some x) × (x.head ≡ h.0) = part_there n s.tree h.0 h.1 in
-    let is : d ≡ dressed_own plan s x.0 = some_object (made ∙ ap (option_map (dressed_own plan s)) x.1) in
+    let is : d ≡ dressed_own plan s x.0 = some_same (made ∙ ap (option_map (dressed_own plan s)) x.1) in
     compared plan s old n h.0 x.0 c k same differ once h.1 x.1 x.2 (sym (ap (λ (o : Option Head). can_be_watched o) h.1) ∙ watched) (sym before) (sym after)
     (λ e. subst (λ (o : Object). comes_to c o ≡ comes_to k o) is (to e))
     (λ e. from (subst (λ (o : Object). comes_to c o ≡ comes_to k o) (sym is) e))

@@ -1,10 +1,12 @@
 -- The end of a step that left another library.
-use Rattle.std.proofs.Common.{ℕ, ◌≡◌, zero, suc, ◌+◌, ◌-◌, ◌<◌, Bool, true, false, not, ◌&&◌, ◌||◌, cond, List, ◌++◌, length, Option, Some, option_map, refl, sym, ap, ◌∙◌, true≢false, arith}
+use Rattle.std.proofs.Common.{ℕ, ◌≡◌, zero, suc, ◌+◌, ◌-◌, ◌<◌, Bool, true, false, not, ◌&&◌, ◌||◌, cond, List, ◌++◌, length, Option, Some, option_map, refl, sym, ap, ◌∙◌, arith}
 use Rattle.std.specs.Prelude.{Any, Contains, nat_lt, nat_le, slice_get}
 use Rattle.std.proofs.lemmas.List.Elements.{All-contains}
 use Rattle.std.proofs.lemmas.List.Folds.{Any-from_list_any, list_any-from_Any, list_any-append}
 use Rattle.std.specs.List.{list_any}
 use Rattle.std.proofs.lemmas.Bool.Decides.{nat_tests}
+use Rattle.ob_values.proofs.Bools.{bool_same, is_false, not_both}
+use Rattle.ob_values.proofs.Lists.{some_same}
 use Rattle.ob_object.specs.declared.head.Head.{Head}
 use Rattle.ob_object.specs.Object.{Objects, none, node, Object, count, parts}
 use Rattle.ob_contracts.specs.Inherit.{Contracts}
@@ -47,15 +49,12 @@ record Alike (n : ℕ) (x : Object) (qs : Objects) : Type 0 where
   pub there : part_in n qs ≡ Some other
   pub head : without_slot x.head ≡ without_slot other.head
 
-object_same : {a b : Object} → Some a ≡ Some b → a ≡ b
-object_same e = cc
-
 part_alike : (os qs : Objects) (n : ℕ) (x : Object) → DifferInSlots os qs → part_in n os ≡ Some x → Alike n x qs
 part_alike none none n x d e = absurd cc
 part_alike none (node k inner more) n x d e = absurd d
 part_alike (node h below rest) none n x d e = absurd d
 part_alike (node h below rest) (node k inner more) zero x d e =
-    let same : record { head = h; inner = below } ≡ x = object_same e in
+    let same : record { head = h; inner = below } ≡ x = some_same e in
     record { other = record { head = k; inner = inner }; there = refl; head = ap (λ (o : Object). without_slot o.head) (sym same) ∙ d.0 }
 part_alike (node h below rest) (node k inner more) (suc n) x d e =
     go (nat_lt n (count below)) e (ap (λ (m : ℕ). cond (nat_lt n m) (part_in n inner) (part_in (n - m) more)) (same_count below inner d.2))
@@ -76,18 +75,6 @@ any_there test ns e =
 there_any : (test : ℕ → Bool) (ns : List ℕ) (m : ℕ) → Contains ns m → test m ≡ true → list_any test ns ≡ true
 there_any test ns m c e = list_any-from_Any test ns (c.0, m, c.1, c.2, e)
 
-equal_by : (a b : Bool) → (a ≡ true → b ≡ true) → (b ≡ true → a ≡ true) → a ≡ b
-equal_by true b f g = sym (f refl)
-equal_by false true f g = g refl
-equal_by false false f g = refl
-
-is_false : (b : Bool) → (b ≡ true → ⊥) → b ≡ false
-is_false true never = absurd (never refl)
-is_false false never = refl
-
-no_both : (b : Bool) → b ≡ true → b ≡ false → ⊥
-no_both b e f = true≢false (sym e ∙ f)
-
 in_itself : (n k : ℕ) → 0 < k → (nat_le n n && nat_lt n (n + k)) ≡ true
 in_itself n k h = grind (arith, nat_tests)
 
@@ -96,10 +83,10 @@ any_otherwise : (plan : Plan) (s : State) (new : Contracts) (ms : List ℕ) → 
     → (p : Path) (n : ℕ) (x : Object) → place_of p (paths s.tree) ≡ Some n → part_at n s.tree ≡ Some x → is_watchable x.head ≡ true
     → list_any (λ m. nat_le n m && nat_lt m (n + parts x)) ms ≡ not (is_same plan s (with_library new s) p)
 any_otherwise plan s new ms differ are p n x at_n here watchable =
-    equal_by (list_any test ms) (not same)
+    bool_same (list_any test ms) (not same)
     (λ e. (let m : (m : ℕ) × Contains ms m × (test m ≡ true) = any_there test ms e in
     let other : (m.0 < parts s.tree) × IsOtherwise plan s new m.0 = All-contains (λ n. (n < parts s.tree) × IsOtherwise plan s new n) ms m.0 are.differ m.1 in
-    ap not (is_false same (λ f. no_both (is_same plan s (with_library new s) other.1.0) (reached plan s new differ p n x at_n here watchable other.1.0 m.0 other.1.1 m.2 f) other.1.2))))
+    ap not (is_false same (λ f. not_both (is_same plan s (with_library new s) other.1.0) (reached plan s new differ p n x at_n here watchable other.1.0 m.0 other.1.1 m.2 f) other.1.2))))
     (λ e. there_any test ms n (are.all n within (p, at_n, turned same e)) (in_itself n (parts x) (omega arith)))
   where
     test : ℕ → Bool

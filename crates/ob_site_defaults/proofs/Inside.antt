@@ -2,6 +2,8 @@
 use Rattle.std.proofs.Common.{ℕ, ◌≡◌, ◌+◌, ◌<◌, ◌≤◌, Bool, true, false, ◌&&◌, [], Option, Some, None, option_map, refl, sym, ap, ◌∙◌, true≢false, arith}
 use Rattle.std.specs.Prelude.{is_some, nat_le, nat_lt}
 use Rattle.std.proofs.lemmas.Bool.{le-leb, lt-ltb}
+use Rattle.ob_values.proofs.Bools.{and_first, and_second, and_true}
+use Rattle.ob_values.proofs.Lists.{some_same}
 use Rattle.ob_object.specs.declared.head.Head.{Head}
 use Rattle.ob_object.specs.Object.{Object, parts}
 use Rattle.ob_object.specs.Paths.{node_path}
@@ -27,15 +29,12 @@ use Rattle.ob_site_defaults.proofs.Numbered.{part_within}
 use Rattle.ob_site_defaults.proofs.Places.{placed_at}
 use Rattle.ob_site_defaults.proofs.Compared.{standing, own_there, kind_off}
 
-some_object : {a b : Object} → Some a ≡ Some b → a ≡ b
-some_object e = cc
-
 -- the head of an own object that is there
 pub head_part : (n : ℕ) (o x : Object) → n < parts o → part_at n o ≡ Some x → head_at n o ≡ Some x.head
 head_part n o x within here =
     let h : (h : Head) × (head_at n o ≡ Some h) = head_there o n within in
     let y : (y : Object) × (part_at n o ≡ Some y) × (y.head ≡ h.0) = part_there n o h.0 h.1 in
-    let is : y.0 ≡ x = some_object (sym y.1 ∙ here) in
+    let is : y.0 ≡ x = some_same (sym y.1 ∙ here) in
     h.1 ∙ ap (λ (k : Head). Some k) (sym y.2 ∙ ap (λ (z : Object). z.head) is)
 
 -- where a watch shows a node as before, it shows the nodes in it as before, told by their numbers
@@ -54,18 +53,6 @@ some_path : (o : Option Path) → is_some o ≡ true → (p : Path) × (o ≡ So
 some_path None e = absurd cc
 some_path (Some p) e = (p, refl)
 
-and_first : (a b : Bool) → (a && b) ≡ true → a ≡ true
-and_first true b e = refl
-and_first false b e = absurd cc
-
-and_second : (a b : Bool) → (a && b) ≡ true → b ≡ true
-and_second true b e = e
-and_second false b e = absurd cc
-
-both_true : (a b : Bool) → a ≡ true → b ≡ true → (a && b) ≡ true
-both_true true b e f = f
-both_true false b e f = absurd cc
-
 is_true : (b : Bool) → (b ≡ false → ⊥) → b ≡ true
 is_true true never = refl
 is_true false never = absurd (never refl)
@@ -78,7 +65,7 @@ nothing_inside plan s new n x differ once here watched off m from to otherwise =
     let p : (p : Path) × (node_path x.head ≡ Some p) = some_path (node_path x.head) (and_first (is_some (node_path x.head)) (is_watchable x.head) watched) in
     let at_n : place_of p.0 (paths s.tree) ≡ Some n = placed_at s.tree n x.head p.0 once head p.1 in
     let same : is_same plan s (with_library new s) p.0 ≡ true = is_true (is_same plan s (with_library new s) p.0) (λ f. off (p.0, at_n, f)) in
-    let inside : (nat_le n m && nat_lt m (n + parts x)) ≡ true = both_true (nat_le n m) (nat_lt m (n + parts x)) (le-leb n m from) (lt-ltb m (n + parts x) to) in
+    let inside : (nat_le n m && nat_lt m (n + parts x)) ≡ true = and_true (nat_le n m) (nat_lt m (n + parts x)) (le-leb n m from) (lt-ltb m (n + parts x) to) in
     true≢false
     (sym (reached plan s new differ p.0 n x at_n here (and_second (is_some (node_path x.head)) (is_watchable x.head) watched) otherwise.0 m otherwise.1 inside same)
     ∙ otherwise.2)

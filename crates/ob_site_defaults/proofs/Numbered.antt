@@ -2,6 +2,7 @@
 use Rattle.std.proofs.Common.{ℕ, ◌≡◌, zero, suc, ◌+◌, ◌-◌, ◌<◌, ◌≤◌, Bool, true, false, cond, Some, None, refl, sym, ap, ◌∙◌, subst, arith}
 use Rattle.std.specs.Prelude.{nat_lt, slice_get}
 use Rattle.std.proofs.lemmas.Bool.{ltb-true, ltb-false, lt-ltb, le-ltb}
+use Rattle.ob_values.proofs.Lists.{some_same}
 use Rattle.ob_object.specs.declared.head.Head.{Head}
 use Rattle.ob_object.specs.Object.{Objects, none, node, Object, count, parts, listed}
 use Rattle.ob_contracts.specs.Inherit.{Contracts}
@@ -10,9 +11,6 @@ use Rattle.ob_tree.specs.Laid.{object}
 use Rattle.ob_tree.specs.Shown.{row, part_in, part_at, at_top, handed, handed_in, handed_at}
 use Rattle.ob_tree.proofs.Growing.{first}
 use Rattle.ob_tree.proofs.Parts.{PartOf, part_of, child_part}
-
-some_same : {a b : Object} → Some a ≡ Some b → a ≡ b
-some_same e = cc
 
 -- the object of a number ends where the row does, or before
 within_by : (n : ℕ) (i r : Objects) (p : Object) (b : Bool) → nat_lt n (count i) ≡ b → cond b (part_in n i) (part_in (n - count i) r) ≡ Some p

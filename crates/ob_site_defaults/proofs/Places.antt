@@ -1,11 +1,12 @@
 -- Own nodes by their numbers.
-use Rattle.std.proofs.Common.{ℕ, ◌≡◌, zero, suc, Bool, true, false, ◌||◌, cond, List, [], ◌∷◌, ◌++◌, map, Option, Some, None, option_map, refl, sym, ap, ◌∙◌, true≢false}
+use Rattle.std.proofs.Common.{ℕ, ◌≡◌, zero, suc, Bool, true, false, cond, List, [], ◌∷◌, ◌++◌, map, Option, Some, None, option_map, refl, sym, ap, ◌∙◌, true≢false}
 use Rattle.std.specs.Prelude.{is_some, slice_get}
 use Rattle.ob_object.specs.declared.head.Head.{Head}
 use Rattle.ob_object.specs.Object.{Object}
 use Rattle.ob_object.specs.Paths.{node_path, is_path}
 use Rattle.ob_site_rules.specs.Build.{Path}
-use Rattle.ob_shown_laws.proofs.Touches.{bytes_itself}
+use Rattle.ob_values.proofs.Lists.{bytes_itself}
+use Rattle.ob_values.proofs.Bools.{or_second}
 use Rattle.ob_tree.specs.Laid.{heads_of, head_at, paths}
 use Rattle.ob_tree.specs.Paths.{place_of, first_twice}
 use Rattle.ob_shown_laws.proofs.Places.{has, has-append, in_parts, apart}
@@ -18,11 +19,6 @@ got_map f (y ∷ xs) (suc n) x e = got_map f xs n x e
 -- the path of the object of a number
 pub path_at : (o : Object) (n : ℕ) (h : Head) → head_at n o ≡ Some h → slice_get (paths o) n ≡ Some (node_path h)
 path_at o n h e = got_map node_path (heads_of o) n h e
-
--- a path at a place is found there first, where none stands twice
-or_second : (a b : Bool) → b ≡ true → (a || b) ≡ true
-or_second true b e = refl
-or_second false b e = e
 
 one_path : (p : Path) (q : Option Path) → is_path p q ≡ true → has p (q ∷ []) ≡ true
 one_path p q e = ap (λ b. is_some (cond b (Some 0) (option_map suc (place_of p [])))) e

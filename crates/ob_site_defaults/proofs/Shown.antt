@@ -1,6 +1,7 @@
 -- What is shown of the own children of an own object stands in what is shown of it, in front of what it inherits.
 use Rattle.std.proofs.Common.{ℕ, ◌≡◌, zero, suc, ◌+◌, List, ◌++◌, map, Option, Some, option_map, sym, ap, ap₂, ◌∙◌, arith}
 use Rattle.std.specs.Prelude.{option_and_then, slice_get}
+use Rattle.ob_values.proofs.Lists.{some_same}
 use Rattle.ob_object.specs.declared.head.Head.{Head}
 use Rattle.ob_object.specs.Object.{Objects, none, node, Object, count, listed, in_row, children}
 use Rattle.ob_object.specs.Paths.{node_path}
@@ -16,9 +17,6 @@ use Rattle.ob_tree.specs.Shown.{row, part_at, handed_at}
 use Rattle.ob_tree.proofs.Growing.{first, grows_for}
 use Rattle.ob_shown_laws.specs.OwnTree.{own_shown_at}
 use Rattle.ob_site_defaults.proofs.Numbered.{ChildAt, child_at, part_within}
-
-some_same : {a b : Object} → Some a ≡ Some b → a ≡ b
-some_same e = cc
 
 -- own objects in a row come first in what the row comes to
 own_first : (plan : Plan) (s : State) (lib : Contracts) (implied : Option Words) (above : List Object) (os : Objects) (ds ms : List Object) (k : ℕ) (y : Object) → slice_get (listed os) k ≡ Some y

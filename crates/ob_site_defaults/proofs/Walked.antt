@@ -1,6 +1,7 @@
 -- The own objects are gone through, each with what is shown of it by two libraries.
 use Rattle.std.proofs.Common.{ℕ, ◌≡◌, zero, suc, ◌+◌, ◌-◌, ◌^◌, ◌<◌, ◌≤◌, ◌↔◌, Bool, true, false, IsTrue, List, [], ◌∷◌, ◌++◌, length, get_or, Option, Some, None, option_map, refl, sym, ap, ◌∙◌, subst, arith}
 use Rattle.std.specs.Prelude.{min, slice_get}
+use Rattle.ob_values.proofs.Lists.{some_same}
 use Rattle.ob_object.specs.declared.head.Head.{Head}
 use Rattle.ob_object.specs.Object.{Objects, Object, count, parts, children}
 use Rattle.ob_contracts.specs.Inherit.{Contracts}
@@ -27,9 +28,6 @@ use Rattle.ob_site_defaults.proofs.Found.{numbers_of, none_below, one_more, one_
 use Rattle.ob_site_defaults.proofs.Inside.{nothing_inside}
 use Rattle.ob_site_defaults.proofs.Numbered.{child_at, more_counted, part_within}
 use Rattle.ob_site_defaults.proofs.Shown.{ChildShown, child_shown, shown_by}
-
-some_same : {a b : Object} → Some a ≡ Some b → a ≡ b
-some_same e = cc
 
 begins : (s : State) (n : ℕ) (x : Object) → part_at n s.tree ≡ Some x → n + parts x ≤ parts s.tree
 begins s n x is = omega (arith, part_within (row_of s.tree) n x is)

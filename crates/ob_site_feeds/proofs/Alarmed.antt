@@ -4,6 +4,7 @@ use Rattle.std.specs.Prelude.{slice_get, is_some, unwrap_or}
 use Rattle.std.specs.List.{flat_map}
 use Rattle.circular_buffer.specs.Buffer.{last_item}
 use Rattle.ob_times.specs.Times.{Instant, moment_instant}
+use Rattle.ob_values.proofs.Lists.{some_same, bytes_itself}
 use Rattle.ob_object.specs.Object.{Object}
 use Rattle.ob_alarms.specs.declared.alarm.Alarm.{Alarm}
 use Rattle.ob_alarms.specs.declared.alarm.Event.{Event}
@@ -18,7 +19,6 @@ use Rattle.ob_site_laws.proofs.Boards.{IsNext, next_events}
 use Rattle.ob_site_rules.specs.Build.{Path}
 use Rattle.ob_site_rules.specs.Entries.{empty_object, event_object, first_events, event_objects}
 use Rattle.ob_site_rules.specs.State.{Plan, PointRule, State, numbered_from, board}
-use Rattle.ob_shown_laws.proofs.Touches.{bytes_itself}
 use Rattle.ob_site_state.specs.declared.change.Change.{Change}
 use Rattle.ob_site_state.specs.declared.change.Change.TheVariants as change
 use Rattle.ob_site_state.specs.Changes.{alarms_before, events_before, undone, rewound, CanRewind, IsNewest, AreTold}
@@ -26,9 +26,6 @@ use Rattle.ob_site_feeds.specs.declared.feeds.FeedEvent.{FeedEvent}
 use Rattle.ob_site_feeds.specs.News.{timestamp, times_of}
 use Rattle.ob_site_feeds.specs.Noted.{raised_event, alarm_event, is_event}
 use Rattle.ob_site_feeds.proofs.Recorded.{times_append, got_taken}
-
-some_same : {A : Type 0} {a b : A} → Some a ≡ Some b → a ≡ b
-some_same e = cc
 
 -- ---- the newest event
 

@@ -13,7 +13,8 @@ use Rattle.ob_site_rules.specs.Shown.{write_point_op, history_part, subject_chil
 use Rattle.ob_site_rules.specs.State.{Plan, Log, State, at, is_among}
 use Rattle.ob_shown_laws.specs.Alike.{row}
 use Rattle.ob_shown_laws.specs.Changed.{is_in, PathsDiffer}
-use Rattle.ob_shown_laws.proofs.Touches.{bytes_itself, or_left, or_right}
+use Rattle.ob_values.proofs.Bools.{or_first, or_second}
+use Rattle.ob_values.proofs.Lists.{bytes_itself}
 use Rattle.ob_shown_laws.proofs.Undressing.{in_behind, front_differs, not_behind}
 use Rattle.ob_site_feeds.specs.Noted.{feed_of}
 
@@ -92,12 +93,12 @@ module _ (plan : Plan) (s : State) where
           → (is_in q inner ≡ true → is_in p (with_roles plan s inner) ≡ true) → (is_in q rest ≡ true → is_in p (with_roles plan s rest) ≡ true)
           → (is_path p (node_path (with_status plan s h)) || (is_in p deep || is_in p (with_roles plan s rest))) ≡ true
       go (inl f) inside later =
-          or_right (is_path p (node_path (with_status plan s h))) _
-          (or_left (is_in p deep) _ (in_behind p (with_roles plan s inner) (derived plan s (node_path h)) ∙ or_right (is_in p (with_roles plan s inner)) _ (at_head p q h f d)))
+          or_second (is_path p (node_path (with_status plan s h))) _
+          (or_first (is_in p deep) _ (in_behind p (with_roles plan s inner) (derived plan s (node_path h)) ∙ or_second (is_in p (with_roles plan s inner)) _ (at_head p q h f d)))
       go (inr (inl f)) inside later =
-          or_right (is_path p (node_path (with_status plan s h))) _
-          (or_left (is_in p deep) _ (in_behind p (with_roles plan s inner) (derived plan s (node_path h)) ∙ or_left (is_in p (with_roles plan s inner)) _ (inside f)))
-      go (inr (inr f)) inside later = or_right (is_path p (node_path (with_status plan s h))) _ (or_right (is_in p deep) _ (later f))
+          or_second (is_path p (node_path (with_status plan s h))) _
+          (or_first (is_in p deep) _ (in_behind p (with_roles plan s inner) (derived plan s (node_path h)) ∙ or_first (is_in p (with_roles plan s inner)) _ (inside f)))
+      go (inr (inr f)) inside later = or_second (is_path p (node_path (with_status plan s h))) _ (or_second (is_in p deep) _ (later f))
 
   -- no two nodes derive one path
   once : (p q r : Path) (os : Objects) → PathsDiffer (with_roles plan s os) → is_in q os ≡ true → is_in r os ≡ true → derives q p ≡ true → derives r p ≡ true → q ≡ r
@@ -121,10 +122,10 @@ module _ (plan : Plan) (s : State) where
       clash_rest f g = absurd (true≢false (sym g ∙ differ.1 p f))
 
       by_head : is_in p (in_row more) ≡ true → is_in p (in_row (listed x ++ more)) ≡ true
-      by_head f = in_behind p x more ∙ or_right (is_in p x) _ f
+      by_head f = in_behind p x more ∙ or_second (is_in p x) _ f
 
       by_inner : is_in p x ≡ true → is_in p (in_row (listed x ++ more)) ≡ true
-      by_inner f = in_behind p x more ∙ or_left (is_in p x) _ f
+      by_inner f = in_behind p x more ∙ or_first (is_in p x) _ f
 
       go : (is_path q (node_path h) ≡ true) ⊎ ((is_in q inner ≡ true) ⊎ (is_in q rest ≡ true))
           → (is_path r (node_path h) ≡ true) ⊎ ((is_in r inner ≡ true) ⊎ (is_in r rest ≡ true))
@@ -169,32 +170,32 @@ module _ (plan : Plan) (s : State) where
   by_history : (p q : Path) → is_in p (in_row (history_part q (at q s.logs))) ≡ true → derives q p ≡ true
   by_history p q e =
       in_append p (lobby_part q) (point_part q ++ (history_part q (at q s.logs) ++ subject_part q))
-      ∙ or_right (is_in p (in_row (lobby_part q))) _
+      ∙ or_second (is_in p (in_row (lobby_part q))) _
       (in_append p (point_part q) (history_part q (at q s.logs) ++ subject_part q)
-      ∙ or_right (is_in p (in_row (point_part q))) _
-      (in_append p (history_part q (at q s.logs)) (subject_part q) ∙ or_left (is_in p (in_row (history_part q (at q s.logs)))) _ e))
+      ∙ or_second (is_in p (in_row (point_part q))) _
+      (in_append p (history_part q (at q s.logs)) (subject_part q) ∙ or_first (is_in p (in_row (history_part q (at q s.logs)))) _ e))
 
   by_subject : (p q : Path) → is_in p (in_row (subject_part q)) ≡ true → derives q p ≡ true
   by_subject p q e =
       in_append p (lobby_part q) (point_part q ++ (history_part q (at q s.logs) ++ subject_part q))
-      ∙ or_right (is_in p (in_row (lobby_part q))) _
+      ∙ or_second (is_in p (in_row (lobby_part q))) _
       (in_append p (point_part q) (history_part q (at q s.logs) ++ subject_part q)
-      ∙ or_right (is_in p (in_row (point_part q))) _
-      (in_append p (history_part q (at q s.logs)) (subject_part q) ∙ or_right (is_in p (in_row (history_part q (at q s.logs)))) _ e))
+      ∙ or_second (is_in p (in_row (point_part q))) _
+      (in_append p (history_part q (at q s.logs)) (subject_part q) ∙ or_second (is_in p (in_row (history_part q (at q s.logs)))) _ e))
 
   history_query : (q : Path) (o : Option Log) → is_some o ≡ true → is_in (query_of q) (in_row (history_part q o)) ≡ true
   history_query q None e = absurd (true≢false (sym e))
-  history_query q (Some l) e = or_left (bytes_eq (query_of q) (query_of q)) _ (bytes_itself (query_of q))
+  history_query q (Some l) e = or_first (bytes_eq (query_of q) (query_of q)) _ (bytes_itself (query_of q))
 
   history_feed : (q : Path) (o : Option Log) → is_some o ≡ true → is_in (feed_of q) (in_row (history_part q o)) ≡ true
   history_feed q None e = absurd (true≢false (sym e))
-  history_feed q (Some l) e = or_right (bytes_eq (query_of q) (feed_of q)) _ (or_left (bytes_eq (feed_of q) (feed_of q)) _ (bytes_itself (feed_of q)))
+  history_feed q (Some l) e = or_second (bytes_eq (query_of q) (feed_of q)) _ (or_first (bytes_eq (feed_of q) (feed_of q)) _ (bytes_itself (feed_of q)))
 
   subject_feed : (q : Path) → plan.subject ≡ Some q → is_in (feed_of q) (in_row (subject_part q)) ≡ true
   subject_feed q e =
       ap (λ (o : Option Path). is_in (feed_of q) (in_row (cond (is_path q o) (subject_children q (length s.alarms)) []))) e
       ∙ ap (λ (b : Bool). is_in (feed_of q) (in_row (cond b (subject_children q (length s.alarms)) []))) (bytes_itself q)
-      ∙ or_right (bytes_eq (query_of q) (feed_of q)) _ (or_left (bytes_eq (feed_of q) (feed_of q)) _ (bytes_itself (feed_of q)))
+      ∙ or_second (bytes_eq (query_of q) (feed_of q)) _ (or_first (bytes_eq (feed_of q) (feed_of q)) _ (bytes_itself (feed_of q)))
 
 -- what stands first under a path
 passed : (p : Path) (e : Path × Place) (es : List (Path × Place)) → bytes_eq e.0 p ≡ false → at p (e ∷ es) ≡ at p es
@@ -260,10 +261,10 @@ module _ (plan : Plan) (s : State) (set : AreSet plan s) where
   lead h is [] rest all here = absurd (true≢false (sym here))
   lead h is (g ∷ hs) rest all here =
       passed (feed_of h) (query_of g.0, QueryOf g.0) ((feed_of g.0, FeedOf g.0) ∷ (places_of hs ++ rest)) (query_off g.0 h known (set.nodes h is) (derives_feed h is))
-      ∙ go (bytes_eq (feed_of g.0) (feed_of h)) refl (λ there. lead h is hs rest (λ k e. all k (or_right (bytes_eq g.0 k) _ e)) there)
+      ∙ go (bytes_eq (feed_of g.0) (feed_of h)) refl (λ there. lead h is hs rest (λ k e. all k (or_second (bytes_eq g.0 k) _ e)) there)
     where
       known : IsHistory g.0
-      known = all g.0 (or_left (bytes_eq g.0 g.0) _ (bytes_itself g.0))
+      known = all g.0 (or_first (bytes_eq g.0 g.0) _ (bytes_itself g.0))
 
       go : (b : Bool) → bytes_eq (feed_of g.0) (feed_of h) ≡ b → (is_among h (map (λ x. x.0) hs) ≡ true → at (feed_of h) (places_of hs ++ rest) ≡ Some (FeedOf h))
           → at (feed_of h) ((feed_of g.0, FeedOf g.0) ∷ (places_of hs ++ rest)) ≡ Some (FeedOf h)
@@ -279,12 +280,12 @@ module _ (plan : Plan) (s : State) (set : AreSet plan s) where
       → at (feed_of p) (places_of hs ++ rest) ≡ at (feed_of p) rest
   past_histories p is [] rest all = refl
   past_histories p is (g ∷ hs) rest all =
-      let known : IsHistory g.0 = all g.0 (or_left (bytes_eq g.0 g.0) _ (bytes_itself g.0)) in
+      let known : IsHistory g.0 = all g.0 (or_first (bytes_eq g.0 g.0) _ (bytes_itself g.0)) in
       passed (feed_of p) (query_of g.0, QueryOf g.0) ((feed_of g.0, FeedOf g.0) ∷ (places_of hs ++ rest)) (query_off g.0 p known (set.subject p is) (derives_alarms p is))
       ∙ passed (feed_of p) (feed_of g.0, FeedOf g.0) (places_of hs ++ rest)
       (not_same (feed_of g.0) (feed_of p)
       (λ e. no_history p is (subst IsHistory (feed_same g.0 p known (set.subject p is) (derives_alarms p is) e) known)))
-      ∙ past_histories p is hs rest (λ k e. all k (or_right (bytes_eq g.0 k) _ e))
+      ∙ past_histories p is hs rest (λ k e. all k (or_second (bytes_eq g.0 k) _ e))
 
   pub leads : Leads plan
   leads = record {
@@ -321,7 +322,7 @@ among_places p h (g ∷ hs) rest e = go (bytes_eq (query_of g.0) p) (bytes_eq (f
     go true b f e later = absurd cc
     go false true f e later =
         let same : g.0 ≡ h = feed_is e in
-        inl (sym (same_bytes (feed_of g.0) p f) ∙ ap feed_of same, or_left (bytes_eq g.0 h) _ (ap (λ (x : Path). bytes_eq x h) same ∙ bytes_itself h))
+        inl (sym (same_bytes (feed_of g.0) p f) ∙ ap feed_of same, or_first (bytes_eq g.0 h) _ (ap (λ (x : Path). bytes_eq x h) same ∙ bytes_itself h))
       where
         feed_is : Some (FeedOf g.0) ≡ Some (FeedOf h) → g.0 ≡ h
         feed_is e = cc
@@ -329,7 +330,7 @@ among_places p h (g ∷ hs) rest e = go (bytes_eq (query_of g.0) p) (bytes_eq (f
       where
         further : ((p ≡ feed_of h) × (is_among h (map (λ x. x.0) hs) ≡ true)) ⊎ (at p rest ≡ Some (FeedOf h))
             → ((p ≡ feed_of h) × ((bytes_eq g.0 h || is_among h (map (λ x. x.0) hs)) ≡ true)) ⊎ (at p rest ≡ Some (FeedOf h))
-        further (inl x) = inl (x.0, or_right (bytes_eq g.0 h) _ x.1)
+        further (inl x) = inl (x.0, or_second (bytes_eq g.0 h) _ x.1)
         further (inr x) = inr x
 
 pub is_feed : (plan : Plan) (p h : Path) → at p (event_places plan) ≡ Some (FeedOf h) → IsFeedOf plan p h

@@ -3,6 +3,7 @@ use Rattle.std.proofs.Common.{ℕ, ◌≡◌, zero, suc, ◌+◌, ◌<◌, ◌�
 use Rattle.std.specs.Prelude.{find, slice_get}
 use Rattle.std.specs.List.{AllByRecursion, flat_map}
 use Rattle.ob_times.specs.Times.{Instant}
+use Rattle.ob_values.proofs.Lists.{some_same, bytes_itself}
 use Rattle.ob_history.specs.declared.records.Record.{Record}
 use Rattle.ob_site_rules.specs.Build.{Path}
 use Rattle.ob_site_rules.specs.Places.{FeedOf, event_places}
@@ -10,7 +11,7 @@ use Rattle.ob_site_rules.specs.Posts.{kept_in, records_of}
 use Rattle.ob_site_rules.specs.State.{Plan, Log, State, at, is_among}
 use Rattle.ob_site_rules.specs.Watched.{gone_in}
 use Rattle.ob_consistent_laws.specs.Laws.{Apart}
-use Rattle.ob_shown_laws.proofs.Touches.{bytes_itself, or_left, or_right}
+use Rattle.ob_values.proofs.Bools.{or_first, or_second}
 use Rattle.ob_site_state.specs.declared.change.Change.{Change}
 use Rattle.ob_site_state.specs.declared.change.Change.TheVariants as change
 use Rattle.ob_site_state.specs.Changes.{cut, with_log, undone, rewound, CanRewind, AreTold}
@@ -28,9 +29,6 @@ Logs = List (Path × Log)
 abbrev Entry : Type 0
 Entry = Path × Log
 
-some_same : {A : Type 0} {a b : A} → Some a ≡ Some b → a ≡ b
-some_same e = cc
-
 -- ---- logs by their places and their paths
 
 abbrev found_in : Bool → Entry → Option Entry → Option Log
@@ -47,8 +45,8 @@ at_later h l ls e = ap (λ b. found_in b l (find (λ x. bytes_eq x.0 h) ls)) e
 -- the path of a log is among those of all
 pub key_among : (ls : Logs) (place : ℕ) (l : Entry) → slice_get ls place ≡ Some l → is_among l.0 (keys ls) ≡ true
 key_among [] place l e = absurd cc
-key_among (x ∷ ls) zero l e = or_left (bytes_eq x.0 l.0) _ (ap (λ (y : Entry). bytes_eq x.0 y.0) (sym (some_same e)) ∙ bytes_itself x.0)
-key_among (x ∷ ls) (suc place) l e = or_right (bytes_eq x.0 l.0) _ (key_among ls place l e)
+key_among (x ∷ ls) zero l e = or_first (bytes_eq x.0 l.0) _ (ap (λ (y : Entry). bytes_eq x.0 y.0) (sym (some_same e)) ∙ bytes_itself x.0)
+key_among (x ∷ ls) (suc place) l e = or_second (bytes_eq x.0 l.0) _ (key_among ls place l e)
 
 off_first : (x : Path) (ps : List Path) (p : Path) → is_among x ps ≡ false → is_among p ps ≡ true → bytes_eq x p ≡ false
 off_first x ps p off on = not_same x p (λ same. true≢false (sym on ∙ ap (λ (q : Path). is_among q ps) (sym same) ∙ off))

@@ -3,13 +3,13 @@ use Rattle.std.proofs.Common.{ℕ, ◌≡◌, ◌+◌, ◌≤◌, Bool, true, fa
 use Rattle.std.specs.Prelude.{slice_get}
 use Rattle.std.specs.List.{AllByRecursion, flat_map}
 use Rattle.std.proofs.lemmas.Bool.Decides.{nat_tests}
+use Rattle.ob_values.proofs.Lists.{some_same, bytes_itself}
 use Rattle.ob_history.specs.declared.records.Record.{Record}
 use Rattle.ob_site_laws.proofs.Rolling.{rolled_at}
 use Rattle.ob_site_rules.specs.Build.{Path}
 use Rattle.ob_site_rules.specs.Places.{Place, About, Batch, Service, Make, AlarmAt, AckOf, WritePointOf, QueryOf, FeedOf, AlarmQuery, AlarmFeed, Node, event_places}
 use Rattle.ob_site_rules.specs.State.{Plan, Log, State, at, is_among, rolled, roll}
 use Rattle.ob_site_rules.specs.Watched.{gone_in, gone_at}
-use Rattle.ob_shown_laws.proofs.Touches.{bytes_itself}
 use Rattle.ob_site_state.specs.declared.change.Change.{Change}
 use Rattle.ob_site_state.specs.declared.change.Change.TheVariants as change
 use Rattle.ob_consistent_laws.specs.Laws.{Apart}
@@ -25,9 +25,6 @@ use Rattle.ob_site_feeds.proofs.Recorded.{AreLogs, Earlier, earlier, earlier_the
 
 abbrev Entry : Type 0
 Entry = Path × Log
-
-some_same : {A : Type 0} {a b : A} → Some a ≡ Some b → a ≡ b
-some_same e = cc
 
 abbrev log : Option ℕ → ℕ → List Record → Log
 log c g k = record { capacity = c; gone = g; kept = k }

@@ -8,6 +8,7 @@ use denote.Ref.{Bor}
 use Rattle.std.proofs.lemmas.List.{append-nil, take_more, take_all}
 use Rattle.std.proofs.lemmas.Map.Text.{is_eq-slice_cmp}
 use Rattle.std.proofs.lemmas.Option.{slice_get-get_or}
+use Rattle.ob_values.proofs.Bools.{or_assoc, or_false}
 use Rattle.ob_object.specs.Object.{Object, none, in_row, children, count, parts}
 use Rattle.ob_object.specs.WellFormed.{is_taken, has_name, NamesDiffer}
 use Rattle.ob_contracts.specs.Found.{lent}
@@ -26,14 +27,6 @@ or_cond true true = refl
 or_cond true false = refl
 or_cond false true = refl
 or_cond false false = refl
-
-or_assoc : (a b c : Bool) → ((a || b) || c) ≡ (a || (b || c))
-or_assoc true b c = refl
-or_assoc false b c = refl
-
-or_false : (a : Bool) → (a || false) ≡ a
-or_false true = refl
-or_false false = refl
 
 -- a text more in a set
 pub text_more : (set new : Texts) (key : Bor (List ℕ)) → Updates (λ x y. slice_cmp nat_cmp x.now y.now) set new key true → (t : List ℕ) → has_text new t ≡ (has_text set t || bytes_eq key.now t)

@@ -4,6 +4,7 @@ use Rattle.std.specs.Prelude.{min, is_some}
 use Rattle.std.specs.List.{flat_map}
 use Rattle.std.proofs.lemmas.List.{append-nil}
 use Rattle.std.proofs.lemmas.Slice.Eq.{bytes_eq-Decides}
+use Rattle.ob_values.proofs.Bools.{and_first}
 use Rattle.ob_object.specs.declared.kind.Kind.TheVariants as kind
 use Rattle.ob_object.specs.Kinds.{same_kind}
 use Rattle.ob_object.specs.Object.{Object, children, count, parts, in_row}
@@ -13,7 +14,8 @@ use Rattle.ob_opening.specs.Roles.{is_part}
 use Rattle.ob_opening.specs.Loading.{Part, numbered, items_of}
 use Rattle.ob_roles.proofs.PartRows.{Numbers, numbers_more, numbers_within, inner_row}
 use Rattle.ob_site_file.specs.Numbers.{IsNumbered}
-use Rattle.ob_site_file.proofs.Rests.{rest_more, rest_past}
+use Rattle.ob_values.proofs.Lists.{drop_all}
+use Rattle.ob_site_file.proofs.Rests.{rest_more}
 
 -- the items of the lists of a name among children from a number on
 abbrev pub items_in : Text → ℕ → List Object → List (ℕ × Object)
@@ -43,10 +45,6 @@ none_named name n (c ∷ cs) free =
 name_is : (name : Text) (n : Option Text) → has_name name n ≡ true → n ≡ Some name
 name_is name None h = absurd (true≢false (sym h))
 name_is name (Some m) h = ap Some ((bytes_eq-Decides m name).0 h)
-
-and_first : (a b : Bool) → (a && b) ≡ true → a ≡ true
-and_first true b h = refl
-and_first false b h = absurd (true≢false (sym h))
 
 differ_rest : (cs : List Object) (i : ℕ) → NamesDiffer cs → NamesDiffer (drop i cs)
 differ_rest cs zero d = d
@@ -118,5 +116,5 @@ items_found name p all i number first x os d row h is list step inner l =
 
 pub items_none : (name : Text) (p : Part) (all : List Object) (i number : ℕ) → length all ≤ i → number < 2 ^ 64 → ItemsLeft name p all i number → IsFound name p number []
 items_none name p all i number h fits l =
-    let none : [] ≡ items_of name p = sym (ap (items_in name l.at) (rest_past all i h)) ∙ l.same in
+    let none : [] ≡ items_of name p = sym (ap (items_in name l.at) (drop_all all i h)) ∙ l.same in
     record { objects = ap (map (λ i. i.1)) none; items = λ n. none; within = λ n. omega (arith, fits) }

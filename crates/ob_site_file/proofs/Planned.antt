@@ -11,7 +11,8 @@ use Rattle.ob_site_rules.specs.State.{Log}
 use Rattle.ob_plain_state.specs.States.{AreCounted}
 use Rattle.ob_site_rules.specs.Writes.{events_ever}
 use Rattle.ob_site_file.specs.Abouts.{texts_in}
-use Rattle.ob_site_file.proofs.Rests.{rest_more, rest_past}
+use Rattle.ob_values.proofs.Lists.{drop_all}
+use Rattle.ob_site_file.proofs.Rests.{rest_more}
 
 -- what is given so far, and what is left, is what there was, and what all give
 module _ {B : Type 0} (give : Part → B) (asked : Part → Bool) where
@@ -37,7 +38,7 @@ module _ {B : Type 0} (give : Part → B) (asked : Part → Bool) where
       ∙ p
 
   pub gives_all : (all : List OwnPart) (i : ℕ) (old new : List B) → length all ≤ i → Gives all i old new → new ≡ old ++ given (map site_part all)
-  gives_all all i old new h p = sym (append-nil new) ∙ ap (λ l. new ++ given (map site_part l)) (sym (rest_past all i h)) ∙ p
+  gives_all all i old new h p = sym (append-nil new) ∙ ap (λ l. new ++ given (map site_part l)) (sym (drop_all all i h)) ∙ p
 
   -- one that is asked for, and one that isn't
   pub gives_one : (p : Part) (old new : List B) → asked p ≡ true → new ≡ old ++ give p ∷ [] → new ≡ old ++ given (p ∷ [])
@@ -62,7 +63,7 @@ says_more all i x old new last h is put p =
     ∙ p
 
 pub says_all : (all : List Object) (i : ℕ) (old new : List (Text × Text)) → length all ≤ i → Says all i old new → new ≡ old ++ texts_in all
-says_all all i old new h p = sym (append-nil new) ∙ ap (λ l. new ++ texts_in l) (sym (rest_past all i h)) ∙ p
+says_all all i old new h p = sym (append-nil new) ∙ ap (λ l. new ++ texts_in l) (sym (drop_all all i h)) ∙ p
 
 -- logs that can be counted, and one more
 pub counted_more : (ls : List (Path × Log)) (l : Path × Log) → events_ever l.1 < 2 ^ 63 → AreCounted ls → AreCounted (ls ++ l ∷ [])

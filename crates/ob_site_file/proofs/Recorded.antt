@@ -8,7 +8,8 @@ use Rattle.ob_history.specs.declared.records.Record.{Record}
 use Rattle.ob_opening.specs.Loading.{numbered, record_in, is_bad_item, after_item, bad_records, least}
 use Rattle.ob_roles.proofs.PartRows.{Numbers, numbers_more}
 use Rattle.ob_site_file.proofs.Firsts.{From, from_below, from_if, least_from}
-use Rattle.ob_site_file.proofs.Rests.{rest_more, rest_past}
+use Rattle.ob_values.proofs.Lists.{drop_all}
+use Rattle.ob_site_file.proofs.Rests.{rest_more}
 
 records_from : (before : Option Instant) (n : ℕ) (os : List Object) → From n (bad_records before (numbered n os))
 records_from before n [] = tt
@@ -44,7 +45,7 @@ records_bad n all i before number x h is bad l =
     sym (ap (λ os. least (bad_records before (numbered number os))) (rest_more all i x h is) ∙ ap least (at_item before number x (drop (i + 1) all) true bad) ∙ least_from number rest behind) ∙ l.same
 
 pub records_all : (n : ℕ) (all : List Object) (i : ℕ) (before : Option Instant) (number : ℕ) → length all ≤ i → RecordsLeft n all i before number → None ≡ least (bad_records None (numbered n all))
-records_all n all i before number h l = sym (ap (λ os. least (bad_records before (numbered number os))) (rest_past all i h)) ∙ l.same
+records_all n all i before number h l = sym (ap (λ os. least (bad_records before (numbered number os))) (drop_all all i h)) ∙ l.same
 
 cons_is : (r : Option Record) (rs : List Record) → cons_option r rs ≡ cons_option r [] ++ rs
 cons_is None rs = refl
@@ -61,4 +62,4 @@ made_more all i x made new h is put held =
     ∙ ap (λ l. made ++ l) (sym (ap (filter_map record_in) (rest_more all i x h is) ∙ cons_is (record_in x) rest)) ∙ held
 
 pub made_all : (all : List Object) (i : ℕ) (made : List Record) → length all ≤ i → RecordsMade all i made → made ≡ filter_map record_in all
-made_all all i made h held = sym (append-nil made) ∙ ap (λ os. made ++ filter_map record_in os) (sym (rest_past all i h)) ∙ held
+made_all all i made h held = sym (append-nil made) ∙ ap (λ os. made ++ filter_map record_in os) (sym (drop_all all i h)) ∙ held

@@ -1,5 +1,5 @@
 -- The items of `rules`, one after the other.
-use Rattle.std.proofs.Common.{◌≡◌, ℕ, ◌+◌, ◌<◌, ◌≤◌, Bool, true, false, cond, not, ◌||◌, List, [], ◌∷◌, ◌++◌, map, length, drop, get_or, Option, Some, None, refl, sym, ap, ◌∙◌, subst, append_assoc, arith}
+use Rattle.std.proofs.Common.{◌≡◌, ℕ, ◌+◌, ◌<◌, ◌≤◌, Bool, true, false, cond, not, List, [], ◌∷◌, ◌++◌, map, length, drop, get_or, Option, Some, None, refl, sym, ap, ◌∙◌, subst, append_assoc, arith}
 use Rattle.std.specs.Prelude.{option_map, option_and_then, bytes_eq}
 use Rattle.std.specs.List.{filter_map, cons_option}
 use Rattle.std.specs.Ordering.{nat_cmp, is_eq}
@@ -8,6 +8,7 @@ use Rattle.std.specs.BTreeSet.{BTreeSet, contains_by}
 use Rattle.std.proofs.lemmas.List.{append-nil}
 use Rattle.std.proofs.lemmas.Map.Text.{is_eq-slice_cmp}
 use denote.Ref.{Bor}
+use Rattle.ob_values.proofs.Bools.{or_cond}
 use Rattle.ob_replies.specs.Plans.{point_rule}
 use Rattle.ob_replies.specs.declared.plan.PointRule.{PointRule as OwnRule}
 use Rattle.ob_object.specs.declared.kind.Kind.{Kind}
@@ -18,7 +19,8 @@ use Rattle.ob_opening.specs.Loading.{Part, numbered, node_there, is_number_kind,
 use Rattle.ob_site_file.specs.Told.{Has, IsNext}
 use Rattle.ob_site_file.specs.declared.nodes.Nodes.{Nodes}
 use Rattle.ob_site_file.proofs.Firsts.{From, from_below, from_if, least_from}
-use Rattle.ob_site_file.proofs.Rests.{rest_more, rest_past}
+use Rattle.ob_values.proofs.Lists.{drop_all}
+use Rattle.ob_site_file.proofs.Rests.{rest_more}
 
 rules_from : (ps : List Part) (before : List Path) (n : ℕ) (os : List Object) → From n (bad_rules ps before (numbered n os))
 rules_from ps before n [] = tt
@@ -66,11 +68,7 @@ rules_bad ps n all i set new number x fresh h is no_rule put l =
     ) ∙ l.same
 
 pub rules_all : (ps : List Part) (n : ℕ) (all : List Object) (i : ℕ) (set : BTreeSet (Bor (List ℕ))) (number : ℕ) → length all ≤ i → RulesLeft ps n all i set number → None ≡ least (bad_rules ps [] (numbered n all))
-rules_all ps n all i set number h l = sym (ap (λ os. least (bad_rules ps l.before (numbered number os))) (rest_past all i h)) ∙ l.same
-
-or_cond : (b c : Bool) → cond b true c ≡ (b || c)
-or_cond true c = refl
-or_cond false c = refl
+rules_all ps n all i set number h l = sym (ap (λ os. least (bad_rules ps l.before (numbered number os))) (drop_all all i h)) ∙ l.same
 
 -- the sources, one more
 has_more : (set new : BTreeSet (Bor (List ℕ))) (p : Path) (before : List Path) → ((q : Path) → has_source new q ≡ cond (bytes_eq p q) true (has_source set q)) → Has set before → Has new (p ∷ before)
@@ -123,4 +121,4 @@ put_more ps all i x old made new h is put l =
     }
 
 pub put_all : (ps : List Part) (all : List Object) (i : ℕ) (old new : List OwnRule) → length all ≤ i → RulesPut ps all i old new → map point_rule new ≡ map point_rule old ++ filter_map (rule_in ps) all
-put_all ps all i old new h l = sym (append-nil (map point_rule new)) ∙ ap (λ os. map point_rule new ++ filter_map (rule_in ps) os) (sym (rest_past all i h)) ∙ l.same
+put_all ps all i old new h l = sym (append-nil (map point_rule new)) ∙ ap (λ os. map point_rule new ++ filter_map (rule_in ps) os) (sym (drop_all all i h)) ∙ l.same

@@ -11,6 +11,7 @@ use Rattle.std.specs.BTreeSet.{BTreeSet}
 use Rattle.std.proofs.lemmas.Map.Text.{is_eq-slice_cmp}
 use Rattle.std.proofs.lemmas.Slice.Eq.{bytes_eq-Decides}
 use Rattle.std.proofs.lemmas.List.{take_more, take_all}
+use Rattle.ob_values.proofs.Bools.{and_false, or_cond}
 use Rattle.ob_object.specs.declared.kind.Kind.{Kind}
 use Rattle.ob_object.specs.Object.{Object}
 use Rattle.ob_object.specs.Paths.{is_path, node_path}
@@ -65,10 +66,6 @@ node_is fits p path q out e =
 inside_none : (fits : Kind → Bool) (p : Path) (q : Part) → q.inside ≡ true → is_there fits p q ≡ false
 inside_none fits p q e = ap (λ b. not b && (fits q.own.head.kind && is_path p (node_path q.own.head))) e
 
-and_false : (b : Bool) → (b && false) ≡ false
-and_false true = refl
-and_false false = refl
-
 nameless_none : (fits : Kind → Bool) (p : Path) (q : Part) → node_path q.own.head ≡ None → is_there fits p q ≡ false
 nameless_none fits p q e =
     ap (λ o. not q.inside && (fits q.own.head.kind && is_path p o)) e ∙ ap (λ b. not q.inside && b) (and_false (fits q.own.head.kind)) ∙ and_false (not q.inside)
@@ -100,10 +97,6 @@ sees_inside nodes ps q e s = no_more nodes ps q (λ fits p. inside_none fits p q
 
 pub sees_nameless : (nodes : Nodes) (ps : List Part) (q : Part) → node_path q.own.head ≡ None → Sees nodes ps → Sees nodes (ps ++ q ∷ [])
 sees_nameless nodes ps q e s = no_more nodes ps q (λ fits p. nameless_none fits p q e) s
-
-or_cond : (b c : Bool) → cond b true c ≡ (b || c)
-or_cond true c = refl
-or_cond false c = refl
 
 -- one path more, of a node that is asked for
 pub path_put : (asked : Bool) (old new : BTreeSet (List ℕ)) (path : Path) → asked ≡ true → set.Updates (slice_cmp nat_cmp) old new path true → (p : Path) → has_path new p ≡ ((asked && bytes_eq path p) || has_path old p)

@@ -12,7 +12,8 @@ use Rattle.ob_roles.specs.Told.{part}
 use Rattle.ob_roles.specs.declared.part.Part.{Part as OwnPart}
 use Rattle.ob_site_file.specs.Numbers.{earlier, IsNumbered, AreNumbered}
 use Rattle.ob_site_file.proofs.Firsts.{earlier_assoc, earlier_none, least_cons, least_append}
-use Rattle.ob_site_file.proofs.Rests.{rest_more, rest_past}
+use Rattle.ob_values.proofs.Lists.{drop_all}
+use Rattle.ob_site_file.proofs.Rests.{rest_more}
 
 -- the numbers of the parts of a row fit where those of the row do
 are_append : (ps qs : List Part) → AreNumbered ps → AreNumbered qs → AreNumbered (ps ++ qs)
@@ -51,7 +52,7 @@ parts_more : (all : List OwnPart) (i : ℕ) (x : OwnPart) → i < length all →
 parts_more all i x h is = ap (map part) (rest_more all i x h is)
 
 parts_past : (all : List OwnPart) (i : ℕ) → length all ≤ i → map part (drop i all) ≡ []
-parts_past all i h = ap (map part) (rest_past all i h)
+parts_past all i h = ap (map part) (drop_all all i h)
 
 -- a history: its own children, and then its items
 pub history_is : (ps : List Part) (p : Part) (own items : Option ℕ) → own ≡ least (cond (has_bad_source ps p || has_bad_capacity p) (p.number ∷ []) []) → items ≡ least (bad_records None (items_of (codes "data") p))

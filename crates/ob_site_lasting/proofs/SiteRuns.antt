@@ -1,6 +1,7 @@
 -- The laws of watches of the whole site, over restarts.
 use Rattle.std.proofs.Common.{◌≡◌, ℕ, ◌^◌, ◌<◌, ◌≤◌, List, [], ◌∷◌, ◌++◌, None, refl, sym, ap, subst, subst₂, le_refl, le_trans, inl, inr}
 use Rattle.std.specs.List.{AllByRecursion}
+use Rattle.ob_values.proofs.Lists.{all_mapped}
 use Rattle.ob_machine.specs.History.{entry, left_by, after, IsAnswer, IsLegal}
 use Rattle.ob_machine.specs.declared.call.Answer.{Answer}
 use Rattle.ob_machine.specs.declared.call.Answer.TheVariants.{Done, NoMemory}
@@ -21,10 +22,6 @@ use Rattle.ob_site_laws.proofs.Seen.{keeps_watches}
 use Rattle.ob_lasting.proofs.Histories.{all_at, first_run, history_back, run_cut, history_cut, kept_after, later_starts}
 use Rattle.ob_lasting.proofs.Gone.{act_next, sound_restart, made_next}
 use Rattle.ob_site_lasting.specs.SiteLasting.{IsSiteRestartOf, KeepsNumbers, Run, IsSiteHistory, StartsSound, SiteCutOff, EachRunKeepsWatches, IsGoneIn, GoneOverRestarts}
-
-all_mapped : {A : Type 0} (P Q : A → Type 0) → ((x : A) → P x → Q x) → (xs : List A) → AllByRecursion P xs → AllByRecursion Q xs
-all_mapped P Q f [] h = tt
-all_mapped P Q f (x ∷ xs) h = (f x h.0, all_mapped P Q f xs h.1)
 
 sound_acts : (st : SiteState) (r : Request) (moment : ℕ) → IsSoundSite st → IsSoundSite (acts st r moment).0
 sound_acts st r moment h = (stays st h (entry 0 r moment (Done (acts st r moment).1) ∷ [])).1

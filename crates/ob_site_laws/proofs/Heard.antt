@@ -3,6 +3,7 @@ use Rattle.std.proofs.Common.{ℕ, zero, suc, ◌≡◌, Bool, true, false, not,
 use Rattle.std.specs.Prelude.{is_none, is_some, codes, cond, nat_eq, option_map, unwrap_or}
 use Rattle.std.proofs.lemmas.Bool.Decides.{nat_tests}
 use Rattle.std.specs.List.{AllByRecursion, filter, list_all}
+use Rattle.ob_values.proofs.Bools.{both_true, not_true}
 use Rattle.ob_object.specs.declared.kind.Kind.TheVariants as kind
 use Rattle.ob_object.specs.Object.{Object, listed-in_row}
 use Rattle.ob_object.specs.WellFormed.{has_name, named}
@@ -34,17 +35,9 @@ IsReadable changes (Shows o) = is_plain o ≡ true
 IsReadable changes (Lists feed dropped events) = ((contract : Text) × (feed ≡ feed_of contract)) × AllByRecursion (λ e. IsEvent e) events × (changes ≡ false → dropped ≡ 0)
 IsReadable changes (Refuses o) = (fault : Fault) × (o ≡ err fault)
 
-both_true : (a b : Bool) → (a && b) ≡ true → (a ≡ true) × (b ≡ true)
-both_true true b h = (refl, h)
-both_true false b h = absurd cc
-
 no_href : (t : Option Text) → is_none t ≡ true → t ≡ None
 no_href None h = refl
 no_href (Some t) h = absurd cc
-
-is_false : (b : Bool) → not b ≡ true → b ≡ false
-is_false true h = absurd cc
-is_false false h = refl
 
 abbrev read : Text → Content → Reading
 read t c = record { text = t; content = c }
@@ -90,7 +83,7 @@ back : (changes : Bool) (t : Text) (c : Content) → IsReadable changes c → en
 back changes t (Shows o) h =
     let parts = both_true (is_none o.head.href) (not (is_of_kind kind.Feed o) && not (is_of_kind kind.Err o)) h in
     let kinds = both_true (not (is_of_kind kind.Feed o)) (not (is_of_kind kind.Err o)) parts.1 in
-    ap₂ (λ feed error. read t (content_if changes feed error (under_href None (under_href (Some t) o)))) (is_false _ kinds.0) (is_false _ kinds.1)
+    ap₂ (λ feed error. read t (content_if changes feed error (under_href None (under_href (Some t) o)))) (not_true _ kinds.0) (not_true _ kinds.1)
     ∙ ap (λ (href : Option Text). read t (Shows (under_href href o))) (sym (no_href o.head.href parts.0))
 back changes t (Lists feed dropped events) h =
     ap (λ f. entry_read changes (entry (read t (Lists f dropped events)))) h.0.1

@@ -11,6 +11,7 @@ use Rattle.jiff_core.proofs.DateLemmas.{epoch_day_same}
 use Rattle.ob_values.specs.Times.{Date as Plain}
 use Rattle.ob_values.specs.declared.value.Value.{Value}
 use Rattle.ob_values.specs.declared.value.Value.TheVariants.{Bool as IsBool, Int, Real, Str, Enum, Uri, Abstime, Reltime, Date, Time}
+use Rattle.ob_values.proofs.Bools.{both_true, and_true}
 use Rattle.ob_object.specs.declared.kind.Kind.{Kind}
 use Rattle.ob_object.specs.declared.kind.Kind.TheVariants as kind
 use Rattle.ob_object.specs.declared.head.Slot.{Slot}
@@ -28,14 +29,6 @@ use Rattle.ob_site_rules.specs.Sameness.{numbers, same_value, same_slot, same_bo
 pub record Tells {A : Type 0} (same : A → A → Bool) : Type 0 where
   pub equal : (a b : A) → same a b ≡ true → a ≡ b
   pub itself : (a : A) → same a a ≡ true
-
-both_true : (a b : Bool) → (a && b) ≡ true → (a ≡ true) × (b ≡ true)
-both_true true b h = (refl, h)
-both_true false b h = absurd cc
-
-and_true : (a b : Bool) → a ≡ true → b ≡ true → (a && b) ≡ true
-and_true true b h g = g
-and_true false b h g = absurd cc
 
 pub tells_option : {A : Type 0} (same : A → A → Bool) → Tells same → Tells (same_option same)
 tells_option {A} same t = record { equal = equal; itself = itself }

@@ -7,7 +7,8 @@ use Rattle.ob_replies.specs.declared.plan.PointRule.{PointRule}
 use Rattle.ob_replies.specs.Plans.{point_rule}
 use Rattle.ob_site_rules.specs.Build.{Path}
 use Rattle.ob_site_rules.specs.State.{PointRule as SiteRule, numbered_from}
-use Rattle.ob_site_file.proofs.Rests.{rest_more, rest_past as rest_end}
+use Rattle.ob_values.proofs.Lists.{drop_all as rest_end}
+use Rattle.ob_site_file.proofs.Rests.{rest_more}
 
 source_at : (n : ℕ) (rs : List SiteRule) (i : ℕ) (r : Rule) → slice_get (numbered_from n rs) i ≡ Some r → r.source ≡ n + i
 source_at n [] i r is = cc

@@ -3,6 +3,8 @@ use Rattle.std.proofs.Common.{◌≡◌, ℕ, Bool, true, false, cond, ◌||◌,
 use Rattle.std.specs.Prelude.{is_some}
 use Rattle.std.proofs.lemmas.List.{map-append}
 use Rattle.std.proofs.lemmas.Slice.Eq.{bytes_eq-Decides}
+use Rattle.ob_values.proofs.Bools.{or_true, or_false}
+use Rattle.ob_values.proofs.Lists.{bytes_itself}
 use Rattle.ob_object.specs.Object.{Objects, none, node, Object}
 use Rattle.ob_object.specs.Paths.{node_path}
 use Rattle.ob_site_rules.specs.Build.{Path}
@@ -30,17 +32,6 @@ listed_row (node h inner rest) =
     ∙ listed-append (tree_paths inner) (tree_paths rest)
     ∙ ap₂ (λ a b. a ++ b) (listed_row inner) (listed_row rest))
 
-or_true : (b : Bool) → (b || true) ≡ true
-or_true true = refl
-or_true false = refl
-
-or_false : (b : Bool) → (b || false) ≡ b
-or_false true = refl
-or_false false = refl
-
-same_self : (p : Path) → bytes_eq p p ≡ true
-same_self p = (bytes_eq-Decides p p).1 refl
-
 -- a path that none of the others is
 other : (p q : Path) (qs : List Path) → is_among q qs ≡ false → is_among p qs ≡ true → bytes_eq q p ≡ false
 other p q qs out there = go (bytes_eq q p) refl
@@ -58,7 +49,7 @@ none_twice before [] a out = refl
 none_twice before (None ∷ qs) a out =
     none_twice (before ++ None ∷ []) qs a (λ p h. has-append p before (None ∷ []) ∙ or_false (has p before) ∙ out p h)
 none_twice before (Some q ∷ qs) a out =
-    ap (λ b. cond b (Some q) (first_twice (before ++ Some q ∷ []) qs)) (out q (ap (λ b. b || is_among q (listed qs)) (same_self q)))
+    ap (λ b. cond b (Some q) (first_twice (before ++ Some q ∷ []) qs)) (out q (ap (λ b. b || is_among q (listed qs)) (bytes_itself q)))
     ∙ none_twice (before ++ Some q ∷ []) qs a.1 (λ p h.
     has-append p before (Some q ∷ [])
     ∙ ap₂ (λ x y. x || y) (out p (ap (λ b. bytes_eq q p || b) h ∙ or_true (bytes_eq q p))) (ap (λ b. let o : Option ℕ = cond b (Some 0) None in is_some o) (other p q (listed qs) a.0 h)))

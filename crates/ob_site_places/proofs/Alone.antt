@@ -5,6 +5,8 @@ use Rattle.std.specs.List.{flat_map}
 use Rattle.std.specs.Str.{bytes_eq}
 use Rattle.std.proofs.lemmas.List.{length-append}
 use Rattle.std.proofs.lemmas.Slice.Eq.{bytes_eq-Decides}
+use Rattle.ob_values.proofs.Bools.{or_first, or_second}
+use Rattle.ob_values.proofs.Lists.{bytes_itself}
 use Rattle.ob_alarms.specs.Lists.{first_place}
 use Rattle.ob_contracts.specs.Inherit.{or_else}
 use Rattle.ob_site_rules.specs.Build.{Path}
@@ -25,22 +27,11 @@ Entries = List (Path × Place)
 is_same : (q a : Path) → bytes_eq q a ≡ true → q ≡ a
 is_same q a e = (bytes_eq-Decides q a).0 e
 
-bytes_itself : (q : Path) → bytes_eq q q ≡ true
-bytes_itself q = (bytes_eq-Decides q q).1 refl
-
-or_left : (a b : Bool) → a ≡ true → (a || b) ≡ true
-or_left true b e = refl
-or_left false b e = absurd cc
-
-or_right : (a b : Bool) → b ≡ true → (a || b) ≡ true
-or_right true b e = refl
-or_right false b e = e
-
 in_front : (q : Path) (qs : List Path) → is_among q (q ∷ qs) ≡ true
-in_front q qs = or_left (bytes_eq q q) (is_among q qs) (bytes_itself q)
+in_front q qs = or_first (bytes_eq q q) (is_among q qs) (bytes_itself q)
 
 behind : (r q : Path) (qs : List Path) → is_among r qs ≡ true → is_among r (q ∷ qs) ≡ true
-behind r q qs e = or_right (bytes_eq q r) (is_among r qs) e
+behind r q qs e = or_second (bytes_eq q r) (is_among r qs) e
 
 -- where none of them has an entry
 none_at : (f : Path → Entries) (p : Path) (qs : List Path) → ((q : Path) → is_among q qs ≡ true → at p (f q) ≡ None) → at p (flat_map f qs) ≡ None

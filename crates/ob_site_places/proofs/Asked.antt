@@ -1,10 +1,11 @@
 -- The records that a filter asks for are all that it asks for of them.
-use Rattle.std.proofs.Common.{◌≡◌, ℕ, zero, suc, Bool, true, false, cond, ◌&&◌, List, [], ◌∷◌, ◌++◌, take, refl, sym, ap, ◌∙◌, arith}
+use Rattle.std.proofs.Common.{◌≡◌, ℕ, zero, suc, Bool, true, false, cond, List, [], ◌∷◌, ◌++◌, take, refl, sym, ap, ◌∙◌, arith}
 use Rattle.std.specs.Prelude.{codes, filter, map, All, slice_index_or}
 use Rattle.std.specs.List.{list_all}
 use Rattle.std.proofs.lemmas.List.{length-take, take_all}
 use Rattle.std.proofs.lemmas.List.Sums.{list_all-from_AllPass}
 use Rattle.std.proofs.lemmas.List.Folds.{list_all-append}
+use Rattle.ob_values.proofs.Bools.{and_second, both_true}
 use Rattle.ob_object.specs.declared.kind.Kind.{Kind}
 use Rattle.ob_object.specs.declared.head.Slot.{Slot}
 use Rattle.ob_object.specs.declared.head.Slot.TheVariants.{Absent, Null, Is}
@@ -17,10 +18,6 @@ use Rattle.ob_history.specs.Records.{passes, asked, holds_value, IsRecord}
 use Rattle.ob_replies.specs.Queries.{values_fit}
 use Rattle.ob_site_rules.specs.Entries.{record_object, query_out, records_out}
 
-second : (a b : Bool) → (a && b) ≡ true → b ≡ true
-second true b e = e
-second false b e = absurd cc
-
 fits : (k : Kind) (slot : Slot) → holds_value k slot ≡ true → fits_slot k slot ≡ true
 fits k Absent e = absurd cc
 fits k Null e = refl
@@ -31,11 +28,7 @@ records_fit rs all =
     list_all-from_AllPass (λ (r : Record). fits_slot r.kind r.slot) rs
     (λ k d lt.
     let r : Record = slice_index_or rs k d in
-    fits r.kind r.slot (second (has_values r.kind) (holds_value r.kind r.slot) (all k d lt)))
-
-both_true : (a b : Bool) → (a && b) ≡ true → (a ≡ true) × (b ≡ true)
-both_true true b e = (refl, e)
-both_true false b e = absurd cc
+    fits r.kind r.slot (and_second (has_values r.kind) (holds_value r.kind r.slot) (all k d lt)))
 
 abbrev fit : Record → Bool
 fit r = fits_slot r.kind r.slot

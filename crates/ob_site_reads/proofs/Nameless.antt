@@ -1,7 +1,8 @@
 -- The events of feeds have no names.
-use Rattle.std.proofs.Common.{◌≡◌, ℕ, zero, suc, Bool, true, false, cond, ◌&&◌, List, [], ◌∷◌, drop, Option, None, refl, ap, ap₂, ◌∙◌}
+use Rattle.std.proofs.Common.{◌≡◌, ℕ, zero, suc, Bool, true, false, cond, List, [], ◌∷◌, drop, Option, None, refl, ap, ap₂, ◌∙◌}
 use Rattle.std.specs.Prelude.{is_none}
 use Rattle.std.specs.List.{filter, list_all, AllByRecursion}
+use Rattle.ob_values.proofs.Bools.{and_true, and_first, and_second}
 use Rattle.ob_object.specs.Object.{Object}
 use Rattle.ob_alarms.specs.Changes.{State as Board}
 use Rattle.ob_alarms.specs.declared.rule.Rule.{Rule}
@@ -18,17 +19,6 @@ use Rattle.ob_site_reads.proofs.Eventful.{events_are}
 abbrev pub nameless : Object → Bool
 nameless o = is_none o.head.name
 
-and_true : (a b : Bool) → a ≡ true → b ≡ true → (a && b) ≡ true
-and_true a b h k = ap (λ x. x && b) h ∙ k
-
-front_true : (a b : Bool) → (a && b) ≡ true → a ≡ true
-front_true true b h = refl
-front_true false b h = absurd (cc)
-
-rest_true : (a b : Bool) → (a && b) ≡ true → b ≡ true
-rest_true true b h = h
-rest_true false b h = absurd (cc)
-
 tests : (os : List Object) → AllByRecursion (λ o. o.head.name ≡ None) os → list_all nameless os ≡ true
 tests [] h = refl
 tests (o ∷ os) h = and_true (is_none o.head.name) (list_all nameless os) (ap is_none h.0) (tests os h.1)
@@ -37,14 +27,14 @@ filter_nameless : (p : Object → Bool) (os : List Object) → list_all nameless
 filter_nameless p [] h = refl
 filter_nameless p (o ∷ os) h =
     elim (p o) as (λ b. list_all nameless (cond b (o ∷ filter p os) (filter p os)) ≡ true) [
-      | true ↦ and_true (nameless o) (list_all nameless (filter p os)) (front_true (nameless o) (list_all nameless os) h) (filter_nameless p os (rest_true (nameless o) (list_all nameless os) h))
-      | false ↦ filter_nameless p os (rest_true (nameless o) (list_all nameless os) h)
+      | true ↦ and_true (nameless o) (list_all nameless (filter p os)) (and_first (nameless o) (list_all nameless os) h) (filter_nameless p os (and_second (nameless o) (list_all nameless os) h))
+      | false ↦ filter_nameless p os (and_second (nameless o) (list_all nameless os) h)
     ]
 
 drop_nameless : (n : ℕ) (os : List Object) → list_all nameless os ≡ true → list_all nameless (drop n os) ≡ true
 drop_nameless zero os h = h
 drop_nameless (suc n) [] h = refl
-drop_nameless (suc n) (o ∷ os) h = drop_nameless n os (rest_true (nameless o) (list_all nameless os) h)
+drop_nameless (suc n) (o ∷ os) h = drop_nameless n os (and_second (nameless o) (list_all nameless os) h)
 
 -- the alarms of contents are the definitions' for a plan of which they are
 pub board_is : (plan : Plan) (c : Contents) → c.board.root ≡ plan.root → c.board.rules ≡ numbered_from 0 plan.rules → (let b : Board = record c.board { spare = 0 } in b) ≡ board plan (state_in c)

@@ -1,6 +1,7 @@
 -- An own node that can be watched is reported with all that is shown of it.
 use Rattle.std.proofs.Common.{ℕ, ◌≡◌, Bool, true, false, not, ◌&&◌, cond, Option, Some, None, option_map, refl, sym, ap, ◌∙◌}
 use Rattle.std.specs.Prelude.{option_and_then}
+use Rattle.ob_values.proofs.Lists.{some_same}
 use Rattle.ob_object.specs.declared.head.Head.{Head}
 use Rattle.ob_object.specs.declared.kind.Kind.{Kind}
 use Rattle.ob_object.specs.declared.kind.Kind.TheVariants as kind
@@ -35,9 +36,6 @@ status_at plan s h (Some p) = status_by plan s h (rule_of plan p)
 effective_kind : (lib : Contracts) (o : Object) (implied : Option Words) (over : Option Object) → (effective_of lib o implied over).head.kind ≡ o.head.kind
 unfolding result_of
 effective_kind lib o implied over = refl
-
-some_same : {a b : Object} → Some a ≡ Some b → a ≡ b
-some_same e = cc
 
 -- what is shown of an own object is of its kind
 module _ (plan : Plan) (s : State) (n : ℕ) (o : Object) where

@@ -2,6 +2,7 @@
 use Rattle.std.proofs.Common.{◌≡◌, ◌≤◌, ◌<◌, inl, inr, ℕ, zero, suc, ◌+◌, ◌-◌, length, subst, arith, Bool, true, false, cond, nat_eq, List, [], ◌∷◌, take, drop, ◌++◌, append-nil, filter, reverse, Option, Some, None, refl, sym, ap, ◌∙◌}
 use Rattle.std.specs.Prelude.{slice_get, slice_index_or, unwrap_or}
 use Rattle.std.proofs.lemmas.Bool.Decides.{leb_tells}
+use Rattle.ob_values.proofs.Lists.{some_same}
 use Rattle.ob_object.specs.Object.{Object}
 use Rattle.ob_history.specs.declared.records.Filter.{Filter}
 use Rattle.ob_alarms.specs.declared.alarm.Alarm.{Alarm}
@@ -19,9 +20,6 @@ use Rattle.ob_replies.proofs.Numbered.{early_out, late_out}
 use Rattle.ob_site_rules.specs.Entries.{empty_object, event_object, is_within, raised_at}
 use Rattle.ob_site_rules.specs.Watched.{passes}
 use Rattle.ob_site_reads.proofs.Eventful.{some_events, none_yet, one_event}
-
-some_same : {A : Type 0} {a b : A} → Some a ≡ Some b → a ≡ b
-some_same e = cc
 
 -- an alarm that is there, raised at the same moment
 abbrev IsThere : Alarm → Option Alarm → Type 0

@@ -4,6 +4,7 @@ use Rattle.std.specs.Prelude.{nat_eq, find, slice_get, unwrap_or}
 use Rattle.std.specs.Str.{bytes_eq}
 use Rattle.std.proofs.lemmas.Bool.{eq-eqb, eqb-true}
 use Rattle.std.proofs.lemmas.Slice.Eq.{bytes_eq-Decides}
+use Rattle.ob_values.proofs.Bools.{not_not}
 use Rattle.ob_object.specs.declared.head.Head.{Head}
 use Rattle.ob_object.specs.declared.head.Slot.{Slot}
 use Rattle.ob_object.specs.declared.status.Status.{Status}
@@ -196,10 +197,6 @@ none_of false true c d = refl
 none_of false false true d = refl
 none_of false false false true = refl
 none_of false false false false = refl
-
-not_not : (b : Bool) → not (not b) ≡ b
-not_not true = refl
-not_not false = refl
 
 -- which parts an own node shows otherwise: its slot, its status, its history, and the count of alarms
 abbrev pub slot_differs : List Change → State → ℕ → Bool

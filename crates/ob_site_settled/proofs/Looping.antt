@@ -8,6 +8,7 @@ use Rattle.std.specs.Cmp.{unsigned_tied}
 use Rattle.std.proofs.Math.Seq.{drop-cons}
 use Rattle.std.proofs.lemmas.List.{take_more}
 use Rattle.std.proofs.lemmas.List.Elements.{All-from_recursion}
+use Rattle.ob_values.proofs.Lists.{drop_all}
 use Rattle.ob_object.specs.declared.head.Head.{Head}
 use Rattle.ob_object.specs.declared.head.Slot.{Slot}
 use Rattle.ob_object.specs.declared.status.Status.{Status}
@@ -48,12 +49,6 @@ drop_item xs i x h is =
 
 pub take_item : {A : Type 0} (xs : List A) (i : ℕ) (x : A) → i < length xs → x ≡ get_or xs i x → take (i + 1) xs ≡ take i xs ++ x ∷ []
 take_item xs i x h is = take_more xs i x h ∙ ap (λ y. take i xs ++ y ∷ []) (sym is)
-
-drop_all : {A : Type 0} (xs : List A) (i : ℕ) → length xs ≤ i → drop i xs ≡ []
-drop_all [] zero h = refl
-drop_all [] (suc i) h = refl
-drop_all (x ∷ xs) zero h = absurd (omega arith)
-drop_all (x ∷ xs) (suc i) h = drop_all xs i (omega arith)
 
 -- libraries
 pub library_next : (xs : List Change) (i : ℕ) (c : Change) → i < length xs → c ≡ get_or xs i c → library_noted c ≡ None

@@ -5,6 +5,7 @@ use Rattle.circular_buffer.specs.Buffer.{last_item}
 use Rattle.ob_history.specs.declared.records.Record.{Record}
 use Rattle.ob_history.specs.Logs.{History, kept_since}
 use Rattle.ob_times.specs.Times.{Instant}
+use Rattle.ob_values.proofs.Bools.{both_true}
 use Rattle.ob_site_rules.specs.Build.{number_slot, time_slot}
 use Rattle.ob_site_rules.specs.Sameness.{same_slot}
 use Rattle.ob_site_rules.specs.State.{Log, rolled}
@@ -69,11 +70,6 @@ span_some rs from to count first last lt le many a b =
     at_last =
         let e : from + (length some - 1) ≡ to - 1 = omega (arith, long, lt) in
         got_drop from (length some - 1) (take to rs) ∙ ap (slice_get (take to rs)) e ∙ got_take to (to - 1) rs (omega (arith, lt))
-
--- what says whether spans are equal says whether the same is shown
-both_true : (a b : Bool) → (a && b) ≡ true → (a ≡ true) × (b ≡ true)
-both_true true b h = (refl, h)
-both_true false b h = absurd (true≢false (sym h))
 
 pub number_of : (m n : ℕ) → number_slot m ≡ number_slot n → m ≡ n
 number_of m n e = cc

@@ -4,6 +4,8 @@ use Rattle.std.specs.Prelude.{nat_eq, is_none, slice_get, option_and_then, optio
 use Rattle.std.specs.List.{AllByRecursion, list_any}
 use Rattle.std.proofs.lemmas.Bool.{eq-eqb, eqb-true}
 use Rattle.std.proofs.lemmas.Slice.Eq.{bytes_eq-Decides}
+use Rattle.ob_values.proofs.Bools.{both_true}
+use Rattle.ob_values.proofs.Lists.{all_both}
 use Rattle.ob_object.specs.declared.head.Slot.{Slot}
 use Rattle.ob_object.specs.declared.status.Status.{Status}
 use Rattle.ob_object.specs.Paths.{is_path}
@@ -178,10 +180,6 @@ is_that_rule : (rule : ℕ) (o : Option ℕ) → is_rule rule o ≡ true → o �
 is_that_rule rule None e = absurd (true≢false (sym e))
 is_that_rule rule (Some first) e = ap (λ (n : ℕ). Some n) (eqb-true first rule e)
 
-both_true : (a b : Bool) → (a && b) ≡ true → (a ≡ true) × (b ≡ true)
-both_true true b e = (refl, e)
-both_true false b e = absurd (true≢false (sym e))
-
 path_is : (p : Path) (o : Option Path) → is_path p o ≡ true → o ≡ Some p
 path_is p None e = absurd (true≢false (sym e))
 path_is p (Some q) e = ap (λ (x : Path). Some x) ((bytes_eq-Decides q p).0 e)
@@ -283,15 +281,11 @@ all_of_option : (Q : ℕ → Type 0) (o : Option ℕ) (ns : List ℕ) → ((n : 
 all_of_option Q None ns one all = all
 all_of_option Q (Some n) ns one all = (one n refl, all)
 
-all_append : (Q : ℕ → Type 0) (ms ns : List ℕ) → AllByRecursion Q ms → AllByRecursion Q ns → AllByRecursion Q (ms ++ ns)
-all_append Q [] ns a b = b
-all_append Q (m ∷ ms) ns a b = (a.0, all_append Q ms ns a.1 b)
-
 -- each number that is told is that of such a node
 pub all_other : (plan : Plan) (cs : List Change) (now : State) → CanRewind cs now → AreTold plan cs now → IsSoundFor plan (rewound cs now) → Apart (keys now.logs)
     → AllByRecursion (IsOther plan cs now) (numbers_told plan cs now)
 all_other plan cs now can told sound apart =
-    all_append (IsOther plan cs now) (all_told library plan now [] cs) (option_to_list by_subject)
+    all_both (IsOther plan cs now) (all_told library plan now [] cs) (option_to_list by_subject)
     (all_notes [] cs refl (nodes_noted plan cs now can told))
     (subst (λ (ns : List ℕ). AllByRecursion (IsOther plan cs now) ns) (no_more (option_to_list by_subject)) (all_of_option (IsOther plan cs now) by_subject [] (λ n e. of_subject n e) tt))
   where

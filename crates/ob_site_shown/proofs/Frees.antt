@@ -1,13 +1,11 @@
 -- Names are free in each part of an object in which they are.
 use Rattle.std.proofs.Common.{◌≡◌, ℕ, zero, suc, ◌-◌, Bool, true, false, cond, Some, sym, subst}
 use Rattle.std.specs.Prelude.{nat_lt}
+use Rattle.ob_values.proofs.Lists.{some_same}
 use Rattle.ob_object.specs.Object.{Object, Objects, none, node, count}
 use Rattle.ob_tree.specs.Shown.{part_in}
 use Rattle.ob_site_rules.specs.State.{Plan, State}
 use Rattle.ob_plain_state.specs.States.{NamesAreFree}
-
-some_same : {a b : Object} → Some a ≡ Some b → a ≡ b
-some_same e = cc
 
 pub free_part : (plan : Plan) (s : State) (n : ℕ) (r : Objects) (o : Object) → NamesAreFree plan s r → Some o ≡ part_in n r → NamesAreFree plan s (node o.head o.inner none)
 free_part plan s n none o free is = absurd cc

@@ -4,6 +4,7 @@ use Rattle.std.specs.Prelude.{is_some, codes, nat_eq}
 use Rattle.std.specs.List.{starts_with}
 use Rattle.std.specs.Str.{bytes_eq}
 use Rattle.std.proofs.lemmas.Bool.Decides.{nat_tests}
+use Rattle.ob_values.proofs.Bools.{neither, and_second, or_first, or_second}
 use Rattle.ob_object.specs.Object.{Object, Objects, none, node, in_row}
 use Rattle.ob_object.specs.Paths.{is_path, node_path}
 use Rattle.ob_site_rules.specs.Build.{Path}
@@ -13,7 +14,7 @@ use Rattle.ob_site_rules.specs.Shown.{lobby_children, write_point_op, history_pa
 use Rattle.ob_shown_laws.specs.Alike.{row}
 use Rattle.ob_shown_laws.specs.Changed.{is_in}
 use Rattle.ob_shown_laws.specs.OwnShown.{IsNotDerived}
-use Rattle.ob_shown_laws.proofs.Touches.{bytes_itself, or_left, or_right}
+use Rattle.ob_values.proofs.Lists.{bytes_itself}
 use Rattle.ob_shown_laws.proofs.Looking.{at_path}
 use Rattle.ob_shown_laws.proofs.Numbering.{number_there}
 use Rattle.ob_shown_laws.proofs.Places.{place_at}
@@ -25,10 +26,6 @@ some_same e = cc
 
 same : (q p : Path) → bytes_eq q p ≡ true → q ≡ p
 same q p e = some_same (at_path p (Some q) e)
-
-neither : (a b : Bool) → (a || b) ≡ false → (a ≡ false) × (b ≡ false)
-neither true b e = absurd cc
-neither false b e = (refl, e)
 
 off_both : (p : Path) (xs ys : List Object) → is_in p (in_row xs) ≡ false → is_in p (in_row ys) ≡ false → is_in p (in_row (xs ++ ys)) ≡ false
 off_both p [] ys e f = f
@@ -63,10 +60,6 @@ below_off q name p e = go (ends_with_slash q)
     go : (b : Bool) → bytes_eq (cond b q (q ++ 47 ∷ []) ++ name) p ≡ false
     go true = not_at q name p e
     go false = ap (λ (x : Path). bytes_eq x p) (append_assoc q (47 ∷ []) name) ∙ not_at q ((47 ∷ []) ++ name) p e
-
-and_second : (a b : Bool) → (a && b) ≡ true → b ≡ true
-and_second true b e = e
-and_second false b e = absurd cc
 
 lobby_off : (plan : Plan) (p q : Path) → starts_with nat_eq p q ≡ false → (plan.lobby && bytes_eq q plan.root) ≡ true → is_in p (in_row (lobby_children plan)) ≡ false
 lobby_off plan p q e f =
@@ -123,8 +116,8 @@ in_rows : (plan : Plan) (s : State) (p : Path) → ((q : Path) → IsOff plan s 
 in_rows plan s p off none within = tt
 in_rows plan s p off (node h inner rest) within = (
   at_head (node_path h) refl,
-  in_rows plan s p off inner (λ q e. within q (or_right (is_path q (node_path h)) (is_in q inner || is_in q rest) (or_left (is_in q inner) (is_in q rest) e))),
-  in_rows plan s p off rest (λ q e. within q (or_right (is_path q (node_path h)) (is_in q inner || is_in q rest) (or_right (is_in q inner) (is_in q rest) e))),
+  in_rows plan s p off inner (λ q e. within q (or_second (is_path q (node_path h)) (is_in q inner || is_in q rest) (or_first (is_in q inner) (is_in q rest) e))),
+  in_rows plan s p off rest (λ q e. within q (or_second (is_path q (node_path h)) (is_in q inner || is_in q rest) (or_second (is_in q inner) (is_in q rest) e))),
 )
   where
     at_head : (o : Option Path) → node_path h ≡ o → is_in p (in_row (derived plan s o)) ≡ false
@@ -133,7 +126,7 @@ in_rows plan s p off (node h inner rest) within = (
         off q
         (ap is_some (place_at q s.tree)
         ∙ number_there q (row s.tree)
-        ∙ within q (or_left (is_path q (node_path h)) (is_in q inner || is_in q rest) (ap (is_path q) e ∙ bytes_itself q)))
+        ∙ within q (or_first (is_path q (node_path h)) (is_in q inner || is_in q rest) (ap (is_path q) e ∙ bytes_itself q)))
 
 -- so no role derives a path that neither the root derives nor a node in front of it
 pub nowhere : (plan : Plan) (s : State) (p : Path) → IsOff plan s p plan.root → IsOffBelow plan s p → IsNotDerived plan s p (row s.tree)

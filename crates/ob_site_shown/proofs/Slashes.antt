@@ -1,5 +1,5 @@
 -- Where what a role derives is derived, by its path alone.
-use Rattle.std.proofs.Common.{◌≡◌, ℕ, suc, ◌+◌, ◌<◌, ◌≤◌, ◌≢◌, Bool, true, false, cond, ◌||◌, eqb, List, [], ◌∷◌, ◌++◌, length, get_or, take, drop, Option, Some, None, refl, sym, ap, ap₂, ◌∙◌, subst, append_assoc, ◌⊎◌, inl, inr, arith}
+use Rattle.std.proofs.Common.{◌≡◌, ℕ, suc, ◌+◌, ◌<◌, ◌≤◌, ◌≢◌, Bool, true, false, cond, eqb, List, [], ◌∷◌, ◌++◌, length, get_or, take, drop, Option, Some, None, refl, sym, ap, ap₂, ◌∙◌, subst, append_assoc, ◌⊎◌, inl, inr, arith}
 use Rattle.std.specs.Prelude.{IsUtf8}
 use Rattle.std.specs.Option.{MatchOption}
 use Rattle.std.specs.Str.{encode_utf8_all, NoCharPasses}
@@ -10,6 +10,7 @@ use Rattle.std.proofs.lemmas.List.{take-append-drop}
 use Rattle.std.proofs.lemmas.Str.{cons_from_encodes}
 use Rattle.std.proofs.lemmas.Str.Pattern.{NoCharPasses-char, drop_at_char}
 use Rattle.ob_values.specs.XmlText.{IsXmlChar, IsXmlText}
+use Rattle.ob_values.proofs.Bools.{both_false, or_second}
 use Rattle.ob_site_rules.specs.Build.{Path}
 use Rattle.ob_site_rules.specs.Paths.{below, ends_with_slash}
 use Rattle.ob_site_shown.specs.Parents.{has_slash, IsParent}
@@ -26,11 +27,6 @@ pub xml_front : (text front rest : List ℕ) → IsUtf8 front → IsXmlText text
 xml_front text front rest u t e =
     (u.0, chars_front u.0 t.0 rest t.1 (t.2 ∙ e ∙ ap (λ (f : List ℕ). f ++ rest) (sym u.1.1)), u.1.1)
 
--- no slash stands at any place
-or_neither : (a b : Bool) → a ≡ false → b ≡ false → (a || b) ≡ false
-or_neither true b e f = absurd cc
-or_neither false b e f = f
-
 eqb_no : (c d : ℕ) → c ≢ d → eqb c d ≡ false
 eqb_no c d ne = go (eqb c d) refl
   where
@@ -40,7 +36,7 @@ eqb_no c d ne = go (eqb c d) refl
 
 no_slash : (t : List ℕ) → ((i : ℕ) → i < length t → get_or t i 0 ≢ 47) → has_slash t ≡ false
 no_slash [] h = refl
-no_slash (c ∷ t) h = or_neither (eqb c 47) (has_slash t) (eqb_no c 47 (h 0 (omega arith))) (no_slash t (λ i lt. h (suc i) (omega arith)))
+no_slash (c ∷ t) h = both_false (eqb c 47) (has_slash t) (eqb_no c 47 (h 0 (omega arith))) (no_slash t (λ i lt. h (suc i) (omega arith)))
 
 pub none_split : (p : Path) → NoCharPasses (λ d. eqb d 47) p → has_slash p ≡ false
 none_split p h = no_slash p (λ i lt. NoCharPasses-char 47 p i h (omega arith) lt)
@@ -55,14 +51,9 @@ last_split p front back s =
       ap has_slash s.4 ∙ none_split (drop j p) found.0,
     )
 
--- a slash with a name behind it stands in a path at one place
-later : (a b : Bool) → b ≡ true → (a || b) ≡ true
-later true b e = refl
-later false b e = e
-
 pub slash_there : (front name : Path) → has_slash (front ++ 47 ∷ name) ≡ true
 slash_there [] name = refl
-slash_there (c ∷ front) name = later (eqb c 47) (has_slash (front ++ 47 ∷ name)) (slash_there front name)
+slash_there (c ∷ front) name = or_second (eqb c 47) (has_slash (front ++ 47 ∷ name)) (slash_there front name)
 
 heads : {c d : ℕ} {xs ys : List ℕ} → c ∷ xs ≡ d ∷ ys → c ≡ d
 heads e = cc

@@ -1,6 +1,7 @@
 -- What is shown of an own object, from where it stands and what it is with statuses and derived children.
 use Rattle.std.proofs.Common.{◌≡◌, ℕ, Option, Some, None, option_map, sym, ap, ◌∙◌}
 use Rattle.std.specs.Prelude.{option_and_then}
+use Rattle.ob_values.proofs.Lists.{some_same}
 use Rattle.ob_object.specs.Object.{Object}
 use Rattle.ob_site_rules.specs.Build.{Path}
 use Rattle.ob_site_rules.specs.State.{Plan, State}
@@ -14,9 +15,6 @@ use Rattle.ob_tree.specs.Paths.{place_of}
 use Rattle.ob_tree.specs.Shown.{part_at, standing_at}
 use Rattle.ob_shown_laws.specs.OwnTree.{own_shown_at}
 use Rattle.ob_shown_laws.proofs.Owned.{own_trees_tell}
-
-some_same : {a b : Object} → Some a ≡ Some b → a ≡ b
-some_same e = cc
 
 from_part : (plan : Plan) (s : State) (c : Context) (d : Object) (q : Option Object) → Some d ≡ option_map (dressed_own plan s) q
     → Some (comes_to c d) ≡ option_map (λ x. comes_to c (dressed_own plan s x)) q

@@ -3,14 +3,12 @@ use Rattle.std.proofs.Common.{◌≡◌, ℕ, zero, suc, Bool, true, false, cond
 use Rattle.std.specs.Prelude.{slice_get, option_and_then, find}
 use Rattle.std.specs.Str.{bytes_eq}
 use Rattle.std.proofs.lemmas.Slice.Eq.{bytes_eq-Decides}
+use Rattle.ob_values.proofs.Lists.{bytes_itself}
 use Rattle.ob_consistent_laws.specs.Laws.{Apart}
 use Rattle.ob_site_rules.specs.Build.{Path}
 use Rattle.ob_object.specs.Paths.{is_path}
 use Rattle.ob_site_rules.specs.State.{Plan, Log, at, is_among}
 use Rattle.ob_site_rules.specs.Writes.{records_from}
-
-pub same_path : (p : Path) → bytes_eq p p ≡ true
-same_path p = (bytes_eq-Decides p p).1 refl
 
 -- a path that is among others isn't one that isn't
 other_path : (p : Path) (ps : List Path) (i : ℕ) (q : Path) → is_among p ps ≡ false → slice_get ps i ≡ Some q → bytes_eq p q ≡ false
@@ -21,7 +19,7 @@ other_path p (r ∷ ps) zero q h e =
     go : (b : Bool) → bytes_eq p q ≡ b → (bytes_eq q p || is_among p ps) ≡ false → bytes_eq p q ≡ false
     go true is h =
         let one : p ≡ q = (bytes_eq-Decides p q).0 is in
-        absurd (true≢false (sym (ap (λ (b : Bool). b || is_among p ps) (subst (λ (x : Path). bytes_eq q x ≡ true) (sym one) (same_path q))) ∙ h))
+        absurd (true≢false (sym (ap (λ (b : Bool). b || is_among p ps) (subst (λ (x : Path). bytes_eq q x ≡ true) (sym one) (bytes_itself q))) ∙ h))
     go false is h = is
 other_path p (r ∷ ps) (suc i) q h e = other_path p ps i q (rest (bytes_eq r p) h) e
   where
@@ -35,7 +33,7 @@ at_place [] i h apart e = absurd cc
 at_place (g ∷ hs) zero h apart e =
     let same : g ≡ h = cc in
     subst (λ (x : Path × Option Path). at x.0 (g ∷ hs) ≡ Some x.1) same
-    (ap (λ (b : Bool). option_map (λ (x : Path × Option Path). x.1) (cond b (Some g) (find (λ x. bytes_eq x.0 g.0) hs))) (same_path g.0))
+    (ap (λ (b : Bool). option_map (λ (x : Path × Option Path). x.1) (cond b (Some g) (find (λ x. bytes_eq x.0 g.0) hs))) (bytes_itself g.0))
 at_place (g ∷ hs) (suc i) h apart e =
     ap (λ (b : Bool). option_map (λ (x : Path × Option Path). x.1) (cond b (Some g) (find (λ x. bytes_eq x.0 h.0) hs))) (other_path g.0 (map (λ x. x.0) hs) i h.0 apart.0 (path_there hs i e))
     ∙ at_place hs i h apart.1 e

@@ -2,6 +2,7 @@
 use Rattle.std.proofs.Common.{◌≡◌, ℕ, zero, suc, ◌+◌, ◌-◌, ◌<◌, Bool, true, false, not, cond, List, [], ◌∷◌, ◌++◌, length, take, Option, Some, None, refl, sym, ap, ◌∙◌, subst, arith, length-append}
 use Rattle.std.specs.Prelude.{slice_get, is_some, nat_eq}
 use Rattle.std.proofs.Math.Seq.{take-append_seam}
+use Rattle.ob_values.proofs.Bools.{not_true}
 use Rattle.ob_alarms.specs.Changes.{State as Board, alarm_of, changed_alarm, fresh, ended, acked, next_turn, with_event, raise, end, acknowledge, current, turn, outside_of, on_value, acked_if_needed, answered, on_ack, before, before_what, IsUndone}
 use Rattle.ob_alarms.specs.Lists.{changed_at}
 use Rattle.ob_alarms.specs.States.{is_in_alarm, is_acked, needs_ack}
@@ -129,10 +130,6 @@ unacked_at rules al number e = go (alarm_of number al) e
     go : (o : Option Alarm) → acked_if_needed rules o ≡ Some false → At (λ a. not (is_acked a)) o
     go None e = absurd cc
     go (Some a) e = from a (needs_ack (slice_get rules a.rule)) e
-
-not_true : (b : Bool) → not b ≡ true → b ≡ false
-not_true true h = absurd cc
-not_true false h = refl
 
 acked_back : (b : Board) (number : ℕ) (user : Option (List ℕ)) (now : ℕ) → acked_if_needed b.rules (alarm_of number b.alarms) ≡ Some false → IsBack b (acknowledge b number user now)
 acked_back b number user now at =

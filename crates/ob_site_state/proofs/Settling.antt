@@ -18,6 +18,7 @@ use Rattle.ob_site_state.specs.declared.change.Change.TheVariants as change
 use Rattle.ob_site_state.specs.Changes.{cut, with_log, undone, rewound, settled_by, settled_all, CanUndo, CanRewind, IsPlaced}
 use Rattle.ob_site_state.proofs.Places.{length-with_log}
 use Rattle.std.proofs.lemmas.List.{take_more}
+use Rattle.ob_values.proofs.Bools.{neither}
 use Rattle.ob_site_state.specs.Kept.{Kept, keys, log_of, LogsAreBy, AreBy, IsSoundFor, IsKept}
 use Rattle.ob_site_state.proofs.Sound.{rolls_sound}
 use Rattle.ob_site_state.proofs.Noting.{same_kept}
@@ -58,10 +59,6 @@ undone_other (change.Slot node slot) s i e = refl
 undone_other (change.Records place len) s i e = other_log (cut len) place i s.logs (differ_of i place e)
 undone_other (change.Event rule status) s i e = refl
 undone_other (change.Contracts told) s i e = refl
-
-neither : (a b : Bool) → (a || b) ≡ false → (a ≡ false) × (b ≡ false)
-neither true b h = absurd cc
-neither false b h = (refl, h)
 
 rewound_other : (cs : List Change) (s : State) (i : ℕ) → is_recorded i cs ≡ false → slice_get (rewound cs s).logs i ≡ slice_get s.logs i
 rewound_other [] s i e = refl

@@ -1,8 +1,9 @@
 -- The steps that a poll takes, and that they are those of the objects that it reports.
-use Rattle.std.proofs.Common.{◌≡◌, ℕ, ◌+◌, ◌-◌, ◌^◌, ◌<◌, ◌≤◌, Bool, true, false, cond, ◌&&◌, ◌||◌, List, [], ◌∷◌, ◌++◌, map, length, take, get_or, Option, Some, None, refl, sym, ap, ◌∙◌, subst, arith}
+use Rattle.std.proofs.Common.{◌≡◌, ℕ, ◌+◌, ◌-◌, ◌^◌, ◌<◌, ◌≤◌, Bool, true, false, cond, ◌||◌, List, [], ◌∷◌, ◌++◌, map, length, take, get_or, Option, Some, None, refl, sym, ap, ◌∙◌, subst, arith}
 use Rattle.std.specs.Prelude.{min, is_none, is_some, option_map, unwrap_or, Result, Ok, Err, IfOk}
 use Rattle.std.specs.List.{filter, list_all, list_any}
 use Rattle.std.proofs.lemmas.List.{map-append, take_more}
+use Rattle.ob_values.proofs.Bools.{and_second}
 use Rattle.ob_object.specs.Object.{Object, parts, listed-in_row}
 use Rattle.ob_history.specs.declared.records.Filter.{Filter}
 use Rattle.ob_watching.specs.Asked.{Look, Renew, Add, Remove, PollChanges, PollRefresh, Delete, Refuse, OneWatch}
@@ -35,10 +36,6 @@ use Rattle.ob_watch.specs.Items.{is_due, is_due_by}
 use Rattle.ob_watch.specs.Tables.{Leased}
 use Rattle.ob_watch.proofs.LawLemmas.{tables_agree}
 use Rattle.ob_site_watched.specs.Polls.{Takes, WatchTakes, is_of_object, item_steps, items_in, object_entries, of_objects, poll_steps, reading_steps, refresh_steps, round_at, shown_steps, steps_for, steps_in}
-
-rest_true : (a b : Bool) → (a && b) ≡ true → b ≡ true
-rest_true true b h = h
-rest_true false b h = absurd cc
 
 plus_zero : (n : ℕ) → n + 0 ≡ n
 plus_zero n = omega arith
@@ -206,7 +203,7 @@ module _ (plan : Plan) (s : State) where
   item_at_most : (text : Text) (path : Path) (t : TrackedOf Filter) → item_steps plan s path t ≤ steps_in s.tree (of_objects (map entry (changes_of (of_plan plan) s text path t)))
   item_at_most text path (rules.Object true) =
       one_for (levels (row s.tree)) (round_at s.tree path) (2 ^ 64 - 1) (Some text) (watched_object plan s path)
-      (rest_true (is_none (watched_object plan s path).head.href) (is_of_object (watched_object plan s path)) (watched_plain plan s path))
+      (and_second (is_none (watched_object plan s path).head.href) (is_of_object (watched_object plan s path)) (watched_plain plan s path))
       (round_within s.tree (place_of path (paths s.tree)) (λ m placed. place_within s.tree path m placed))
   item_at_most text path (rules.Object false) = none_least 0
   item_at_most text path (rules.Feed filter given) = none_least (steps_in s.tree (of_objects (map entry (changes_of (of_plan plan) s text path (rules.Feed filter given)))))

@@ -2,6 +2,7 @@
 use Rattle.std.proofs.Common.{◌≡◌, ℕ, Bool, true, false, ◌||◌, cond, List, [], Option, Some, None, option_map, refl, sym, ap, ap₂, ◌∙◌}
 use Rattle.std.specs.Prelude.{is_some, codes}
 use Rattle.std.specs.List.{cons_option, list_any}
+use Rattle.ob_values.proofs.Bools.{neither, or_false, both_false}
 use Rattle.ob_object.specs.declared.kind.Kind.{Kind}
 use Rattle.ob_object.specs.declared.head.Head.{Head}
 use Rattle.ob_object.specs.declared.head.Slot.{Slot}
@@ -53,18 +54,6 @@ numbered_there (Some id) place e = ap is_some e
 
 nowhere : (p : Path) (o : Object) → place_of p (paths o) ≡ None → is_in p (row o) ≡ false
 nowhere p o off = sym (number_there p (row o)) ∙ ap is_some (sym (place_at p o) ∙ off)
-
-neither : (a b : Bool) → (a || b) ≡ false → (a ≡ false) × (b ≡ false)
-neither true b h = absurd cc
-neither false b h = (refl, h)
-
-or_false : (a : Bool) → (a || false) ≡ a
-or_false true = refl
-or_false false = refl
-
-both_false : (a b : Bool) → a ≡ false → b ≡ false → (a || b) ≡ false
-both_false true b e f = absurd cc
-both_false false b e f = f
 
 -- a slot at a path that no node has is set nowhere
 same_row : (p : Path) (slot : Slot) (r : Objects) → is_in p r ≡ false → with_slot_in p slot r ≡ r

@@ -3,6 +3,7 @@ use Rattle.std.proofs.Common.{ℕ, ◌≡◌, zero, suc, ◌+◌, ◌-◌, ◌<�
 use Rattle.std.specs.Prelude.{slice_get, nat_le, nat_lt, option_and_then}
 use Rattle.std.proofs.lemmas.Bool.{ltb-true, leb-true, lt-ltb, le-leb}
 use Rattle.std.proofs.lemmas.Option.{slice_get-map}
+use Rattle.ob_values.proofs.Bools.{both_true}
 use Rattle.ob_object.specs.declared.head.Head.{Head}
 use Rattle.ob_object.specs.Object.{Objects, none, node, Object, count, parts}
 use Rattle.ob_object.specs.WellFormed.{has_name}
@@ -102,10 +103,6 @@ named_is o x name k a (node h i r) lies at there =
         ap (λ (y : Object). has_name name y.head.name) (sym one) ∙ is
     go false is at later = later at
 
-both : (a b : Bool) → (a && b) ≡ true → (a ≡ true) × (b ≡ true)
-both true b e = (refl, e)
-both false b e = absurd cc
-
 -- the child of a name that an object is in, with the object that it is in
 record InChild (o : Object) (k n : ℕ) : Type 0 where
   x : Object
@@ -119,7 +116,7 @@ in_child : (o : Object) (name : Text) (k n : ℕ) → Some k ≡ child_at 0 name
 in_child o name k n at inside =
     let g = grows o k (child_within o 0 name k (omega arith) (sym at)) in
     let low : 1 ≤ k = named_low o.inner 1 name k (sym at) in
-    let two = both (nat_le k n) (nat_lt n (k + parts g.0)) (sym (ap (is_within n k) g.1.is) ∙ inside) in
+    let two = both_true (nat_le k n) (nat_lt n (k + parts g.0)) (sym (ap (is_within n k) g.1.is) ∙ inside) in
     let least : k ≤ n = leb-true k n two.0 in
     let less : n < k + parts g.0 = ltb-true n (k + parts g.0) two.1 in
     record { x = g.0; is = g.1.is; low = low; least = least; less = less; rises = to n g.0 g.1.is low least less }

@@ -2,6 +2,7 @@
 use Rattle.std.proofs.Common.{ℕ, ◌≡◌, ◌<◌, Bool, true, false, ◌||◌, [], Option, Some, None, option_map, refl, sym, ap, ap₂, ◌∙◌, arith}
 use Rattle.std.specs.Prelude.{is_some, codes, unwrap_or}
 use Rattle.std.specs.List.{cons_option, list_any}
+use Rattle.ob_values.proofs.Bools.{neither, or_false, both_false}
 use Rattle.ob_object.specs.Object.{Objects, none, node, Object, parts, listed, children}
 use Rattle.ob_object.specs.Paths.{is_path, node_path}
 use Rattle.ob_contracts.specs.Inherit.{Contracts, or_else, only_if}
@@ -42,18 +43,6 @@ found_in p (node h inner rest) =
     some_either (only_if (is_path p (node_path h)) (Some (record { head = h; inner = inner }))) (or_else (node_in p inner) (node_in p rest))
     ∙ ap₂ (λ a b. a || b) (some_if (is_path p (node_path h)) (record { head = h; inner = inner }))
     (some_either (node_in p inner) (node_in p rest) ∙ ap₂ (λ a b. a || b) (found_in p inner) (found_in p rest))
-
-neither : (a b : Bool) → (a || b) ≡ false → (a ≡ false) × (b ≡ false)
-neither true b h = absurd cc
-neither false b h = (refl, h)
-
-or_false : (a : Bool) → (a || false) ≡ a
-or_false true = refl
-or_false false = refl
-
-both_false : (a b : Bool) → a ≡ false → b ≡ false → (a || b) ≡ false
-both_false true b e f = absurd cc
-both_false false b e f = f
 
 -- where a node isn't in a row, it is in none of its objects
 none_in : (p : Path) (r : Objects) → is_in p r ≡ false → list_any (λ c. is_some (node_of p c.1)) (contracts_in (listed r)) ≡ false

@@ -5,6 +5,7 @@ use Rattle.std.specs.List.{list_any}
 use Rattle.std.proofs.lemmas.Bool.{lt-ltb, ltb-true, ltb-false}
 use Rattle.std.proofs.lemmas.Bool.Decides.{nat_tests}
 use Rattle.ob_times.specs.Times.{moment_instant}
+use Rattle.ob_values.proofs.Bools.{neither, or_false}
 use Rattle.ob_object.specs.declared.kind.Kind.{Kind}
 use Rattle.ob_object.specs.declared.head.Head.{Head}
 use Rattle.ob_object.specs.declared.head.Slot.{Slot}
@@ -18,10 +19,6 @@ use Rattle.ob_plain_state.specs.States.{AreCounted}
 use Rattle.ob_site_state.specs.Changes.{HasEvents}
 use Rattle.ob_site_state.proofs.Storing.{stored_one}
 use Rattle.ob_site_written.specs.Limits.{grows, growing, is_counted_out, any_counted_out}
-
-neither : (a b : Bool) → (a || b) ≡ false → (a ≡ false) × (b ≡ false)
-neither true b h = absurd cc
-neither false b h = (refl, h)
 
 -- where none passes a test, the one of a place doesn't
 pub not_any : {A : Type 0} (f : A → Bool) (xs : List A) (i : ℕ) (x : A) → list_any f xs ≡ false → slice_get xs i ≡ Some x → f x ≡ false
@@ -67,10 +64,6 @@ uncounted_none [] counted = refl
 uncounted_none (l ∷ ls) counted =
     ap (λ (b : Bool). b || list_any (λ (m : Path × Log). nat_lt 9_223_372_036_854_775_807 (events_ever m.1)) ls) (within_counted (events_ever l.1) counted.0) ∙ uncounted_none ls counted.1
 
-or_none : (b : Bool) → (b || false) ≡ b
-or_none true = refl
-or_none false = refl
-
 -- a sum that stands still at its type's end is as much too much
 capped : (s m : ℕ) → nat_lt 1_000_000 (s + min m (2 ^ 64 - 1)) ≡ nat_lt 1_000_000 (s + m)
 capped s m = go (nat_lt 1_000_000 m) refl
@@ -102,7 +95,7 @@ pub event_over : (plan : Plan) (s : State) (b : Board) (is : Bool) (more : ℕ) 
 event_over plan s b is more full counted event sum room =
     let events : length b.events ≡ length s.events + cond {A = ℕ} is 1 0 = event in
     let same : (stored_logs s.logs + length s.events) + more ≡ stored_logs s.logs + length b.events = omega arith in
-    room ∙ ap (nat_lt 1_000_000) same ∙ sym (ap (λ (o : Bool). nat_lt 1_000_000 (stored s.logs b) || o) (uncounted_none s.logs counted) ∙ or_none (nat_lt 1_000_000 (stored s.logs b)))
+    room ∙ ap (nat_lt 1_000_000) same ∙ sym (ap (λ (o : Bool). nat_lt 1_000_000 (stored s.logs b) || o) (uncounted_none s.logs counted) ∙ or_false (nat_lt 1_000_000 (stored s.logs b)))
 
 other_so : (b c : Bool) → b ≡ false → c ≡ (not b && c)
 other_so b c e = sym (ap (λ (x : Bool). not x && c) e)

@@ -5,6 +5,7 @@ use Rattle.std.specs.List.{cons_option, list_any}
 use Rattle.std.specs.Option.{option_copied}
 use Rattle.std.proofs.lemmas.List.{drop_all}
 use Rattle.std.proofs.Math.Seq.{drop-cons}
+use Rattle.ob_values.proofs.Bools.{or_false}
 use Rattle.ob_object.specs.declared.head.Head.{Head}
 use Rattle.ob_object.specs.Object.{Object}
 use Rattle.ob_object.specs.Paths.{node_path}
@@ -51,10 +52,6 @@ one_contract x p some = ap (λ (path : Option Path). cons_option (option_map (λ
 lent_some : (found : Option (Bor Object)) → is_some found ≡ is_some (option_copied found)
 lent_some None = refl
 lent_some (Some x) = refl
-
-or_false : (b : Bool) → (b || false) ≡ b
-or_false true = refl
-or_false false = refl
 
 pub node_there : (p q : Path) (x : Object) (h : Head) (found : Option (Bor Object)) → Some q ≡ node_path h → h ≡ x.head → option_copied found ≡ node_of p x → is_some found ≡ is_in p (contracts_in (x ∷ []))
 node_there p q x h found path head is =

@@ -1,6 +1,7 @@
 -- What another library changes reaches what is round it, and doesn't depend on the values that are given.
 use Rattle.std.proofs.Common.{◌≡◌, Bool, true, false, ◌||◌, List, ◌++◌, map, Option, Some, None, refl, sym, ap, ap₂, ◌∙◌, true≢false}
 use Rattle.std.specs.Prelude.{is_some}
+use Rattle.ob_values.proofs.Bools.{or_second, or_first, is_false, bool_same}
 use Rattle.ob_object.specs.declared.head.Head.{Head}
 use Rattle.ob_object.specs.declared.head.Slot.{Slot}
 use Rattle.ob_object.specs.declared.head.Slot.TheVariants.{Absent, Null, Is}
@@ -74,15 +75,6 @@ in_same p r q (node h below rest) xs ys e =
     d2 : HandedDown
     d2 = handed_down c2 h
 
--- the node of a path in a node that is in a row is in the row
-or_second : (a b : Bool) → b ≡ true → (a || b) ≡ true
-or_second true b e = refl
-or_second false b e = e
-
-or_first : (a b : Bool) → a ≡ true → (a || b) ≡ true
-or_first true b e = refl
-or_first false b e = absurd cc
-
 some_same : {a b : Standing} → Some a ≡ Some b → a ≡ b
 some_same e = cc
 
@@ -137,10 +129,6 @@ behind_same q r s d d2 h below rest x y off outside e =
     go false (Some a) v f g k = absurd cc
     go false None (Some c) f g k = absurd cc
     go false None None f g k = e
-
-is_false : (b : Bool) → (b ≡ true → ⊥) → b ≡ false
-is_false true never = absurd (never refl)
-is_false false never = refl
 
 either_true : (a b : Bool) → (a || b) ≡ false → b ≡ true → ⊥
 either_true true b e f = cc
@@ -415,13 +403,8 @@ slots_back (node h below rest) (node k inner more) d = (
 pub values_back : (s t : State) → DifferInValues s t → DifferInValues t s
 values_back s t values = record { library = sym values.library; tree = slots_back (row s.tree) (row t.tree) values.tree; histories = sym values.histories }
 
-both_ways : (a b : Bool) → (a ≡ true → b ≡ true) → (b ≡ true → a ≡ true) → a ≡ b
-both_ways true b f g = sym (f refl)
-both_ways false true f g = g refl
-both_ways false false f g = refl
-
 pub defaults_stand : DefaultsStand
 defaults_stand plan s t new values given back differ p =
-    both_ways (is_same plan s (with_library new s) p) (is_same plan t (with_library new t) p)
+    bool_same (is_same plan s (with_library new s) p) (is_same plan t (with_library new t) p)
     (same_with plan s t new values given differ p)
     (same_with plan t s new (values_back s t values) back (ap (λ (l : Contracts). defaults_off l) (sym values.library) ∙ differ) p)

@@ -1,7 +1,8 @@
 -- A slot that is set at a path.
-use Rattle.std.proofs.Common.{◌≡◌, Bool, true, false, not, ◌||◌, cond, List, [], ◌∷◌, map, Option, Some, None, option_map, refl, sym, ap, ap₂, ◌∙◌, true≢false}
+use Rattle.std.proofs.Common.{◌≡◌, Bool, true, false, not, cond, List, [], ◌∷◌, map, Option, Some, None, option_map, refl, sym, ap, ap₂, ◌∙◌, true≢false}
 use Rattle.std.specs.Prelude.{codes, is_some, filter_map, unwrap_or}
 use Rattle.std.specs.List.{cons_option, list_any}
+use Rattle.ob_values.proofs.Bools.{neither}
 use Rattle.ob_object.specs.declared.kind.Kind.{Kind}
 use Rattle.ob_object.specs.declared.kind.Kind.TheVariants as kind
 use Rattle.ob_object.specs.declared.head.Slot.{Slot}
@@ -120,10 +121,6 @@ children_slotted p slot (Some x) = listed_slotted p slot x.inner
 abbrev nodes : List Object → Contracts
 nodes os = filter_map (λ o. option_map (λ p. (p, o)) (node_path o.head)) os
 
-either_false : (a b : Bool) → (a || b) ≡ false → (a ≡ false) × (b ≡ false)
-either_false true b e = absurd cc
-either_false false b e = (refl, e)
-
 nodes_stay : (p : Path) (slot : Slot) (os : List Object) → list_any (λ c. is_some (node_of p c.1)) (nodes (map (with_slot p slot) os)) ≡ false → nodes (map (with_slot p slot) os) ≡ nodes os
 nodes_stay p slot [] e = refl
 nodes_stay p slot (o ∷ os) e =
@@ -136,7 +133,7 @@ nodes_stay p slot (o ∷ os) e =
     go None (Some r) is e later = absurd cc
     go (Some q) None is e later = absurd cc
     go (Some q) (Some r) is e later =
-        let parts = either_false (is_some (node_of p (with_slot p slot o))) (list_any (λ c. is_some (node_of p c.1)) (nodes (map (with_slot p slot) os))) e in
+        let parts = neither (is_some (node_of p (with_slot p slot o))) (list_any (λ c. is_some (node_of p c.1)) (nodes (map (with_slot p slot) os))) e in
         let same : q ≡ r = path_same is in
         ap₂ (λ (x : Object) (l : Contracts). (q, x) ∷ l) (object_off p slot o parts.0) (later parts.1)
         ∙ ap (λ (x : Path). (x, o) ∷ nodes os) same

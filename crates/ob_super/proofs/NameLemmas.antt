@@ -13,6 +13,7 @@ use Rattle.ob_watching.specs.WatchOuts.{Text}
 use Rattle.ob_super.specs.declared.upstream.Followed.{Followed}
 use Rattle.std.specs.List.{list_all}
 use Rattle.std.proofs.lemmas.Bool.{leb-true, le-leb}
+use Rattle.ob_values.proofs.Bools.{both_true}
 use Rattle.ob_object.specs.Fits.{fits_name}
 use Rattle.ob_super.specs.Upstreams.{Upstream, is_name, is_letter}
 use Rattle.ob_super.specs.Trees.{View, subtree}
@@ -79,11 +80,6 @@ module _ {L : Type 0} where
       (apart_still v.items new same apart)
 
 -- ---- a name of the form that an upstream has fits an object
-
-both_true : (a b : Bool) → (a && b) ≡ true → (a ≡ true) × (b ≡ true)
-both_true true true e = (refl, refl)
-both_true true false e = absurd (let f : false ≡ true = e in cc)
-both_true false b e = absurd (let f : false ≡ true = e in cc)
 
 pub name_fits : (t : Text) → is_name t ≡ true → fits_name (Some t) ≡ true
 name_fits t e =

@@ -3,6 +3,7 @@ use Rattle.std.proofs.Common.{◌≡◌, ℕ, zero, suc, ◌+◌, ◌-◌, ◌<�
 use Rattle.std.specs.Prelude.{slice_get, option_and_then, nat_le, nat_lt, ◌&&◌}
 use Rattle.std.proofs.lemmas.Bool.{lt-ltb, le-ltb, le-leb, lt-leb}
 use Rattle.std.proofs.lemmas.List.{drop_all}
+use Rattle.ob_values.proofs.Bools.{and_false}
 use Rattle.ob_object.specs.Object.{Objects, none, node, Object, count, parts, listed, in_row, in_row-listed}
 use Rattle.ob_object.specs.WellFormed.{has_name, IsWellFormed}
 use Rattle.ob_tree.specs.declared.spot.Spot.{Spot}
@@ -86,10 +87,6 @@ place_from o p n inside a b g e f =
     ap (option_and_then (λ (q : Object). cond (nat_le inside n && nat_lt n (inside + parts q)) (cond (nat_lt (n - inside) 4294967296) (Some (n - inside)) None) None)) g.is
     ∙ ap (λ (x : Bool). place_in x (nat_lt n (inside + parts p)) n inside) e
     ∙ ap (λ (x : Bool). place_in a x n inside) f
-
-and_false : (b : Bool) → (b && false) ≡ false
-and_false true = refl
-and_false false = refl
 
 pub place_before : (o : Object) (n inside : ℕ) → inside < parts o → n < inside → None ≡ place_at n inside o
 place_before o n inside lt h =

@@ -1,3 +1,5 @@
+pub mod Bools
+pub mod Lists
 pub mod IntegerLemmas
 pub mod DecimalLemmas
 pub mod RealLemmas

@@ -8,6 +8,7 @@ use Rattle.std.proofs.lemmas.List.{take_more, take_all, take-append-drop, at_dro
 use Rattle.std.specs.Char.{IsScalar}
 use Rattle.std.proofs.lemmas.Bool.{and_parts, leb-true, ltb-true}
 use Rattle.ob_values.specs.XmlText.{IsXmlChar, IsXmlText, is_printable, IsFirstBad}
+use Rattle.ob_values.proofs.Lists.{all_both}
 
 -- a text is the encoding of its characters
 pub encodes_chars : (text : List ℕ) → IsUtf8 text → encode_utf8_all (chars text) ≡ text
@@ -64,14 +65,10 @@ all_good text n u e good =
 
 -- ---- texts that are put together
 
-all_append : (P : ℕ → Type 0) (xs ys : List ℕ) → AllByRecursion P xs → AllByRecursion P ys → AllByRecursion P (xs ++ ys)
-all_append P [] ys h k = k
-all_append P (x ∷ xs) ys h k = (h.0, all_append P xs ys h.1 k)
-
 pub xml_append : (xs ys : List ℕ) → IsXmlText xs → IsXmlText ys → IsXmlText (xs ++ ys)
 xml_append xs ys a b = (
   a.0 ++ b.0,
-  all_append IsXmlChar a.0 b.0 a.1 b.1,
+  all_both IsXmlChar a.0 b.0 a.1 b.1,
   encodes-append a.0 b.0 ∙ ap (λ (t : List ℕ). t ++ encode_utf8_all b.0) a.2 ∙ ap (λ (t : List ℕ). xs ++ t) b.2,
 )
 

@@ -10,17 +10,13 @@ use Rattle.std.proofs.lemmas.Slice.Eq.{bytes_eq-Decides}
 use Rattle.std.proofs.lemmas.Map.Keys.{IsDistinct-head, IsDistinct-tail}
 use Rattle.indexmap.specs.IndexMap.{insert_entry}
 use Rattle.indexmap.proofs.CallerLemmas.{filter-RetainsPairs}
+use Rattle.ob_values.proofs.Bools.{bool_same}
 use Rattle.ob_watch.specs.declared.item.Tracked.{Tracked}
 use Rattle.ob_watch.specs.declared.item.Item.{Item}
 use Rattle.ob_watch.specs.Held.{Entries, items_of, StandUnderOwn}
 use Rattle.ob_watch.specs.Items.{Text, Differ, among, changed_by, found_item, has_text, put_item, put_over}
 
 -- ---- texts
-
-bool_same : (a b : Bool) → (a ≡ true → b ≡ true) → (b ≡ true → a ≡ true) → a ≡ b
-bool_same true b f g = sym (f refl)
-bool_same false true f g = g refl
-bool_same false false f g = refl
 
 pub bytes_eq_sym : (a b : Text) → bytes_eq a b ≡ bytes_eq b a
 bytes_eq_sym a b =

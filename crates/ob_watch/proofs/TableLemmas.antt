@@ -9,6 +9,7 @@ use Rattle.std.specs.Map as map
 use Rattle.std.proofs.lemmas.Map.Keys.{IsDistinct-head, IsDistinct-tail}
 use Rattle.ob_watching.specs.Tables.{lookup, replace, numbers_of}
 use Rattle.std.proofs.lemmas.Map.Made.{IsDistinct-keys_filter}
+use Rattle.ob_values.proofs.Bools.{bool_same}
 use Rattle.ob_watch.specs.Held.{AreBelow, AreNumbered}
 use Rattle.ob_watch.specs.declared.item.Item.{Item}
 use Rattle.ob_watch.specs.declared.fault.WatchFault.{WatchFault}
@@ -18,11 +19,6 @@ use Rattle.ob_watch.specs.Adding.{AddsAt, AddsNothing, AddsTo}
 use Rattle.ob_watch.specs.Reported.{IsDue}
 use Rattle.ob_watch.specs.Tables.{Leased, Table, at_number, holding, is_over, live, new_watch, next_due, with_all_items, with_new}
 use Rattle.ob_watch.specs.Undo.{Undo}
-
-pub bool_same : (a b : Bool) → (a ≡ true → b ≡ true) → (b ≡ true → a ≡ true) → a ≡ b
-bool_same true b f g = sym (f refl)
-bool_same false true f g = g refl
-bool_same false false f g = refl
 
 pub eq_sym : (a b : ℕ) → nat_eq a b ≡ (b == a)
 eq_sym a b =

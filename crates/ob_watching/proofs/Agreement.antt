@@ -5,6 +5,7 @@ use Rattle.std.specs.Bool.{Decides}
 use Rattle.std.proofs.lemmas.List.Elements.{filter-append}
 use Rattle.std.proofs.lemmas.List.{take-append-le}
 use Rattle.std.proofs.Math.Seq.{take-length}
+use Rattle.ob_values.proofs.Lists.{all_both}
 use Rattle.ob_watching.specs.Asked.{Shows, Lists, Refuses, Found, ObjectAt, FeedAt, NotFound}
 use Rattle.ob_watching.specs.Sites.{Site, IsLawful, HasRolled}
 use Rattle.ob_watching.specs.Tables.{put, IsSuffix}
@@ -24,10 +25,6 @@ suffix_rolled (x ∷ lost) kept (suc n) k e =
 pub record GoesOn (Event : Type 0) (gone left : ℕ) (before after : List Event) : Type 0 where
   pub more : List Event
   pub rolled : HasRolled Event gone left (before ++ more) after
-
-all_append : {A : Type 0} (P : A → Type 0) (xs ys : List A) → AllByRecursion P xs → AllByRecursion P ys → AllByRecursion P (xs ++ ys)
-all_append P [] ys h g = g
-all_append P (x ∷ xs) ys h g = (h.0, all_append P xs ys h.1 g)
 
 pub all_dropped : {A : Type 0} (P : A → Type 0) (n : ℕ) (xs : List A) → AllByRecursion P xs → AllByRecursion P (drop n xs)
 all_dropped P zero xs h = h
@@ -298,7 +295,7 @@ module _ (m : Site) (had : m.Path → m.Event → Type 0) where
 
   absent : (s : m.State) (t : m.Text) (items : List (Item m)) → AllByRecursion (λ item. m.same_text t item.text ≡ false) items → AllByRecursion (λ r. m.same_text t r.text ≡ false) (changes m s items)
   absent s t [] h = tt
-  absent s t (item ∷ items) h = all_append (λ r. m.same_text t r.text ≡ false) _ _ (absent_of s t item.text item.path item.tracked h.0) (absent s t items h.1)
+  absent s t (item ∷ items) h = all_both (λ r. m.same_text t r.text ≡ false) _ _ (absent_of s t item.text item.path item.tracked h.0) (absent s t items h.1)
 
   shows_next : (c : Content m) (o : m.Object) → continued c (Shows o) ≡ Shows o
   shows_next (Shows a) o = refl
@@ -317,7 +314,7 @@ module _ (m : Site) (had : m.Path → m.Event → Type 0) where
         (let both = length-append h.seen back in
         let rest = length-drop (given - m.gone s path) (m.events s path) in
         omega (arith, h.number, both, rest, h.there));
-    genuine = all_append (λ e. had path e) h.seen back h.genuine (all_dropped (λ e. had path e) (given - m.gone s path) (m.events s path) (such path));
+    genuine = all_both (λ e. had path e) h.seen back h.genuine (all_dropped (λ e. had path e) (given - m.gone s path) (m.events s path) (such path));
   }
     where
       front : List m.Event

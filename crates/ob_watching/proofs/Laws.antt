@@ -3,6 +3,7 @@ use Rattle.std.proofs.Common.{◌≡◌, ℕ, ◌+◌, ◌-◌, ◌^◌, ◌<◌
 use Rattle.std.specs.List.{filter, list_any, AllByRecursion}
 use Rattle.std.proofs.Math.Seq.{take-length}
 use Rattle.std.proofs.lemmas.List.Elements.{filter-append}
+use Rattle.ob_values.proofs.Lists.{all_mapped}
 use Rattle.ob_machine.specs.History.{left_by, IsAnswer, IsCall}
 use Rattle.ob_machine.specs.declared.call.Answer.TheVariants.{Done, NoMemory}
 use Rattle.ob_machine.proofs.HistoryLemmas.{after-append, legal_front, legal_back}
@@ -16,10 +17,6 @@ use Rattle.ob_watching.proofs.Tables.{map_option, lookup-map_values, lookup-repl
 use Rattle.ob_watching.proofs.Agreement.{HoldsSo, HoldsGiven, AllAgree}
 use Rattle.ob_watching.proofs.Soundness.{sound_step, lookup-standing, left, step_left}
 use Rattle.ob_watching.proofs.Following.{Follows, has_such, follows_after, follows_first, made_next, Polled, polled_after}
-
-all_mapped : {A : Type 0} (P Q : A → Type 0) → ((x : A) → P x → Q x) → (xs : List A) → AllByRecursion P xs → AllByRecursion Q xs
-all_mapped P Q f [] h = tt
-all_mapped P Q f (x ∷ xs) h = (f x h.0, all_mapped P Q f xs h.1)
 
 -- a filter that passes all passes as many
 length-all : {A : Type 0} (keep : A → Bool) (xs : List A) → AllByRecursion (λ x. keep x ≡ true) xs → length (filter keep xs) ≡ length xs

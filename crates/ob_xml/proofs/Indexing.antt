@@ -7,6 +7,7 @@ use Rattle.std.specs.Cmp.Lexicographic.{slice_cmp, nat_list_cmp_total}
 use Rattle.std.specs.FinSet as set
 use Rattle.std.proofs.lemmas.Map.Text.{is_eq-slice_cmp}
 use Rattle.std.proofs.lemmas.Slice.Eq.{bytes_eq-Decides}
+use Rattle.ob_values.proofs.Bools.{or_false}
 use Rattle.ob_object.specs.Object.{Object, children, listed-in_row}
 use Rattle.ob_object.specs.WellFormed.{has_name, named, is_taken, with_child}
 use Rattle.ob_xml.specs.Indexes.{NameSet, IsIndex, with_name}
@@ -24,10 +25,6 @@ or_swap true true = refl
 or_swap true false = refl
 or_swap false true = refl
 or_swap false false = refl
-
-or_none : (a : Bool) → (a || false) ≡ a
-or_none true = refl
-or_none false = refl
 
 same_swap : (a b : List ℕ) → bytes_eq a b ≡ bytes_eq b a
 same_swap a b = on (bytes_eq a b) (bytes_eq b a) refl refl
@@ -47,7 +44,7 @@ index_more names os o name h e n =
     ∙ sym (taken_last n os o)
 
 pub index_same : (names : NameSet) (os : List Object) (o : Object) → IsIndex names os → o.head.name ≡ None → IsIndex names (os ++ o ∷ [])
-index_same names os o h e n = h n ∙ sym (or_none (is_taken (Some n) os)) ∙ ap (λ (m : Option (List ℕ)). is_taken (Some n) os || has_name n m) (sym e) ∙ sym (taken_last n os o)
+index_same names os o h e n = h n ∙ sym (or_false (is_taken (Some n) os)) ∙ ap (λ (m : Option (List ℕ)). is_taken (Some n) os || has_name n m) (sym e) ∙ sym (taken_last n os o)
 
 pub index_child : (names : NameSet) (o c : Object) → IsIndex names (children o ++ c ∷ []) → IsIndex names (children (with_child o c))
 index_child names o c h = subst (IsIndex names) (sym (listed-in_row (children o ++ c ∷ []))) h

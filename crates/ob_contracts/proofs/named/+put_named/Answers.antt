@@ -2,7 +2,7 @@ use Rattle.std.proofs.Common.{◌≡◌, ◌<◌, ℕ, List, Some, subst}
 use Rattle.std.specs.Prelude.{slice_get}
 use Rattle.ob_object.specs.Object.{Object, children, parts}
 use Rattle.ob_contracts.proofs.At.{fewer_parts}
-use Rattle.ob_contracts.proofs.Missing.{drop_all}
+use Rattle.ob_values.proofs.Lists.{drop_all}
 use Rattle.ob_contracts.proofs.Names.{at_place}
 use Rattle.ob_contracts.proofs.Known.{left_begun, left_next, left_none, kept_twice}
 use Rattle.ob_contracts.proofs.named.+put_named.Goals as goal

@@ -3,7 +3,8 @@ use Rattle.std.specs.Str.{bytes_eq}
 use Rattle.ob_contracts.specs.Telling.{has_text}
 use Rattle.ob_contracts.proofs.Heads.{text_more, not_false}
 use Rattle.ob_site_rules.specs.Watched.{Asked}
-use Rattle.ob_requests.proofs.Seeing.{put_again, put_new, not_true}
+use Rattle.ob_values.proofs.Bools.{not_true}
+use Rattle.ob_requests.proofs.Seeing.{put_again, put_new}
 use Rattle.ob_requests.proofs.asked.put_first.Goals as goal
 
 pub returns-then-not-fresh : goal.returns-then-not-fresh
