@@ -19,7 +19,7 @@ use Rattle.ob_client.specs.declared.call_fault.CallFault.{CallFault}
 use Rattle.ob_client.specs.declared.call_fault.CallFault.TheVariants.{Link, PeerStatus, PeerDocument, PeerFrame, Ended, Dead, Memory}
 use Rattle.ob_client.specs.Sessions.{Comes, Gives, Answers, HasTaken, Reads, Asks, ReadsPiece, Fails, is_of_asking, is_of_reading, fault_of, refused_by, refusal_of}
 
-never : {A : Type 0} → false ≡ true → A
+pub never : {A : Type 0} → false ≡ true → A
 never e = absurd (let f : false ≡ true = e in cc)
 
 -- ---- the next reply

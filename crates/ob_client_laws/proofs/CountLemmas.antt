@@ -6,18 +6,16 @@ use Rattle.std.specs.Prelude.{nat_lt}
 use Rattle.std.specs.List.{AllByRecursion, list_any}
 use Rattle.ob_history.specs.declared.records.Record.{Record}
 use Rattle.ob_alarms.specs.Changes.{State as Board}
-use Rattle.ob_site_rules.specs.Build.{Path}
-use Rattle.ob_site_rules.specs.State.{Plan, Log, State, board, rolled, rolled_logs, roll}
+use Rattle.ob_site_rules.specs.State.{Plan, State, board, rolled, rolled_logs, roll}
 use Rattle.ob_site_rules.specs.Writes.{stored, stored_logs, events_ever, is_over}
 use Rattle.ob_consistent_laws.specs.Opens as opens
 use Rattle.ob_plain_state.specs.States as plain
 use Rattle.ob_client.specs.Mirrors.{most_missed}
 use Rattle.ob_client_laws.specs.Counting.{AreCounted, CountsStay, OpensCounted}
 use Rattle.ob_values.proofs.Bools.{neither}
+use Rattle.ob_site_laws.proofs.Endless.{log}
+use Rattle.ob_site_laws.proofs.Growth.{Logs}
 use Rattle.ob_client_laws.proofs.LimitLemmas.{stays}
-
-abbrev Logs : Type 0
-Logs = List (Path × Log)
 
 abbrev AreFew : Logs → Type 0
 AreFew ls = AllByRecursion (λ l. events_ever l.1 ≤ most_missed) ls
@@ -47,9 +45,6 @@ counted : (plan : Plan) (s : State) → is_over s.logs (board plan s) ≡ false 
 counted plan s e = (let both = within s.logs (board plan s) e in record { records = both.0; alarms = both.1 })
 
 -- ---- rolling
-
-abbrev log : Option ℕ → ℕ → List Record → Log
-log c g k = record { capacity = c; gone = g; kept = k }
 
 log_rolls : (c : Option ℕ) (g : ℕ) (k : List Record) → events_ever (log c g k) ≤ most_missed → events_ever (rolled (log c g k)) ≤ most_missed
 log_rolls None g k h = h

@@ -3,7 +3,7 @@ use Rattle.std.proofs.Common.{arith, ◌≡◌, ℕ, zero, suc, ◌+◌, ◌≤�
 use Rattle.std.proofs.lemmas.Bool.Decides.{nat_tests}
 use Rattle.std.proofs.lemmas.List.{length-map}
 use Rattle.std.proofs.lemmas.Slice.Eq.{bytes_eq-Decides}
-use Rattle.std.specs.Prelude.{codes, find, option_map, nat_eq, unwrap_or, is_none}
+use Rattle.std.specs.Prelude.{codes, find, option_map, unwrap_or, is_none}
 use Rattle.std.specs.List.{AllByRecursion, filter}
 use Rattle.std.specs.Str.{bytes_eq}
 use Rattle.ob_values.proofs.Bools.{not_true, neither_left, neither_right}
@@ -29,6 +29,8 @@ use Rattle.ob_site_rules.specs.Writes.{events_ever}
 use Rattle.ob_site_laws.specs.SiteLaws.{of_plan}
 use Rattle.ob_site_laws.proofs.Nameless.{all_nameless}
 use Rattle.ob_site_laws.proofs.Plain.{watched_plain}
+use Rattle.ob_site_laws.proofs.Rolling.{picked}
+use Rattle.ob_site_laws.proofs.Heard.{not_none}
 use Rattle.ob_client.specs.Entries.{is_feed, is_err, text_of, each_once}
 use Rattle.ob_client.specs.Mirrors.{found, missed_in, most_missed, has_count, follows, can_follow, all_follow}
 use Rattle.ob_client.specs.Shown.{Content}
@@ -41,11 +43,6 @@ use Rattle.ob_values.proofs.Lists.{all_both}
 
 abbrev FewIn : Option Log → Type 0
 FewIn o = gone_in o + length (kept_in o) ≤ most_missed
-
-abbrev picked : Bool → Path × Log → Option (Path × Log) → Option Log
-picked b l others =
-    let there : Option (Path × Log) = cond b (Some l) others in
-    option_map (λ e. e.1) there
 
 nothing : 0 + 0 ≤ 9_223_372_036_854_775_807
 nothing = omega arith
@@ -219,9 +216,6 @@ first_of_three false b c h = absurd (let e : false ≡ true = h in cc)
 none_dropped : (es : List Object) → AllByRecursion (λ (e : Object). e.head.name ≡ None) es → named (codes "dropped") es ≡ None
 none_dropped [] h = refl
 none_dropped (e ∷ es) h = ap (λ (name : Option Text). cond (has_name (codes "dropped") name) (Some e) (named (codes "dropped") es)) h.0 ∙ none_dropped es h.1
-
-not_none : (k : ℕ) → nat_eq (suc k) 0 ≡ false
-not_none k = grind (arith, nat_tests)
 
 module _ (plan : Plan) where
   abbrev pub AllTell : List (Reading (of_plan plan)) → Type 0

@@ -10,6 +10,7 @@ use Rattle.ob_site_rules.specs.Writes.{stored, stored_in, stored_logs, events_ev
 use Rattle.ob_consistent_laws.specs.Ordered.{OpensOrdered}
 use Rattle.ob_client_laws.specs.Storing.{StoresFew, StoredStays, OpenedStoresFew}
 use Rattle.ob_values.proofs.Bools.{neither}
+use Rattle.ob_site_laws.proofs.Endless.{log}
 use Rattle.ob_client_laws.proofs.LimitLemmas.{stays}
 
 few : (n : ℕ) → nat_lt 1_000_000 n ≡ false → n ≤ 1_000_000
@@ -20,9 +21,6 @@ within plan s e =
     few (stored s.logs (board plan s)) (neither (nat_lt 1_000_000 (stored s.logs (board plan s))) (list_any (λ l. nat_lt 9_223_372_036_854_775_807 (events_ever l.1)) s.logs) e).0
 
 -- ---- a log counts for as much once it has rolled
-
-abbrev log : Option ℕ → ℕ → List Record → Log
-log c g k = record { capacity = c; gone = g; kept = k }
 
 log_rolls : (c : Option ℕ) (g : ℕ) (k : List Record) → stored_in (rolled (log c g k)).capacity (length (rolled (log c g k)).kept) ≡ stored_in c (length k)
 log_rolls None g k = refl

@@ -11,15 +11,15 @@ use Rattle.ob_opening.specs.declared.roles.Roles.{Roles}
 use Rattle.ob_opening.specs.Roles.{no_roles, roles_there, holds_contracts, row_roles, all_roles, role_at}
 
 -- the roles from a number on begin with those
-abbrev At : List Roles → ℕ → List Roles → Type 0
+abbrev pub At : List Roles → ℕ → List Roles → Type 0
 At rs n [] = Unit {0}
 At rs n (x ∷ xs) = (role_at rs n ≡ x) × At rs (n + 1) xs
 
-seam : (before : List Roles) (x : Roles) (xs : List Roles) → role_at (before ++ x ∷ xs) (length before) ≡ x
+pub seam : (before : List Roles) (x : Roles) (xs : List Roles) → role_at (before ++ x ∷ xs) (length before) ≡ x
 seam [] x xs = refl
 seam (y ∷ before) x xs = seam before x xs
 
-at_own : (before xs : List Roles) → At (before ++ xs) (length before) xs
+pub at_own : (before xs : List Roles) → At (before ++ xs) (length before) xs
 at_own before [] = tt
 at_own before (x ∷ xs) = (
   seam before x xs,
@@ -27,11 +27,11 @@ at_own before (x ∷ xs) = (
       (subst (λ (n : ℕ). At ((before ++ x ∷ []) ++ xs) n xs) (length_push before x) (at_own (before ++ x ∷ []) xs)),
 )
 
-at_first : (rs : List Roles) (n : ℕ) (xs ys : List Roles) → At rs n (xs ++ ys) → At rs n xs
+pub at_first : (rs : List Roles) (n : ℕ) (xs ys : List Roles) → At rs n (xs ++ ys) → At rs n xs
 at_first rs n [] ys a = tt
 at_first rs n (x ∷ xs) ys a = (a.0, at_first rs (n + 1) xs ys a.1)
 
-at_second : (rs : List Roles) (n : ℕ) (xs ys : List Roles) → At rs n (xs ++ ys) → At rs (n + length xs) ys
+pub at_second : (rs : List Roles) (n : ℕ) (xs ys : List Roles) → At rs n (xs ++ ys) → At rs (n + length xs) ys
 at_second rs n [] ys a =
     let e : n ≡ n + 0 = omega arith in
     subst (λ (m : ℕ). At rs m ys) e a
@@ -39,7 +39,7 @@ at_second rs n (x ∷ xs) ys a =
     let e : n + 1 + length xs ≡ n + length (x ∷ xs) = omega arith in
     subst (λ (m : ℕ). At rs m ys) e (at_second rs (n + 1) xs ys a.1)
 
-roles_count : (lib : Contracts) (root under inside : Bool) (implied : Option Words) (above : List Object) (r : Objects) → length (row_roles lib root under inside implied above r) ≡ count r
+pub roles_count : (lib : Contracts) (root under inside : Bool) (implied : Option Words) (above : List Object) (r : Objects) → length (row_roles lib root under inside implied above r) ≡ count r
 roles_count lib root under inside implied above none = refl
 roles_count lib root under inside implied above (node h inner rest) =
     let from = sources lib h implied (overridden h.name above) in

@@ -141,7 +141,7 @@ stored_most (q ∷ hs) sum s h =
         omega (arith, all, one)
 
 -- the greatest of numbers
-greatest_first : (n : ℕ) (ks : List ℕ) → n ≤ greatest n ks
+pub greatest_first : (n : ℕ) (ks : List ℕ) → n ≤ greatest n ks
 greatest_first n [] = omega arith
 greatest_first n (k ∷ ks) = omega (arith, greatest_first (max n k) ks)
 

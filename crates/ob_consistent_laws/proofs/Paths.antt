@@ -1,6 +1,5 @@
 -- Paths that differ go on differing.
-use Rattle.std.proofs.Common.{◌≡◌, Bool, true, false, cond, refl, sym, ap}
-use Rattle.ob_object.specs.declared.head.Head.{Head}
+use Rattle.std.proofs.Common.{◌≡◌, cond, refl, sym, ap}
 use Rattle.ob_object.specs.declared.head.Slot.{Slot}
 use Rattle.ob_object.specs.Object.{Objects, none, node}
 use Rattle.ob_object.specs.Paths.{is_path, node_path}
@@ -9,19 +8,12 @@ use Rattle.ob_site_rules.specs.State.{Plan, State, with_board, roll}
 use Rattle.ob_site_rules.specs.Shown.{dressed}
 use Rattle.ob_site_rules.specs.Writes.{with_slot, with_slot_in}
 use Rattle.ob_plain_state.proofs.Keeping.{keys-rolled}
-use Rattle.ob_shown_laws.specs.Alike.{row, without_slot, DifferInSlots}
+use Rattle.ob_shown_laws.specs.Alike.{row, DifferInSlots}
 use Rattle.ob_shown_laws.specs.Changed.{PathsDiffer}
 use Rattle.ob_shown_laws.proofs.Touches.{differ_alike}
 use Rattle.ob_shown_laws.proofs.Reaching.{roles_alike}
+use Rattle.ob_shown_laws.proofs.Owning.{differ_itself, slot_set}
 use Rattle.ob_consistent_laws.specs.Stays.{paths_of, StepsKeepPaths}
-
-differ_itself : (os : Objects) → DifferInSlots os os
-differ_itself none = tt
-differ_itself (node h below rest) = (refl, λ _. refl, differ_itself below, differ_itself rest)
-
-slot_set : (b : Bool) (h : Head) (slot : Slot) → without_slot h ≡ without_slot (cond b (record h { slot = slot }) h)
-slot_set true h slot = refl
-slot_set false h slot = refl
 
 differ_slotted : (p : Path) (slot : Slot) (os : Objects) → DifferInSlots os (with_slot_in p slot os)
 differ_slotted p slot none = tt

@@ -57,11 +57,11 @@ num_of_slot k (Is (value.Date d)) x f h = absurd (let e : None ≡ Some x = h in
 num_of_slot k (Is (value.Time t)) x f h = absurd (let e : None ≡ Some x = h in cc)
 
 -- the slot of a child that is found fits its kind
-abbrev FitsIfThere : Option Object → Type 0
+abbrev pub FitsIfThere : Option Object → Type 0
 FitsIfThere None = Unit {0}
 FitsIfThere (Some c) = IsTrue (fits_slot c.head.kind c.head.slot)
 
-child_fits : (n : Text) (r : Objects) → Sound r → FitsIfThere (named n (listed r))
+pub child_fits : (n : Text) (r : Objects) → Sound r → FitsIfThere (named n (listed r))
 child_fits n none s = tt
 child_fits n (node h inner rest) s = go (has_name n h.name) (child_fits n rest s.3)
   where

@@ -9,7 +9,7 @@ use Rattle.ob_plain_state.proofs.Keeping.{NamesAreFree-same, keys-rolled}
 use Rattle.ob_consistent_laws.specs.Ordered.{UnrolledIsConsistent}
 
 -- a log has had as many events once it has rolled
-as_many : (l : Log) (o : Option ℕ) → l.capacity ≡ o → events_ever (rolled l) ≡ events_ever l
+pub as_many : (l : Log) (o : Option ℕ) → l.capacity ≡ o → events_ever (rolled l) ≡ events_ever l
 as_many l None e = rw e refl
 as_many l (Some c) e = rw e (omega (arith, length-drop (length l.kept - c) l.kept))
 

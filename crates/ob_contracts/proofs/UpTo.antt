@@ -6,7 +6,7 @@ use Rattle.ob_object.specs.Object.{Object, Objects, none, node, in_row, children
 use Rattle.ob_contracts.specs.Inherit.{bare, bare_row}
 use Rattle.ob_contracts.proofs.Built.{take_one_more, take_all}
 
-count_bare_row : (r : Objects) → count (bare_row r) ≡ count r
+pub count_bare_row : (r : Objects) → count (bare_row r) ≡ count r
 count_bare_row none = refl
 count_bare_row (node h below rest) = omega (arith, count_bare_row below, count_bare_row rest)
 

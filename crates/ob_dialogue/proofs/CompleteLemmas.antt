@@ -6,8 +6,9 @@ use Rattle.ob_io.specs.Faults.{Rose}
 use Rattle.ob_io.specs.Told.{Gains}
 use Rattle.ob_object.specs.Object.{Object}
 use Rattle.ob_documents.specs.Spelling.{Spells}
+use Rattle.ob_documents.proofs.Verdicts.{OneVerdict, IsJudgedSo}
 use Rattle.ob_xml.specs.declared.refused.Why.{Why}
-use Rattle.ob_xml.specs.Judged.{Verdict, fault, document, Judged}
+use Rattle.ob_xml.specs.Judged.{fault, document, Judged}
 use Rattle.ob_http.specs.Reply.{Response, ReplyStands}
 use Rattle.ob_http.specs.Replies.{never_last, Replied, AreFirstReplies}
 use Rattle.ob_http.specs.Stream.{End, resting, faulted}
@@ -23,7 +24,7 @@ use Rattle.ob_dialogue.specs.declared.ending.Peer.{Peer}
 use Rattle.ob_dialogue.specs.declared.ending.Peer.TheVariants as peer
 use Rattle.ob_dialogue.specs.declared.ending.Ending.{Ending}
 use Rattle.ob_dialogue.specs.declared.ending.Ending.TheVariants as ending
-use Rattle.ob_asking.proofs.WireLemmas.{never}
+use Rattle.ob_client.proofs.SessionLemmas.{never}
 use Rattle.ob_dialogue.proofs.LegLemmas.{after_none}
 
 -- ---- lists
@@ -45,12 +46,6 @@ gained_once (Some us) (Some zs) xs ys some a b = append_same us xs ys (sym a ∙
 -- no bytes spell two documents
 abbrev pub OneDocument : Type 0
 OneDocument = (bytes : List ℕ) (ns other : Option (List ℕ)) (o p : Object) → Spells bytes ns o → Spells bytes other p → (ns ≡ other) × (o ≡ p)
-
-abbrev pub OneVerdict : Type 0
-OneVerdict = (bytes : List ℕ) (ended : Bool) (v w : Verdict) → Judged bytes ended v → Judged bytes ended w → v ≡ w
-
-abbrev pub IsJudgedSo : Type 0
-IsJudgedSo = (bytes : List ℕ) (ns : Option (List ℕ)) (o : Object) → Spells bytes ns o → Judged bytes true (document (record { ns = ns; root = o }))
 
 -- ---- how far the replies of a link led
 

@@ -8,9 +8,9 @@ use Rattle.ob_values.specs.declared.verb.Verb.TheVariants.{Post}
 use Rattle.ob_watching.specs.WatchOuts.{Text}
 use Rattle.ob_client.specs.Sessions.{Answers, Asks, Reads, Fails, is_last}
 use Rattle.ob_client.specs.declared.call_fault.CallFault.{CallFault}
+use Rattle.ob_client.proofs.SessionLemmas.{never}
 use Rattle.ob_client.specs.declared.call_fault.CallFault.TheVariants as fault
 use Rattle.ob_console.specs.Acks.{Standing, CallsAck, ack_in}
-use Rattle.ob_asking.proofs.WireLemmas.{never}
 use Rattle.ob_dialogue.specs.Plans.{Request}
 use Rattle.ob_dialogue.specs.Stages.{Stage, Watching, Acking, request_at}
 use Rattle.ob_dialogue.specs.Exchanges.{Wire, wire, text_of, Exchanges, Faulted, Replied, FailedByLink, WasAlive, gave}

@@ -9,9 +9,10 @@ use Rattle.ob_http.specs.Replies.{AreFirstReplies, AreTaken}
 use Rattle.ob_watching.specs.WatchOuts.{Text}
 use Rattle.ob_client.specs.Sessions.{Answers, Asks, Reads}
 use Rattle.ob_client.specs.declared.call_fault.CallFault.{CallFault}
+use Rattle.ob_client.proofs.SessionLemmas.{never}
 use Rattle.ob_client.specs.declared.call_fault.CallFault.TheVariants as fault
 use Rattle.ob_asking.specs.Wires.{text_of}
-use Rattle.ob_asking.proofs.WireLemmas.{never, front_along, front_behind, first_of_taken, first_more, whole_sent}
+use Rattle.ob_asking.proofs.WireLemmas.{front_along, front_behind, first_of_taken, first_more, whole_sent}
 use Rattle.ob_dialogue.specs.Plans.{Program, Request}
 use Rattle.ob_dialogue.specs.Stages.{Stage, Over, Lobby, Service, Make, Subject, Adding, Acking, Polling, Mending, Deleting, request_at}
 use Rattle.ob_dialogue.specs.Taking.{taken}

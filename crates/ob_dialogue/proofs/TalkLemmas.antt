@@ -13,7 +13,8 @@ use Rattle.ob_dialogue.specs.Stages.{Stage}
 use Rattle.ob_dialogue.specs.Turns.{Reached, Turn, Reply, Broken, in_front, on_links, asked, shown, after, polls, resumed, lines}
 use Rattle.ob_dialogue.specs.Links.{texts, Came, is_printed, IsLink, AreLinks, AreOf, counted, dialled, Outside, outside, TalksFrom}
 use Rattle.ob_dialogue.specs.Legs.{Pause, Ended, Failed, Cut, ending_of, Goes, Had, Leg, HasOne, Visits}
-use Rattle.ob_asking.proofs.WireLemmas.{never, front_behind, at_end_left}
+use Rattle.ob_client.proofs.SessionLemmas.{never}
+use Rattle.ob_asking.proofs.WireLemmas.{front_behind, at_end_left}
 use Rattle.ob_dialogue.proofs.LegLemmas.{none_front, shown_none}
 use Rattle.ob_dialogue.specs.declared.ending.Peer.TheVariants as peer
 use Rattle.ob_dialogue.specs.declared.ending.Ending.{Ending}

@@ -47,6 +47,7 @@ use Rattle.ob_xml.specs.Indexes.{NameSet}
 use Rattle.ob_xml.specs.Meanings.{Meaning, opening, attribute, tag_end, empty_end, closing, skipped, ending, mark, ReadsKnown, Means}
 use Rattle.ob_xml.specs.Structure.{State, start, marked, between, in_tag, behind, whole, beginning, place_of, kind_in, step, bare, closed, closed_as, end_tag, opened_as, told, siblings, with_ns, is_name_twice, is_twice}
 use Rattle.ob_xml.specs.Judged.{Verdict, document, is_open, Judges, complete, goes_on, max_len, JudgedBy, Judged}
+use Rattle.ob_xml.proofs.Unique.{OneText}
 
 -- the constructs lead from one state to another
 pub data Leads : State → List Construct → State → Type 0 where
@@ -110,9 +111,6 @@ ns_none k (x ∷ xs) a b h n =
 pub xmlns_unknown : (k : Kind) → known k (codes "xmlns") ≡ None
 unfolding field_of
 xmlns_unknown k = refl
-
-abbrev pub OneText : Type 0
-OneText = (raw text other : List ℕ) → Expands raw text → Expands raw other → text ≡ other
 
 -- at the root it is what the attribute xmlns stands for
 ns_root : OneText → (k : Kind) (xs : List (List ℕ × List ℕ)) (ns b : Option (List ℕ)) → AreDistinct xs → NamespaceIs xs ns → NsAfter [] k xs None b → b ≡ ns

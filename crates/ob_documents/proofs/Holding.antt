@@ -15,7 +15,7 @@ held_carried ns o n h s = record { namespace = n; well_formed = h.well_formed; h
 
 -- ---- one after another
 
-cut : {A : Type 0} (xs : List A) (i : ℕ) (x : A) → i < length xs → x ≡ get_or xs i x → drop i xs ≡ x ∷ drop (i + 1) xs
+pub cut : {A : Type 0} (xs : List A) (i : ℕ) (x : A) → i < length xs → x ≡ get_or xs i x → drop i xs ≡ x ∷ drop (i + 1) xs
 cut xs i x h is = drop-cons xs i x h ∙ ap (λ y. y ∷ drop (suc i) xs) (sym is) ∙ ap (λ (k : ℕ). x ∷ drop k xs) (sym (add-one i))
 
 pub next_word : (P : List ℕ → Type 0) (ws : List (List ℕ)) (i : ℕ) (w : List ℕ) → i < length ws → w ≡ get_or ws i w → P w
@@ -33,9 +33,6 @@ item_parts (o ∷ os) (suc i) d h = omega (arith, item_parts os i d (omega arith
 
 pub child_parts : (kids : List Object) (i : ℕ) (child : Object) → i < length kids → child ≡ get_or kids i child → parts child ≤ count (in_row kids)
 child_parts kids i child h is = subst (λ (o : Object). parts o ≤ count (in_row kids)) (sym is) (item_parts kids i child h)
-
-pub row_count : (kids : List Object) (inner : Objects) → kids ≡ listed inner → count (in_row kids) ≡ count inner
-row_count kids inner e = ap (λ (os : List Object). count (in_row os)) e ∙ ap count (in_row-listed inner)
 
 pub row_of : (kids : List Object) (inner : Objects) → kids ≡ listed inner → IsRowHeld (in_row kids) → IsRowHeld inner
 row_of kids inner e h = subst IsRowHeld (ap in_row e ∙ in_row-listed inner) h

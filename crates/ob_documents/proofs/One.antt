@@ -5,7 +5,6 @@ use Rattle.ob_values.specs.Faults.{ValueFault}
 use Rattle.ob_scan.specs.declared.piece.Place.{Place}
 use Rattle.ob_scan.specs.declared.piece.Place.TheVariants as places
 use Rattle.ob_scan.specs.Constructs.{Construct, opening, attribute, tag_end, empty_end, closing, skipped, ending, mark, declares, found, scan}
-use Rattle.ob_scan.specs.Expansion.{Expands}
 use Rattle.ob_object.specs.declared.kind.Kind.{Kind}
 use Rattle.ob_object.specs.declared.kind.Kind.TheVariants as kind
 use Rattle.ob_object.specs.declared.head.Head.{Head}
@@ -16,12 +15,10 @@ use Rattle.ob_encoding.specs.Kinds.{same, kind_of}
 use Rattle.ob_encoding.specs.Fields.{known}
 use Rattle.ob_encoding.specs.Parts.{ReadsPart, put_part}
 use Rattle.ob_encoding.specs.Names.{kind_name}
+use Rattle.ob_xml.proofs.Unique.{OneText}
 use Rattle.ob_documents.specs.Attributes.{Says, Tells, Tell, Describe, NamespaceBy, NamespaceIs}
 use Rattle.ob_documents.specs.Grammar.{attributes_of, name_of, Element, empty, full, Content, nothing, pause, child, IsMark, AreSkipped}
 use Rattle.ob_documents.specs.Spelling.{place_behind, Cuts, none as no_more, some, Spells}
-
-abbrev pub OneText : Type 0
-OneText = (raw text other : List ℕ) → Expands raw text → Expands raw other → text ≡ other
 
 abbrev pub OnePart : Type 0
 OnePart = (k : Kind) (f : Field) (text : List ℕ) (a b : Result Part ValueFault) → ReadsPart k f text a → ReadsPart k f text b → a ≡ b
@@ -252,10 +249,10 @@ open_not_closed es q s k e = not_closed (opening s.name) s.tail q (λ h. h) k (s
 pause_not_open : (r es : List Construct) → Starts es → skipped ∷ r ≡ es → ⊥
 pause_not_open r es s e = let t = cons_one skipped (opening s.name) r s.tail (e ∙ s.parts_are) in subst IsOpening (sym t.first_is) tt
 
-empty_ends : (n : List ℕ) (ats r : List Construct) → (opening n ∷ (ats ++ (empty_end ∷ []))) ++ r ≡ opening n ∷ (ats ++ (empty_end ∷ r))
+pub empty_ends : (n : List ℕ) (ats r : List Construct) → (opening n ∷ (ats ++ (empty_end ∷ []))) ++ r ≡ opening n ∷ (ats ++ (empty_end ∷ r))
 empty_ends n ats r = simp append_assoc
 
-full_ends : (n : List ℕ) (ats inner r : List Construct) → (opening n ∷ (ats ++ (tag_end ∷ (inner ++ (closing n ∷ []))))) ++ r ≡ opening n ∷ (ats ++ (tag_end ∷ (inner ++ (closing n ∷ r))))
+pub full_ends : (n : List ℕ) (ats inner r : List Construct) → (opening n ∷ (ats ++ (tag_end ∷ (inner ++ (closing n ∷ []))))) ++ r ≡ opening n ∷ (ats ++ (tag_end ∷ (inner ++ (closing n ∷ r))))
 full_ends n ats inner r = simp append_assoc
 
 end_apart : (c d : Construct) → c ≡ empty_end → d ≡ tag_end → c ≡ d → ⊥

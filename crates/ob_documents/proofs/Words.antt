@@ -15,19 +15,8 @@ use Rattle.ob_values.proofs.Lists.{all_both}
 use Rattle.ob_object.specs.Words.{is_white, is_word}
 use Rattle.ob_encoding.specs.WordLists.{is_blank, ended, words_from, words_of}
 use Rattle.ob_encoding.specs.Canonical.{joined}
+use Rattle.ob_encoding.proofs.WordRuns.{all_scalar}
 use Rattle.ob_documents.proofs.Characters.{encode_1}
-
-xml_scalar : (c : ℕ) → IsXmlChar c → scalar c ≡ true
-xml_scalar c (inl h) = grind (arith, nat_tests)
-xml_scalar c (inr (inl h)) = grind (arith, nat_tests)
-xml_scalar c (inr (inr (inl h))) = grind (arith, nat_tests)
-xml_scalar c (inr (inr (inr (inl h)))) = let p = h.0 in let q = h.1 in grind (arith, nat_tests)
-xml_scalar c (inr (inr (inr (inr (inl h))))) = let p = h.0 in let q = h.1 in grind (arith, nat_tests)
-xml_scalar c (inr (inr (inr (inr (inr h))))) = let p = h.0 in let q = h.1 in grind (arith, nat_tests)
-
-all_scalar : (cs : List ℕ) → AllByRecursion IsXmlChar cs → scalars cs ≡ true
-all_scalar [] h = refl
-all_scalar (c ∷ cs) h = rw (xml_scalar c h.0, all_scalar cs h.1) refl
 
 -- a character that is no white space
 not_blank : (c : ℕ) → list_all (λ b. not (is_white b)) (encode_utf8 c) ≡ true → is_blank c ≡ false

@@ -1,13 +1,11 @@
 -- A value that was read is in the range of its kind: its printed text spells it.
-use Rattle.std.proofs.Common.{◌≡◌, ℕ, ◌+◌, ◌-◌, ◌*◌, ◌/◌, ◌%◌, ◌^◌, ◌<◌, ◌≤◌, Bool, true, false, List, length, Result, Ok, refl, sym, ap, ◌∙◌, subst, arith, inl, inr, FitsSigned, w64}
+use Rattle.std.proofs.Common.{◌≡◌, ℕ, ◌+◌, ◌-◌, ◌*◌, ◌/◌, ◌%◌, ◌<◌, ◌≤◌, Bool, true, false, List, Result, Ok, refl, sym, ap, ◌∙◌, subst, arith, inl, inr, FitsSigned, w64}
 use Rattle.std.specs.Prelude.{ℤ, pos, neg_ℤ, ◌+ℤ◌, ◌-ℤ◌, ◌≤ℤ◌, unsigned_abs}
 use Rattle.std.proofs.lemmas.Int.{ints}
-use Rattle.std.proofs.lemmas.Nat.{mul-add-lt}
 use Rattle.jiff.specs.Types.{Date}
 use Rattle.jiff.specs.Words.{epoch_day}
-use Rattle.ob_spelling.specs.Numeral.{AreDigits, number, signed}
+use Rattle.ob_spelling.specs.Numeral.{signed}
 use Rattle.ob_spelling.specs.White.{trim}
-use Rattle.ob_spelling.proofs.NumberLemmas.{ten_pow_pos, ten_pow_split, number_below}
 use Rattle.ob_times.specs.CivilText.{IsFraction}
 use Rattle.ob_times.specs.Civil.{IsDateSpelled}
 use Rattle.ob_times.specs.Clock.{IsTimeSpelled, second_of_day}
@@ -18,6 +16,7 @@ use Rattle.ob_times.specs.Times.{Instant, Span, IsSpan, at_clock, since_year_1}
 use Rattle.ob_times.proofs.DayLemmas.{since_year_1 as days_since_year_1}
 use Rattle.ob_times.proofs.PrintedSpanLemmas.{span_spelled}
 use Rattle.ob_times.proofs.PrintedTimesLemmas.{time_spelled, date_spelled, ShowsInstant, instant_spelled, instant_text-parts}
+use Rattle.ob_times.proofs.FractionLemmas.{below_billion}
 use Rattle.ob_values.specs.Decimal.{IsDecimal}
 use Rattle.ob_values.specs.Faults.{ValueFault}
 use Rattle.ob_values.specs.XmlText.{IsXmlText}
@@ -41,14 +40,6 @@ real_written : (z : ℤ) → IsDecimal z → IsWritten (value.Real z)
 real_written z is = (spelled_real z is, is)
 
 -- ---- times of day
-
-below_billion : (ds : List ℕ) → AreDigits ds → length ds ≤ 9 → number ds * 10 ^ (9 - length ds) < 1_000_000_000
-below_billion ds h few =
-    let p = ten_pow_split (9 - length ds) 9 (omega arith) in
-    let e : 9 - (9 - length ds) ≡ length ds = omega arith in
-    let whole : 1_000_000_000 ≡ 10 ^ length ds * 10 ^ (9 - length ds) = p ∙ ap (λ (k : ℕ). 10 ^ k * 10 ^ (9 - length ds)) e in
-    let below = mul-add-lt (number ds) (10 ^ (9 - length ds)) 0 (10 ^ length ds) (number_below ds h) (ten_pow_pos (9 - length ds)) in
-    omega (arith, whole, below)
 
 nanos_below : (text : List ℕ) (n : ℕ) → IsFraction text n → n < 1_000_000_000
 nanos_below text n (inl h) = omega (arith, h.1)

@@ -14,7 +14,7 @@ use Rattle.ob_values.proofs.Lists.{all_both}
 use Rattle.ob_object.specs.Words.{is_white}
 use Rattle.ob_encoding.specs.WordLists.{is_blank, ended, words_from, words_of}
 
-xml_scalar : (c : ℕ) → IsXmlChar c → scalar c ≡ true
+pub xml_scalar : (c : ℕ) → IsXmlChar c → scalar c ≡ true
 xml_scalar c (inl h) = grind (arith, nat_tests)
 xml_scalar c (inr (inl h)) = grind (arith, nat_tests)
 xml_scalar c (inr (inr (inl h))) = grind (arith, nat_tests)
@@ -22,7 +22,7 @@ xml_scalar c (inr (inr (inr (inl h)))) = let p = h.0 in let q = h.1 in grind (ar
 xml_scalar c (inr (inr (inr (inr (inl h))))) = let p = h.0 in let q = h.1 in grind (arith, nat_tests)
 xml_scalar c (inr (inr (inr (inr (inr h))))) = let p = h.0 in let q = h.1 in grind (arith, nat_tests)
 
-all_scalar : (cs : List ℕ) → AllByRecursion IsXmlChar cs → scalars cs ≡ true
+pub all_scalar : (cs : List ℕ) → AllByRecursion IsXmlChar cs → scalars cs ≡ true
 all_scalar [] h = refl
 all_scalar (c ∷ cs) h = rw (xml_scalar c h.0, all_scalar cs h.1) refl
 

@@ -1,6 +1,7 @@
 -- The laws of watches over restarts.
 use Rattle.std.proofs.Common.{◌≡◌, ℕ, ◌^◌, ◌<◌, ◌≤◌, Bool, true, false, cond, List, [], ◌∷◌, ◌++◌, Some, None, refl, sym, ◌∙◌, ap, subst, arith, le_refl, le_trans, inl, inr}
 use Rattle.std.specs.List.{AllByRecursion}
+use Rattle.ob_values.proofs.Lists.{all_mapped}
 use Rattle.ob_machine.specs.History.{entry, left_by, IsAnswer, IsCall}
 use Rattle.ob_machine.specs.declared.call.Answer.TheVariants.{Done, NoMemory}
 use Rattle.ob_machine.proofs.HistoryLemmas.{after-append, legal_front, legal_back}
@@ -14,10 +15,6 @@ use Rattle.ob_watching.proofs.Laws.{sound_after, watch_stays_gone, watch_replays
 use Rattle.ob_lasting.specs.Lasting.{IsRestartOf}
 use Rattle.ob_lasting.specs.LastingLaws.{Run, IsHistory, CutOff, StartsSound, EachStartsSound, IsGoneIn, WatchStaysGoneOverRestarts, WatchReplaysOverRestarts}
 use Rattle.ob_lasting.proofs.Histories.{all_at, first_run, history_back, run_cut, history_cut, later_starts}
-
-all_mapped : {A : Type 0} (P Q : A → Type 0) → ((x : A) → P x → Q x) → (xs : List A) → AllByRecursion P xs → AllByRecursion Q xs
-all_mapped P Q f [] h = tt
-all_mapped P Q f (x ∷ xs) h = (f x h.0, all_mapped P Q f xs h.1)
 
 module _ (m : Site) where
   -- numbers of watches aren't given back

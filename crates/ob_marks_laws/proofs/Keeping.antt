@@ -14,12 +14,10 @@ use Rattle.ob_watch.specs.Counted.{CountsBy}
 use Rattle.ob_watch.specs.Items.{Text, among, anew_by, one_more_by, put_item, reported_by, rolled_by}
 use Rattle.ob_watch.specs.Marks.{IsMarkPastBy}
 use Rattle.ob_watch.specs.Tables.{Leased, at_number, is_over, live, new_watch, with_all_items}
+use Rattle.ob_watch.proofs.LawLemmas.{Numbered}
 use Rattle.ob_marks_laws.proofs.Staying.{own_nodes_stay}
 use Rattle.ob_marks_laws.specs.Items.{OnNode, OnNodeBy, NodesStay, IsOwnNode, MarksStayPast, CountsStayAnew, OwnItemsStay}
 use Rattle.ob_marks_laws.specs.Tables.{AllOf, AllItems, TableKeeps}
-
-abbrev Numbered : Type 0
-Numbered = List (ℕ × Leased)
 
 -- tables
 module _ (P : Item → Type 0) where

@@ -6,12 +6,13 @@ use Rattle.ob_scan.specs.declared.stop.Stop.{Stop}
 use Rattle.ob_scan.specs.declared.stop.Stop.TheVariants.{Want, Malformed}
 use Rattle.ob_scan.specs.Reading.{◌>>=◌, is_space, literal, spaces}
 use Rattle.ob_scan.specs.Constructs.{Construct, skipped, or_word, is_caseless, caseless, quote_at, opened, version_at, encoding_at, standalone_at, part_or, optional, declaration_at, one_space, declares}
+use Rattle.ob_scan.proofs.Longer.{rest_on, pair_on}
 use Rattle.ob_markup.specs.Characters.{IsBlank}
 use Rattle.ob_markup.proofs.Literals.{bind_ok, bind_both, Wanting, at_first, behind, bind_want, literal_again, spaces_again, spaces_dark, spaces_want, IsDark}
 use Rattle.ob_markup.proofs.Runs.{same_ok}
 use Rattle.ob_markup.proofs.Forms.{quote_is}
 use Rattle.ob_markup.proofs.Declarations.{read_part, quote_ok, one_space_ok, front_again, version_at_is, encoding_at_is, standalone_at_is}
-use Rattle.ob_markup.proofs.Leads.{Led, Leads, Reads, then_leads, rest_on, pair_on, Left, Any, pair_leads, skipped_leads, any_read, left_reads, literal_leads, spaces_leads}
+use Rattle.ob_markup.proofs.Leads.{Led, Leads, Reads, then_leads, Left, Any, pair_leads, skipped_leads, any_read, left_reads, literal_leads, spaces_leads}
 
 -- ---- words
 

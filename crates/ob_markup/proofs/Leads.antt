@@ -8,6 +8,7 @@ use Rattle.ob_scan.specs.declared.reading.Ends.{Ends}
 use Rattle.ob_scan.specs.declared.reading.Ends.TheVariants.{Name, Target, Value}
 use Rattle.ob_scan.specs.Reading.{◌>>=◌, is_space, ends_at, literal, spaces, run, word, behind_pair}
 use Rattle.ob_scan.specs.Constructs.{Construct, skipped, opening, closing, comment_at, is_xml, behind_target, instruction_at, end_tag_at, tag_name_at, closed_by, value_at, attribute_at}
+use Rattle.ob_scan.proofs.Longer.{rest_on, pair_on}
 use Rattle.ob_markup.specs.Characters.{AllPass, IsQuote}
 use Rattle.ob_markup.specs.References.{IsValue}
 use Rattle.ob_markup.proofs.Walks.{Chars, chars_text, chars_both}
@@ -50,12 +51,6 @@ then_leads g h k P Q r f a b ends = record {
     on x (behind y e w) =
         let l = b.leads y w in
         record { tail = l.tail; value = l.value; is = bind_both (r (g l.tail x)) f (h l.tail y) l.value (a.stays x y l.tail e) l.is; holds = l.holds }
-
-abbrev pub rest_on : List ℕ → List ℕ → List ℕ
-rest_on tail xs = xs ++ tail
-
-abbrev pub pair_on : {A : Type 0} → List ℕ → A × List ℕ → A × List ℕ
-pair_on tail x = (x.0, x.1 ++ tail)
 
 -- these bytes are left
 abbrev pub Left : List ℕ → List ℕ → Type 0

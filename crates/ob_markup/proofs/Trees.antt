@@ -12,6 +12,7 @@ use Rattle.ob_documents.specs.Attributes.{Describe, NamespaceIs}
 use Rattle.ob_documents.specs.Grammar.{attributes_of, name_of, IsMark, AreSkipped}
 use Rattle.ob_documents.specs.Grammar as grammar
 use Rattle.ob_documents.specs.Spelling.{place_behind, Cuts, Spells}
+use Rattle.ob_documents.proofs.One.{empty_ends, full_ends}
 use Rattle.ob_documents.specs.Spelling as spelling
 use Rattle.ob_markup.specs.Characters.{IsBlank}
 use Rattle.ob_markup.specs.Markup.{Declaration, print_declaration, IsDeclaration, IsTagName, EndTag, print_end_tag, IsEndTag}
@@ -257,12 +258,6 @@ record ContentRead (level : ℕ) (row : Objects) (bytes : List ℕ) (cs : List C
   rest : List ℕ
   printed : bytes ≡ print_content content ++ rest
   behind : Cuts Between rest cs
-
-empty_ends : (n : List ℕ) (ats r : List Construct) → (scanned.opening n ∷ (ats ++ (scanned.empty_end ∷ []))) ++ r ≡ scanned.opening n ∷ (ats ++ (scanned.empty_end ∷ r))
-empty_ends n ats r = simp append_assoc
-
-full_ends : (n : List ℕ) (ats inner r : List Construct) → (scanned.opening n ∷ (ats ++ (scanned.tag_end ∷ (inner ++ (scanned.closing n ∷ []))))) ++ r ≡ scanned.opening n ∷ (ats ++ (scanned.tag_end ∷ (inner ++ (scanned.closing n ∷ r))))
-full_ends n ats inner r = simp append_assoc
 
 -- white space before content
 record Widened (level : ℕ) (row : Objects) (s : List ℕ) (c : Content) : Type 0 where

@@ -11,14 +11,14 @@ use Rattle.ob_scan.specs.declared.piece.Place.TheVariants.{Start, Marked, Betwee
 use Rattle.ob_scan.specs.Reading.{literal, behind_spaces, some_behind}
 use Rattle.ob_scan.specs.Constructs.{Construct, Scanned, found, refused, comment_at, instruction_at, end_tag_at, tag_name_at, markup_at, attribute_at, bad_reference, declaration_at, declares, mark_at, wanting, judged, checked, attribute_found, empty_end_at, tag_part, in_tag, blank, outside, behind_element, declared, behind_mark, marked, scan}
 use Rattle.ob_scan.specs.Constructs as scanned
-use Rattle.ob_scan.proofs.Longer.{Stays, literal_stays, declares_stays}
+use Rattle.ob_scan.proofs.Longer.{Stays, literal_stays, declares_stays, rest_on}
 use Rattle.ob_markup.specs.Characters.{IsBlank}
 use Rattle.ob_markup.specs.Markup.{print_attribute}
 use Rattle.ob_markup.specs.Pieces.{attribute, tag_end, empty_end, MayHaveForm}
 use Rattle.ob_markup.proofs.Literals.{Spaced, spaced, spaces_want, literal_want, bind_want, Wanting, at_first, behind, behind_again}
 use Rattle.ob_markup.proofs.Forms.{attribute_ok, attribute_print}
 use Rattle.ob_markup.proofs.Found.{found_ok}
-use Rattle.ob_markup.proofs.Leads.{Led, rest_on, Any, literal_leads, comment_leads, instruction_leads, end_tag_leads, tag_name_leads, attribute_leads}
+use Rattle.ob_markup.proofs.Leads.{Led, Any, literal_leads, comment_leads, instruction_leads, end_tag_leads, tag_name_leads, attribute_leads}
 use Rattle.ob_markup.proofs.Begun.{plainest_declaration, declaration_leads, declares_leads}
 
 -- bytes that go on are found

@@ -10,8 +10,8 @@ use Rattle.ob_object.specs.declared.head.Slot.{Slot}
 use Rattle.ob_object.specs.declared.head.Slot.TheVariants.{Absent, Null, Is}
 use Rattle.ob_object.specs.Kinds.{same_kind, has_values}
 use Rattle.ob_object.specs.Fits.{fits_slot}
-use Rattle.ob_object.specs.Object.{Objects, none, node, Object, listed}
-use Rattle.ob_object.specs.WellFormed.{IsWellFormed, has_name, named}
+use Rattle.ob_object.specs.Object.{Object}
+use Rattle.ob_object.specs.WellFormed.{IsWellFormed}
 use Rattle.ob_contracts.specs.Inherit.{Contracts, slot_or_default}
 use Rattle.ob_history.specs.declared.records.Record.{Record}
 use Rattle.ob_history.specs.Records.{InOrder, IsRecord, holds_value}
@@ -25,10 +25,10 @@ use Rattle.ob_opening.specs.Loading.{Part, row_of, kept_root, parts_of, path_of,
 use Rattle.ob_consistent_laws.specs.Ordered.{IsBy, whole_log, whole_logs, opening_time}
 use Rattle.ob_consistent_laws.proofs.Lists.{each_first, each_second, each_more, each_map, each_filter, each_filter_map}
 use Rattle.ob_consistent_laws.proofs.Sound.{Sound, slot_fits, formed_sound, made_differ, made_sound}
-use Rattle.ob_consistent_laws.proofs.Rules.{InnerSound, items_sound, PartSound, parts_sound}
+use Rattle.ob_consistent_laws.proofs.Rules.{InnerSound, items_sound, PartSound, parts_sound, FitsIfThere, child_fits}
 use Rattle.ob_consistent_laws.proofs.Records.{HasGood, records_good, rolled_kept, each_drop}
 use Rattle.ob_consistent_laws.proofs.Times.{not_after}
-use Rattle.ob_consistent_laws.proofs.Ordered.{opens_in_time}
+use Rattle.ob_consistent_laws.proofs.Ordered.{opens_in_time, greatest_first}
 use Rattle.ob_consistent_laws.proofs.Begins.{Begins, begins, words_of}
 use Rattle.ob_consistent_laws.proofs.Inverted.{Opens}
 use Rattle.ob_opens_laws.specs.Records.{EachLog, HoldsRecords, HasRecords, OpensRecords}
@@ -56,19 +56,6 @@ slot_held : (k : Kind) (s : Slot) → has_values k ≡ true → IsTrue (fits_slo
 slot_held k Absent h f = default_held k h
 slot_held k Null h f = ap (λ b. b && true) h
 slot_held k (Is v) h f = ap₂ (λ a b. a && b) h f
-
--- the slot of a child that is found fits its kind
-abbrev FitsIfThere : Option Object → Type 0
-FitsIfThere None = Unit {0}
-FitsIfThere (Some c) = IsTrue (fits_slot c.head.kind c.head.slot)
-
-child_fits : (n : Text) (r : Objects) → Sound r → FitsIfThere (named n (listed r))
-child_fits n none s = tt
-child_fits n (node h inner rest) s = go (has_name n h.name) (child_fits n rest s.3)
-  where
-    go : (b : Bool) → FitsIfThere (named n (listed rest)) → FitsIfThere (cond b (Some (record { head = h; inner = inner })) (named n (listed rest)))
-    go true later = s.0
-    go false later = later
 
 none_some : (r : Record) → None ≡ Some r → ⊥
 none_some r e = cc
@@ -113,11 +100,6 @@ part_records q s =
     each_filter_map IsRecord (λ (i : ℕ × Object). record_in i.1) (items_of (codes "data") q)
     (each_more InnerSound (λ (i : ℕ × Object). (r : Record) → record_in i.1 ≡ Some r → IsRecord r) (items_of (codes "data") q) (λ i t r h. in_item i.1 r t h)
     (items_sound (codes "data") q s))
-
--- the greatest of numbers
-greatest_first : (n : ℕ) (ks : List ℕ) → n ≤ greatest n ks
-greatest_first n [] = omega arith
-greatest_first n (k ∷ ks) = omega (arith, greatest_first (max n k) ks)
 
 by_time : (n : ℕ) (rs : List Record) → AllByRecursion (IsBy (greatest n (map (λ (r : Record). ms_up r.time) rs))) rs
 by_time n [] = tt

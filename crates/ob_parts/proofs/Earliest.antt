@@ -25,7 +25,7 @@ least_append (x ∷ xs) ys = ap (earlier (Some x)) (least_append xs ys) ∙ sym 
 pub both : (a b : List ℕ) (x y r : Option ℕ) → r ≡ earlier x y → x ≡ least a → y ≡ least b → r ≡ least (a ++ b)
 both a b x y r is p q = is ∙ (ap₂ earlier p q ∙ sym (least_append a b))
 
-some_one : {A : Type 0} (a b : A) → Some a ≡ Some b → a ≡ b
+pub some_one : {A : Type 0} (a b : A) → Some a ≡ Some b → a ≡ b
 some_one a b e = cc
 
 -- where there is no least number there is none

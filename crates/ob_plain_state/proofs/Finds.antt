@@ -6,6 +6,7 @@ use Rattle.std.proofs.Math.Seq.{drop-cons}
 use Rattle.ob_object.specs.Object.{Object, in_row, children, in_row-listed}
 use Rattle.ob_object.specs.Paths.{is_path, node_path}
 use Rattle.ob_contracts.specs.Inherit.{or_else, only_if}
+use Rattle.ob_contracts.proofs.Found.{or_none}
 use Rattle.ob_site_rules.specs.Build.{Path}
 use Rattle.ob_site_rules.specs.Shown.{node_in, node_of}
 
@@ -43,10 +44,6 @@ in_none p [] zero h = refl
 in_none p [] (suc i) h = refl
 in_none p (c ∷ cs) zero h = absurd (omega arith)
 in_none p (c ∷ cs) (suc i) h = in_none p cs i (omega arith)
-
-or_none : (o : Option Object) → or_else o None ≡ o
-or_none None = refl
-or_none (Some x) = refl
 
 -- an object that isn't at the path itself
 pub within : (p : Path) (o : Object) (found : Option Object) → is_path p (node_path o.head) ≡ false → found ≡ node_in p (in_row (children o)) → found ≡ node_of p o

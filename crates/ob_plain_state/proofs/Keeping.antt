@@ -46,11 +46,11 @@ abbrev pub taken_among : Option Path → List (Option Path) → Bool
 taken_among None ns = false
 taken_among (Some n) ns = list_any (has_name n) ns
 
-found_or : (b : Bool) (o : Object) (r : Option Object) → is_some (cond b (Some o) r) ≡ (b || is_some r)
+pub found_or : (b : Bool) (o : Object) (r : Option Object) → is_some (cond b (Some o) r) ≡ (b || is_some r)
 found_or true o r = refl
 found_or false o r = refl
 
-named-any : (n : Path) (os : List Object) → is_some (named n os) ≡ list_any (has_name n) (names_of os)
+pub named-any : (n : Path) (os : List Object) → is_some (named n os) ≡ list_any (has_name n) (names_of os)
 named-any n [] = refl
 named-any n (o ∷ os) = found_or (has_name n o.head.name) o (named n os) ∙ ap (λ b. has_name n o.head.name || b) (named-any n os)
 

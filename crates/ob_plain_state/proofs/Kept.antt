@@ -36,7 +36,7 @@ use Rattle.ob_contracts.proofs.Fitting.{one_kind}
 use Rattle.ob_plain_state.proofs.ShownKinds.{shown_kind}
 
 -- the kind of a value is one that has values
-valued : (v : Value) → has_values (kind_of v) ≡ true
+pub valued : (v : Value) → has_values (kind_of v) ≡ true
 valued (value.Bool b) = refl
 valued (value.Int i) = refl
 valued (value.Real r) = refl
@@ -49,14 +49,14 @@ valued (value.Date d) = refl
 valued (value.Time t) = refl
 
 -- a kind takes what another one does that is the same, if that is one of values
-takes_too : (k j : Kind) (slot : Slot) → (has_values k ≡ true → k ≡ j) → IsTrue (fits_slot k slot) → IsTrue (fits_slot j slot)
+pub takes_too : (k j : Kind) (slot : Slot) → (has_values k ≡ true → k ≡ j) → IsTrue (fits_slot k slot) → IsTrue (fits_slot j slot)
 takes_too k j Absent same fits = refl
 takes_too k j Null same fits = refl
 takes_too k j (Is v) same fits =
     let is : k ≡ kind_of v = one_kind k (kind_of v) fits in
     subst (λ (x : Kind). IsTrue (fits_slot x (Is v))) (same (ap has_values is ∙ valued v)) fits
 
-nodes_take : (kind_at : Path → Kind) (p : Path) (slot : Slot) → IsTrue (fits_slot (kind_at p) slot) → (r : Objects) → NodesAre kind_at r → NodesTake p slot r
+pub nodes_take : (kind_at : Path → Kind) (p : Path) (slot : Slot) → IsTrue (fits_slot (kind_at p) slot) → (r : Objects) → NodesAre kind_at r → NodesTake p slot r
 nodes_take kind_at p slot fits none n = tt
 nodes_take kind_at p slot fits (node h inner rest) n =
     (λ is. here (node_path h) h.kind n.0 is, nodes_take kind_at p slot fits inner n.1, nodes_take kind_at p slot fits rest n.2)
@@ -65,7 +65,7 @@ nodes_take kind_at p slot fits (node h inner rest) n =
     here None k of is = absurd (true≢false (sym is))
     here (Some q) k of is = subst (λ (x : Kind). IsTrue (fits_slot x slot)) (sym (of ∙ ap kind_at ((bytes_eq-Decides q p).0 is))) fits
 
-some_rule : (P : PointRule → Bool) (rs : List PointRule) (n i : ℕ) → first_place P rs ≡ Some i → (r : Rule) × (slice_get (numbered_from n rs) i ≡ Some r)
+pub some_rule : (P : PointRule → Bool) (rs : List PointRule) (n i : ℕ) → first_place P rs ≡ Some i → (r : Rule) × (slice_get (numbered_from n rs) i ≡ Some r)
 some_rule P [] n i e = absurd cc
 some_rule P (r ∷ rs) n i e = here (P r) (λ k f. some_rule P rs (n + 1) k f) e
   where
@@ -84,16 +84,16 @@ some_rule P (r ∷ rs) n i e = here (P r) (λ k f. some_rule P rs (n + 1) k f) e
         (record { source = n; path = r.source; low = r.low; high = r.high; needs_ack = r.needs_ack }, ap (slice_get (numbered_from n (r ∷ rs))) (sym at))
     here false later f = next (first_place P rs) refl later f
 
-int_low : (i : ℤ) (low : Num) → is_int low ≡ true → IsTrue (same_kind_num (num.Int i) low)
+pub int_low : (i : ℤ) (low : Num) → is_int low ≡ true → IsTrue (same_kind_num (num.Int i) low)
 int_low i (num.Int z) h = refl
 int_low i (num.Real z) h = absurd cc
 
-real_low : (i : ℤ) (low : Num) → not (is_int low) ≡ true → IsTrue (same_kind_num (num.Real i) low)
+pub real_low : (i : ℤ) (low : Num) → not (is_int low) ≡ true → IsTrue (same_kind_num (num.Real i) low)
 real_low i (num.Int z) h = absurd cc
 real_low i (num.Real z) h = refl
 
 -- the number of a slot is of the kind of the limits, where the slot fits a kind that does
-of_limits : (k : Kind) (r : Rule) (slot : Slot) → IsTrue (limits_fit k (Some r)) → IsTrue (fits_slot k slot) → IsOfKind r (number_in slot)
+pub of_limits : (k : Kind) (r : Rule) (slot : Slot) → IsTrue (limits_fit k (Some r)) → IsTrue (fits_slot k slot) → IsOfKind r (number_in slot)
 of_limits k r Absent h f = tt
 of_limits k r Null h f = tt
 of_limits k r (Is (value.Bool b)) h f = tt
@@ -135,15 +135,15 @@ pub shown_takes : (plan : Plan) (s : State) (p : Path) (o : Object) → IsOf pla
 shown_takes plan s p o of shows = λ slot f.
     take_kind plan s of p slot (takes_too o.head.kind (of.kind_at p) slot (shown_kind of.kind_at plan (state_of s) p o of.kinds shows) f)
 
-slot_path : (b : Bool) (h : Head) (slot : Slot) → node_path (cond b (record h { slot = slot }) h) ≡ node_path h
+pub slot_path : (b : Bool) (h : Head) (slot : Slot) → node_path (cond b (record h { slot = slot }) h) ≡ node_path h
 slot_path true h slot = refl
 slot_path false h slot = refl
 
-slot_kind : (b : Bool) (h : Head) (slot : Slot) → (cond b (record h { slot = slot }) h).kind ≡ h.kind
+pub slot_kind : (b : Bool) (h : Head) (slot : Slot) → (cond b (record h { slot = slot }) h).kind ≡ h.kind
 slot_kind true h slot = refl
 slot_kind false h slot = refl
 
-slot_name : (b : Bool) (h : Head) (slot : Slot) → (cond b (record h { slot = slot }) h).name ≡ h.name
+pub slot_name : (b : Bool) (h : Head) (slot : Slot) → (cond b (record h { slot = slot }) h).name ≡ h.name
 slot_name true h slot = refl
 slot_name false h slot = refl
 
@@ -151,13 +151,13 @@ slot_off : (b : Bool) (h : Head) (slot : Slot) → record (cond b (record h { sl
 slot_off true h slot = refl
 slot_off false h slot = refl
 
-names_slotted : (p : Path) (slot : Slot) (r : Objects) → names_of (listed (with_slot_in p slot r)) ≡ names_of (listed r)
+pub names_slotted : (p : Path) (slot : Slot) (r : Objects) → names_of (listed (with_slot_in p slot r)) ≡ names_of (listed r)
 names_slotted p slot none = refl
 names_slotted p slot (node h inner rest) =
     ap (λ n. n ∷ names_of (listed (with_slot_in p slot rest))) (slot_name (is_path p (node_path h)) h slot)
     ∙ ap (λ ns. h.name ∷ ns) (names_slotted p slot rest)
 
-free_slotted : (plan : Plan) (s : SiteState) (p : Path) (slot : Slot) (r : Objects) → NamesAreFree plan s r → NamesAreFree plan s (with_slot_in p slot r)
+pub free_slotted : (plan : Plan) (s : SiteState) (p : Path) (slot : Slot) (r : Objects) → NamesAreFree plan s r → NamesAreFree plan s (with_slot_in p slot r)
 free_slotted plan s p slot none f = tt
 free_slotted plan s p slot (node h inner rest) f =
     let name : Object → Option Path = λ o. o.head.name in
@@ -170,7 +170,7 @@ free_slotted plan s p slot (node h inner rest) f =
     ∙ sym (map-append name (listed set) (derived plan s (node_path changed))) in
     (NamesDiffer-same _ _ names f.0, free_slotted plan s p slot inner f.1, free_slotted plan s p slot rest f.2)
 
-kinds_slotted : (kind_at : Path → Kind) (p : Path) (slot : Slot) (r : Objects) → NodesAre kind_at r → NodesAre kind_at (with_slot_in p slot r)
+pub kinds_slotted : (kind_at : Path → Kind) (p : Path) (slot : Slot) (r : Objects) → NodesAre kind_at r → NodesAre kind_at (with_slot_in p slot r)
 kinds_slotted kind_at p slot none n = tt
 kinds_slotted kind_at p slot (node h inner rest) n =
     let b : Bool = is_path p (node_path h) in
@@ -193,11 +193,11 @@ unslotted-with_slot p slot o =
     ap (λ (k : Head). let x : Object = record { head = k; inner = unslotted_row (with_slot_in p slot o.inner) } in x) (slot_off (is_path p (node_path o.head)) o.head slot)
     ∙ ap (λ (r : Objects). let x : Object = record { head = record o.head { slot = Absent }; inner = r } in x) (off_slotted p slot o.inner)
 
-some_either : (a b : Option Object) → is_some (or_else a b) ≡ (is_some a || is_some b)
+pub some_either : (a b : Option Object) → is_some (or_else a b) ≡ (is_some a || is_some b)
 some_either None b = refl
 some_either (Some x) b = refl
 
-some_if : (b : Bool) (x : Object) → is_some (only_if b (Some x)) ≡ b
+pub some_if : (b : Bool) (x : Object) → is_some (only_if b (Some x)) ≡ b
 some_if true x = refl
 some_if false x = refl
 

@@ -17,7 +17,7 @@ use Rattle.ob_plain_state.specs.Parts.{alarm_parts, parts_of_alarm}
 use Rattle.ob_plain_state.specs.Named.{place}
 use Rattle.ob_plain_state.specs.declared.place.Place.{Place as Named}
 
-abbrev Entries : Type 0
+abbrev pub Entries : Type 0
 Entries = List (Path × Place)
 
 or_found : (b : Bool) (e : Path × Place) (r s : Option (Path × Place)) (t : Option Place)

@@ -41,7 +41,7 @@ in_row-off : (os : List Object) → unslotted_row (in_row os) ≡ in_row (map un
 in_row-off [] = refl
 in_row-off (o ∷ os) = ap (λ r. node (off o.head) (unslotted_row o.inner) r) (in_row-off os)
 
-or_map : {A B : Type 0} (f : A → B) (a b : Option A) → or_else (option_map f a) (option_map f b) ≡ option_map f (or_else a b)
+pub or_map : {A B : Type 0} (f : A → B) (a b : Option A) → or_else (option_map f a) (option_map f b) ≡ option_map f (or_else a b)
 or_map f None b = refl
 or_map f (Some x) b = refl
 
@@ -159,13 +159,13 @@ rows_same own mine below from e =
     ∙ sym (rows-off own (missing (listed below) from))
 
 -- what an object comes to that has these sources
-abbrev made_by : Contracts → Head → Objects → List Object → Object
+abbrev pub made_by : Contracts → Head → Objects → List Object → Object
 made_by lib h below from = record {
   head = inherited_head h from;
   inner = in_row (listed (row_results lib (implied_by (inherited_head h from)) from below) ++ map bare (missing (listed below) from));
 }
 
-abbrev whole : Head → Objects → Object
+abbrev pub whole : Head → Objects → Object
 whole h r = record { head = h; inner = r }
 
 made-off : (lib : Contracts) (h : Head) (below : Objects) (from ss : List Object) → ss ≡ map unslotted from
@@ -279,11 +279,11 @@ more-same lib lib' uri uri' c c' same key values =
     ∙ ap (λ o. lib_off lib' ++ (uri', o) ∷ []) result
     ∙ sym (map-append F lib' ((uri', result_of lib' c' None None) ∷ []))
 
-abbrev first_of : Path × Object → Contracts → Path × Object
+abbrev pub first_of : Path × Object → Contracts → Path × Object
 first_of e [] = e
 first_of e (c ∷ cs) = c
 
-abbrev rest_of : Contracts → Contracts
+abbrev pub rest_of : Contracts → Contracts
 rest_of [] = []
 rest_of (c ∷ cs) = cs
 
@@ -300,7 +300,7 @@ AreTaken-same lib lib' (c ∷ cs) (d ∷ ds) same e t =
       AreTaken-same (lib ++ (c.0, result_of lib c.1 None None) ∷ []) (lib' ++ (d.0, result_of lib' d.1 None None) ∷ []) cs ds (more-same lib lib' c.0 d.0 c.1 d.1 same key values) (ap rest_of e) t.1,
     )
 
-abbrev nodes : List Object → Contracts
+abbrev pub nodes : List Object → Contracts
 nodes os = filter_map (λ o. option_map (λ p. (p, o)) (node_path o.head)) os
 
 site-filter : (os : List Object) → nodes (map unslotted os) ≡ lib_off (nodes os)

@@ -1,11 +1,12 @@
 -- Entries that are written as a journal appends them.
-use Rattle.std.proofs.Common.{◌≡◌, ◌↔◌, ℕ, suc, ◌+◌, ◌<◌, ◌≤◌, ◌^◌, List, [], ◌∷◌, ◌++◌, length, drop, Option, Some, None, refl, sym, ap, ◌∙◌, subst, arith, ap₂, ◌-◌, take, drop-cons, drop_at, length-append, add-one, append-nil}
+use Rattle.std.proofs.Common.{◌≡◌, ◌↔◌, ℕ, suc, ◌+◌, ◌<◌, ◌≤◌, ◌^◌, List, [], ◌∷◌, ◌++◌, length, drop, Option, Some, None, refl, sym, ap, ◌∙◌, subst, arith, ap₂, ◌-◌, take, drop_at, length-append, add-one, append-nil}
 use Rattle.std.proofs.lemmas.List.{take_at}
 use Rattle.std.specs.Prelude.{get_or}
 use Rattle.ob_object.specs.Object.{Object, Objects, none, node, in_row, listed, in_row-listed}
 use Rattle.ob_encoding.specs.Canonical.{canonical_text}
 use Rattle.ob_documents.specs.Carried.{IsCarried, IsRowCarried, IsTextIfThere}
 use Rattle.ob_documents.specs.Held.{IsHeld, IsShallow}
+use Rattle.ob_documents.proofs.Holding.{cut}
 use Rattle.ob_site_rules.specs.declared.request.Request.{Request}
 use Rattle.ob_times.specs.Times.{IsMoment}
 use Rattle.ob_values.specs.XmlText.{IsXmlText}
@@ -16,9 +17,6 @@ use Rattle.ob_record.specs.declared.run.Entry.{Entry}
 use Rattle.ob_record.specs.declared.run.Told.TheVariants.{Reply}
 use Rattle.ob_record.proofs.PartLaws.{parts_closed}
 use Rattle.ob_record_journal.specs.Runs.{opening_line}
-
-cut : {A : Type 0} (xs : List A) (i : ℕ) (x : A) → i < length xs → x ≡ get_or xs i x → drop i xs ≡ x ∷ drop (i + 1) xs
-cut xs i x h is = drop-cons xs i x h ∙ ap (λ y. y ∷ drop (suc i) xs) (sym is) ∙ ap (λ (k : ℕ). x ∷ drop k xs) (sym (add-one i))
 
 module _ (level : ℕ) (os : List Object) (i : ℕ) (o : Object) (h : i < length os) (is : o ≡ get_or os i o) (all : IsShallow level (in_row (drop i os)) ↔ IsShallow level (in_row os)) where
   -- one object where all are shallow

@@ -19,11 +19,11 @@ pub records_nameless : (rs : List Record) → list_all (λ o. is_none o.head.nam
 records_nameless [] = refl
 records_nameless (r ∷ rs) = records_nameless rs
 
-by_rule : (root : List ℕ) (r : Option Rule) (n : ℕ) (a : Alarm) → is_none (unwrap_or (object_in root r n a) empty_object).head.name ≡ true
+pub by_rule : (root : List ℕ) (r : Option Rule) (n : ℕ) (a : Alarm) → is_none (unwrap_or (object_in root r n a) empty_object).head.name ≡ true
 by_rule root None n a = refl
 by_rule root (Some r) n a = refl
 
-by_alarm : (b : Board) (n : ℕ) (a : Option Alarm) → is_none (unwrap_or (shown_alarm b n a) empty_object).head.name ≡ true
+pub by_alarm : (b : Board) (n : ℕ) (a : Option Alarm) → is_none (unwrap_or (shown_alarm b n a) empty_object).head.name ≡ true
 by_alarm b n None = refl
 by_alarm b n (Some a) = by_rule b.root (slice_get b.rules a.rule) n a
 

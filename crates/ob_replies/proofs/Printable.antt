@@ -1,17 +1,9 @@
 -- The digits of a number are printable.
-use Rattle.std.proofs.Common.{◌≡◌, ◌+◌, ◌%◌, ◌^◌, ◌<◌, ℕ, true, List, [], ◌∷◌, ◌++◌, ◌∙◌, arith}
+use Rattle.std.proofs.Common.{◌≡◌, ◌%◌, ◌^◌, ◌<◌, ℕ, true, arith}
 use Rattle.std.specs.Fmt.{decimal}
 use Rattle.std.proofs.lemmas.Fmt.{decimal_by_steps}
-use Rattle.std.proofs.lemmas.List.Folds.{list_all-append}
-use Rattle.std.proofs.lemmas.Bool.Decides.{nat_tests}
 use Rattle.ob_values.specs.XmlText.{is_printable}
-use Rattle.ob_values.proofs.Bools.{and_true}
-
-digit : (n : ℕ) → n < 10 → is_printable ((48 + n) ∷ []) ≡ true
-digit n lt = grind (arith, nat_tests)
-
-appended : (xs ys : List ℕ) → is_printable xs ≡ true → is_printable ys ≡ true → is_printable (xs ++ ys) ≡ true
-appended xs ys h k = list_all-append _ xs ys ∙ and_true _ _ h k
+use Rattle.ob_alarms.proofs.Paths.{digit, appended}
 
 pub decimal_printable : (n : ℕ) → n < 2 ^ 64 → is_printable (decimal n) ≡ true
 decimal_printable n lt =

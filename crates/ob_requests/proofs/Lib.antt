@@ -1,6 +1,6 @@
 mod Spelling
 mod Slashes
-mod Parted
+pub mod Parted
 mod Asking
 pub mod Verbs
 pub mod Leading

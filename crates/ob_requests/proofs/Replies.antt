@@ -1,6 +1,6 @@
 -- The reply to one action has no name.
 use Rattle.std.proofs.Common.{◌≡◌, ℕ, Bool, true, false, cond, List, refl}
-use Rattle.std.specs.Prelude.{codes, Option, Some, None, is_none, unwrap_or, option_map, slice_get}
+use Rattle.std.specs.Prelude.{codes, Option, Some, None, is_none, unwrap_or, option_map}
 use Rattle.std.specs.Option.{option_or}
 use Rattle.url.specs.Parts.{Parts}
 use Rattle.ob_values.specs.declared.verb.Verb.{Verb}
@@ -8,9 +8,6 @@ use Rattle.ob_values.specs.declared.verb.Verb.TheVariants.{Get, Put, Post}
 use Rattle.ob_object.specs.Object.{Object}
 use Rattle.ob_history.specs.declared.records.Filter.{Filter}
 use Rattle.ob_history.specs.Filters.{filter_of}
-use Rattle.ob_alarms.specs.declared.alarm.Alarm.{Alarm}
-use Rattle.ob_alarms.specs.declared.rule.Rule.{Rule}
-use Rattle.ob_alarms.specs.AlarmObjects.{shown_alarm, object_in}
 use Rattle.ob_alarms.specs.Changes.{State as Board, alarm_of}
 use Rattle.ob_site_rules.specs.declared.request.Request.{Request}
 use Rattle.ob_site_rules.specs.Build.{Text, Path}
@@ -18,11 +15,12 @@ use Rattle.ob_site_rules.specs.Faults.{Fault, OtherShape, NotInBatch, err}
 use Rattle.ob_site_rules.specs.State.{Plan, State, board, with_board}
 use Rattle.ob_site_rules.specs.Shown.{shown}
 use Rattle.ob_site_rules.specs.Computed.{ack_out}
-use Rattle.ob_site_rules.specs.Entries.{alarm_object, empty_object, records_out, alarms_out}
+use Rattle.ob_site_rules.specs.Entries.{alarm_object, records_out, alarms_out}
 use Rattle.ob_site_rules.specs.Places.{Place, About, Batch, Service, Make, AlarmAt, AckOf, WritePointOf, QueryOf, FeedOf, AlarmQuery, AlarmFeed, Node, place_at, object_at}
 use Rattle.ob_site_rules.specs.Writes.{target_fault, value_fault, given_by, showing, unless, written, put, write_by}
 use Rattle.ob_site_rules.specs.Posts.{ack_fault, acked, acknowledge, user_in, call, child_of_obj, or_nil, records_of, write_point}
 use Rattle.ob_site_rules.specs.Actions.{act_at, act_item, is_left_out, item_at, item_on, put_at}
+use Rattle.ob_replies.proofs.Nameless.{by_alarm}
 
 -- a state and a reply without a name
 abbrev pub IsPlain : State × Object → Type 0
@@ -31,14 +29,6 @@ IsPlain done = is_none done.1.head.name ≡ true
 unless_plain : (f : Option Fault) (s : State) (done : State × Object) → IsPlain done → IsPlain (unless f s done)
 unless_plain None s done h = h
 unless_plain (Some f) s done h = refl
-
-by_rule : (root : List ℕ) (r : Option Rule) (n : ℕ) (a : Alarm) → is_none (unwrap_or (object_in root r n a) empty_object).head.name ≡ true
-by_rule root None n a = refl
-by_rule root (Some r) n a = refl
-
-by_alarm : (b : Board) (n : ℕ) (a : Option Alarm) → is_none (unwrap_or (shown_alarm b n a) empty_object).head.name ≡ true
-by_alarm b n None = refl
-by_alarm b n (Some a) = by_rule b.root (slice_get b.rules a.rule) n a
 
 query_plain : (s : State) (out : Filter → Object) (f : Option Filter) → ((g : Filter) → is_none (out g).head.name ≡ true) → is_none (unwrap_or (option_map out f) (err OtherShape)).head.name ≡ true
 query_plain s out None h = refl

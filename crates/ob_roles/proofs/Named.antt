@@ -111,7 +111,7 @@ free_filter P n (o ∷ cs) h = go (free_filter P n cs) (has_name n o.head.name) 
     go rest false false e f g =
         ap (λ x. is_taken (Some n) (cond x (o ∷ filter P cs) (filter P cs))) f ∙ rest (sym (ap (λ x. x || is_taken (Some n) cs) e) ∙ g)
 
-filter_behind : (P : Object → Bool) (xs : List Object) (o : Object) → filter P (xs ++ o ∷ []) ≡ filter P xs ++ cond (P o) (o ∷ []) []
+pub filter_behind : (P : Object → Bool) (xs : List Object) (o : Object) → filter P (xs ++ o ∷ []) ≡ filter P xs ++ cond (P o) (o ∷ []) []
 filter_behind P [] o = go (P o)
   where
     go : (b : Bool) → cond b (o ∷ []) [] ≡ [] ++ cond b (o ∷ []) []

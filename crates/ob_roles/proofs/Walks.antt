@@ -7,7 +7,7 @@ use Rattle.ob_contracts.specs.Ancestry.{own_words}
 use Rattle.ob_contracts.specs.Inherit.{Contracts, Words, sources, overridden, implied_by, inherited_head}
 use Rattle.ob_opening.specs.declared.roles.Roles.{Roles}
 use Rattle.ob_opening.specs.Roles.{roles_there, holds_contracts, row_roles}
-use Rattle.ob_roles.proofs.PartRows.{row_more, row_past, inner_row}
+use Rattle.ob_hrefs.proofs.Rows.{row_more, row_past, inner_row}
 
 module _ (lib : Contracts) (root under inside : Bool) (implied : Option Words) (above : List Object) where
   abbrev pub Goes : List Object → ℕ → List Roles → List Roles → Type 0

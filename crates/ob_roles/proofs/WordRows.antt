@@ -14,7 +14,7 @@ use Rattle.ob_opening.specs.Roles.{thin, worded_row, worded}
 use Rattle.ob_roles.specs.Few.{briefly, brief}
 use Rattle.ob_roles.specs.Worded.{with_more, worded_at}
 use Rattle.ob_roles.proofs.Brief.{row_brief, same_brief}
-use Rattle.ob_roles.proofs.PartRows.{row_more, row_past}
+use Rattle.ob_hrefs.proofs.Rows.{row_more, row_past}
 use Rattle.ob_roles.proofs.Named.{taken_first, Same}
 use Rattle.ob_roles.proofs.InPlace.{TellFew, gives_few}
 

@@ -266,7 +266,7 @@ line_short : (bytes : List ℕ) → length (behind_line_feed bytes) ≤ length b
 line_short [] = omega arith
 line_short (b ∷ bytes) = elim (eqb b 10) as (λ v. length (cond v bytes (b ∷ bytes)) ≤ length (b ∷ bytes)) [ true ↦ omega arith | false ↦ omega arith ]
 
-choose : (P : List ℕ × List ℕ → Type 0) (v : Bool) (r s : Option (List ℕ × List ℕ)) → IfSome r P → IfSome s P → IfSome (cond v r s) P
+pub choose : (P : List ℕ × List ℕ → Type 0) (v : Bool) (r s : Option (List ℕ × List ℕ)) → IfSome r P → IfSome s P → IfSome (cond v r s) P
 choose P true r s p q = p
 choose P false r s p q = q
 

@@ -132,10 +132,10 @@ weekly o s right e =
       entries = subst (All IsEntry) (sym entries) (all_map IsRightEntry IsEntry entry_of entry_fits (listed_in (codes "entries") o) right.entries);
     }
 
-first_of : {A : Type 0} (x y : A) (xs ys : List A) → x ∷ xs ≡ y ∷ ys → x ≡ y
+pub first_of : {A : Type 0} (x y : A) (xs ys : List A) → x ∷ xs ≡ y ∷ ys → x ≡ y
 first_of x y xs ys e = cc
 
-rest_of : {A : Type 0} (x y : A) (xs ys : List A) → x ∷ xs ≡ y ∷ ys → xs ≡ ys
+pub rest_of : {A : Type 0} (x y : A) (xs ys : List A) → x ∷ xs ≡ y ∷ ys → xs ≡ ys
 rest_of x y xs ys e = cc
 
 -- the schedules that were read are weekly

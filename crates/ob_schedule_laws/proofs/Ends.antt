@@ -7,6 +7,7 @@ use Rattle.ob_site_laws.proofs.Same.{tells_text}
 use Rattle.ob_site_rules.specs.Build.{Text, Path}
 use Rattle.ob_site_rules.specs.State.{Plan, at}
 use Rattle.ob_site_rules.specs.Paths.{WatchPart, Whole, Lease, AddOp, RemoveOp, PollChangesOp, PollRefreshOp, DeleteOp, below, ends_with_slash, about_path, batch_path, service_path, make_path, both, behind, before_slash, behind_slash, number_spelled, part_named, watch_part}
+use Rattle.ob_requests.proofs.Parted.{both_none}
 
 -- the last two of a text
 abbrev last_two : Text → ℕ × ℕ
@@ -119,10 +120,6 @@ no_part rest end =
         go : (b : Bool) → b ≡ false → option_map (λ (e : Text × WatchPart). e.1) (cond b (Some (key, part)) (find (λ e. bytes_eq e.0 rest) more)) ≡ None
         go true is = absurd cc
         go false is = later
-
-both_none : {A B : Type 0} (a : Option A) → both {A = A} {B = B} a None ≡ None
-both_none None = refl
-both_none (Some a) = refl
 
 -- so it is no path of a watch
 pub no_watch : (plan : Plan) (p : Path) → watch_part plan (below p (codes "writePoint")) ≡ None

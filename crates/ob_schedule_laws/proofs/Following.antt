@@ -21,10 +21,10 @@ use Rattle.ob_site_rules.specs.Posts.{or_nil, user_in, acked, ack_fault, call, w
 use Rattle.ob_site_rules.specs.Actions.{is_post, put_at, act_at, is_left_out, item_at, item_on, item_request, act_item, act_all, batch_or, batch, act_on, act_located}
 use Rattle.ob_site_rules.specs.Watched.{SiteTarget}
 use Rattle.ob_shown_laws.specs.Alike.{row, DifferInSlots, paths_of}
-use Rattle.ob_shown_laws.proofs.Owning.{steps_alike}
+use Rattle.ob_shown_laws.proofs.Owning.{steps_alike, paths_recorded}
 use Rattle.ob_step_laws.specs.Given.{IsMade}
 use Rattle.ob_step_laws.proofs.Slotted.{differ_slotted}
-use Rattle.ob_step_laws.proofs.Steps.{slots_then, paths_recorded, made_written}
+use Rattle.ob_step_laws.proofs.Steps.{slots_then, made_written}
 use Rattle.ob_site_laws.specs.SiteLaws.{of_plan, acts}
 use Rattle.ob_watching.specs.Asked.{Itself, Nowhere, NewWatch, OneWatch, Told, Refused}
 use Rattle.ob_watching.specs.Sites.{Site}

@@ -1,5 +1,5 @@
 -- Each scheduled point holds the value in force whenever a request acts.
-use Rattle.std.proofs.Common.{◌≡◌, ℕ, suc, ◌+◌, ◌<◌, ◌≤◌, max, Bool, true, false, cond, nat_eq, List, [], ◌∷◌, ◌++◌, length, Option, Some, None, option_map, refl, sym, ap, subst, ◌∙◌, ◌⊎◌, inl, inr, append_assoc, arith}
+use Rattle.std.proofs.Common.{◌≡◌, ℕ, suc, ◌+◌, ◌<◌, ◌≤◌, max, Bool, true, false, cond, nat_eq, List, [], ◌∷◌, ◌++◌, length, Option, Some, None, option_map, refl, sym, ap, subst, ◌∙◌, inl, inr, append_assoc, arith}
 use Rattle.std.specs.Prelude.{slice_get, option_and_then, unwrap_or, IfSome}
 use Rattle.std.specs.List.{Contains}
 use Rattle.std.proofs.lemmas.Bool.{eqb-true}
@@ -27,6 +27,7 @@ use Rattle.ob_weekly.proofs.Behind.{in_force_behind}
 use Rattle.ob_schedule_laws.proofs.Firings.{have_slots}
 use Rattle.ob_weekly.proofs.Dates.{place_below}
 use Rattle.ob_weekly.proofs.OneList.{head_in, later_in}
+use Rattle.ob_weekly.proofs.Again.{below_or}
 use Rattle.ob_schedule_laws.specs.InForce.{timed, IsRequest, RiseFrom, AreLocated, IsUndisturbed, slot_at, shown_slot, HoldInForce, PointsHoldInForce}
 use Rattle.ob_schedule_laws.proofs.Leaving.{IsReady, Stands, stands_itself, call_stands}
 use Rattle.ob_schedule_laws.proofs.Merging.{greatest, one_more, rises_to, last_parts}
@@ -45,9 +46,6 @@ among_calls (x ∷ before) e rest = later_in x e (before ++ e ∷ rest) (among_c
 entry_there : (o : Option Entry) (slot : Slot) → option_map (λ (x : Entry). x.slot) o ≡ Some slot → (x : Entry) × (o ≡ Some x) × (x.slot ≡ slot)
 entry_there None slot e = absurd cc
 entry_there (Some x) slot e = (x, refl, some_same e)
-
-below_or : (a b : ℕ) → (a < b) ⊎ (b ≤ a)
-below_or a b = grind arith
 
 greatest_more : (m : ℕ) (past : List Call) (e : Call) → greatest m (past ++ e ∷ []) ≡ max (greatest m past) e.moment
 greatest_more m [] e = refl

@@ -17,6 +17,7 @@ use Rattle.ob_site_rules.specs.Faults.{Fault}
 use Rattle.ob_site_rules.specs.State.{Plan, State}
 use Rattle.ob_site_rules.specs.Shown.{node_of, derived, with_roles, with_status, dressed, shown}
 use Rattle.ob_site_rules.specs.Writes.{ranged, has_child, is_listed, verdict_fault, slot_fault}
+use Rattle.ob_plain_state.proofs.Keeping.{found_or}
 use Rattle.ob_shown_laws.specs.Alike.{row, without_values, AreAlike, DifferInSlots, DifferInValues}
 use Rattle.ob_shown_laws.specs.Changed.{head_in, PathsDiffer}
 use Rattle.ob_shown_laws.specs.Own.{dressed_own}
@@ -25,15 +26,12 @@ use Rattle.ob_shown_laws.proofs.OwnStanding.{own_tells_differences}
 use Rattle.ob_shown_laws.proofs.Reaching.{status_alike, alike_append, alike_listed, roles_alike, derived_alike}
 use Rattle.ob_shown_laws.proofs.Standings.{own_row, effective_row}
 use Rattle.ob_standing.specs.Contexts.{Context, HandedDown, handed_down, comes_to}
-use Rattle.ob_schedule_laws.proofs.Shows.{IsShown, shown_at, same_node, some_one}
+use Rattle.ob_parts.proofs.Earliest.{some_one}
+use Rattle.ob_schedule_laws.proofs.Shows.{IsShown, shown_at, same_node}
 use Rattle.ob_schedule_laws.proofs.Slots.{AreSame, nodes_same}
 
 abbrev names : List Object → List (Option Text)
 names os = map (λ o. o.head.name) os
-
-found_or : (b : Bool) (o : Object) (r : Option Object) → is_some (cond b (Some o) r) ≡ (b || is_some r)
-found_or true o r = refl
-found_or false o r = refl
 
 any_named : (n : Text) (os : List Object) → is_some (named n os) ≡ list_any (has_name n) (names os)
 any_named n [] = refl

@@ -48,7 +48,8 @@ use Rattle.ob_schedule_laws.specs.InForce.{left, KeepsContracts, IsWanting, show
 use Rattle.ob_schedule_laws.proofs.Ends.{isnt_make, no_watch}
 use Rattle.ob_schedule_laws.proofs.Places.{place_is}
 use Rattle.ob_schedule_laws.proofs.Slots.{AreSame, nodes_same, slot_set, slot_kept}
-use Rattle.ob_schedule_laws.proofs.Shows.{IsShown, shown_at, some_one, is_there, given_slot, head_comes, own_slot}
+use Rattle.ob_parts.proofs.Earliest.{some_one}
+use Rattle.ob_schedule_laws.proofs.Shows.{IsShown, shown_at, is_there, given_slot, head_comes, own_slot}
 use Rattle.ob_schedule_laws.proofs.Passing.{passes_still}
 use Rattle.ob_schedule_laws.proofs.Leaving.{IsReady, Stands, ready_then, call_stands}
 use Rattle.ob_schedule_laws.proofs.Staying.{there, stays}

@@ -1,16 +1,17 @@
 -- The slot that is shown at a path, and when it stays.
-use Rattle.std.proofs.Common.{◌≡◌, ℕ, Bool, true, false, Option, Some, None, option_map, refl, sym, ap, ap₂, subst, ◌∙◌}
+use Rattle.std.proofs.Common.{◌≡◌, ℕ, true, Option, Some, None, option_map, refl, sym, ap, ap₂, subst, ◌∙◌}
 use Rattle.std.specs.Prelude.{is_some, []}
-use Rattle.ob_contracts.specs.Inherit.{or_else, only_if, given, slot_of, slot_or_default, result_of}
+use Rattle.ob_contracts.specs.Inherit.{or_else, given, slot_of, slot_or_default, result_of}
 use Rattle.ob_object.specs.declared.kind.Kind.{Kind}
 use Rattle.ob_object.specs.declared.head.Slot.{Slot}
 use Rattle.ob_object.specs.declared.head.Slot.TheVariants.{Absent, Null, Is}
 use Rattle.ob_object.specs.declared.head.Head.{Head}
-use Rattle.ob_object.specs.Object.{Objects, none, node, Object}
-use Rattle.ob_object.specs.Paths.{is_path, node_path}
+use Rattle.ob_object.specs.Object.{Object}
+use Rattle.ob_object.specs.Paths.{node_path}
+use Rattle.ob_parts.proofs.Earliest.{some_one}
 use Rattle.ob_site_rules.specs.Build.{Path}
 use Rattle.ob_site_rules.specs.State.{Plan, State}
-use Rattle.ob_site_rules.specs.Shown.{node_in, node_of, rule_of, with_status, with_status_at, with_status_by, dressed, shown}
+use Rattle.ob_site_rules.specs.Shown.{node_of, rule_of, with_status, with_status_at, with_status_by, dressed, shown}
 use Rattle.ob_shown_laws.specs.Alike.{row, without_slot, DifferInSlots, DifferInValues}
 use Rattle.ob_shown_laws.specs.Changed.{head_in, is_in, PathsDiffer}
 use Rattle.ob_shown_laws.specs.Own.{dressed_own}
@@ -19,24 +20,9 @@ use Rattle.ob_shown_laws.specs.Numbered.{root_row}
 use Rattle.ob_shown_laws.specs.Standing.{Standing, effective, standing_in}
 use Rattle.ob_shown_laws.proofs.OwnStanding.{own_is_enough, own_tells_differences}
 use Rattle.ob_shown_laws.proofs.Touches.{there}
-use Rattle.ob_standing.specs.Contexts.{Context, HandedDown, handed_down, under, comes_to}
+use Rattle.ob_standing.specs.Contexts.{Context, comes_to}
+use Rattle.ob_step_laws.proofs.Steps.{own_node}
 use Rattle.ob_schedule_laws.proofs.Slots.{AreSame, nodes_same}
-
-pub some_one : {A : Type 0} (a b : A) → Some a ≡ Some b → a ≡ b
-some_one a b e = cc
-
--- the own node at a path, where it stands
-map_either : (b : Bool) (x : Standing) (u v : Option Standing) → option_map (λ y. y.object) (or_else (only_if b (Some x)) (or_else u v)) ≡ or_else (only_if b (Some x.object)) (or_else (option_map (λ y. y.object) u) (option_map (λ y. y.object) v))
-map_either true x u v = refl
-map_either false x None v = refl
-map_either false x (Some y) v = refl
-
-own_node : (p : Path) (r : HandedDown) (os : Objects) → option_map (λ x. x.object) (standing_in p r os) ≡ node_in p os
-own_node p r none = refl
-own_node p r (node h below rest) =
-    map_either (is_path p (node_path h)) (record { context = under r h.name; object = record { head = h; inner = below } }) (standing_in p (handed_down (under r h.name) h) below) (standing_in p r rest)
-    ∙ ap₂ (λ (a b : Option Object). or_else (only_if (is_path p (node_path h)) (Some (record { head = h; inner = below }))) (or_else a b))
-    (own_node p (handed_down (under r h.name) h) below) (own_node p r rest)
 
 some_object : (o : Option Standing) → is_some (option_map (λ x. x.object) o) ≡ is_some o
 some_object None = refl

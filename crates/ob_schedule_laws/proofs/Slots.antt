@@ -1,5 +1,5 @@
 -- The own slots of nodes, where slots are set.
-use Rattle.std.proofs.Common.{◌≡◌, Bool, true, false, cond, Option, Some, None, option_map, refl, sym, ap, ◌∙◌, true≢false}
+use Rattle.std.proofs.Common.{◌≡◌, Bool, true, false, Option, Some, None, option_map, refl, sym, ap, ◌∙◌, true≢false}
 use Rattle.ob_values.proofs.Bools.{is_false}
 use Rattle.ob_contracts.specs.Inherit.{or_else, only_if}
 use Rattle.ob_object.specs.declared.head.Slot.{Slot}
@@ -11,6 +11,7 @@ use Rattle.ob_site_rules.specs.Build.{Path}
 use Rattle.ob_site_rules.specs.Shown.{node_in}
 use Rattle.ob_site_rules.specs.Writes.{with_slot_in}
 use Rattle.ob_shown_laws.specs.Alike.{row, DifferInSlots}
+use Rattle.ob_step_laws.proofs.Slotted.{set_if, path_if}
 
 -- nodes that differ in slots, or none in both
 abbrev pub AreSame : Option Object → Option Object → Type 0
@@ -37,13 +38,6 @@ nodes_same p (node h below rest) none d = absurd d
 nodes_same p (node h below rest) (node k inner more) d =
     both_found (is_path p (node_path h)) (is_path p (node_path k)) _ _ (node_in p below) (node_in p inner) (node_in p rest) (node_in p more)
     (ap (λ (u : Head). is_path p (node_path u)) d.0) (d.0, d.1, d.2, tt) (nodes_same p below inner d.2) (nodes_same p rest more d.3)
-
-abbrev set_if : Bool → Slot → Head → Head
-set_if b slot h = cond b (record h { slot = slot }) h
-
-path_if : (b : Bool) (slot : Slot) (h : Head) → node_path (set_if b slot h) ≡ node_path h
-path_if true slot h = refl
-path_if false slot h = refl
 
 slot_if : (b : Bool) (slot : Slot) (h : Head) → b ≡ true → (set_if b slot h).slot ≡ slot
 slot_if true slot h e = refl

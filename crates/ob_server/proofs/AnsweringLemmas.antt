@@ -51,7 +51,7 @@ held_behind ns held held' given given' before calls old new result a = record {
 
 -- ---- calls that have replies
 
-done_then : (xs ys : List Call) → AreDone xs → AreDone ys → AreDone (xs ++ ys)
+pub done_then : (xs ys : List Call) → AreDone xs → AreDone ys → AreDone (xs ++ ys)
 done_then [] ys a b = b
 done_then (x ∷ xs) ys a b = (a.0, done_then xs ys a.1 b)
 

@@ -23,14 +23,14 @@ use Rattle.ob_server.specs.declared.sort.Sorted.TheVariants.{Step}
 
 -- ---- a text of XML characters is no other
 
-low : (c : ℕ) → c < 55296 → cond (nat_lt c 55296) true (nat_le 57344 c && nat_lt c 1114112) ≡ true
+pub low : (c : ℕ) → c < 55296 → cond (nat_lt c 55296) true (nat_le 57344 c && nat_lt c 1114112) ≡ true
 low c h = rw (lt-ltb _ _ h) refl
 
-high : (c : ℕ) (b : Bool) → 57344 ≤ c → c < 1114112 → cond b true (nat_le 57344 c && nat_lt c 1114112) ≡ true
+pub high : (c : ℕ) (b : Bool) → 57344 ≤ c → c < 1114112 → cond b true (nat_le 57344 c && nat_lt c 1114112) ≡ true
 high c true l h = refl
 high c false l h = rw (le-leb _ _ l, lt-ltb _ _ h) refl
 
-scalar_char : (c : ℕ) → IsXmlChar c → cond (nat_lt c 55296) true (nat_le 57344 c && nat_lt c 1114112) ≡ true
+pub scalar_char : (c : ℕ) → IsXmlChar c → cond (nat_lt c 55296) true (nat_le 57344 c && nat_lt c 1114112) ≡ true
 scalar_char c (inl e) = low c (omega (arith, e))
 scalar_char c (inr (inl e)) = low c (omega (arith, e))
 scalar_char c (inr (inr (inl e))) = low c (omega (arith, e))
@@ -49,7 +49,7 @@ xml_utf8 bytes (cs, good, are) = (cs, (all cs good, are))
     all (d ∷ ds) h = both _ _ (scalar_char d h.0) (all ds h.1)
 
 -- a character that stands behind others is one of the text
-has_char : (fs cs rest : List ℕ) (c : ℕ) → encode_utf8_all cs ≡ encode_utf8_all fs ++ (encode_utf8 c ++ rest) → AllByRecursion IsXmlChar cs → IsXmlChar c
+pub has_char : (fs cs rest : List ℕ) (c : ℕ) → encode_utf8_all cs ≡ encode_utf8_all fs ++ (encode_utf8 c ++ rest) → AllByRecursion IsXmlChar cs → IsXmlChar c
 has_char [] cs rest c e all =
     let k = cons_from_encodes cs rest c e in
     (subst (AllByRecursion IsXmlChar) k.1 all).0

@@ -54,7 +54,7 @@ tree_shows plan s p =
 is_there : (p : Path) (os : Objects) → has p (row_paths os) ≡ is_in p os
 is_there p os = ap is_some (number_place p os) ∙ number_there p os
 
-one_path : (p : Path) (q : Option Path) → is_path p q ≡ true → has p (q ∷ []) ≡ true
+pub one_path : (p : Path) (q : Option Path) → is_path p q ≡ true → has p (q ∷ []) ≡ true
 one_path p q e = ap (λ b. is_some (cond b (Some 0) (option_map suc (place_of p [])))) e
 
 row_differs : (os : Objects) (before : List (Option Path)) → first_twice before (row_paths os) ≡ None → PathsDiffer os
@@ -90,7 +90,7 @@ slot_off p slot (node h inner rest) e =
     ap (λ b. node (cond b (record h { slot = slot }) h) (with_slot_in p slot inner) (with_slot_in p slot rest)) own.0
     ∙ ap₂ (λ (x y : Objects). node h x y) (slot_off p slot inner others.0) (slot_off p slot rest others.1)
 
-lt_true : (a b : ℕ) → a < b → nat_lt a b ≡ true
+pub lt_true : (a b : ℕ) → a < b → nat_lt a b ≡ true
 lt_true a b h = grind (arith, nat_tests)
 
 lt_false : (a b : ℕ) → b ≤ a → nat_lt a b ≡ false
@@ -145,7 +145,7 @@ past f (node h inner rest) (suc n) le =
     ap (λ t. cond t (node h (changed_in f n inner) rest) (node h inner (changed_in f (n - count inner) rest))) (lt_false n (count inner) (omega arith))
     ∙ ap (node h inner) (past f rest (n - count inner) (omega arith))
 
-abbrev first_of : Object → Objects → Object
+abbrev pub first_of : Object → Objects → Object
 first_of o none = o
 first_of o (node h inner rest) = record { head = h; inner = inner }
 

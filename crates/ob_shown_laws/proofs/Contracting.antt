@@ -30,7 +30,7 @@ some_if : (b : Bool) (x : Object) → is_some (only_if b (Some x)) ≡ b
 some_if true x = refl
 some_if false x = refl
 
-found_in : (p : Path) (os : Objects) → is_some (node_in p os) ≡ is_in p os
+pub found_in : (p : Path) (os : Objects) → is_some (node_in p os) ≡ is_in p os
 found_in p none = refl
 found_in p (node h inner rest) =
     some_either (only_if (is_path p (node_path h)) (Some (record { head = h; inner = inner }))) (or_else (node_in p inner) (node_in p rest))

@@ -56,7 +56,7 @@ part_less (node h below rest) (suc n) x e = go (nat_lt n (count below)) refl e (
     go false is e deep later = omega (arith, later e)
 
 -- the status of a source changes no kind
-kind_off : (plan : Plan) (s : State) (h : Head) (o : Option Path) → is_watchable (with_status_at plan s h o) ≡ is_watchable h
+pub kind_off : (plan : Plan) (s : State) (h : Head) (o : Option Path) → is_watchable (with_status_at plan s h o) ≡ is_watchable h
 kind_off plan s h None = refl
 kind_off plan s h (Some p) = by_rule (rule_of plan p)
   where

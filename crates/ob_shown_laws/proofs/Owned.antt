@@ -29,7 +29,7 @@ use Rattle.ob_shown_laws.specs.OwnTree.{own_shown_at, OwnTreesTell, OwnTreesTell
 use Rattle.ob_shown_laws.proofs.Places.{place_at}
 
 -- an object that stands so
-abbrev standing : Context → Object → Standing
+abbrev pub standing : Context → Object → Standing
 standing c o = record { context = c; object = o }
 
 numbered_in : (r : HandedDown) (n : ℕ) (os : Objects) → numbered n r os ≡ option_map (λ x. standing (under (handed_in r n os) x.head.name) x) (part_in n os)

@@ -187,7 +187,7 @@ own_nodes plan s t values o q d p is c =
     ∙ derived_leaves plan s t values.histories r p)
 
 -- states that differ in values alone
-differ_itself : (os : Objects) → DifferInSlots os os
+pub differ_itself : (os : Objects) → DifferInSlots os os
 differ_itself none = tt
 differ_itself (node h below rest) = (refl, λ _. refl, differ_itself below, differ_itself rest)
 
@@ -204,7 +204,7 @@ differ_then (node h below rest) (node k inner more) (node l deep behind) d f = (
   differ_then rest more behind d.3 f.3,
 )
 
-slot_set : (b : Bool) (h : Head) (slot : Slot) → without_slot h ≡ without_slot (cond b (record h { slot = slot }) h)
+pub slot_set : (b : Bool) (h : Head) (slot : Slot) → without_slot h ≡ without_slot (cond b (record h { slot = slot }) h)
 slot_set true h slot = refl
 slot_set false h slot = refl
 
@@ -217,7 +217,7 @@ differ_slotted p slot (node h below rest) = (
   differ_slotted p slot rest,
 )
 
-paths_recorded : (plan : Plan) (now : ℕ) (p : Path) (k : Kind) (slot : Slot) (ls : List (Path × Log)) → paths_of ls ≡ paths_of (recorded plan now p k slot ls)
+pub paths_recorded : (plan : Plan) (now : ℕ) (p : Path) (k : Kind) (slot : Slot) (ls : List (Path × Log)) → paths_of ls ≡ paths_of (recorded plan now p k slot ls)
 paths_recorded plan now p k slot [] = refl
 paths_recorded plan now p k slot (l ∷ ls) = ap (λ (ps : List Path). l.0 ∷ ps) (paths_recorded plan now p k slot ls)
 

@@ -7,16 +7,13 @@ use Rattle.ob_object.specs.declared.head.Head.{Head}
 use Rattle.ob_object.specs.Object.{Objects, none, node, Object, count}
 use Rattle.ob_object.specs.Paths.{is_path, node_path}
 use Rattle.ob_contracts.specs.Inherit.{or_else, only_if}
+use Rattle.ob_contracts.proofs.Missing.{append-none}
 use Rattle.ob_site_rules.specs.Build.{Path}
 use Rattle.ob_shown_laws.specs.Numbered.{number_in}
 use Rattle.ob_shown_laws.proofs.Looking.{at_path}
 use Rattle.ob_tree.specs.Shown.{row}
 use Rattle.ob_tree.specs.Laid.{heads, paths}
 use Rattle.ob_tree.specs.Paths.{place_of, is_twice, first_twice}
-
-append-none : {A : Type 0} (xs : List A) → xs ++ [] ≡ xs
-append-none [] = refl
-append-none (x ∷ xs) = ap (λ l. x ∷ l) (append-none xs)
 
 abbrev pub row_paths : Objects → List (Option Path)
 row_paths r = map node_path (heads r)

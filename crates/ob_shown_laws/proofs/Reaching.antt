@@ -96,7 +96,7 @@ roles_alike plan s t e (node h below rest) (node k inner more) d = (
 )
 
 -- what a watch shows of a node that was found, or not
-abbrev as_watched : Option Standing → Object
+abbrev pub as_watched : Option Standing → Object
 as_watched o = plain_or_empty (watched (unwrap_or (option_map effective o) empty_object))
 
 -- a test holds of a node that is watched, or of one in it

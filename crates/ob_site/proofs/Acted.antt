@@ -17,6 +17,7 @@ use Rattle.ob_site_rules.specs.State.{State}
 use Rattle.ob_site_state.specs.Kept.{Kept, IsSoundFor}
 use Rattle.ob_site_state.specs.Stamping.{tree_of}
 use Rattle.ob_site_writes.specs.Stops.{IsDone}
+use Rattle.ob_site_calls.proofs.Batched.{with_now}
 use Rattle.ob_watch.specs.declared.item.Tracked.{Tracked}
 use Rattle.ob_watch.specs.declared.item.Tracked.TheVariants as tracked
 use Rattle.ob_watch.specs.declared.item.Item.{Item}
@@ -56,10 +57,6 @@ module _ (stamps : List ℕ) (steps : ℕ) (a b : Node) (same : parts a ≡ part
   flags_beside (w ∷ ws) =
       ap₂ (λ (fs : List Flagged) (vs : List (ℕ × Watched)). let v : Watched = record { lease = w.1.lease; touched = w.1.touched; items = fs } in let e : ℕ × Watched = (w.0, v) in e ∷ vs)
       (items_beside w.1.items) (flags_beside ws)
-
--- what the state is in the middle of a step
-abbrev pub with_now : Kept → State → Kept
-with_now k s = record k { now = s }
 
 module _ (k n : Kept) (t u : Table) (r : Request) (o : Node) where
   abbrev standing : List (ℕ × Leased)

@@ -1,6 +1,5 @@
 -- The notes of a step tell that it moved no own node.
-use Rattle.std.proofs.Common.{◌≡◌, ℕ, ◌<◌, Bool, true, false, List, [], ◌∷◌, Option, Some, refl, sym, ap, ◌∙◌, subst, nat_eq, arith}
-use Rattle.std.proofs.lemmas.Bool.Decides.{nat_tests}
+use Rattle.std.proofs.Common.{◌≡◌, ℕ, ◌<◌, Bool, true, false, List, [], ◌∷◌, Option, Some, refl, sym, ap, ◌∙◌, subst, nat_eq}
 use Rattle.ob_object.specs.declared.head.Head.{Head}
 use Rattle.ob_object.specs.declared.head.Slot.{Slot}
 use Rattle.ob_object.specs.Object.{Object, parts}
@@ -20,16 +19,11 @@ use Rattle.ob_site_state.specs.declared.change.Change.TheVariants as change
 use Rattle.ob_site_state.specs.Changes.{undone, rewound, CanUndo, CanRewind}
 use Rattle.ob_site_state.proofs.Noting.{head_there, head_set, paths_stay}
 use Rattle.ob_site_state.proofs.Rewinding.{set_to}
+use Rattle.ob_site_state.proofs.Settling.{equal_of, differ_of}
 use Rattle.ob_watch.specs.declared.item.Tracked.{Tracked}
 use Rattle.ob_watch.specs.declared.item.Tracked.TheVariants as tracked
 use Rattle.ob_site.specs.Ending.{NodesStay}
 use Rattle.ob_site.proofs.Levels.{levels_changed}
-
-pub equal_of : (a b : ℕ) → nat_eq a b ≡ true → a ≡ b
-equal_of a b e = grind (arith, nat_tests)
-
-pub differ_of : (a b : ℕ) → nat_eq a b ≡ false → a ≡ b → ⊥
-differ_of a b e same = grind (arith, nat_tests)
 
 -- the object of a number can be watched, if there is one
 abbrev CanWatch : ℕ → Object → Type 0

@@ -1,5 +1,5 @@
 -- The notes of a step tell whether it has changed the site.
-use Rattle.std.proofs.Common.{◌≡◌, ◌≢◌, ◌⊎◌, ℕ, zero, suc, ◌+◌, ◌-◌, ◌<◌, ◌≤◌, Bool, true, false, cond, not, ◌||◌, List, [], ◌∷◌, length, Option, Some, None, option_map, unwrap_or, refl, sym, ap, ◌∙◌, subst, inl, inr, MatchBool, nat_eq, length-drop, length-take, arith}
+use Rattle.std.proofs.Common.{◌≡◌, ◌≢◌, ◌⊎◌, ℕ, zero, suc, ◌+◌, ◌-◌, ◌<◌, ◌≤◌, Bool, true, false, cond, not, ◌||◌, List, [], ◌∷◌, length, Option, Some, None, option_map, unwrap_or, refl, sym, ap, ◌∙◌, subst, inl, inr, MatchBool, nat_eq, length-take, arith}
 use Rattle.std.specs.Prelude.{slice_get}
 use Rattle.std.specs.List.{list_any, find}
 use Rattle.std.proofs.lemmas.Bool.{or_parts}
@@ -15,25 +15,24 @@ use Rattle.ob_step_laws.specs.Given.{IsMade}
 use Rattle.ob_site_laws.proofs.Same.{tells_slot}
 use Rattle.ob_site_rules.specs.Build.{Path}
 use Rattle.ob_site_rules.specs.Sameness.{same_slot}
-use Rattle.ob_site_rules.specs.State.{Plan, Log, State, rolled, rolled_logs, roll}
+use Rattle.ob_site_rules.specs.State.{Plan, Log, State, rolled_logs, roll}
 use Rattle.ob_site_rules.specs.Writes.{events_ever, site_contracts}
 use Rattle.ob_site_state.specs.declared.change.Change.{Change}
 use Rattle.ob_site_state.specs.declared.change.Change.TheVariants as change
 use Rattle.ob_site_state.specs.Changes.{rewound, cut, with_log, events_before, CanRewind, AreTold}
 use Rattle.ob_site_state.proofs.Noting.{head_there, head_set}
 use Rattle.ob_site_state.proofs.Rewinding.{set_to}
+use Rattle.ob_site_state.proofs.Settling.{equal_of, differ_of}
 use Rattle.ob_tree.specs.Laid.{head_at, heads_of, spots_of, changed, leaf}
 use Rattle.ob_tree.proofs.Changing.{length-heads, spots-changed}
 use Rattle.ob_tree.proofs.Leaves.{others_stay}
 use Rattle.ob_tree.proofs.Standing.{stands_for}
 use Rattle.ob_values.specs.declared.verb.Verb.{Verb}
 use Rattle.ob_values.specs.declared.verb.Verb.TheVariants.{Get}
+use Rattle.ob_consistent_laws.proofs.Unrolled.{as_many}
+use Rattle.ob_watch.proofs.Unmaking.{false_true}
 use Rattle.ob_site.specs.Keeping.{IsChange}
 use Rattle.ob_site.specs.Noted.{is_slot_of, slot_or, slot_before, has_other_slot, is_otherwise}
-use Rattle.ob_site.proofs.Nodes.{equal_of, differ_of}
-
-false_true : false ≡ true → ⊥
-false_true e = absurd cc
 
 -- ---- what an object said of itself before the step
 
@@ -176,10 +175,6 @@ logged (l ∷ ls) = events_ever l.1 + logged ls
 
 abbrev ever : State → ℕ
 ever s = logged s.logs + length s.events
-
-as_many : (l : Log) (o : Option ℕ) → l.capacity ≡ o → events_ever (rolled l) ≡ events_ever l
-as_many l None e = rw e refl
-as_many l (Some c) e = rw e (omega (arith, length-drop (length l.kept - c) l.kept))
 
 logged_rolled : (ls : List (Path × Log)) → logged (rolled_logs ls) ≡ logged ls
 logged_rolled [] = refl

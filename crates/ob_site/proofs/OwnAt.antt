@@ -5,6 +5,7 @@ use Rattle.ob_object.specs.declared.head.Head.{Head}
 use Rattle.ob_object.specs.Object.{Objects, none, node, Object}
 use Rattle.ob_object.specs.Paths.{is_path, node_path}
 use Rattle.ob_contracts.specs.Inherit.{or_else, only_if}
+use Rattle.ob_contracts.proofs.Missing.{append-none}
 use Rattle.ob_site_rules.specs.Build.{Path, leaf}
 use Rattle.ob_site_rules.specs.Shown.{node_in, node_of}
 use Rattle.ob_tree.specs.Laid.{heads, heads_of, head_at, paths}
@@ -49,10 +50,6 @@ first_at p (h ∷ hs) = go (is_path p (node_path h)) (place_of p (map node_path 
     go true o e = refl
     go false None e = e
     go false (Some n) e = e
-
-append-none : {A : Type 0} (xs : List A) → xs ++ [] ≡ xs
-append-none [] = refl
-append-none (x ∷ xs) = ap (λ l. x ∷ l) (append-none xs)
 
 found_at : (p : Path) (o : Object) → option_map head_of (node_of p o) ≡ option_and_then (λ n. head_at n o) (place_of p (paths o))
 found_at p o =

@@ -1,12 +1,12 @@
 -- What is shown of an own node is of its kind.
-use Rattle.std.proofs.Common.{◌≡◌, ℕ, zero, suc, ◌-◌, ◌<◌, ◌≤◌, Bool, true, false, cond, List, [], ◌∷◌, ◌++◌, length, map, Option, Some, None, option_map, refl, sym, ap, ◌∙◌, subst, arith}
+use Rattle.std.proofs.Common.{◌≡◌, ℕ, zero, suc, ◌-◌, ◌<◌, ◌≤◌, Bool, true, false, ◌++◌, length, Option, Some, None, option_map, refl, sym, ap, ◌∙◌, subst, arith}
 use Rattle.std.specs.Prelude.{is_some, slice_get, nat_lt, option_and_then}
 use Rattle.std.proofs.lemmas.Bool.{ltb-true, ltb-false}
 use Rattle.ob_values.proofs.Lists.{some_same}
 use Rattle.ob_object.specs.declared.kind.Kind.{Kind}
 use Rattle.ob_object.specs.declared.head.Head.{Head}
 use Rattle.ob_object.specs.Object.{Objects, none, node, Object, count}
-use Rattle.ob_object.specs.Paths.{is_path, node_path}
+use Rattle.ob_object.specs.Paths.{node_path}
 use Rattle.ob_object.specs.Kinds.{has_values}
 use Rattle.ob_contracts.specs.Inherit.{Contracts, Words, result_of, effective_of}
 use Rattle.ob_standing.specs.Contexts.{Context, comes_to}
@@ -25,26 +25,9 @@ use Rattle.ob_tree.proofs.Changing.{length-heads, got_left, got_right}
 use Rattle.ob_shown_laws.specs.OwnTree.{own_shown_at}
 use Rattle.ob_shown_laws.proofs.Owned.{own_trees_tell, part_there}
 use Rattle.ob_site_state.proofs.Noting.{head_there}
-use Rattle.ob_site_written.proofs.Taking.{node_within}
+use Rattle.ob_site_written.proofs.Taking.{node_within, placed}
 use Rattle.ob_site_writes.proofs.Nowhere.{is_there}
 use Rattle.ob_site_calls.specs.Sources.{PointsHaveValues}
-
--- what stands at a place has the path
-placed_by : (p : Path) (g h : Head) (hs : List Head) (b : Bool) (o : Option ℕ) (n : ℕ) → is_path p (node_path g) ≡ b → cond b (Some 0) (option_map suc o) ≡ Some n → slice_get (g ∷ hs) n ≡ Some h
-    → ((m : ℕ) → o ≡ Some m → slice_get hs m ≡ Some h → is_path p (node_path h) ≡ true) → is_path p (node_path h) ≡ true
-placed_by p g h hs true o n is e f later =
-    let here : 0 ≡ n = cc in
-    let first : slice_get (g ∷ hs) 0 ≡ Some h = ap (λ (m : ℕ). slice_get (g ∷ hs) m) here ∙ f in
-    let same : g ≡ h = cc in
-    ap (λ (x : Head). is_path p (node_path x)) (sym same) ∙ is
-placed_by p g h hs false None n is e f later = absurd cc
-placed_by p g h hs false (Some m) n is e f later =
-    let next : suc m ≡ n = cc in
-    later m refl (ap (λ (k : ℕ). slice_get (g ∷ hs) k) next ∙ f)
-
-placed : (p : Path) (hs : List Head) (n : ℕ) (h : Head) → place_of p (map node_path hs) ≡ Some n → slice_get hs n ≡ Some h → is_path p (node_path h) ≡ true
-placed p [] n h e f = absurd cc
-placed p (g ∷ hs) n h e f = placed_by p g h hs (is_path p (node_path g)) (place_of p (map node_path hs)) n refl e f (λ m at is. placed p hs m h at is)
 
 -- nodes at one path are of one kind, by their numbers too
 abbrev IsOf : (Path → Kind) → Head → Type 0

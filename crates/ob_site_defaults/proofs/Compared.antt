@@ -7,12 +7,12 @@ use Rattle.ob_object.specs.declared.kind.Kind.{Kind}
 use Rattle.ob_object.specs.declared.kind.Kind.TheVariants as kind
 use Rattle.ob_object.specs.declared.head.Head.{Head}
 use Rattle.ob_object.specs.Kinds.{same_kind}
-use Rattle.ob_object.specs.Object.{Objects, none, node, Object, parts}
+use Rattle.ob_object.specs.Object.{Objects, Object, parts}
 use Rattle.ob_object.specs.Paths.{node_path}
 use Rattle.ob_contracts.specs.Inherit.{Contracts, result_of}
 use Rattle.ob_site_rules.specs.Build.{Path}
 use Rattle.ob_site_rules.specs.State.{Plan, State}
-use Rattle.ob_site_rules.specs.Shown.{rule_of, with_status_at, with_status_by, dressed}
+use Rattle.ob_site_rules.specs.Shown.{dressed}
 use Rattle.ob_site_rules.specs.Sameness.{same_object}
 use Rattle.ob_site_rules.specs.Sites.{plain_or_empty, watched_object}
 use Rattle.ob_site_laws.proofs.Same.{object_decides}
@@ -24,27 +24,20 @@ use Rattle.ob_shown_laws.specs.OwnShown.{dressed_standing}
 use Rattle.ob_shown_laws.specs.Standing.{Standing, standing_at as site_standing}
 use Rattle.ob_shown_laws.proofs.OwnStanding.{own_is_enough}
 use Rattle.ob_shown_laws.proofs.Alikes.{watched}
-use Rattle.ob_shown_laws.proofs.Reaching.{at_row}
+use Rattle.ob_shown_laws.proofs.Reaching.{at_row, as_watched}
 use Rattle.ob_tree.specs.Laid.{head_at, paths}
 use Rattle.ob_tree.specs.Paths.{place_of, first_twice}
 use Rattle.ob_tree.specs.Shown.{part_at, handed_at, standing_at}
 use Rattle.ob_tree.proofs.Within.{place_within}
-use Rattle.ob_shown_laws.proofs.Owned.{part_there, own_found, not_derived}
+use Rattle.ob_shown_laws.proofs.Owned.{part_there, own_found, not_derived, standing}
+use Rattle.ob_shown_laws.proofs.Followed.{kind_off}
+use Rattle.ob_shown_laws.proofs.Bridging.{first_of}
 use Rattle.ob_site_state.proofs.Noting.{head_there}
 use Rattle.ob_step_laws.specs.Defaults.{with_library, is_same}
-use Rattle.ob_step_laws.proofs.Either.{as_watched, plain_or, shape, as_shape, watched_at, roles_library}
+use Rattle.ob_step_laws.proofs.Either.{plain_or, shape, as_shape, watched_at, roles_library}
 use Rattle.ob_site_defaults.specs.Otherwise.{IsOtherwise}
 use Rattle.ob_site_defaults.specs.Watched.{can_be_watched}
 use Rattle.ob_site_defaults.proofs.Places.{placed_at, node_there}
-
--- an object that stands so
-abbrev pub standing : Context → Object → Standing
-standing c o = record { context = c; object = o }
-
--- statuses and what roles derive don't depend on the library
-abbrev first_of : Object → Objects → Object
-first_of o none = o
-first_of o (node h inner rest) = record { head = h; inner = inner }
 
 pub dressed_library : (plan : Plan) (s : State) (lib : Contracts) (x : Object) → dressed_own plan (with_library lib s) x ≡ dressed_own plan s x
 dressed_library plan s lib x = ap (λ (r : Objects). first_of x r) (roles_library plan s lib (row x))
@@ -69,15 +62,6 @@ other_watched : (plan : Plan) (s : State) (lib : Contracts) (p : Path) (n : ℕ)
 other_watched plan s lib p n x c differ at stands here =
     own_watched plan (with_library lib s) p n x c (subst (λ (o : Object). PathsDiffer (row o)) (sym (root_library plan s lib)) differ) at stands here
     ∙ ap (λ (o : Object). as_watched (Some (standing c o))) (dressed_library plan s lib x)
-
--- the status of a source changes no kind
-pub kind_off : (plan : Plan) (s : State) (h : Head) (o : Option Path) → is_watchable (with_status_at plan s h o) ≡ is_watchable h
-kind_off plan s h None = refl
-kind_off plan s h (Some p) = by_rule (rule_of plan p)
-  where
-    by_rule : (r : Option ℕ) → is_watchable (with_status_by plan s h r) ≡ is_watchable h
-    by_rule None = refl
-    by_rule (Some r) = refl
 
 -- a watch shows an object that can be watched as before where it comes to the same, and only there
 plain_same : (b : Bool) (u v : Object) → b ≡ true → plain_or b u ≡ plain_or b v → u ≡ v

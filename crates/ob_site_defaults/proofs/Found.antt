@@ -1,5 +1,5 @@
 -- The nodes that are found one after the other.
-use Rattle.std.proofs.Common.{ℕ, ◌≡◌, ◌+◌, ◌<◌, ◌≤◌, Bool, true, false, List, [], ◌∷◌, ◌++◌, map, length, All, refl, ap, ◌∙◌, subst, arith}
+use Rattle.std.proofs.Common.{ℕ, ◌≡◌, ◌+◌, ◌<◌, ◌≤◌, Bool, true, false, List, [], ◌∷◌, ◌++◌, length, All, refl, ap, ◌∙◌, subst, arith}
 use Rattle.std.specs.Prelude.{nat_lt, Contains}
 use Rattle.std.proofs.lemmas.Bool.{ltb-true, ltb-false}
 use Rattle.std.proofs.lemmas.List.{map-append, get_or-map, length-map}
@@ -9,10 +9,8 @@ use Rattle.ob_contracts.specs.Inherit.{Contracts}
 use Rattle.ob_site_rules.specs.State.{Plan, State}
 use Rattle.ob_tree.specs.declared.node.NodeId.{NodeId}
 use Rattle.ob_tree.proofs.Collecting.{Collected, none_yet, takes, leaves}
+use Rattle.ob_site_state.proofs.Stepping.{numbers_of}
 use Rattle.ob_site_defaults.specs.Otherwise.{IsOtherwise, AreOtherwise, AreOtherwiseBelow}
-
-abbrev pub numbers_of : List NodeId → List ℕ
-numbers_of nodes = map (λ node. node.number) nodes
 
 collected : (plan : Plan) (s : State) (new : Contracts) (n : ℕ) (ns : List ℕ) → AreOtherwiseBelow plan s new n ns → Collected (IsOtherwise plan s new) n ns
 collected plan s new n ns found = record { those = found.differ; all = found.all; in_order = found.in_order }

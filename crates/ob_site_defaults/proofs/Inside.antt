@@ -19,7 +19,8 @@ use Rattle.ob_tree.specs.Laid.{head_at, paths}
 use Rattle.ob_tree.specs.Paths.{place_of, first_twice}
 use Rattle.ob_tree.specs.Shown.{row as row_of, part_at, handed_at, standing_at}
 use Rattle.ob_tree.proofs.Within.{place_within}
-use Rattle.ob_shown_laws.proofs.Owned.{part_there, round}
+use Rattle.ob_shown_laws.proofs.Owned.{part_there, round, standing}
+use Rattle.ob_shown_laws.proofs.Followed.{kind_off}
 use Rattle.ob_site_state.proofs.Noting.{head_there}
 use Rattle.ob_step_laws.specs.Defaults.{with_library, is_same}
 use Rattle.ob_step_laws.proofs.Reached.{defaults_reach}
@@ -27,7 +28,7 @@ use Rattle.ob_site_defaults.specs.Otherwise.{IsOtherwise}
 use Rattle.ob_site_defaults.specs.Watched.{can_be_watched}
 use Rattle.ob_site_defaults.proofs.Numbered.{part_within}
 use Rattle.ob_site_defaults.proofs.Places.{placed_at}
-use Rattle.ob_site_defaults.proofs.Compared.{standing, own_there, kind_off}
+use Rattle.ob_site_defaults.proofs.Compared.{own_there}
 
 -- the head of an own object that is there
 pub head_part : (n : ℕ) (o x : Object) → n < parts o → part_at n o ≡ Some x → head_at n o ≡ Some x.head

@@ -10,7 +10,7 @@ use Rattle.ob_standing.specs.Contexts.{HandedDown}
 use Rattle.ob_tree.specs.Laid.{object}
 use Rattle.ob_tree.specs.Shown.{row, part_in, part_at, at_top, handed, handed_in, handed_at}
 use Rattle.ob_tree.proofs.Growing.{first}
-use Rattle.ob_tree.proofs.Parts.{PartOf, part_of, child_part}
+use Rattle.ob_tree.proofs.Parts.{PartOf, part_of, child_part, first_number}
 
 -- the object of a number ends where the row does, or before
 within_by : (n : ℕ) (i r : Objects) (p : Object) (b : Bool) → nat_lt n (count i) ≡ b → cond b (part_in n i) (part_in (n - count i) r) ≡ Some p
@@ -38,9 +38,6 @@ HandsDown c r n p = (j m : ℕ) → m ≡ n + suc j → j < count p.inner → ha
 
 next_number : (n j m : ℕ) → m ≡ suc n + suc j → m ≡ suc (n + suc j)
 next_number n j m e = omega arith
-
-first_number : (j m : ℕ) → m ≡ zero + suc j → m ≡ suc j
-first_number j m e = omega arith
 
 hands_by : (c : HandedDown) (h : Head) (i r : Objects) (n : ℕ) (p : Object) (b : Bool) → nat_lt n (count i) ≡ b → cond b (part_in n i) (part_in (n - count i) r) ≡ Some p
     → (part_in n i ≡ Some p → HandsDown (handed c h) i n p) → (part_in (n - count i) r ≡ Some p → HandsDown c r (n - count i) p) → HandsDown c (node h i r) (suc n) p

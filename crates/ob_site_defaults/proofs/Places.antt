@@ -1,5 +1,5 @@
 -- Own nodes by their numbers.
-use Rattle.std.proofs.Common.{ℕ, ◌≡◌, zero, suc, Bool, true, false, cond, List, [], ◌∷◌, ◌++◌, map, Option, Some, None, option_map, refl, sym, ap, ◌∙◌, true≢false}
+use Rattle.std.proofs.Common.{ℕ, ◌≡◌, zero, suc, Bool, true, false, cond, List, [], ◌∷◌, ◌++◌, Option, Some, None, option_map, refl, sym, ap, ◌∙◌, true≢false}
 use Rattle.std.specs.Prelude.{is_some, slice_get}
 use Rattle.ob_object.specs.declared.head.Head.{Head}
 use Rattle.ob_object.specs.Object.{Object}
@@ -10,18 +10,12 @@ use Rattle.ob_values.proofs.Bools.{or_second}
 use Rattle.ob_tree.specs.Laid.{heads_of, head_at, paths}
 use Rattle.ob_tree.specs.Paths.{place_of, first_twice}
 use Rattle.ob_shown_laws.proofs.Places.{has, has-append, in_parts, apart}
-
-got_map : {A B : Type 0} (f : A → B) (xs : List A) (n : ℕ) (x : A) → slice_get xs n ≡ Some x → slice_get (map f xs) n ≡ Some (f x)
-got_map f [] n x e = absurd cc
-got_map f (y ∷ xs) zero x e = let same : y ≡ x = cc in ap (λ a. Some (f a)) same
-got_map f (y ∷ xs) (suc n) x e = got_map f xs n x e
+use Rattle.ob_shown_laws.proofs.Bridging.{one_path}
+use Rattle.ob_site_settled.proofs.Notes.{got_map}
 
 -- the path of the object of a number
 pub path_at : (o : Object) (n : ℕ) (h : Head) → head_at n o ≡ Some h → slice_get (paths o) n ≡ Some (node_path h)
 path_at o n h e = got_map node_path (heads_of o) n h e
-
-one_path : (p : Path) (q : Option Path) → is_path p q ≡ true → has p (q ∷ []) ≡ true
-one_path p q e = ap (λ b. is_some (cond b (Some 0) (option_map suc (place_of p [])))) e
 
 placed : (p : Path) (before qs : List (Option Path)) (n : ℕ) → first_twice before qs ≡ None → slice_get qs n ≡ Some (Some p) → place_of p qs ≡ Some n
 placed p before [] n once e = absurd cc

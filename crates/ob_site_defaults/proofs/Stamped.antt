@@ -14,6 +14,7 @@ use Rattle.ob_site_state.specs.declared.change.Change.{Change}
 use Rattle.ob_site_state.specs.Changes.{rewound, CanRewind, AreTold}
 use Rattle.ob_site_state.specs.Kept.{Kept}
 use Rattle.ob_site_state.specs.Stamping.{tree_of}
+use Rattle.ob_site_state.proofs.Stepping.{numbers_of}
 use Rattle.ob_site_settled.specs.Ending.{AreChanged}
 use Rattle.ob_site_settled.specs.Telling.{ended_in_values}
 use Rattle.ob_site_settled.proofs.Slots.{notes_are_values}
@@ -21,7 +22,6 @@ use Rattle.ob_site_settled.proofs.Worlds.{worlds_end}
 use Rattle.ob_site_defaults.specs.Otherwise.{AreOtherwise}
 use Rattle.ob_site_defaults.specs.Ended.{EndsAll}
 use Rattle.ob_site_defaults.proofs.Ends.{defaults_end}
-use Rattle.ob_site_defaults.proofs.Found.{numbers_of}
 
 -- but for another library it changes values alone
 pub noted_values : (k : Kept) (found : List Change) → rewound found k.now ≡ k.before → CanRewind found k.now → AreTold k.plan found k.now → DifferInValues k.before (ended_in_values k)

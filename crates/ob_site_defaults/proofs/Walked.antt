@@ -24,7 +24,8 @@ use Rattle.ob_step_laws.specs.Defaults.{with_library}
 use Rattle.ob_site_defaults.specs.Otherwise.{AreOtherwise, AreOtherwiseBelow, AreShown}
 use Rattle.ob_site_defaults.specs.Watched.{can_be_watched}
 use Rattle.ob_site_defaults.proofs.Compared.{Compared, told_otherwise, not_otherwise, dressed_library, root_library}
-use Rattle.ob_site_defaults.proofs.Found.{numbers_of, none_below, one_more, one_less, none_more}
+use Rattle.ob_site_state.proofs.Stepping.{numbers_of}
+use Rattle.ob_site_defaults.proofs.Found.{none_below, one_more, one_less, none_more}
 use Rattle.ob_site_defaults.proofs.Inside.{nothing_inside}
 use Rattle.ob_site_defaults.proofs.Numbered.{child_at, more_counted, part_within}
 use Rattle.ob_site_defaults.proofs.Shown.{ChildShown, child_shown, shown_by}

@@ -24,7 +24,7 @@ use Rattle.ob_watch.specs.Flags.{flag_of, flags, flags_of}
 use Rattle.ob_watch.specs.Items.{Text, tracking, one_more_by, one_more, rolled_by, rolled_to}
 use Rattle.ob_watch.specs.Tables.{Leased, with_all_items}
 use Rattle.ob_watch.proofs.NewsLemmas.{news_more}
-use Rattle.ob_watch.proofs.LawLemmas.{counts_stay}
+use Rattle.ob_watch.proofs.LawLemmas.{counts_stay, itself}
 use Rattle.ob_site_feeds.specs.declared.feeds.FeedEvent.{FeedEvent}
 use Rattle.ob_site_feeds.specs.declared.feeds.FeedRoll.{FeedRoll}
 use Rattle.ob_site_feeds.specs.News.{timestamp, times_of, rolled_feeds, Gains, IsNews}
@@ -127,9 +127,6 @@ module _ (plan : Plan) (s u : State) where
       (has_of s path k c))))
 
 -- ---- what rolled off
-
-itself : (a : Text) → bytes_eq a a ≡ true
-itself a = (bytes_eq-Decides a a).1 refl
 
 module _ (plan : Plan) (u : State) where
   abbrev item_of : Path → Tracked → Item

@@ -12,6 +12,7 @@ use Rattle.ob_site_rules.specs.State.{Plan, Log, State, at, is_among}
 use Rattle.ob_site_rules.specs.Watched.{gone_in}
 use Rattle.ob_consistent_laws.specs.Laws.{Apart}
 use Rattle.ob_values.proofs.Bools.{or_first, or_second}
+use Rattle.ob_site_laws.proofs.Growth.{Logs}
 use Rattle.ob_site_state.specs.declared.change.Change.{Change}
 use Rattle.ob_site_state.specs.declared.change.Change.TheVariants as change
 use Rattle.ob_site_state.specs.Changes.{cut, with_log, undone, rewound, CanRewind, AreTold}
@@ -22,9 +23,6 @@ use Rattle.ob_site_feeds.specs.declared.feeds.FeedEvent.{FeedEvent}
 use Rattle.ob_site_feeds.specs.News.{times_of}
 use Rattle.ob_site_feeds.specs.Noted.{feed_of, event_of, log_events_if, note_events, IsKeptRecord}
 use Rattle.ob_site_feeds.proofs.Leading.{history_paths, Leads, same_bytes, not_same}
-
-abbrev Logs : Type 0
-Logs = List (Path × Log)
 
 abbrev Entry : Type 0
 Entry = Path × Log

@@ -6,6 +6,7 @@ use Rattle.std.proofs.lemmas.Bool.Decides.{nat_tests}
 use Rattle.ob_values.proofs.Lists.{some_same, bytes_itself}
 use Rattle.ob_history.specs.declared.records.Record.{Record}
 use Rattle.ob_site_laws.proofs.Rolling.{rolled_at}
+use Rattle.ob_site_laws.proofs.Endless.{log}
 use Rattle.ob_site_rules.specs.Build.{Path}
 use Rattle.ob_site_rules.specs.Places.{Place, About, Batch, Service, Make, AlarmAt, AckOf, WritePointOf, QueryOf, FeedOf, AlarmQuery, AlarmFeed, Node, event_places}
 use Rattle.ob_site_rules.specs.State.{Plan, Log, State, at, is_among, rolled, roll}
@@ -25,9 +26,6 @@ use Rattle.ob_site_feeds.proofs.Recorded.{AreLogs, Earlier, earlier, earlier_the
 
 abbrev Entry : Type 0
 Entry = Path × Log
-
-abbrev log : Option ℕ → ℕ → List Record → Log
-log c g k = record { capacity = c; gone = g; kept = k }
 
 grows : (c : Option ℕ) (g : ℕ) (k : List Record) → g ≤ (rolled (log c g k)).gone
 grows None g k = omega arith

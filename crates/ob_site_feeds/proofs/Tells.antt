@@ -5,12 +5,10 @@ use Rattle.std.proofs.lemmas.List.{take_more, flat_map_more}
 use Rattle.ob_watch.specs.declared.item.Item.{Item}
 use Rattle.ob_watch.specs.Items.{one_more, rolled_to}
 use Rattle.ob_watch.specs.Tables.{Leased, Table, watching, with_all_items, holding}
+use Rattle.ob_watch.proofs.LawLemmas.{Numbered}
 use Rattle.ob_site_feeds.specs.declared.feeds.FeedEvent.{FeedEvent}
 use Rattle.ob_site_feeds.specs.declared.feeds.FeedRoll.{FeedRoll}
 use Rattle.ob_site_feeds.specs.Told.{with_events, with_rolls, told, all_told}
-
-abbrev Numbered : Type 0
-Numbered = List (ℕ × Leased)
 
 same_items : (f g : Item → Item) → ((i : Item) → f i ≡ g i) → (items : List Item) → map f items ≡ map g items
 same_items f g same [] = refl

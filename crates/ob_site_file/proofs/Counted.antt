@@ -15,7 +15,7 @@ use Rattle.ob_contracts.specs.Found.{lent}
 use Rattle.ob_contracts.specs.Inherit.{Contracts, Words, words_in, contract_of, present, overridden, result_of, missing, is_new}
 use Rattle.ob_contracts.proofs.Distinct.{free_at}
 use Rattle.ob_contracts.proofs.Missing.{taken-append}
-use Rattle.ob_roles.proofs.Named.{taken_first}
+use Rattle.ob_roles.proofs.Named.{taken_first, filter_behind}
 use Rattle.ob_roles.proofs.Taken.{rest_more, rest_past}
 use Rattle.ob_site_rules.specs.State.{is_among, at}
 use Rattle.ob_site_file.specs.declared.derived.Derived.{Derived}
@@ -47,18 +47,6 @@ taken_next n before cs i x h is =
 take_none : {A : Type 0} (xs : List A) → take 0 xs ≡ []
 take_none [] = refl
 take_none (x ∷ xs) = refl
-
-filter_behind : (P : Object → Bool) (xs : List Object) (o : Object) → filter P (xs ++ o ∷ []) ≡ filter P xs ++ cond (P o) (o ∷ []) []
-filter_behind P [] o = go (P o)
-  where
-    go : (b : Bool) → cond b (o ∷ []) [] ≡ [] ++ cond b (o ∷ []) []
-    go true = refl
-    go false = refl
-filter_behind P (x ∷ xs) o = go (filter_behind P xs o) (P x)
-  where
-    go : filter P (xs ++ o ∷ []) ≡ filter P xs ++ cond (P o) (o ∷ []) [] → (b : Bool) → cond b (x ∷ filter P (xs ++ o ∷ [])) (filter P (xs ++ o ∷ [])) ≡ cond b (x ∷ filter P xs) (filter P xs) ++ cond (P o) (o ∷ []) []
-    go rest true = ap (λ l. x ∷ l) rest
-    go rest false = rest
 
 count_if : (b : Bool) (x : Object) → count (in_row (cond b (x ∷ []) [])) ≡ cond b (parts x) 0
 count_if true x = omega arith

@@ -8,7 +8,8 @@ use Rattle.ob_object.specs.declared.head.Head.{Head}
 use Rattle.ob_object.specs.Object.{Object, Objects, none, node, listed, in_row, children, count, parts, in_row-listed, listed-in_row}
 use Rattle.ob_object.specs.WellFormed.{is_taken, has_name}
 use Rattle.ob_object.specs.Paths.{is_path, node_path}
-use Rattle.ob_contracts.specs.Inherit.{Contracts, Words, sources, overridden, implied_by, inherited_head, row_results, result_of, missing, bare, bare_row, row_with_defaults}
+use Rattle.ob_contracts.specs.Inherit.{Contracts, Words, sources, overridden, implied_by, inherited_head, row_results, result_of, missing, bare, row_with_defaults}
+use Rattle.ob_contracts.proofs.UpTo.{count_bare_row}
 use Rattle.ob_roles.proofs.Named.{taken_first}
 use Rattle.ob_site_rules.specs.Build.{Path}
 use Rattle.ob_site_rules.specs.State.{Plan, State, Log, is_among, at}
@@ -49,10 +50,6 @@ counted_test n parts is = grind (arith, nat_tests, is)
 pub count_append : (xs ys : List Object) → count (in_row (xs ++ ys)) ≡ count (in_row xs) + count (in_row ys)
 count_append [] ys = omega arith
 count_append (x ∷ xs) ys = omega (arith, count_append xs ys)
-
-count_bare_row : (r : Objects) → count (bare_row r) ≡ count r
-count_bare_row none = refl
-count_bare_row (node h below rest) = omega (arith, count_bare_row below, count_bare_row rest)
 
 count_bare : (os : List Object) → count (in_row (map bare os)) ≡ count (in_row os)
 count_bare [] = refl

@@ -16,7 +16,7 @@ use Rattle.ob_site_rules.specs.State.{Plan, State, board}
 use Rattle.ob_site_rules.specs.Sites.{SiteState}
 use Rattle.ob_site_laws.specs.SiteLaws.{acts, of_plan, Call, TellsEvents, IsSoundSite}
 use Rattle.ob_site_laws.proofs.Lawful.{lawful}
-use Rattle.ob_site_laws.proofs.SiteHistories.{stays, gone_for_good}
+use Rattle.ob_site_laws.proofs.SiteHistories.{stays, gone_for_good, whole}
 use Rattle.ob_site_laws.specs.Seen.{KeepsWatches}
 use Rattle.ob_site_laws.proofs.Seen.{keeps_watches}
 use Rattle.ob_lasting.proofs.Histories.{all_at, first_run, history_back, run_cut, history_cut, kept_after, later_starts}
@@ -41,9 +41,6 @@ site_cut_off IsRestart earlier run later h before rest is lost at =
     let back : IsSiteHistory IsRestart (run ∷ later) = history_back acts IsRestart earlier run later h in
     history_cut acts IsRestart earlier run later h (record { start = run.start; calls = before; lost = lost }) refl
     (run_cut acts IsRestart run (first_run acts IsRestart run later back) before rest is lost at)
-
-abbrev whole : (plan : Plan) → World (of_plan plan) → SiteState
-whole plan w = record { plan = plan; world = w }
 
 module _ (n : ℕ) (small : n < 2 ^ 64) where
   abbrev IsBelow : SiteState → Type 0

@@ -16,7 +16,7 @@ use Rattle.ob_site_laws.proofs.Rolling.{rolled_at}
 abbrev pub Endless : State → Option Place → State → Type 0
 Endless start place s = KeepsAll s place × (gone_at s place ≡ gone_at start place)
 
-abbrev log : Option ℕ → ℕ → List Record → Log
+abbrev pub log : Option ℕ → ℕ → List Record → Log
 log c g k = record { capacity = c; gone = g; kept = k }
 
 one_rolled : (l : Log) → l.capacity ≡ None → (capacity_in (Some (rolled l)) ≡ None) × (gone_in (Some (rolled l)) ≡ gone_in (Some l))

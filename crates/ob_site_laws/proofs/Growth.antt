@@ -29,7 +29,7 @@ use Rattle.ob_site_laws.specs.SiteLaws.{capacity_in, TellsEvents}
 use Rattle.ob_site_laws.proofs.Boards.{taken, on_value_grows, on_ack_grows}
 use Rattle.ob_site_laws.proofs.EventsTold.{on_value_told, on_ack_told}
 
-abbrev Logs : Type 0
+abbrev pub Logs : Type 0
 Logs = List (Path × Log)
 
 -- each log and the alarm events have at most more at the end, no log counts more as gone, and the alarms go on telling their events

@@ -42,7 +42,7 @@ no_href (Some t) h = absurd cc
 abbrev read : Text → Content → Reading
 read t c = record { text = t; content = c }
 
-not_none : (k : ℕ) → nat_eq (suc k) 0 ≡ false
+pub not_none : (k : ℕ) → nat_eq (suc k) 0 ≡ false
 not_none k = grind (arith, nat_tests)
 
 -- an event is held as it is sent
@@ -96,7 +96,7 @@ all_back : (changes : Bool) (rs : List Reading) → AllByRecursion (λ r. IsRead
 all_back changes [] h = refl
 all_back changes (r ∷ rs) h = ap₂ (λ (x : Reading) (xs : List Reading). x ∷ xs) (back changes r.text r.content h.0) (all_back changes rs h.1)
 
-all_hrefs : (rs : List Reading) → list_all (λ (item : Object). is_some item.head.href) (map entry rs) ≡ true
+pub all_hrefs : (rs : List Reading) → list_all (λ (item : Object). is_some item.head.href) (map entry rs) ≡ true
 all_hrefs [] = refl
 all_hrefs (r ∷ rs) = all_hrefs rs
 

@@ -20,7 +20,7 @@ map_drop f zero xs = refl
 map_drop f (suc n) [] = refl
 map_drop f (suc n) (x ∷ xs) = map_drop f n xs
 
-abbrev picked : Bool → Path × Log → Option (Path × Log) → Option Log
+abbrev pub picked : Bool → Path × Log → Option (Path × Log) → Option Log
 picked b l others =
     let there : Option (Path × Log) = cond b (Some l) others in
     option_map (λ e. e.1) there

@@ -22,7 +22,7 @@ use Rattle.ob_site_laws.proofs.Lawful.{lawful}
 use Rattle.ob_site_laws.proofs.Endless.{Endless, stays_endless}
 use Rattle.ob_site_laws.proofs.AllSince.{still_tells, had_timed, each_holds_all}
 
-abbrev whole : (plan : Plan) → World (of_plan plan) → SiteState
+abbrev pub whole : (plan : Plan) → World (of_plan plan) → SiteState
 whole plan w = record { plan = plan; world = w }
 
 abbrev left_whole : (plan : Plan) → World (of_plan plan) → Call → Answer Object → SiteState

@@ -1,5 +1,5 @@
 -- Rules that are numbered one after another.
-use Rattle.std.proofs.Common.{◌≡◌, ℕ, zero, suc, ◌+◌, ◌<◌, ◌≤◌, List, [], ◌∷◌, ◌++◌, map, length, drop, get_or, Some, refl, sym, ap, ◌∙◌, arith, append_assoc}
+use Rattle.std.proofs.Common.{◌≡◌, ℕ, zero, suc, ◌+◌, ◌<◌, ◌≤◌, List, [], ◌∷◌, ◌++◌, map, length, drop, get_or, Some, sym, ap, ◌∙◌, arith, append_assoc}
 use Rattle.std.specs.Prelude.{slice_get}
 use Rattle.ob_alarms.specs.Soundness.{SourcesDiffer}
 use Rattle.ob_alarms.specs.declared.rule.Rule.{Rule}
@@ -7,7 +7,8 @@ use Rattle.ob_replies.specs.declared.plan.PointRule.{PointRule}
 use Rattle.ob_replies.specs.Plans.{point_rule}
 use Rattle.ob_site_rules.specs.Build.{Path}
 use Rattle.ob_site_rules.specs.State.{PointRule as SiteRule, numbered_from}
-use Rattle.ob_values.proofs.Lists.{drop_all as rest_end}
+use Rattle.ob_values.proofs.Lists.{drop_all}
+use Rattle.ob_contracts.proofs.Children.{append-none}
 use Rattle.ob_site_file.proofs.Rests.{rest_more}
 
 source_at : (n : ℕ) (rs : List SiteRule) (i : ℕ) (r : Rule) → slice_get (numbered_from n rs) i ≡ Some r → r.source ≡ n + i
@@ -20,10 +21,6 @@ source_at n (x ∷ xs) (suc i) r is = omega (arith, source_at (n + 1) xs i r is)
 pub sources_differ : (rules : List Rule) (rs : List SiteRule) → rules ≡ numbered_from 0 rs → SourcesDiffer rules
 sources_differ rules rs same = λ i j r s a b e.
     omega (arith, source_at 0 rs i r (ap (λ l. slice_get l i) (sym same) ∙ a), source_at 0 rs j s (ap (λ l. slice_get l j) (sym same) ∙ b), e)
-
-append-none : {A : Type 0} (xs : List A) → xs ≡ xs ++ []
-append-none [] = refl
-append-none (x ∷ xs) = ap (λ l. x ∷ l) (append-none xs)
 
 -- the rule of a point at a place, under a path
 abbrev pub with_path : ℕ → PointRule → Path → Rule
@@ -43,4 +40,4 @@ numbered_more rs i r made new rule h is put this held =
 
 pub numbered_all : (rs : List PointRule) (i : ℕ) (made : List Rule) → length rs ≤ i → made ++ numbered_from i (map point_rule (drop i rs)) ≡ numbered_from 0 (map point_rule rs) → made ≡ numbered_from 0 (map point_rule rs)
 numbered_all rs i made h held =
-    append-none made ∙ ap (λ (l : List PointRule). made ++ numbered_from i (map point_rule l)) (sym (rest_end rs i h)) ∙ held
+    append-none made ∙ ap (λ (l : List PointRule). made ++ numbered_from i (map point_rule l)) (sym (drop_all rs i h)) ∙ held

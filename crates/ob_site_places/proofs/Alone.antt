@@ -14,15 +14,12 @@ use Rattle.ob_site_rules.specs.State.{at, is_among}
 use Rattle.ob_site_rules.specs.Paths.{below}
 use Rattle.ob_site_rules.specs.Places.{Place}
 use Rattle.ob_plain_state.specs.Parts.{point_parts, history_parts}
-use Rattle.ob_plain_state.proofs.Placed.{at-append}
+use Rattle.ob_plain_state.proofs.Placed.{at-append, Entries}
 use Rattle.ob_site_roles.specs.Roles.{is_at, stands_at}
 use Rattle.ob_site_roles.proofs.Placed.{some_first}
 use Rattle.ob_site_shown.specs.Parents.{has_slash, IsParent}
 use Rattle.ob_site_shown.proofs.Slashes.{at_parent, no_parent}
 use Rattle.ob_site_places.proofs.Fronts.{point_off, history_off}
-
-abbrev Entries : Type 0
-Entries = List (Path × Place)
 
 is_same : (q a : Path) → bytes_eq q a ≡ true → q ≡ a
 is_same q a e = (bytes_eq-Decides q a).0 e

@@ -1,7 +1,6 @@
 -- The end of a step on a tree of own objects.
 use Rattle.std.proofs.Common.{ℕ, ◌≡◌, ◌+◌, ◌<◌, Bool, true, false, not, cond, List, [], ◌∷◌, map, length, Option, Some, option_map, refl, sym, ap, ◌∙◌, arith}
-use Rattle.std.specs.Prelude.{nat_lt, slice_get, unwrap_or}
-use Rattle.std.proofs.lemmas.Bool.Decides.{nat_tests}
+use Rattle.std.specs.Prelude.{slice_get, unwrap_or}
 use Rattle.ob_object.specs.Object.{parts}
 use Rattle.ob_site_rules.specs.Build.{Path}
 use Rattle.ob_site_rules.specs.State.{Plan, State}
@@ -14,6 +13,7 @@ use Rattle.ob_tree.proofs.Within.{place_within}
 use Rattle.ob_shown_laws.specs.Following.{is_same_watched}
 use Rattle.ob_shown_laws.proofs.Owned.{same_count}
 use Rattle.ob_shown_laws.proofs.Followed.{stamps_follow}
+use Rattle.ob_shown_laws.proofs.Bridging.{lt_true}
 use Rattle.ob_site_state.proofs.Noting.{got_there, head_there}
 use Rattle.ob_site_state.proofs.Stepping.{rooted}
 use Rattle.ob_watch.specs.declared.item.Tracked.{Tracked}
@@ -34,9 +34,6 @@ pub next_stamp : (b : Bool) (steps old : ℕ) (o q : Option ℕ) → o ≡ Some 
     → unwrap_or q 0 ≡ cond (not b) (steps + 1) (unwrap_or o 0)
 next_stamp true steps old o q is next = ap (λ (x : Option ℕ). unwrap_or x 0) next ∙ ap (λ (x : Option ℕ). unwrap_or (option_map (λ (y : ℕ). y) x) 0) is ∙ sym (ap (λ (x : Option ℕ). unwrap_or x 0) is)
 next_stamp false steps old o q is next = ap (λ (x : Option ℕ). unwrap_or x 0) next ∙ ap (λ (x : Option ℕ). unwrap_or (option_map (λ (y : ℕ). steps + 1) x) 0) is
-
-lt_true : (a b : ℕ) → a < b → nat_lt a b ≡ true
-lt_true a b h = grind (arith, nat_tests)
 
 pub there : (t : Stamped) (n : ℕ) → n < parts t.root → stamp_of t n ≡ unwrap_or (slice_get t.stamps n) 0
 there t n h = ap (λ (b : Bool). cond b (unwrap_or (slice_get t.stamps n) 0) 0) (lt_true n (parts t.root) h)

@@ -5,11 +5,12 @@ use Rattle.ob_object.specs.declared.head.Head.{Head}
 use Rattle.ob_object.specs.Object.{Objects, none, node, Object, count, listed, in_row, children, listed-in_row}
 use Rattle.ob_object.specs.WellFormed.{has_name, named}
 use Rattle.ob_object.specs.Paths.{node_path}
-use Rattle.ob_contracts.specs.Inherit.{Contracts, Words, implied_by, inherited_head, missing, bare, or_else, overridden, result_of, row_results, sources, with_defaults}
+use Rattle.ob_contracts.specs.Inherit.{Contracts, Words, implied_by, inherited_head, missing, bare, overridden, result_of, row_results, sources, with_defaults}
 use Rattle.ob_contracts.proofs.Children.{listed-row_results, listed-row_with_defaults, named-append, named-map, named-missing}
 use Rattle.ob_site_rules.specs.Build.{Path, child}
 use Rattle.ob_site_rules.specs.State.{Plan, State}
 use Rattle.ob_site_rules.specs.Shown.{derived, rule_of, with_roles, with_status, with_status_at, with_status_by}
+use Rattle.ob_plain_state.proofs.Kept.{some_either}
 use Rattle.ob_standing.specs.Contexts.{Context, comes_to, sources_in}
 use Rattle.ob_shown_laws.specs.Own.{dressed_own}
 use Rattle.ob_tree.specs.Children.{named_from, child_at}
@@ -22,10 +23,6 @@ use Rattle.ob_site_shown.proofs.OwnHeads.{leaf_there}
 some_mapped : {A B : Type 0} (f : A → B) (o : Option A) → is_some (option_map f o) ≡ is_some o
 some_mapped f None = refl
 some_mapped f (Some x) = refl
-
-some_either : (a b : Option Object) → is_some (or_else a b) ≡ (is_some a || is_some b)
-some_either None b = refl
-some_either (Some x) b = refl
 
 some_unless : (a b : Option Object) → (is_some a || is_some (cond (is_some a) None b)) ≡ (is_some a || is_some b)
 some_unless None b = refl

@@ -1,5 +1,5 @@
 -- What roles name stays where it is: no step moves an own node, or makes another kind of one.
-use Rattle.std.proofs.Common.{◌≡◌, Bool, true, false, cond, List, ◌∷◌, ◌++◌, map, Option, Some, None, option_map, refl, sym, ap, ap₂, ◌∙◌}
+use Rattle.std.proofs.Common.{◌≡◌, Bool, true, false, cond, List, ◌∷◌, ◌++◌, Option, Some, None, option_map, refl, sym, ap, ap₂, ◌∙◌}
 use Rattle.std.specs.Prelude.{is_some}
 use Rattle.std.proofs.lemmas.List.{map-append}
 use Rattle.ob_object.specs.declared.kind.Kind.{Kind}
@@ -15,18 +15,9 @@ use Rattle.ob_site_rules.specs.Build.{Path}
 use Rattle.ob_site_rules.specs.State.{Plan, State}
 use Rattle.ob_site_rules.specs.Shown.{node_in, node_of}
 use Rattle.ob_site_rules.specs.Writes.{with_slot_in, with_slot}
+use Rattle.ob_plain_state.proofs.Kept.{slot_path, slot_kind}
+use Rattle.ob_shown_laws.proofs.Places.{row_paths}
 use Rattle.ob_site_state.specs.Roles.{RolesStand}
-
-slot_path : (b : Bool) (h : Head) (slot : Slot) → node_path (cond b (record h { slot = slot }) h) ≡ node_path h
-slot_path true h slot = refl
-slot_path false h slot = refl
-
-slot_kind : (b : Bool) (h : Head) (slot : Slot) → (cond b (record h { slot = slot }) h).kind ≡ h.kind
-slot_kind true h slot = refl
-slot_kind false h slot = refl
-
-abbrev row_paths : Objects → List (Option Path)
-row_paths r = map node_path (heads r)
 
 -- a slot that is set moves no node
 paths_slotted : (p : Path) (slot : Slot) (r : Objects) → row_paths (with_slot_in p slot r) ≡ row_paths r

@@ -40,10 +40,10 @@ abbrev pub is_recorded : ℕ → List Change → Bool
 is_recorded i cs = list_any (records_at i) cs
 
 -- numbers told by a test
-equal_of : (a b : ℕ) → nat_eq a b ≡ true → a ≡ b
+pub equal_of : (a b : ℕ) → nat_eq a b ≡ true → a ≡ b
 equal_of a b e = grind (arith, nat_tests)
 
-differ_of : (a b : ℕ) → nat_eq a b ≡ false → a ≡ b → ⊥
+pub differ_of : (a b : ℕ) → nat_eq a b ≡ false → a ≡ b → ⊥
 differ_of a b e same = grind (arith, nat_tests)
 
 -- the history of another place has its log

@@ -1,14 +1,13 @@
 -- The statuses of sources that a value or an acknowledgement leaves alone.
-use Rattle.std.proofs.Common.{ℕ, ◌≡◌, zero, suc, ◌+◌, ◌-◌, Bool, true, false, cond, List, [], ◌∷◌, ◌++◌, filter, map, Option, Some, None, refl, sym, ap, ◌∙◌, arith}
+use Rattle.std.proofs.Common.{ℕ, ◌≡◌, zero, suc, ◌+◌, ◌-◌, Bool, true, false, cond, List, [], ◌∷◌, ◌++◌, filter, Option, Some, None, refl, sym, ap, ◌∙◌}
 use Rattle.std.specs.Prelude.{slice_get, nat_eq}
-use Rattle.std.proofs.lemmas.Bool.Decides.{Decides-eqb}
 use Rattle.ob_alarms.specs.declared.alarm.Alarm.{Alarm}
-use Rattle.ob_alarms.specs.declared.rule.Rule.{Rule}
 use Rattle.ob_alarms.specs.declared.rule.Num.{Num}
 use Rattle.ob_alarms.specs.Lists.{changed_at}
-use Rattle.ob_alarms.specs.States.{has_source, status_of, worst, state, needs_ack}
+use Rattle.ob_alarms.specs.States.{status_of}
 use Rattle.ob_alarms.specs.Changes.{State as Board, alarm_of, fresh, ended, acked, next_turn, current, turn, outside_of, on_value, acked_if_needed, answered, on_ack}
 use Rattle.ob_site_rules.specs.State.{PointRule, numbered_from}
+use Rattle.ob_shown_laws.proofs.Leaving.{not_source, of_source, status_same}
 use Rattle.ob_site_state.proofs.Newest.{current_there}
 
 -- alarms of which none of a source is added or changed
@@ -23,25 +22,6 @@ filter_changed P f keeps (x ∷ xs) zero off =
     ap (λ b. cond b (f x ∷ filter P xs) (filter P xs)) (keeps x ∙ off x refl)
     ∙ sym (ap (λ b. cond b (x ∷ filter P xs) (filter P xs)) (off x refl))
 filter_changed P f keeps (x ∷ xs) (suc n) off = ap (λ l. cond (P x) (x ∷ l) l) (filter_changed P f keeps xs n off)
-
--- a rule is the source that has its number
-numbered_source : (rs : List PointRule) (n i j : ℕ) → has_source j (slice_get (numbered_from n rs) i) ≡ true → n + i ≡ j
-numbered_source [] n i j e = absurd cc
-numbered_source (r ∷ rs) n zero j e = let f : n ≡ j = (Decides-eqb n j).0 e in omega (arith, f)
-numbered_source (r ∷ rs) n (suc i) j e = let f : n + 1 + i ≡ j = numbered_source rs (n + 1) i j e in omega (arith, f)
-
-not_source : (rs : List PointRule) (i j : ℕ) → (i ≡ j → ⊥) → has_source j (slice_get (numbered_from 0 rs) i) ≡ false
-not_source rs i j other = go (has_source j (slice_get (numbered_from 0 rs) i)) refl
-  where
-    go : (b : Bool) → has_source j (slice_get (numbered_from 0 rs) i) ≡ b → b ≡ false
-    go true e = absurd (other (let f : 0 + i ≡ j = numbered_source rs 0 i j e in omega (arith, f)))
-    go false e = refl
-
-abbrev of_source : List Rule → ℕ → Alarm → Bool
-of_source rules j a = has_source j (slice_get rules a.rule)
-
-status_same : (rules : List Rule) (xs ys : List Alarm) (j : ℕ) → filter (of_source rules j) xs ≡ filter (of_source rules j) ys → status_of rules xs j ≡ status_of rules ys j
-status_same rules xs ys j e = ap (λ (l : List Alarm). worst (map (λ a. state (needs_ack (slice_get rules a.rule)) a) l)) e
 
 -- where a number has an alarm, it is the one at its place
 number_there : {a x : Alarm} (b : Bool) (r : Option Alarm) → cond b None r ≡ Some a → r ≡ Some x → cond b None r ≡ Some x

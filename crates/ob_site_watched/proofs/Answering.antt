@@ -28,13 +28,10 @@ use Rattle.ob_watch.specs.Flags.{flagged, flags, flags_of}
 use Rattle.ob_watch.specs.Items.{reported_at}
 use Rattle.ob_watch.specs.Marks.{AreStampsPast}
 use Rattle.ob_watch.specs.Tables.{IsLease, Leased, Table, holding, is_over, lapsed_at, live, touched_at}
-use Rattle.ob_watch.proofs.LawLemmas.{items_agree, lapses_commute, reports_agree, tables_agree}
+use Rattle.ob_watch.proofs.LawLemmas.{items_agree, lapses_commute, reports_agree, tables_agree, Numbered}
 use Rattle.ob_site_watched.specs.Answers.{AllKnown, IsDone, IsReply}
 use Rattle.ob_site_watched.specs.Known.{AreKnown}
 use Rattle.ob_site_watched.specs.Leaving.{is_add, leased_if, marks_after}
-
-abbrev Numbered : Type 0
-Numbered = List (ℕ × Leased)
 
 -- what holds of all holds of one that is there, and of those that have not lapsed
 some_same : {A : Type 0} (a b : A) → (let r : Option A = Some a in r) ≡ Some b → a ≡ b

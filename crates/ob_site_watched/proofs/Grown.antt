@@ -17,7 +17,7 @@ use Rattle.ob_watch.specs.Adding.{Added, AddsAt, AddsNothing, AddsTo, IsNotAdded
 use Rattle.ob_watch.specs.Items.{put_item}
 use Rattle.ob_watch.specs.Tables.{Leased, Table, at_number, holding, watching}
 use Rattle.ob_watch.specs.Undo.{Undo, Undoes}
-use Rattle.ob_watch.proofs.LawLemmas.{lapses_commute}
+use Rattle.ob_watch.proofs.LawLemmas.{lapses_commute, Numbered}
 use Rattle.ob_site_watched.specs.declared.offering.Offer.{Offer}
 use Rattle.ob_site_watched.specs.declared.offering.Offer.TheVariants as offer
 use Rattle.ob_site_rules.specs.State.{Plan}
@@ -28,9 +28,6 @@ use Rattle.ob_site_watched.specs.Offered.{IsOffered, refused_entry}
 use Rattle.ob_site_watched.specs.Putting.{ArePut, Grows, HasAdded, HasPut, IsPut}
 use Rattle.ob_site_watched.proofs.Put.{added_more, added_none}
 use Rattle.ob_site_watched.proofs.Undone.{same_put, undone}
-
-abbrev Numbered : Type 0
-Numbered = List (ℕ × Leased)
 
 -- What was put into the watch of a number of what is asked for, and the entries.
 pub record IsOnTheWay (plan : Plan) (c : Contents) (ns : List ℕ) (asked : List Asked) (n : ℕ) (old new : Table) (undo undone : Undo) (es : List Object) (w : Leased) : Type 0 where

@@ -17,14 +17,11 @@ use Rattle.ob_watch.specs.declared.item.Item.{Item}
 use Rattle.ob_watch.specs.Items.{among, reported_at, reported_by}
 use Rattle.ob_watch.specs.Marks.{IsMarkPastBy}
 use Rattle.ob_watch.specs.Tables.{Leased, Table, new_watch, touched_at, with_new}
-use Rattle.ob_watch.proofs.LawLemmas.{counts_stay}
+use Rattle.ob_watch.proofs.LawLemmas.{counts_stay, Numbered}
 use Rattle.ob_site_watched.specs.Answers.{AllKnown}
 use Rattle.ob_site_watched.specs.Known.{AreKnown, IsPlacedBy}
 use Rattle.ob_site_watched.specs.Leaving.{leased_if, leaving, marks_after}
 use Rattle.ob_site_watched.proofs.Answering.{all_there}
-
-abbrev Numbered : Type 0
-Numbered = List (ℕ × Leased)
 
 module _ (plan : Plan) (c : Contents) where
   abbrev Known : ℕ × Leased → Type 0

@@ -1,5 +1,5 @@
 -- What operations leave of a table, by marks.
-use Rattle.std.proofs.Common.{◌≡◌, ◌⊎◌, inl, inr, ℕ, ◌==◌, Bool, true, false, cond, List, [], ◌∷◌, Option, Some, None, Result, Ok, Err, refl, sym, ap, ◌∙◌, subst}
+use Rattle.std.proofs.Common.{◌≡◌, ◌⊎◌, inl, inr, ℕ, ◌==◌, Bool, true, false, cond, [], ◌∷◌, Option, Some, None, Result, Ok, Err, refl, sym, ap, ◌∙◌, subst}
 use Rattle.std.specs.Prelude.{option_map, option_and_then}
 use Rattle.ob_watching.specs.Tables.{lookup, replace}
 use Rattle.ob_watch.specs.Tables.{Leased, Table, at_number, holding, leased_for}
@@ -11,11 +11,8 @@ use Rattle.ob_requests.specs.declared.target.Operation.{Operation}
 use Rattle.ob_requests.specs.declared.target.Operation.TheVariants as asks
 use Rattle.ob_requests.specs.Targets.{operation_of}
 use Rattle.ob_site_watched.specs.Leaving.{Renews, leased_if, leaving}
-use Rattle.ob_watch.proofs.LawLemmas.{lapses_commute}
+use Rattle.ob_watch.proofs.LawLemmas.{lapses_commute, Numbered}
 use Rattle.ob_watch.proofs.TableLemmas.{none_replaced}
-
-abbrev Numbered : Type 0
-Numbered = List (ℕ × Leased)
 
 kept_by : (f : Leased → Leased) (o : Option Leased) → option_map f o ≡ option_and_then (λ w. Some (f w)) o
 kept_by f None = refl

@@ -16,13 +16,11 @@ use Rattle.ob_site_rules.specs.Entries.{empty_object}
 use Rattle.ob_site_rules.specs.Watched.{Asked, SiteFound}
 use Rattle.ob_site_rules.specs.Replies.{Reading, entry, is_plain}
 use Rattle.ob_site_rules.specs.Sites.{plain_or_empty}
+use Rattle.ob_site_reads.proofs.Nameless.{nameless}
 use Rattle.ob_watch.specs.Counted.{of_plan}
 
 plain_named : (o : Node) → (plain_or_empty (under_href None (without_name o))).head.name ≡ None
 plain_named o = elim (is_plain (under_href None (without_name o))) as (λ b. (let p : Node = cond b (under_href None (without_name o)) empty_object in p).head.name ≡ None) [ true ↦ refl | false ↦ refl ]
-
-abbrev nameless : Node → Bool
-nameless o = is_none o.head.name
 
 module _ (plan : Plan) where
   abbrev m : Site

@@ -11,6 +11,7 @@ use Rattle.ob_watching.specs.Tables.{lookup}
 use Rattle.ob_watching.specs.Watches.{TrackedOf, ItemOf, WatchOf, World, acted, changes, changes_of, on_watch}
 use Rattle.ob_watching.specs.Watches as rules
 use Rattle.ob_watching.specs.WatchOuts.{entries_of}
+use Rattle.ob_site_laws.proofs.Heard.{all_hrefs}
 use Rattle.ob_site_laws.proofs.Plain.{watched_plain}
 use Rattle.ob_site_rules.specs.Build.{Path, Text, under_href}
 use Rattle.ob_site_rules.specs.Computed.{watch_out}

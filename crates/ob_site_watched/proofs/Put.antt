@@ -41,9 +41,6 @@ use Rattle.ob_site_watched.proofs.Knowing.{one_known}
 use Rattle.ob_site_watched.proofs.Leaving.{two_left}
 use Rattle.ob_site_watched.proofs.Named.{added_all_named}
 
-abbrev Numbered : Type 0
-Numbered = List (ℕ × Leased)
-
 module _ (plan : Plan) (c : Contents) where
   abbrev m : Site
   m = of_plan plan

@@ -1,16 +1,13 @@
 -- What was added to a watch is taken back.
-use Rattle.std.proofs.Common.{◌≡◌, ℕ, ◌==◌, Bool, true, false, cond, List, [], ◌∷◌, Option, Some, None, refl, sym, ap, ◌∙◌, subst}
+use Rattle.std.proofs.Common.{◌≡◌, ℕ, ◌==◌, Bool, true, false, cond, [], ◌∷◌, Option, Some, None, refl, sym, ap, ◌∙◌, subst}
 use Rattle.std.specs.Prelude.{option_map, nat_eq}
 use Rattle.std.specs.List.{IsDistinct}
 use Rattle.std.proofs.lemmas.Bool.Decides.{Decides-eqb}
 use Rattle.std.proofs.lemmas.Map.Keys.{IsDistinct-head, IsDistinct-tail}
 use Rattle.ob_watching.specs.Tables.{lookup, numbers_of, replace}
 use Rattle.ob_watch.specs.Tables.{Leased, Table, at_number, holding, watching}
-use Rattle.ob_watch.proofs.LawLemmas.{lapses_commute}
+use Rattle.ob_watch.proofs.LawLemmas.{lapses_commute, Numbered}
 use Rattle.ob_watch.proofs.TableLemmas.{elsewhere, none_replaced}
-
-abbrev Numbered : Type 0
-Numbered = List (ℕ × Leased)
 
 some_same : (a b : Leased) → (let r : Option Leased = Some a in r) ≡ Some b → a ≡ b
 some_same a b h = cc

@@ -1,19 +1,19 @@
 -- Where no own node has a path: nothing there is written to, and no contract has it.
 use Rattle.std.proofs.Common.{◌≡◌, ℕ, Bool, true, false, ◌||◌, cond, List, [], Option, Some, None, option_map, refl, sym, ap, ap₂, ◌∙◌}
 use Rattle.std.specs.Prelude.{is_some, codes}
-use Rattle.std.specs.List.{cons_option, list_any}
-use Rattle.ob_values.proofs.Bools.{neither, or_false, both_false}
+use Rattle.std.specs.List.{list_any}
+use Rattle.ob_values.proofs.Bools.{neither}
 use Rattle.ob_object.specs.declared.kind.Kind.{Kind}
 use Rattle.ob_object.specs.declared.head.Head.{Head}
 use Rattle.ob_object.specs.declared.head.Slot.{Slot}
 use Rattle.ob_object.specs.Object.{Objects, none, node, Object, listed, children}
 use Rattle.ob_object.specs.WellFormed.{has_name, named}
 use Rattle.ob_object.specs.Paths.{is_path, node_path}
-use Rattle.ob_contracts.specs.Inherit.{Contracts, or_else, only_if}
+use Rattle.ob_contracts.specs.Inherit.{Contracts}
 use Rattle.ob_contracts.specs.Standard.{with_added, standard}
 use Rattle.ob_site_rules.specs.Build.{Path, child}
 use Rattle.ob_site_rules.specs.State.{with_board}
-use Rattle.ob_site_rules.specs.Shown.{node_in, node_of}
+use Rattle.ob_site_rules.specs.Shown.{node_of}
 use Rattle.ob_site_rules.specs.Writes.{with_slot, with_slot_in, site_contracts, is_in_contract, library_after, recorded, board_after, write}
 use Rattle.ob_shown_laws.specs.Changed.{is_in}
 use Rattle.ob_shown_laws.proofs.Numbering.{number_there}
@@ -22,26 +22,10 @@ use Rattle.ob_tree.specs.Paths.{place_of}
 use Rattle.ob_tree.specs.Shown.{row}
 use Rattle.ob_tree.specs.declared.node.NodeId.{NodeId}
 use Rattle.ob_shown_laws.proofs.Places.{place_at}
-use Rattle.ob_site_written.specs.Parts.{contracts_in}
+use Rattle.ob_shown_laws.proofs.Contracting.{found_in}
 use Rattle.ob_site_state.specs.Kept.{Kept}
-use Rattle.ob_site_written.proofs.Contracted.{contracts_some, contracts_none}
+use Rattle.ob_site_written.proofs.Contracted.{contracts_some, contracts_none, none_in}
 use Rattle.ob_site_written.proofs.Steps.{with_records, with_alarms}
-
-some_either : (a b : Option Object) → is_some (or_else a b) ≡ (is_some a || is_some b)
-some_either None b = refl
-some_either (Some x) b = refl
-
-some_if : (b : Bool) (x : Object) → is_some (only_if b (Some x)) ≡ b
-some_if true x = refl
-some_if false x = refl
-
--- a node is found in a row exactly where it is in it
-found_in : (p : Path) (os : Objects) → is_some (node_in p os) ≡ is_in p os
-found_in p none = refl
-found_in p (node h inner rest) =
-    some_either (only_if (is_path p (node_path h)) (Some (record { head = h; inner = inner }))) (or_else (node_in p inner) (node_in p rest))
-    ∙ ap₂ (λ a b. a || b) (some_if (is_path p (node_path h)) (record { head = h; inner = inner }))
-    (some_either (node_in p inner) (node_in p rest) ∙ ap₂ (λ a b. a || b) (found_in p inner) (found_in p rest))
 
 -- and so where it has a place
 pub is_there : (p : Path) (o : Object) → is_some (node_of p o) ≡ is_some (place_of p (paths o))
@@ -70,21 +54,6 @@ same_object p slot o off =
     let inner = neither (is_in p o.inner) false round.1 in
     ap (λ (b : Bool). let x : Object = record { head = cond b (record o.head { slot = slot }) o.head; inner = with_slot_in p slot o.inner } in x) round.0
     ∙ ap (λ (r : Objects). let x : Object = record { head = o.head; inner = r } in x) (same_row p slot o.inner inner.0)
-
--- where a path is in no object of a row, it is in none of its contracts
-none_in : (p : Path) (r : Objects) → is_in p r ≡ false → list_any (λ c. is_some (node_of p c.1)) (contracts_in (listed r)) ≡ false
-none_in p none e = refl
-none_in p (node h inner rest) e =
-    let own = neither (is_path p (node_path h)) (is_in p inner || is_in p rest) e in
-    let below = neither (is_in p inner) (is_in p rest) own.1 in
-    let x : Object = record { head = h; inner = inner } in
-    let here : is_some (node_of p x) ≡ false = found_in p (row x) ∙ ap (λ b. is_path p (node_path h) || b) (or_false (is_in p inner)) ∙ both_false (is_path p (node_path h)) (is_in p inner) own.0 below.0 in
-    go (node_path h) here (none_in p rest below.1)
-  where
-    go : (q : Option Path) → is_some (node_of p (record { head = h; inner = inner })) ≡ false → list_any (λ c. is_some (node_of p c.1)) (contracts_in (listed rest)) ≡ false
-        → list_any (λ c. is_some (node_of p c.1)) (cons_option (option_map (λ (q : Path). (q, record { head = h; inner = inner })) q) (contracts_in (listed rest))) ≡ false
-    go None here later = later
-    go (Some q) here later = both_false (is_some (node_of p (record { head = h; inner = inner }))) (list_any (λ c. is_some (node_of p c.1)) (contracts_in (listed rest))) here later
 
 -- and then none of the children of a child of a row has it
 abbrev HasNot : Path → Option Object → Type 0

@@ -1,13 +1,13 @@
 -- Whether a node is in a contract, by the object in which the contracts stand.
-use Rattle.std.proofs.Common.{ℕ, ◌≡◌, ◌<◌, Bool, true, false, ◌||◌, [], Option, Some, None, option_map, refl, sym, ap, ap₂, ◌∙◌, arith}
+use Rattle.std.proofs.Common.{ℕ, ◌≡◌, ◌<◌, false, ◌||◌, [], Option, Some, None, option_map, refl, sym, ap, ◌∙◌, arith}
 use Rattle.std.specs.Prelude.{is_some, codes, unwrap_or}
 use Rattle.std.specs.List.{cons_option, list_any}
 use Rattle.ob_values.proofs.Bools.{neither, or_false, both_false}
 use Rattle.ob_object.specs.Object.{Objects, none, node, Object, parts, listed, children}
 use Rattle.ob_object.specs.Paths.{is_path, node_path}
-use Rattle.ob_contracts.specs.Inherit.{Contracts, or_else, only_if}
+use Rattle.ob_contracts.specs.Inherit.{Contracts}
 use Rattle.ob_site_rules.specs.Build.{Path, child}
-use Rattle.ob_site_rules.specs.Shown.{node_in, node_of}
+use Rattle.ob_site_rules.specs.Shown.{node_of}
 use Rattle.ob_site_rules.specs.Writes.{site_contracts, is_in_contract}
 use Rattle.ob_shown_laws.specs.Changed.{is_in, is_round}
 use Rattle.ob_tree.specs.Children.{child_at}
@@ -18,6 +18,7 @@ use Rattle.ob_tree.proofs.Growing.{grows}
 use Rattle.ob_tree.proofs.Named.{child_within}
 use Rattle.ob_shown_laws.specs.Contracted.{is_within, is_inside}
 use Rattle.ob_shown_laws.proofs.Bridging.{nodes_numbered}
+use Rattle.ob_shown_laws.proofs.Contracting.{found_in}
 use Rattle.ob_site_written.specs.Parts.{contracts_in}
 use Rattle.ob_site_written.proofs.Named.{child_is, child_not}
 
@@ -28,24 +29,8 @@ contracts_some o x is = ap (λ (c : Option Object). contracts_in (unwrap_or (opt
 pub contracts_none : (o : Object) → child (codes "contracts") o ≡ None → site_contracts o ≡ []
 contracts_none o is = ap (λ (c : Option Object). contracts_in (unwrap_or (option_map children c) [])) is
 
--- a node is found in a row exactly where it is in it
-some_either : (a b : Option Object) → is_some (or_else a b) ≡ (is_some a || is_some b)
-some_either None b = refl
-some_either (Some x) b = refl
-
-some_if : (b : Bool) (x : Object) → is_some (only_if b (Some x)) ≡ b
-some_if true x = refl
-some_if false x = refl
-
-found_in : (p : Path) (os : Objects) → is_some (node_in p os) ≡ is_in p os
-found_in p none = refl
-found_in p (node h inner rest) =
-    some_either (only_if (is_path p (node_path h)) (Some (record { head = h; inner = inner }))) (or_else (node_in p inner) (node_in p rest))
-    ∙ ap₂ (λ a b. a || b) (some_if (is_path p (node_path h)) (record { head = h; inner = inner }))
-    (some_either (node_in p inner) (node_in p rest) ∙ ap₂ (λ a b. a || b) (found_in p inner) (found_in p rest))
-
 -- where a node isn't in a row, it is in none of its objects
-none_in : (p : Path) (r : Objects) → is_in p r ≡ false → list_any (λ c. is_some (node_of p c.1)) (contracts_in (listed r)) ≡ false
+pub none_in : (p : Path) (r : Objects) → is_in p r ≡ false → list_any (λ c. is_some (node_of p c.1)) (contracts_in (listed r)) ≡ false
 none_in p none e = refl
 none_in p (node h inner rest) e =
     let own = neither (is_path p (node_path h)) (is_in p inner || is_in p rest) e in

@@ -14,7 +14,7 @@ use Rattle.ob_tree.specs.Paths.{place_of}
 use Rattle.ob_tree.proofs.Changing.{length-heads, got_left, got_right}
 
 -- what stands at a place has the path
-placed_by : (p : Path) (g h : Head) (hs : List Head) (b : Bool) (o : Option ℕ) (n : ℕ) → is_path p (node_path g) ≡ b → cond b (Some 0) (option_map suc o) ≡ Some n → slice_get (g ∷ hs) n ≡ Some h
+pub placed_by : (p : Path) (g h : Head) (hs : List Head) (b : Bool) (o : Option ℕ) (n : ℕ) → is_path p (node_path g) ≡ b → cond b (Some 0) (option_map suc o) ≡ Some n → slice_get (g ∷ hs) n ≡ Some h
     → ((m : ℕ) → o ≡ Some m → slice_get hs m ≡ Some h → is_path p (node_path h) ≡ true) → is_path p (node_path h) ≡ true
 placed_by p g h hs true o n is e f later =
     let here : 0 ≡ n = cc in
@@ -26,7 +26,7 @@ placed_by p g h hs false (Some m) n is e f later =
     let next : suc m ≡ n = cc in
     later m refl (ap (λ (k : ℕ). slice_get (g ∷ hs) k) next ∙ f)
 
-placed : (p : Path) (hs : List Head) (n : ℕ) (h : Head) → place_of p (map node_path hs) ≡ Some n → slice_get hs n ≡ Some h → is_path p (node_path h) ≡ true
+pub placed : (p : Path) (hs : List Head) (n : ℕ) (h : Head) → place_of p (map node_path hs) ≡ Some n → slice_get hs n ≡ Some h → is_path p (node_path h) ≡ true
 placed p [] n h e f = absurd cc
 placed p (g ∷ hs) n h e f = placed_by p g h hs (is_path p (node_path g)) (place_of p (map node_path hs)) n refl e f (λ m at is. placed p hs m h at is)
 

@@ -11,7 +11,7 @@ use Rattle.ob_scan.specs.Characters.{after_byte}
 use Rattle.ob_scan.specs.Reading.{literal, is_whole}
 use Rattle.ob_scan.specs.Constructs.{digit, base, is_char, then_read, or_read, read_as, number_from, number_at, behind_hash, numeric_at, entity_at, reference_at}
 use Rattle.ob_scan.specs.Expansion.{stop_or, character_from, behind_line_feed, item_at, Expands, nothing, item}
-use Rattle.ob_scan.proofs.Expanding.{IsCharacter, reference_char, one_character, char_scalar, character_utf8}
+use Rattle.ob_scan.proofs.Expanding.{IsCharacter, reference_char, one_character, char_scalar, character_utf8, choose}
 use Rattle.ob_encoding.specs.Escaped.{escape, escaped}
 use Rattle.ob_encoding.proofs.Joining.{escaped-append}
 use Rattle.ob_size_laws.proofs.Taken.{Costs, literal_cost, literal_costs}
@@ -140,10 +140,6 @@ line_short (b ∷ bytes) = elim (eqb b 10) as (λ v. length (cond v bytes (b ∷
 referred_splits : (b : ℕ) (bytes : List ℕ) (o : Option (ℕ × List ℕ)) → Takes 3 bytes o → Splits (b ∷ bytes) (then_read o (λ x. Some (encode_utf8 x.0, x.1)))
 referred_splits b bytes None h = tt
 referred_splits b bytes (Some x) h = omega (arith, h, length-encode x.0, (len_utf8_bounds x.0).1)
-
-choose : (P : List ℕ × List ℕ → Type 0) (v : Bool) (r s : Option (List ℕ × List ℕ)) → IfSome r P → IfSome s P → IfSome (cond v r s) P
-choose P true r s p q = p
-choose P false r s p q = q
 
 item_splits : (bytes : List ℕ) → Splits bytes (item_at bytes)
 item_splits [] = tt

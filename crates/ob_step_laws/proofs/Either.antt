@@ -21,12 +21,12 @@ use Rattle.ob_site_laws.proofs.Same.{object_decides}
 use Rattle.ob_standing.specs.Contexts.{Context, HandedDown, sources_in, handed_down, under}
 use Rattle.ob_shown_laws.specs.Alike.{row, without_values, AreAlike, DifferInSlots, DifferInValues, paths_of}
 use Rattle.ob_shown_laws.specs.Numbered.{root_row}
-use Rattle.ob_shown_laws.specs.Standing.{Standing, effective, standing_in, root_standing, standing_at}
+use Rattle.ob_shown_laws.specs.Standing.{Standing, standing_in, root_standing, standing_at}
 use Rattle.ob_shown_laws.specs.Changed.{head_in, is_watchable, reaches, differs}
 use Rattle.ob_shown_laws.proofs.Standings.{own_row, effective_row, node_of-effective}
 use Rattle.ob_shown_laws.proofs.Alikes.{under_alike, handed_alike, head_in-alike, missing_names, names_alike, watched}
 use Rattle.ob_shown_laws.proofs.Touches.{in_alike, there}
-use Rattle.ob_shown_laws.proofs.Reaching.{alike_itself, alike_listed, history_alike, roles_alike, at_both, at_row, changes_reach}
+use Rattle.ob_shown_laws.proofs.Reaching.{alike_itself, alike_listed, history_alike, roles_alike, at_both, at_row, changes_reach, as_watched}
 use Rattle.ob_shown_laws.proofs.Looking.{first_alike, looking}
 use Rattle.ob_shown_laws.proofs.Stamping.{stamps_tell}
 use Rattle.ob_step_laws.specs.Defaults.{unslotted, defaults_off, StayGiven, with_library, is_same, ChangesAreEither, DefaultsSettle}
@@ -176,10 +176,6 @@ row_before r q h (node i below rest) (node k inner more) a g xs ys e =
 
     inners : (effective_row d below ≡ effective_row d2 inner → row_with_defaults (own_row d below) ≡ row_with_defaults (own_row d inner)) → effective_row d below ≡ effective_row d inner
     inners deep = effective_same d below inner a.1 (deep second)
-
--- what a watch shows of a node that was found, or not
-abbrev pub as_watched : Option Standing → Object
-as_watched o = plain_or_empty (watched (unwrap_or (option_map effective o) empty_object))
 
 abbrev pub plain_or : Bool → Object → Object
 plain_or b o = cond b o empty_object

@@ -1,8 +1,7 @@
 -- The writable points of an opened state have values.
-use Rattle.std.proofs.Common.{◌≡◌, ℕ, ◌+◌, Bool, true, false, cond, ◌&&◌, ◌||◌, bytes_eq, List, [], ◌∷◌, ◌++◌, map, filter, length, Option, Some, None, refl, sym, ap, ◌∙◌, subst, true≢false, append_assoc, length-append, arith}
+use Rattle.std.proofs.Common.{◌≡◌, ℕ, ◌+◌, Bool, true, false, cond, ◌&&◌, ◌||◌, bytes_eq, List, [], ◌∷◌, map, filter, length, Option, Some, None, refl, sym, ap, ◌∙◌, subst, true≢false}
 use Rattle.std.specs.Prelude.{is_some, unwrap_or}
 use Rattle.std.specs.List.{AllByRecursion}
-use Rattle.std.proofs.lemmas.List.{length_push}
 use Rattle.std.proofs.lemmas.Slice.Eq.{bytes_eq-Decides}
 use Rattle.url.specs.Parts.{Parts}
 use Rattle.ob_object.specs.declared.kind.Kind.{Kind}
@@ -28,53 +27,13 @@ use Rattle.ob_consistent_laws.proofs.Once.{taken_once}
 use Rattle.ob_consistent_laws.proofs.OneKind.{apart_are_of_one_kind}
 use Rattle.ob_consistent_laws.proofs.Walk.{Walks, each_part, root_kept}
 use Rattle.ob_consistent_laws.proofs.Kept.{root_apart}
-use Rattle.ob_consistent_laws.proofs.Fit.{all_fit}
+use Rattle.ob_consistent_laws.proofs.Fit.{all_fit, At, at_own, at_first, at_second, roles_count}
 use Rattle.ob_consistent_laws.proofs.Found.{IsNodeIf}
 use Rattle.ob_consistent_laws.proofs.Roled.{is_point, IsPlaced, all_placed}
 use Rattle.ob_consistent_laws.proofs.Rules.{IsKind, parts_kinds}
 use Rattle.ob_consistent_laws.proofs.Begins.{Begins, begins, words_of}
 use Rattle.ob_consistent_laws.proofs.Inverted.{Opens}
 use Rattle.ob_step_laws.specs.Opening.{OpensPoints}
-
--- the roles from a number on begin with those
-abbrev At : List Roles → ℕ → List Roles → Type 0
-At rs n [] = Unit {0}
-At rs n (x ∷ xs) = (role_at rs n ≡ x) × At rs (n + 1) xs
-
-seam : (before : List Roles) (x : Roles) (xs : List Roles) → role_at (before ++ x ∷ xs) (length before) ≡ x
-seam [] x xs = refl
-seam (y ∷ before) x xs = seam before x xs
-
-at_own : (before xs : List Roles) → At (before ++ xs) (length before) xs
-at_own before [] = tt
-at_own before (x ∷ xs) = (
-  seam before x xs,
-  subst (λ (l : List Roles). At l (length before + 1) xs) (append_assoc before (x ∷ []) xs)
-      (subst (λ (n : ℕ). At ((before ++ x ∷ []) ++ xs) n xs) (length_push before x) (at_own (before ++ x ∷ []) xs)),
-)
-
-at_first : (rs : List Roles) (n : ℕ) (xs ys : List Roles) → At rs n (xs ++ ys) → At rs n xs
-at_first rs n [] ys a = tt
-at_first rs n (x ∷ xs) ys a = (a.0, at_first rs (n + 1) xs ys a.1)
-
-at_second : (rs : List Roles) (n : ℕ) (xs ys : List Roles) → At rs n (xs ++ ys) → At rs (n + length xs) ys
-at_second rs n [] ys a =
-    let e : n ≡ n + 0 = omega arith in
-    subst (λ (m : ℕ). At rs m ys) e a
-at_second rs n (x ∷ xs) ys a =
-    let e : n + 1 + length xs ≡ n + length (x ∷ xs) = omega arith in
-    subst (λ (m : ℕ). At rs m ys) e (at_second rs (n + 1) xs ys a.1)
-
-roles_count : (lib : Contracts) (root under inside : Bool) (implied : Option Words) (above : List Object) (r : Objects) → length (row_roles lib root under inside implied above r) ≡ count r
-roles_count lib root under inside implied above none = refl
-roles_count lib root under inside implied above (node h inner rest) =
-    let from = sources lib h implied (overridden h.name above) in
-    let first = row_roles lib false root (inside || holds_contracts under h) (implied_by (inherited_head h from)) from inner in
-    let second = row_roles lib root under inside implied above rest in
-    let a : length first ≡ count inner = roles_count lib false root (inside || holds_contracts under h) (implied_by (inherited_head h from)) from inner in
-    let b : length second ≡ count rest = roles_count lib root under inside implied above rest in
-    let c : length (first ++ second) ≡ length first + length second = length-append first second in
-    omega (arith, a, b, c)
 
 and_both : (a b c : Bool) → (a && (b && c)) ≡ true → b ≡ true
 and_both true true c e = refl

@@ -21,11 +21,11 @@ use Rattle.ob_shown_laws.specs.Changed.{head_in, is_in, is_round, is_watchable, 
 use Rattle.ob_shown_laws.proofs.Standings.{own_row, effective_row}
 use Rattle.ob_shown_laws.proofs.Alikes.{under_alike, handed_alike, head_in-alike, missing_names, names_alike}
 use Rattle.ob_shown_laws.proofs.Touches.{in_alike, there}
-use Rattle.ob_shown_laws.proofs.Reaching.{roles_alike, at_row}
+use Rattle.ob_shown_laws.proofs.Reaching.{roles_alike, at_row, as_watched}
 use Rattle.ob_shown_laws.proofs.Looking.{first_alike}
 use Rattle.ob_step_laws.specs.Defaults.{defaults_off, StayGiven, DifferInDefaults, with_library, is_same}
 use Rattle.ob_step_laws.specs.Reaching.{DefaultsReach, DefaultsStand}
-use Rattle.ob_step_laws.proofs.Either.{Handed, Stands, stands_under, hands_down, status_same, one_head, behind, behind_rows, head_of, inner_of, rest_of, as_watched, plain_or, shape, as_shape, watched_at, roles_library, roles_given}
+use Rattle.ob_step_laws.proofs.Either.{Handed, Stands, stands_under, hands_down, status_same, one_head, behind, behind_rows, head_of, inner_of, rest_of, plain_or, shape, as_shape, watched_at, roles_library, roles_given}
 
 -- an object that stands so
 abbrev standing : Context → Head → Objects → Standing

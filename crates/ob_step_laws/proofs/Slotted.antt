@@ -1,6 +1,6 @@
 -- A slot that is set at a path.
 use Rattle.std.proofs.Common.{◌≡◌, Bool, true, false, not, cond, List, [], ◌∷◌, map, Option, Some, None, option_map, refl, sym, ap, ap₂, ◌∙◌, true≢false}
-use Rattle.std.specs.Prelude.{codes, is_some, filter_map, unwrap_or}
+use Rattle.std.specs.Prelude.{codes, is_some, unwrap_or}
 use Rattle.std.specs.List.{cons_option, list_any}
 use Rattle.ob_values.proofs.Bools.{neither}
 use Rattle.ob_object.specs.declared.kind.Kind.{Kind}
@@ -18,10 +18,12 @@ use Rattle.ob_site_rules.specs.Build.{Path, child}
 use Rattle.ob_site_rules.specs.State.{State}
 use Rattle.ob_site_rules.specs.Shown.{node_in, node_of}
 use Rattle.ob_site_rules.specs.Writes.{with_slot_in, with_slot, site_contracts, is_in_contract, given_by}
+use Rattle.ob_plain_state.proofs.Slots.{nodes}
 use Rattle.ob_shown_laws.specs.Alike.{row, without_slot, DifferInSlots}
+use Rattle.ob_shown_laws.proofs.Bridging.{first_of}
 use Rattle.ob_step_laws.specs.Defaults.{unslotted_row, unslotted, StayGiven}
 
-abbrev set_if : Bool → Slot → Head → Head
+abbrev pub set_if : Bool → Slot → Head → Head
 set_if b slot h = cond b (record h { slot = slot }) h
 
 -- a slot that is given is set
@@ -56,10 +58,6 @@ unslotted_same (node h below rest) (node k inner more) d =
     ap (λ (u : Head). node u (unslotted_row below) (unslotted_row rest)) d.0
     ∙ ap₂ (λ (x y : Objects). node (without_slot k) x y) (unslotted_same below inner d.2) (unslotted_same rest more d.3)
 
-abbrev first_of : Object → Objects → Object
-first_of o none = o
-first_of o (node h inner rest) = record { head = h; inner = inner }
-
 pub unslotted_object : (t u : Object) → DifferInSlots (row t) (row u) → unslotted t ≡ unslotted u
 unslotted_object t u d = ap (λ (r : Objects). first_of t r) (unslotted_same (row t) (row u) d)
 
@@ -68,7 +66,7 @@ none_first : (a b : Option Object) → is_some (or_else a b) ≡ false → (is_s
 none_first None b e = (refl, e)
 none_first (Some x) b e = absurd cc
 
-path_if : (b : Bool) (slot : Slot) (h : Head) → node_path (set_if b slot h) ≡ node_path h
+pub path_if : (b : Bool) (slot : Slot) (h : Head) → node_path (set_if b slot h) ≡ node_path h
 path_if true slot h = refl
 path_if false slot h = refl
 
@@ -117,9 +115,6 @@ child_slotted p slot n t =
 children_slotted : (p : Path) (slot : Slot) (o : Option Object) → unwrap_or (option_map children (option_map (with_slot p slot) o)) [] ≡ map (with_slot p slot) (unwrap_or (option_map children o) [])
 children_slotted p slot None = refl
 children_slotted p slot (Some x) = listed_slotted p slot x.inner
-
-abbrev nodes : List Object → Contracts
-nodes os = filter_map (λ o. option_map (λ p. (p, o)) (node_path o.head)) os
 
 nodes_stay : (p : Path) (slot : Slot) (os : List Object) → list_any (λ c. is_some (node_of p c.1)) (nodes (map (with_slot p slot) os)) ≡ false → nodes (map (with_slot p slot) os) ≡ nodes os
 nodes_stay p slot [] e = refl

@@ -18,11 +18,11 @@ use Rattle.ob_contracts.proofs.Fitting.{one_kind}
 use Rattle.ob_site_rules.specs.declared.request.Request.{Request}
 use Rattle.ob_site_rules.specs.Build.{Text, Path}
 use Rattle.ob_site_rules.specs.Faults.{Fault, NotSupported, NotWritable, OtherKind, NotInBatch, err, first_fault}
-use Rattle.ob_site_rules.specs.State.{Plan, Log, State, is_among}
+use Rattle.ob_site_rules.specs.State.{Plan, State, is_among}
 use Rattle.ob_site_rules.specs.Sameness.{same_slot}
 use Rattle.ob_site_rules.specs.Shown.{rule_of, node_in, node_of, with_status_at, with_status_by, dressed, shown}
 use Rattle.ob_site_rules.specs.Places.{Place, About, Batch, Service, Make, AlarmAt, AckOf, WritePointOf, QueryOf, FeedOf, AlarmQuery, AlarmFeed, Node, place_at}
-use Rattle.ob_site_rules.specs.Writes.{with_slot, site_contracts, is_in_contract, recorded, write, written, unless, value_fault, is_writable, write_by, put, given_by, target_fault}
+use Rattle.ob_site_rules.specs.Writes.{with_slot, site_contracts, is_in_contract, write, written, unless, value_fault, is_writable, write_by, put, given_by, target_fault}
 use Rattle.ob_site_rules.specs.Posts.{call, write_point}
 use Rattle.ob_site_rules.specs.Actions.{is_post, put_at, act_at, is_left_out, item_at, item_on, item_request, act_item, act_all, batch_or, batch, act_on, act_located}
 use Rattle.ob_shown_laws.specs.Alike.{row, without_values, AreAlike, DifferInSlots, paths_of}
@@ -33,7 +33,7 @@ use Rattle.ob_shown_laws.specs.Standing.{Standing, effective, standing_at, stand
 use Rattle.ob_shown_laws.proofs.Standings.{shown_there}
 use Rattle.ob_shown_laws.proofs.Touches.{there}
 use Rattle.ob_shown_laws.proofs.Reaching.{roles_alike}
-use Rattle.ob_shown_laws.proofs.Owning.{steps_alike}
+use Rattle.ob_shown_laws.proofs.Owning.{steps_alike, paths_recorded}
 use Rattle.ob_shown_laws.proofs.OwnStanding.{own_is_enough}
 use Rattle.ob_step_laws.specs.Defaults.{StayGiven, defaults_off}
 use Rattle.ob_step_laws.proofs.Unslotted.{defaults_differ}
@@ -80,10 +80,6 @@ on s u v a b = record {
   histories = a.histories ∙ b.histories;
   made = λ e. b.made (a.made e);
 }
-
-pub paths_recorded : (plan : Plan) (now : ℕ) (p : Path) (k : Kind) (slot : Slot) (ls : List (Path × Log)) → paths_of ls ≡ paths_of (recorded plan now p k slot ls)
-paths_recorded plan now p k slot [] = refl
-paths_recorded plan now p k slot (l ∷ ls) = ap (λ (ps : List Path). l.0 ∷ ps) (paths_recorded plan now p k slot ls)
 
 -- a write to a contract is in the library, and no other write changes it
 pub made_written : (p : Path) (slot : Slot) (s : State) → IsMade s
@@ -281,12 +277,12 @@ module _ (locate : Parts → Text → Option Path) where
   act_located_follows plan s ns now r (Some p) shows = act_on_follows plan s ns now r p (place_at plan s p) shows refl
 
 -- the own node at a path is of the kind of what is shown there
-map_either : (b : Bool) (x : Standing) (u v : Option Standing) → option_map (λ y. y.object) (or_else (only_if b (Some x)) (or_else u v)) ≡ or_else (only_if b (Some x.object)) (or_else (option_map (λ y. y.object) u) (option_map (λ y. y.object) v))
+pub map_either : (b : Bool) (x : Standing) (u v : Option Standing) → option_map (λ y. y.object) (or_else (only_if b (Some x)) (or_else u v)) ≡ or_else (only_if b (Some x.object)) (or_else (option_map (λ y. y.object) u) (option_map (λ y. y.object) v))
 map_either true x u v = refl
 map_either false x None v = refl
 map_either false x (Some y) v = refl
 
-own_node : (p : Path) (r : HandedDown) (os : Objects) → option_map (λ x. x.object) (standing_in p r os) ≡ node_in p os
+pub own_node : (p : Path) (r : HandedDown) (os : Objects) → option_map (λ x. x.object) (standing_in p r os) ≡ node_in p os
 own_node p r none = refl
 own_node p r (node h below rest) =
     map_either (is_path p (node_path h)) (record { context = under r h.name; object = record { head = h; inner = below } }) (standing_in p (handed_down (under r h.name) h) below) (standing_in p r rest)

@@ -1,7 +1,7 @@
 -- Objects and contracts without their slots. What is inherited doesn't depend on slots but for slots.
-use Rattle.std.proofs.Common.{◌≡◌, ℤ, Bool, true, false, not, ◌&&◌, ◌||◌, cond, List, [], ◌∷◌, ◌++◌, map, filter, Option, Some, None, option_map, refl, sym, ap, ◌∙◌}
-use Rattle.std.specs.Prelude.{is_some, find, filter_map, unwrap_or, codes}
-use Rattle.std.specs.List.{cons_option, list_any}
+use Rattle.std.proofs.Common.{◌≡◌, ℤ, Bool, true, false, not, ◌&&◌, cond, List, [], ◌∷◌, ◌++◌, map, filter, Option, Some, None, option_map, refl, sym, ap, ◌∙◌}
+use Rattle.std.specs.Prelude.{is_some, find, unwrap_or, codes}
+use Rattle.std.specs.List.{cons_option}
 use Rattle.std.specs.Str.{bytes_eq}
 use Rattle.std.proofs.lemmas.List.{map-append}
 use Rattle.ob_values.specs.declared.value.Value.{Value}
@@ -9,38 +9,20 @@ use Rattle.ob_object.specs.declared.status.Status.{Status}
 use Rattle.ob_object.specs.declared.head.Head.{Head}
 use Rattle.ob_object.specs.Kinds.{is_ref, has_of}
 use Rattle.ob_object.specs.Object.{Object, Objects, none, node, listed, in_row, children}
-use Rattle.ob_object.specs.WellFormed.{has_name, named, is_taken}
+use Rattle.ob_object.specs.WellFormed.{named}
 use Rattle.ob_object.specs.Paths.{node_path}
 use Rattle.ob_contracts.specs.Inherit.{Contracts, Words, contract_of, or_else, words_in, present, places, sources, first_given, only_if, inherited_head, overridden, implied_by, bare, bare_row, is_new, missing, row_results, result_of}
 use Rattle.ob_contracts.specs.Standard.{standard, with_added}
 use Rattle.ob_contracts.proofs.Children.{named-map}
 use Rattle.ob_site_rules.specs.Build.{Path, child}
 use Rattle.ob_site_rules.specs.Writes.{site_contracts}
+use Rattle.ob_plain_state.proofs.Keeping.{names_of, taken_among, taken-among}
+use Rattle.ob_plain_state.proofs.Slots.{or_map, made_by, whole, first_of, rest_of, nodes}
 use Rattle.ob_shown_laws.specs.Alike.{without_slot}
 use Rattle.ob_step_laws.specs.Defaults.{unslotted_row, unslotted, defaults_off, DefaultsDiffer}
 
 abbrev pub off : Head → Head
 off h = without_slot h
-
--- whether a name is taken is told by the names that are there
-abbrev names_of : List Object → List (Option Path)
-names_of os = map (λ o. o.head.name) os
-
-abbrev taken_among : Option Path → List (Option Path) → Bool
-taken_among None ns = false
-taken_among (Some n) ns = list_any (has_name n) ns
-
-found_or : (b : Bool) (o : Object) (r : Option Object) → is_some (cond b (Some o) r) ≡ (b || is_some r)
-found_or true o r = refl
-found_or false o r = refl
-
-named-any : (n : Path) (os : List Object) → is_some (named n os) ≡ list_any (has_name n) (names_of os)
-named-any n [] = refl
-named-any n (o ∷ os) = found_or (has_name n o.head.name) o (named n os) ∙ ap (λ b. has_name n o.head.name || b) (named-any n os)
-
-taken-among : (n : Option Path) (os : List Object) → is_taken n os ≡ taken_among n (names_of os)
-taken-among None os = refl
-taken-among (Some n) os = named-any n os
 
 listed-off : (r : Objects) → listed (unslotted_row r) ≡ map unslotted (listed r)
 listed-off none = refl
@@ -49,10 +31,6 @@ listed-off (node h below rest) = ap (λ l. unslotted (record { head = h; inner =
 in_row-off : (os : List Object) → unslotted_row (in_row os) ≡ in_row (map unslotted os)
 in_row-off [] = refl
 in_row-off (o ∷ os) = ap (λ r. node (off o.head) (unslotted_row o.inner) r) (in_row-off os)
-
-or_map : {A B : Type 0} (f : A → B) (a b : Option A) → or_else (option_map f a) (option_map f b) ≡ option_map f (or_else a b)
-or_map f None b = refl
-or_map f (Some x) b = refl
 
 pub first-map : {A : Type 0} (g : Object → Option A) (ss : List Object) → first_given g (map unslotted ss) ≡ first_given (λ s. g (unslotted s)) ss
 first-map g [] = refl
@@ -163,16 +141,6 @@ rows_same own mine below from e =
     ∙ ap (λ l. in_row (listed (unslotted_row own) ++ l)) (bares-off (missing (listed below) from))
     ∙ sym (rows-off own (missing (listed below) from))
 
--- what an object comes to that has these sources
-abbrev made_by : Contracts → Head → Objects → List Object → Object
-made_by lib h below from = record {
-  head = inherited_head h from;
-  inner = in_row (listed (row_results lib (implied_by (inherited_head h from)) from below) ++ map bare (missing (listed below) from));
-}
-
-abbrev whole : Head → Objects → Object
-whole h r = record { head = h; inner = r }
-
 made-off : (lib : Contracts) (h : Head) (below : Objects) (from ss : List Object) → ss ≡ map unslotted from
     → unslotted_row (row_results (defaults_off lib) (implied_by (inherited_head h from)) (map unslotted from) (unslotted_row below)) ≡ unslotted_row (row_results lib (implied_by (inherited_head h from)) from below)
     → unslotted (made_by (defaults_off lib) (off h) (unslotted_row below) ss) ≡ unslotted (made_by lib h below from)
@@ -214,17 +182,6 @@ more-same lib lib' uri uri' c c' same key values =
     ∙ ap (λ u. defaults_off lib' ++ (u, unslotted (result_of lib c None None)) ∷ []) key
     ∙ ap (λ o. defaults_off lib' ++ (uri', o) ∷ []) result
     ∙ sym (map-append F lib' ((uri', result_of lib' c' None None) ∷ []))
-
-abbrev first_of : Path × Object → Contracts → Path × Object
-first_of e [] = e
-first_of e (c ∷ cs) = c
-
-abbrev rest_of : Contracts → Contracts
-rest_of [] = []
-rest_of (c ∷ cs) = cs
-
-abbrev nodes : List Object → Contracts
-nodes os = filter_map (λ o. option_map (λ p. (p, o)) (node_path o.head)) os
 
 site-filter : (os : List Object) → nodes (map unslotted os) ≡ defaults_off (nodes os)
 site-filter [] = refl

@@ -16,7 +16,7 @@ use Rattle.ob_super.specs.Rounds.{Rounds, Stops, PutsHere, Sends, SendsIf, Puts,
 use Rattle.ob_super.specs.Supervised.{no_such_object, refused_at, RepliesTo, ManyRounds, StopsAmong}
 use Rattle.ob_super.specs.Told as told
 use Rattle.ob_super.specs.Told.{Outside, Goes, Stands, StandAll, RoundsAll, PutsAll, ManyAll, RepliesOr, RepliesAll, AnswersAll}
-use Rattle.ob_asking.proofs.WireLemmas.{never}
+use Rattle.ob_client.proofs.SessionLemmas.{never}
 use Rattle.ob_super.proofs.SuperLemmas.{told_before, part_less, goes_none, goes_then, held_stands}
 
 -- ---- what is told less

@@ -11,7 +11,7 @@ pub record PlacesRead (text : List ℕ) (read scale : ℕ) : Type 0 where
   pub read_small : read < 1_000_000_000
   pub scale_small : scale ≤ 1_000_000_000
 
-below_billion : (ds : List ℕ) → AreDigits ds → length ds ≤ 9 → number ds * 10 ^ (9 - length ds) < 1_000_000_000
+pub below_billion : (ds : List ℕ) → AreDigits ds → length ds ≤ 9 → number ds * 10 ^ (9 - length ds) < 1_000_000_000
 below_billion ds h few =
     let p = ten_pow_split (9 - length ds) 9 (omega arith) in
     let e : 9 - (9 - length ds) ≡ length ds = omega arith in

@@ -244,7 +244,7 @@ reports_agree plan t = record {
 
 -- ---- what is counted of feeds
 
-itself : (a : Text) → bytes_eq a a ≡ true
+pub itself : (a : Text) → bytes_eq a a ≡ true
 itself a = (bytes_eq-Decides a a).1 refl
 
 module _ (plan : Plan) where
@@ -330,7 +330,7 @@ counts_stay plan = record {
 
 -- ---- lapsed watches
 
-abbrev Numbered : Type 0
+abbrev pub Numbered : Type 0
 Numbered = List (ℕ × Leased)
 
 module _ (now : ℕ) where

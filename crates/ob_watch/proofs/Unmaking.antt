@@ -9,7 +9,7 @@ use Rattle.std.proofs.lemmas.Map.Keys.{IsDistinct-head, IsDistinct-tail}
 use Rattle.ob_watch.specs.Held.{AreBelow, AreNumbered}
 use Rattle.ob_watch.specs.Tables.{Leased, Table, new_watch, with_new}
 
-false_true : false ≡ true → ⊥
+pub false_true : false ≡ true → ⊥
 false_true e = absurd cc
 
 pub none_of : {A : Type 0} (o p : Option A) → o ≡ p → is_some o ≡ false → p ≡ None

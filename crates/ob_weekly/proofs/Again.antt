@@ -16,7 +16,7 @@ use Rattle.ob_weekly.specs.Zones.{FiresAt}
 use Rattle.ob_weekly.proofs.Dates.{in_ms, near_local}
 use Rattle.ob_weekly.proofs.Days.{next_week}
 
-below_or : (a b : ℕ) → (a < b) ⊎ (b ≤ a)
+pub below_or : (a b : ℕ) → (a < b) ⊎ (b ≤ a)
 below_or a b = grind arith
 
 up_to_or : (a b : ℤ) → (a ≤ℤ b) ⊎ (b <ℤ a)

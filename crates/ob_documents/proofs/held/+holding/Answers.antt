@@ -1,6 +1,7 @@
 use Rattle.std.proofs.Common.{◌≡◌, ℕ, ◌+◌, ◌*◌, ◌<◌, ◌≤◌, subst, arith}
 use Rattle.ob_object.specs.Object.{count, in_row, parts}
-use Rattle.ob_documents.proofs.Holding.{next_object, child_parts, row_count, row_of}
+use Rattle.ob_encoding.proofs.Writing.{row_count}
+use Rattle.ob_documents.proofs.Holding.{next_object, child_parts, row_of}
 use Rattle.ob_documents.proofs.held.+holding.Goals as goal
 
 pub parts_held-row_held-requires : goal.parts_held-row_held-requires

@@ -7,7 +7,7 @@ use Rattle.ob_contracts.specs.Ancestry.{own_words}
 use Rattle.ob_contracts.specs.Inherit.{sources, overridden}
 use Rattle.ob_opening.specs.Roles.{roles_there, holds_contracts, row_roles}
 use Rattle.ob_roles.specs.Given.{IsBase}
-use Rattle.ob_roles.proofs.PartRows.{inside_fewer, inner_row}
+use Rattle.ob_hrefs.proofs.Rows.{inside_fewer, inner_row}
 use Rattle.ob_roles.proofs.Walks.{goes_more, inner_put, inner_none}
 use Rattle.ob_roles.proofs.walk.+put_row.Goals as goal
 use Rattle.ob_roles.proofs.walk.+put_row.Goals.{then-children-gt0+in_ok-own+in_ok-handed+in_ok-names+in_ok-put_row, else-children-gt0}

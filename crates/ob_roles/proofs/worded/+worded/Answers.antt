@@ -13,7 +13,7 @@ use Rattle.ob_roles.specs.Few.{few_words, briefly, brief, brief_contracts}
 use Rattle.ob_roles.specs.Summed.{IsGivenBy}
 use Rattle.ob_roles.specs.Worded.{worded_at}
 use Rattle.ob_roles.proofs.Named.{Missing, missing_first, missing_more, missing_all}
-use Rattle.ob_roles.proofs.PartRows.{inner_row}
+use Rattle.ob_hrefs.proofs.Rows.{inner_row}
 use Rattle.ob_roles.proofs.InPlace.{TellFew, from_few, names_same}
 use Rattle.ob_roles.proofs.WordRows.{gives_of, gives_are, head_is, few_row, few_same, rows_first, rows_more, rows_all, whole_is}
 use Rattle.ob_roles.proofs.worded.+worded.Goals as goal

@@ -5,7 +5,7 @@ use Rattle.ob_contracts.proofs.At.{fewer_parts}
 use Rattle.ob_tree.specs.declared.node.NodeId.{NodeId}
 use Rattle.ob_step_laws.specs.Defaults.{with_library}
 use Rattle.ob_site_defaults.specs.Otherwise.{AreOtherwiseBelow}
-use Rattle.ob_site_defaults.proofs.Found.{numbers_of}
+use Rattle.ob_site_state.proofs.Stepping.{numbers_of}
 use Rattle.ob_site_defaults.proofs.Walked.{passed_over, all_same, is_put, item_at, was_within, is_within, child_are_shown, child_ends, counted, next_child, all_gone_through}
 use Rattle.ob_site_defaults.proofs.otherwise.+put_otherwise.Goals.{then-can_be_watched+else-same+in_ok-push, else-can_be_watched}
 use Rattle.ob_site_defaults.proofs.otherwise.+put_otherwise.Goals as goal

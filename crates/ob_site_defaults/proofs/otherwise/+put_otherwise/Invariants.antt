@@ -5,7 +5,7 @@ use Rattle.ob_site_rules.specs.State.{Plan, State}
 use Rattle.ob_tree.proofs.Growing.{first}
 use Rattle.ob_step_laws.specs.Defaults.{with_library}
 use Rattle.ob_site_defaults.specs.Otherwise.{AreOtherwiseBelow, AreShown}
-use Rattle.ob_site_defaults.proofs.Found.{numbers_of}
+use Rattle.ob_site_state.proofs.Stepping.{numbers_of}
 use Rattle.ob_site_defaults.proofs.otherwise.+put_otherwise.Given as goal
 
 abbrev pub decreases-put_otherwise : goal.decreases-put_otherwise

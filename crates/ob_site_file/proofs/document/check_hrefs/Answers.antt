@@ -1,7 +1,7 @@
 use Rattle.std.proofs.Common.{◌≡◌, sym, ap, ◌∙◌, arith}
 use Rattle.ob_object.specs.Object.{in_row, count}
 use Rattle.ob_hrefs.specs.Hrefs.{site_path, bad_href}
-use Rattle.ob_roles.proofs.PartRows.{inner_row}
+use Rattle.ob_hrefs.proofs.Rows.{inner_row}
 use Rattle.ob_site_file.proofs.Refusing.{bad_one}
 use Rattle.ob_site_file.proofs.document.check_hrefs.Goals as goal
 

@@ -10,7 +10,7 @@ use Rattle.ob_contracts.specs.Inherit.{Contracts, Words, or_else, sources, inher
 use Rattle.ob_contracts.specs.Telling.{TellTheSame}
 use Rattle.ob_contracts.proofs.At.{fewer_parts}
 use Rattle.ob_contracts.proofs.Bare.{child_here}
-use Rattle.ob_roles.proofs.PartRows.{row_more, row_past, inner_row}
+use Rattle.ob_hrefs.proofs.Rows.{row_more, row_past, inner_row}
 use Rattle.ob_site_rules.specs.State.{Plan, State}
 use Rattle.ob_site_rules.specs.Shown.{derived, with_roles}
 use Rattle.ob_site_file.specs.Sizes.{row_count, dressed_at}
