@@ -6,7 +6,7 @@ ghost use Rattle.ob_object.specs.Kinds.{has_of, has_input, has_output};
 ghost use Rattle.ob_object.specs.Object.{Object, none, children, parts, in_row, empty_head};
 ghost use Rattle.ob_object.specs.Pushed.{IsPushed, IsUnput};
 ghost use Rattle.ob_object.specs.Kept.{facets_lent};
-ghost use Rattle.ob_object.specs.WellFormed.{IsWellFormed, named, is_taken, has_name, NamesDiffer, with_child};
+ghost use Rattle.ob_object.specs.WellFormed.{IsWellFormed, RowIsWellFormed, named, is_taken, has_name, NamesDiffer, with_child};
 
 use crate::attributes::Attributes;
 use crate::facet::Facets;
@@ -107,6 +107,15 @@ fn is_taken(objects: &[Obj], name: Option<&Text>) -> bool
     }
 }
 
+// Says of objects that they are well formed.
+fn know_row(objects: &[Obj])
+    ensures { RowIsWellFormed (in_row objects.now) }
+{
+    for object in objects {
+        let _head = object.head();
+    }
+}
+
 /// Why a part was not taken.
 #[derive(Drop)]
 pub enum PutFault<T: Drop> {
@@ -136,6 +145,17 @@ impl Obj {
     {
         let head = Attributes::from_head(alloc, head)?;
         Ok(Obj::from_attributes(alloc, head))
+    }
+
+    /// An object of attributes that fit its kind, and of these children, whose names differ, in their order. It takes no
+    /// memory, and looks at no child.
+    pub fn with_children(head: Attributes, children: Vec<Obj>) -> Obj
+        requires fits { IsTrue (fits_head head) }
+        requires differ { NamesDiffer children.items }
+        ensures { result ≡ record { head = head; inner = in_row children.items } }
+    {
+        know_row(&children);
+        Obj { head, children }
     }
 
     /// An object of a kind, with nothing else.

@@ -4,7 +4,6 @@ pub mod Slots
 pub mod ShownKinds
 pub mod Kept
 pub mod Points
-pub mod Wholes
 pub mod Dresses
 pub mod Finds
 pub mod Rules

@@ -1,37 +1,23 @@
 -- Names that no object before has.
-use Rattle.std.proofs.Common.{◌≡◌, ℕ, ◌+◌, ◌<◌, zero, suc, true, false, List, [], ◌∷◌, ◌++◌, length, take, get_or, refl, sym, ap, ◌∙◌, arith, append_assoc}
+use Rattle.std.proofs.Common.{◌≡◌, ℕ, true, false, List, [], ◌∷◌, ◌++◌, refl, sym, subst, append_assoc}
 use Rattle.std.specs.Prelude.{Option, Some, None, is_none}
 use Rattle.std.specs.List.{list_all}
-use Rattle.std.proofs.lemmas.List.{take_more, take_all, append-nil}
+use Rattle.std.proofs.lemmas.List.{append-nil}
 use Rattle.ob_values.proofs.Bools.{and_first, and_second, not_true}
-use Rattle.ob_object.specs.declared.head.Head.{Head}
-use Rattle.ob_object.specs.Object.{Object, in_row, children, listed-in_row}
-use Rattle.ob_object.specs.WellFormed.{is_taken, with_child}
+use Rattle.ob_object.specs.Object.{Object}
+use Rattle.ob_object.specs.WellFormed.{is_taken, NamesDiffer}
+use Rattle.ob_object.proofs.Names.{NamesDiffer-more}
 use Rattle.ob_replies.specs.Names.{are_new}
 
--- the object behind k others has the name of none of them
-new_behind : (before os : List Object) (k : ℕ) (o : Object) → are_new before os ≡ true → k < length os → is_taken (get_or os k o).head.name (before ++ take k os) ≡ false
-new_behind before [] k o h lt = absurd (omega arith)
-new_behind before (x ∷ os) zero o h lt = ap (is_taken x.head.name) (append-nil before) ∙ not_true _ (and_first _ _ h)
-new_behind before (x ∷ os) (suc k) o h lt =
-    ap (is_taken (get_or os k o).head.name) (sym (append_assoc before (x ∷ []) (take k os)))
-    ∙ new_behind (before ++ x ∷ []) os k o (and_second _ _ h) (omega arith)
+differ_behind : (before os : List Object) → NamesDiffer before → are_new before os ≡ true → NamesDiffer (before ++ os)
+differ_behind before [] differ e = subst NamesDiffer (sym (append-nil before)) differ
+differ_behind before (o ∷ os) differ e =
+    subst NamesDiffer (append_assoc before (o ∷ []) os)
+    (differ_behind (before ++ o ∷ []) os (NamesDiffer-more before o differ (not_true _ (and_first _ _ e))) (and_second _ _ e))
 
--- an object with these children
-abbrev pub with_all : Head → List Object → Object
-with_all h os = record { head = h; inner = in_row os }
-
-pub new_at : (h : Head) (os : List Object) (k : ℕ) (o : Object) → are_new [] os ≡ true → k < length os → o ≡ get_or os k o → is_taken o.head.name (children (with_all h (take k os))) ≡ false
-new_at h os k o new lt e =
-    ap (is_taken o.head.name) (listed-in_row (take k os))
-    ∙ (ap (λ (x : Object). is_taken x.head.name (take k os)) e ∙ new_behind [] os k o new lt)
-
-pub with_more : (h : Head) (x : Object) (os : List Object) (k : ℕ) → k < length os → x ≡ get_or os k x → with_child (with_all h (take k os)) x ≡ with_all h (take (k + 1) os)
-with_more h x os k lt e =
-    ap (with_all h) (ap (λ r. r ++ x ∷ []) (listed-in_row (take k os)) ∙ sym (take_more os k x lt ∙ ap (λ y. take k os ++ y ∷ []) (sym e)))
-
-pub with_whole : (h : Head) (os : List Object) (k : ℕ) → k ≡ length os → with_all h (take k os) ≡ with_all h os
-with_whole h os k e = ap (λ r. with_all h r) (take_all k os (omega arith))
+-- the names of objects differ, where none has that of one before it
+pub new_differ : (os : List Object) → are_new [] os ≡ true → NamesDiffer os
+new_differ os e = differ_behind [] os tt e
 
 is_none_taken : (n : Option (List ℕ)) (os : List Object) → is_none n ≡ true → is_taken n os ≡ false
 is_none_taken None os h = refl

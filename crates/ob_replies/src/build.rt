@@ -36,16 +36,13 @@ pub fn put(objects: &mut Vec<Obj>, object: Obj) -> Result<(), AllocError>
 }
 
 /// An object of a head and children, none of which has the name of one before it.
-pub fn whole(alloc: Global, head: Attributes, children: Vec<Obj>) -> Result<Obj, AllocError>
+#[tactic(auto, using(crate::proofs::New::new_differ))]
+pub fn whole(head: Attributes, children: Vec<Obj>) -> Obj
     requires fits { IsTrue (fits_head head) }
     requires differ { IsTrue (are_new [] children.items) }
-    ensures { IfOk result (λ o. o ≡ whole head children.items) }
+    ensures { result ≡ whole head children.items }
 {
-    let mut object = Obj::from_attributes(alloc, head);
-    for child in children {
-        object.push_last(child)?;
-    }
-    Ok(object)
+    Obj::with_children(head, children)
 }
 
 /// An object of a head and one child.
@@ -56,7 +53,7 @@ pub fn one_child(alloc: Global, head: Attributes, child: Obj) -> Result<Obj, All
 {
     let mut children = Vec::new(alloc);
     put(&mut children, child)?;
-    whole(alloc, head, children)
+    Ok(whole(head, children))
 }
 
 /// A child of a value kind.

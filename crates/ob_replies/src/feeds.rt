@@ -78,5 +78,5 @@ pub fn feed_entry(
     let head = feed.head().copy()?;
     let mut children = dropped_child(alloc, dropped)?;
     children.append(&mut events)?;
-    whole(alloc, head, children)
+    Ok(whole(head, children))
 }

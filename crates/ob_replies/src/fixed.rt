@@ -167,7 +167,7 @@ pub fn about(alloc: Global, plan: &Plan, now: Moment) -> Result<Obj, AllocError>
     put_product(alloc, &mut children, plan, now)?;
     let path = plan.root.followed_by(alloc, "about")?;
     let head = obj_head(alloc, Some(path), Contract::About)?;
-    whole(alloc, head, children)
+    Ok(whole(head, children))
 }
 
 /// The op that does a batch of requests, as it stands in the lobby.
@@ -240,5 +240,5 @@ pub fn batch_out(alloc: Global, results: Vec<Obj>) -> Result<Obj, AllocError>
     let words = Contract::BatchOut.words(alloc)?;
     let mut head = Attributes::empty(alloc, Kind::List);
     head.put_is(Some(words));
-    whole(alloc, head, results)
+    Ok(whole(head, results))
 }

@@ -72,7 +72,7 @@ fn data(alloc: Global, of: Contract, objects: Vec<Obj>) -> Result<Obj, AllocErro
     if head.put_of(Some(of)).is_err() {
         return Err(AllocError);
     }
-    whole(alloc, head, objects)
+    Ok(whole(head, objects))
 }
 
 /// Puts first how many objects are given, and the first and the last of their times.
@@ -110,5 +110,5 @@ pub(crate) fn query_out(
     let mut children = Vec::new(alloc);
     put_counts(alloc, &mut children, objects.len() as u64, times)?;
     put(&mut children, data(alloc, of, objects)?)?;
-    whole(alloc, head, children)
+    Ok(whole(head, children))
 }

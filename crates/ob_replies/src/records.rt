@@ -23,7 +23,7 @@ pub fn record_object(alloc: Global, kept: &Record) -> Result<Obj, AllocError>
     let mut children = Vec::new(alloc);
     put(&mut children, timed(alloc, "timestamp", Some(kept.time))?)?;
     put(&mut children, valued(alloc, kept.kind, "value", slot)?)?;
-    whole(alloc, Attributes::empty(alloc, Kind::Obj), children)
+    Ok(whole(Attributes::empty(alloc, Kind::Obj), children))
 }
 
 /// HistoryQueryOut: the first records that pass the filter, as many as it asks for.

@@ -140,7 +140,7 @@ pub fn watch(alloc: Global, plan: &Plan, number: u64, lease: u64) -> Result<Obj,
     let mut children = Vec::new(alloc);
     put_children(alloc, &mut children, &path, lease)?;
     let head = obj_head(alloc, Some(path), Contract::Watch)?;
-    whole(alloc, head, children)
+    Ok(whole(head, children))
 }
 
 /// What is seen of a watch: the whole, or one of its children.
@@ -175,7 +175,7 @@ pub fn watch_out(alloc: Global, entries: Vec<Obj>) -> Result<Obj, AllocError>
     let name = Text::from_ascii(alloc, "values")?;
     let mut head = Attributes::empty(alloc, Kind::List);
     head.put_name(Some(name));
-    let values = whole(alloc, head, entries)?;
+    let values = whole(head, entries);
     let head = obj_head(alloc, None, Contract::WatchOut)?;
     one_child(alloc, head, values)
 }

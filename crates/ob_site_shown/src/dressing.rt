@@ -13,7 +13,6 @@ ghost use Rattle.ob_site_state.specs.Kept.{keys};
 use crate::roles::derived;
 use ob_object::{Attributes, Obj};
 use ob_replies::Plan;
-use ob_replies::build::whole;
 use ob_site_state::Contents;
 use std::alloc::{AllocError, Global};
 
@@ -60,5 +59,5 @@ pub fn dress(
     }
     let derived = derived(alloc, plan, contents, object.head().node_path())?;
     let all = joined(own, derived)?;
-    whole(alloc, head, all)
+    Ok(Obj::with_children(head, all))
 }

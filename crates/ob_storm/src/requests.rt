@@ -170,7 +170,7 @@ fn hrefs(alloc: Global, uris: Vec<Obj>) -> Result<Obj, AllocError>
     let name = Text::from_ascii(alloc, "hrefs")?;
     let mut head = Attributes::empty(alloc, Kind::List);
     head.put_name(Some(name));
-    whole(alloc, head, uris)
+    Ok(whole(head, uris))
 }
 
 // WatchIn of what a client watches.

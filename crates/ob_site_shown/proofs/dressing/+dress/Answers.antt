@@ -1,17 +1,13 @@
 use Rattle.std.proofs.Common.{◌≡◌, ◌<◌, ℕ, List, Some, ap, ◌∙◌, subst}
 use Rattle.std.specs.Prelude.{slice_get}
 use Rattle.std.specs.Option.{option_copied}
-use Rattle.std.proofs.lemmas.Result.{IfOk-weaker}
 use Rattle.ob_object.specs.Object.{Object, node, none, children, parts}
 use Rattle.ob_contracts.proofs.At.{fewer_parts}
 use Rattle.ob_contracts.proofs.Names.{at_place}
 use Rattle.ob_replies.specs.Plans.{plan as plan_of}
-use Rattle.ob_site_rules.specs.Build.{whole}
 use Rattle.ob_site_rules.specs.Shown.{with_status}
 use Rattle.ob_plain_state.specs.States.{NamesAreFree}
 use Rattle.ob_site_state.specs.Contents.{state_in}
-use Rattle.ob_plain_state.specs.Dressed.{dressed_object}
-use Rattle.ob_plain_state.proofs.Wholes.{all_new}
 use Rattle.ob_plain_state.proofs.Dresses.{dressed_children, dressed_differ, dressed_from, status_fits, child_free}
 use Rattle.ob_site_shown.proofs.dressing.+dress.Goals as goal
 
@@ -29,26 +25,24 @@ dress-requires t c =
     let histories = c.requires.histories in
     (subst (λ (n : ℕ). parts x < n) c.decreases (fewer_parts object at x here), assumption (rules, roles, histories, free))
 
-pub whole-requires-clause-fits : goal.whole-requires-clause-fits
-whole-requires-clause-fits t c =
+pub with_children-requires-clause-fits : goal.with_children-requires-clause-fits
+with_children-requires-clause-fits t c =
     let plan = plan_of c.args.plan.now in
     let s = state_in c.args.contents.now in
     status_fits plan s c.args.object.now.head c.in_ok-head.head (c.in_ok-head.ensures plan c.requires.roles c.requires.rules ∙ ap (with_status plan s) c.head.ensures.value) c.head.ensures.fits
 
-pub whole-requires-clause-differ : goal.whole-requires-clause-differ
-whole-requires-clause-differ t c =
+pub with_children-requires-clause-differ : goal.with_children-requires-clause-differ
+with_children-requires-clause-differ t c =
     let plan = plan_of c.args.plan.now in
     let s = state_in c.args.contents.now in
-    all_new c.in_ok-all.all.items
-    (dressed_differ plan s c.args.object.now c.in_ok-all.all.items c.requires.free
+    dressed_differ plan s c.args.object.now c.in_ok-all.all.items c.requires.free
     (dressed_children plan s c.args.object.now c.loop-child.own.items c.in_ok-derived.derived.items c.in_ok-all.all.items c.children-child-items.result.now c.loop-child.child-index (option_copied c.node_path.result) c.head-2.result.now c.in_ok-all.ensures c.loop-child.invariant
-    c.loop-child-test.false c.children-child-items.ensures.value c.in_ok-derived.ensures c.node_path.ensures c.head-2.ensures.value))
+    c.loop-child-test.false c.children-child-items.ensures.value c.in_ok-derived.ensures c.node_path.ensures c.head-2.ensures.value)
 
 pub returns : goal.returns
 returns t c =
     let plan = plan_of c.args.plan.now in
     let s = state_in c.args.contents.now in
-    IfOk-weaker c.whole.result (λ o. o ≡ whole c.in_ok-head.head c.in_ok-all.all.items) (λ o. o ≡ dressed_object plan s c.args.object.now)
-    (λ o is. dressed_from plan s c.args.object.now o c.in_ok-head.head c.in_ok-all.all.items is (c.in_ok-head.ensures plan c.requires.roles c.requires.rules ∙ ap (with_status plan s) c.head.ensures.value)
+    dressed_from plan s c.args.object.now c.with_children.result c.in_ok-head.head c.in_ok-all.all.items c.with_children.ensures (c.in_ok-head.ensures plan c.requires.roles c.requires.rules ∙ ap (with_status plan s) c.head.ensures.value)
     (dressed_children plan s c.args.object.now c.loop-child.own.items c.in_ok-derived.derived.items c.in_ok-all.all.items c.children-child-items.result.now c.loop-child.child-index (option_copied c.node_path.result) c.head-2.result.now c.in_ok-all.ensures c.loop-child.invariant
-    c.loop-child-test.false c.children-child-items.ensures.value c.in_ok-derived.ensures c.node_path.ensures c.head-2.ensures.value)) c.whole.ensures
+    c.loop-child-test.false c.children-child-items.ensures.value c.in_ok-derived.ensures c.node_path.ensures c.head-2.ensures.value)
