@@ -53,7 +53,7 @@ pub fn dress(
     ensures { IfOk result (λ o. o ≡ dressed_own (plan_of plan.now) (state_in contents.now) object.now) }
 {
     let head = dressed_head(contents, object.head())?;
-    let mut own = Vec::new(alloc);
+    let mut own = Vec::with_capacity(alloc, object.len())?;
     for child in object.children() {
         own.push(dress(alloc, plan, contents, child)?)?;
     }

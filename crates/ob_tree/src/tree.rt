@@ -93,9 +93,9 @@ fn laid(alloc: Global, root: &Obj) -> Result<Result<Tree, Text>, AllocError>
         (λ path. first_twice [] (paths root.now) ≡ Some path)) }
 {
     let _head = root.head();
-    let mut leaves = Vec::new(alloc);
+    let mut leaves = Vec::with_capacity(alloc, root.parts() as usize)?;
     lay_leaves(alloc, &mut leaves, root)?;
-    let mut spots = Vec::new(alloc);
+    let mut spots = Vec::with_capacity(alloc, leaves.len())?;
     lay_spots(&mut spots, None, root)?;
     let stamps = unstamped(alloc, leaves.len())?;
     match places_of(alloc, &leaves)? {

@@ -14,14 +14,14 @@ pub invariant_of-result : goal.invariant_of-result
 invariant_of-result c =
     let o = c.args.root.now in
     let os = c.lay_leaves.new.into.items in
-    let all : os ≡ map leaf (heads_of o) = c.in_ok-lay_leaves.ensures ∙ ap (λ (l : List Object). l ++ map leaf (heads_of o)) c.new-leaves.ensures.items in
+    let all : os ≡ map leaf (heads_of o) = c.in_ok-lay_leaves.ensures ∙ ap (λ (l : List Object). l ++ map leaf (heads_of o)) c.in_ok-leaves.ensures.items in
     let h : said os ≡ heads_of o = ap said all ∙ said_leaves (heads_of o) in
     let both = rw c.in-Ok.is at c.in_ok-places.ensures in
     let n = ap length c.in_ok-stamps.ensures ∙ length-replicate c.len.result 0 ∙ c.len.ensures ∙ c.lay_leaves.new.into.ok.0 ∙ count_leaves o os h in
     record {
       leaves = subst (λ (l : List Object). AreLeaves l) (sym all) (are_leaves (heads_of o));
       laid = laid_as o (said os) c.lay_spots.new.into.items c.in_ok-stamps.stamps.items c.in-Ok.places h
-          (c.in_ok-lay_spots.ensures ∙ ap (λ (l : List Spot). l ++ spots_of (length l) None o) c.new-spots.ensures.items)
+          (c.in_ok-lay_spots.ensures ∙ ap (λ (l : List Spot). l ++ spots_of (length l) None o) c.in_ok-spots.ensures.items)
           n
           (λ p. both.1 p ∙ ap (λ (l : List Object). place_of p (map node_path (said l))) c.deref.ensures.value)
           (sym (ap (λ (l : List Object). first_twice [] (map node_path (said l))) c.deref.ensures.value) ∙ both.0)
@@ -32,9 +32,9 @@ pub returns-in-Ok : goal.returns-in-Ok
 returns-in-Ok c =
     let o = c.args.root.now in
     let os = c.lay_leaves.new.into.items in
-    let all : os ≡ map leaf (heads_of o) = c.in_ok-lay_leaves.ensures ∙ ap (λ (l : List Object). l ++ map leaf (heads_of o)) c.new-leaves.ensures.items in
+    let all : os ≡ map leaf (heads_of o) = c.in_ok-lay_leaves.ensures ∙ ap (λ (l : List Object). l ++ map leaf (heads_of o)) c.in_ok-leaves.ensures.items in
     let h : said os ≡ heads_of o = ap said all ∙ said_leaves (heads_of o) in
-    let s : c.lay_spots.new.into.items ≡ spots_of 0 None o = c.in_ok-lay_spots.ensures ∙ ap (λ (l : List Spot). l ++ spots_of (length l) None o) c.new-spots.ensures.items in
+    let s : c.lay_spots.new.into.items ≡ spots_of 0 None o = c.in_ok-lay_spots.ensures ∙ ap (λ (l : List Spot). l ++ spots_of (length l) None o) c.in_ok-spots.ensures.items in
     let both = rw c.in-Ok.is at c.in_ok-places.ensures in
     let n : c.len.result ≡ parts o = c.len.ensures ∙ c.lay_leaves.new.into.ok.0 ∙ count_leaves o os h in (
       ap (λ (l : List Head). first_twice [] (map node_path l)) (sym h) ∙ sym (ap (λ (l : List Object). first_twice [] (map node_path (said l))) c.deref.ensures.value) ∙ both.0,
@@ -45,7 +45,7 @@ pub returns-in-Err : goal.returns-in-Err
 returns-in-Err c =
     let o = c.args.root.now in
     let os = c.lay_leaves.new.into.items in
-    let all : os ≡ map leaf (heads_of o) = c.in_ok-lay_leaves.ensures ∙ ap (λ (l : List Object). l ++ map leaf (heads_of o)) c.new-leaves.ensures.items in
+    let all : os ≡ map leaf (heads_of o) = c.in_ok-lay_leaves.ensures ∙ ap (λ (l : List Object). l ++ map leaf (heads_of o)) c.in_ok-leaves.ensures.items in
     let h : said os ≡ heads_of o = ap said all ∙ said_leaves (heads_of o) in
     let twice = rw c.in-Err.is at c.in_ok-places.ensures in
     ap (λ (l : List Head). first_twice [] (map node_path l)) (sym h) ∙ sym (ap (λ (l : List Object). first_twice [] (map node_path (said l))) c.deref.ensures.value) ∙ twice
