@@ -2,15 +2,12 @@
 use Rattle.std.proofs.Common.{◌≡◌, ℕ, ◌+◌, ◌≤◌, ◌<◌, max, Bool, true, false, cond, not, ◌||◌, [], length, nat_le, nat_lt, Option, Some, None, refl, sym, ◌∙◌, ap, arith}
 use Rattle.std.specs.List.{filter}
 use Rattle.std.proofs.lemmas.Bool.Decides.{nat_tests}
+use Rattle.ob_values.proofs.Bools.{neither_right}
 use Rattle.ob_watching.specs.Asked.{Target, Itself, Nowhere, NewWatch, OneWatch}
 use Rattle.ob_watching.specs.Sites.{Site}
 use Rattle.ob_watching.specs.Tables.{lookup, numbers_of}
 use Rattle.ob_watching.specs.Watches.{World, Watch, Reply, Asks, act, acted, ended, begun, is_full, on_watch, made, has_lapsed, max_watches, last_number}
 use Rattle.ob_lasting.specs.Lasting.{restarted, Lasts, IsRestartOf, IsApart, DoneAgain, DoneAgainFurther}
-
-second_false : (a b : Bool) → (a || b) ≡ false → b ≡ false
-second_false true b e = absurd (cc e)
-second_false false b e = e
 
 not_past : (n : ℕ) → nat_lt last_number n ≡ false → n ≤ last_number
 not_past n e = grind (arith, nat_tests, e)
@@ -56,7 +53,7 @@ module _ (m : Site) where
     same_acted w r moment time le NewWatch room =
         same_made (begun m w moment) (begun m (restarted m w time) (max w.time moment)) (record { site = refl; next = refl }, omega (arith, le))
         (is_full m (begun m w moment)) (is_full m (begun m (restarted m w time) (max w.time moment))) (room refl)
-        (second_false (nat_le max_watches (length (begun m w moment).watches)) (nat_lt last_number w.next) (room refl)) _ _ _ _
+        (neither_right (nat_le max_watches (length (begun m w moment).watches)) (nat_lt last_number w.next) (room refl)) _ _ _ _
     same_acted w r moment time le (OneWatch n op) room =
         same_asked (begun m w moment) (begun m (restarted m w time) (max w.time moment)) (record { site = refl; next = refl }, omega (arith, le))
         n op (lookup n (begun m w moment).watches) (lookup n (begun m (restarted m w time) (max w.time moment)).watches)
@@ -116,7 +113,7 @@ module _ (m : Site) where
     bare_acted Nowhere = bare
     bare_acted NewWatch =
         bare_made u v bare (is_full m u) (is_full m v)
-        (λ e. not_past old.next (second_false (nat_le max_watches (length u.watches)) (nat_lt last_number old.next) e))
+        (λ e. not_past old.next (neither_right (nat_le max_watches (length u.watches)) (nat_lt last_number old.next) e))
         (λ e. not_past new.next (sym full ∙ e)) (λ e. past new.next (sym full ∙ e)) _ _ _ _
     bare_acted (OneWatch n op) = bare_asked u v bare n op (lookup n u.watches) (lookup n v.watches)
 

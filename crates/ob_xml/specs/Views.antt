@@ -24,8 +24,8 @@ meaning_of meant.Mark = meanings.mark
 abbrev pub state_of : State → structure.State
 state_of code.Start = structure.start
 state_of code.Marked = structure.marked
-state_of (code.Between ns outer) = structure.between ns (reverse outer.items)
-state_of (code.InTag ns names head outer) = structure.in_tag ns names head.value (reverse outer.items)
+state_of (code.Between outer) = structure.between outer.value.ns (reverse outer.value.elements.items)
+state_of (code.InTag tag outer) = structure.in_tag outer.value.ns tag.value.names tag.value.head (reverse outer.value.elements.items)
 state_of (code.Behind doc) = structure.behind doc.value
 state_of (code.Whole doc) = structure.whole doc.value
 

@@ -70,21 +70,8 @@ fn settle(state: State, next: usize) -> Turn
     match state {
         State::Start => Turn::On(State::Start, next),
         State::Marked => Turn::On(State::Marked, next),
-        State::Between { ns, outer } => Turn::On(State::Between { ns, outer }, next),
-        State::InTag {
-            ns,
-            names,
-            head,
-            outer,
-        } => Turn::On(
-            State::InTag {
-                ns,
-                names,
-                head,
-                outer,
-            },
-            next,
-        ),
+        State::Between { outer } => Turn::On(State::Between { outer }, next),
+        State::InTag { tag, outer } => Turn::On(State::InTag { tag, outer }, next),
         State::Behind { doc } => Turn::On(State::Behind { doc }, next),
         State::Whole { doc } => Turn::Document(doc),
     }

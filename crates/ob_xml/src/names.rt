@@ -1,6 +1,6 @@
 //! The names of a tag's attributes, or of an element's children.
 
-ghost use Rattle.std.specs.Prelude.{◌≡◌, ◌≤◌, ◌<◌, length, vec_len, OnOk, IfOk};
+ghost use Rattle.std.specs.Prelude.{◌≡◌, ◌≤◌, ◌<◌, ◌++◌, length, vec_len, OnOk, IfOk};
 ghost use Rattle.std.specs.Ordering.{nat_cmp};
 ghost use Rattle.std.specs.Cmp.Lexicographic.{slice_cmp};
 ghost use Rattle.std.specs.FinSet as set;
@@ -13,8 +13,13 @@ use std::marker::Model;
 /// The most bytes of a name that is kept as a number.
 const MAX_SHORT: usize = 15;
 
-/// Names, seen as a set. A short one is kept as a number, which is compared at once and takes no memory of its own.
+/// The most numbers that stand in a row, before the ordered set of numbers is begun.
+const FEW: usize = 16;
+
+/// Names, seen as a set. A short one is kept as a number, which is compared at once and takes no memory of its own; the
+/// first few stand in a row, where they are found and put at less cost than in an ordered set.
 pub struct Names {
+    few: Vec<u128>,
     short: BTreeSet<u128>,
     long: BTreeSet<Vec<u8>>,
 }
@@ -22,7 +27,8 @@ pub struct Names {
 impl Drop for Names {
     // By one call for each part, so that to drop names is one call to whoever may have to.
     fn drop(self) {
-        let Names { short, long } = self;
+        let Names { few, short, long } = self;
+        drop(few);
         drop(short);
         drop(long);
     }
@@ -40,9 +46,9 @@ impl Model for Names {
 
     ghost coded = { set.code (coded_list coded_ℕ) };
 
-    ghost view = { λ n. set.from_list (map name_of n.short.keys ++ map (λ v. v.items) n.long.keys) };
+    ghost view = { λ n. set.from_list (map name_of (n.few.items ++ n.short.keys) ++ map (λ v. v.items) n.long.keys) };
 
-    ghost invariant = { λ n. AreCodes n.short.keys × AreLong (map (λ v. v.items) n.long.keys) };
+    ghost invariant = { λ n. AreCodes (n.few.items ++ n.short.keys) × AreLong (map (λ v. v.items) n.long.keys) };
 }
 
 /// The number of a short name.
@@ -62,6 +68,7 @@ impl Names {
         ensures { result ≡ set.empty }
     {
         Names {
+            few: Vec::new(alloc),
             short: BTreeSet::new(alloc),
             long: BTreeSet::new(alloc),
         }
@@ -72,47 +79,52 @@ impl Names {
         ensures { result ≡ set.contains self.now name.now }
     {
         if name.len() <= MAX_SHORT {
-            self.short.contains(&code(name))
+            let number = code(name);
+            if self.few.contains(&number) {
+                return true;
+            }
+            self.short.contains(&number)
         } else {
             self.long.contains(name)
         }
     }
 
-    fn with_short(self, name: &[u8]) -> Result<Names, AllocError>
+    fn add_few(&mut self, name: &[u8]) -> Result<(), AllocError>
         requires { length name.now ≤ 15 }
-        ensures { IfOk result (λ names. names ≡ set.insert self name.now) }
+        ensures { IfOk result (λ _. self.new ≡ set.insert self.old name.now) }
     {
-        let Names { mut short, long } = self;
-        short.insert(code(name))?;
-        Ok(Names { short, long })
+        self.few.push(code(name))?;
+        Ok(())
     }
 
-    fn with_long(self, name: Vec<u8>) -> Result<Names, AllocError>
+    fn add_short(&mut self, name: &[u8]) -> Result<(), AllocError>
+        requires { length name.now ≤ 15 }
+        ensures { IfOk result (λ _. self.new ≡ set.insert self.old name.now) }
+    {
+        self.short.insert(code(name))?;
+        Ok(())
+    }
+
+    fn add_long(&mut self, name: Vec<u8>) -> Result<(), AllocError>
         requires { 15 < vec_len name }
-        ensures { IfOk result (λ names. names ≡ set.insert self name.items) }
+        ensures { IfOk result (λ _. self.new ≡ set.insert self.old name.items) }
     {
-        let Names { short, mut long } = self;
-        long.insert(name)?;
-        Ok(Names { short, long })
+        self.long.insert(name)?;
+        Ok(())
     }
 
-    /// The names with one more.
-    pub fn with(self, alloc: Global, name: &[u8]) -> Result<Names, AllocError>
-        ensures { IfOk result (λ names. names ≡ set.insert self name.now) }
+    /// Takes one name more. After want of memory they are names still, of which nothing more is said.
+    pub fn add(&mut self, alloc: Global, name: &[u8]) -> Result<(), AllocError>
+        ensures { IfOk result (λ _. self.new ≡ set.insert self.old name.now) }
     {
-        if name.len() <= MAX_SHORT {
-            return self.with_short(name);
+        if name.len() > MAX_SHORT {
+            let name = Vec::from_slice(alloc, name)?;
+            return self.add_long(name);
         }
-        match Vec::from_slice(alloc, name) {
-            Ok(name) => self.with_long(name),
-            Err(_) => lost(self),
+        if self.few.len() < FEW {
+            self.add_few(name)
+        } else {
+            self.add_short(name)
         }
     }
-}
-
-/// Want of memory, after which the names aren't needed.
-fn lost(_names: Names) -> Result<Names, AllocError>
-    ensures { IfOk result (λ _. ⊥) }
-{
-    Err(AllocError)
 }

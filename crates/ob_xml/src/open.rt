@@ -42,13 +42,13 @@ impl Model for Open {
     ghost invariant = { λ o. IsIndex o.names (children o.obj.value) };
 }
 
-/// The names with that of an object, if it has one.
-fn with_name_of(alloc: Global, names: Names, child: &Obj) -> Result<Names, AllocError>
-    ensures { IfOk result (λ n. n ≡ with_name child.now.head.name names) }
+/// Takes the name of an object, if it has one.
+fn add_name_of(alloc: Global, names: &mut Names, child: &Obj) -> Result<(), AllocError>
+    ensures { IfOk result (λ _. names.new ≡ with_name child.now.head.name names.old) }
 {
     match child.name() {
-        Some(name) => names.with(alloc, name.as_str().as_bytes()),
-        None => Ok(names),
+        Some(name) => names.add(alloc, name.as_str().as_bytes()),
+        None => Ok(()),
     }
 }
 
@@ -91,13 +91,13 @@ impl Open {
         requires { is_taken child.head.name (children self) ≡ false }
         ensures { IfOk result (λ o. o ≡ with_child self child) }
     {
-        let Open { mut obj, names } = self;
-        match with_name_of(alloc, names, &child) {
-            Ok(names) => match obj.push_new(child) {
+        let Open { mut obj, mut names } = self;
+        match add_name_of(alloc, &mut names, &child) {
+            Ok(()) => match obj.push_new(child) {
                 Ok(()) => Ok(Open { obj, names }),
                 Err(child) => lost((obj, names, child)),
             },
-            Err(_) => lost((obj, child)),
+            Err(_) => lost((obj, names, child)),
         }
     }
 

@@ -1,6 +1,6 @@
 //! The open elements, and what each construct makes of them.
 
-ghost use Rattle.std.specs.Prelude.{◌≡◌, ◌∷◌, false, Result, Ok, IfOk, IsTrue, reverse};
+ghost use Rattle.std.specs.Prelude.{◌≡◌, [], ◌∷◌, false, Result, Ok, None, IfOk, IsTrue, reverse};
 ghost use Rattle.std.specs.FinSet as set;
 ghost use Rattle.ob_object.specs.Fits.{fits_head};
 ghost use Rattle.ob_object.specs.Object.{empty_head};
@@ -26,30 +26,70 @@ use std::alloc::Global;
 /// Levels of elements.
 const MAX_DEPTH: usize = 32;
 
-/// What has been read so far. What is large stands in a box, so that a state is moved at little cost.
+/// The xmlns of the root, and the open elements, the innermost last.
+pub struct Outer {
+    pub ns: Option<Text>,
+    pub elements: Vec<Open>,
+}
+
+impl Drop for Outer {
+    // By one call for each part, so that to drop it is one call to whoever may have to.
+    fn drop(self) {
+        let Outer { ns, elements } = self;
+        drop(ns);
+        drop(elements);
+    }
+}
+
+impl Outer {
+    /// The xmlns of the root alone.
+    fn into_ns(self) -> Option<Text>
+        ensures { result ≡ self.ns }
+    {
+        let Outer { ns, elements } = self;
+        drop(elements);
+        ns
+    }
+}
+
+/// A start tag: the names of its attributes, and what they say.
+pub struct Tag {
+    pub names: Names,
+    pub head: Attributes,
+}
+
+impl Drop for Tag {
+    // By one call for each part, so that to drop a tag is one call to whoever may have to.
+    fn drop(self) {
+        let Tag { names, head } = self;
+        drop(names);
+        drop(head);
+    }
+}
+
+impl Tag {
+    /// What its attributes say, without their names.
+    fn into_head(self) -> Attributes
+        ensures { result ≡ self.head }
+    {
+        let Tag { names, head } = self;
+        drop(names);
+        head
+    }
+}
+
+/// What has been read so far. What it holds stands in boxes, so that a state is moved at little cost.
 #[derive(Drop)]
 pub enum State {
     Start,
     /// Behind EF BB BF.
     Marked,
-    /// Between tags: the xmlns of the root, and the open elements, the innermost last.
-    Between {
-        ns: Option<Text>,
-        outer: Vec<Open>,
-    },
-    /// In a start tag: the names of its attributes, and what they say.
-    InTag {
-        ns: Option<Text>,
-        names: Names,
-        head: Box<Attributes>,
-        outer: Vec<Open>,
-    },
-    Behind {
-        doc: Box<Doc>,
-    },
-    Whole {
-        doc: Box<Doc>,
-    },
+    /// Between tags.
+    Between { outer: Box<Outer> },
+    /// In a start tag.
+    InTag { tag: Box<Tag>, outer: Box<Outer> },
+    Behind { doc: Box<Doc> },
+    Whole { doc: Box<Doc> },
 }
 
 /// The refusal, after which what was read so far isn't needed.
@@ -60,47 +100,51 @@ fn refused<T: Drop>(_read: T, why: Why) -> Result<State, Why>
     Err(why)
 }
 
-fn close(alloc: Global, ns: Option<Text>, mut outer: Vec<Open>, obj: Obj) -> Result<State, Why>
-    requires named { is_taken obj.head.name (siblings (reverse outer.items)) ≡ false }
-    requires free { AreFree (reverse outer.items) }
-    ensures exact { Gives state_of result (Ok (closed ns obj (reverse outer.items))) }
+/// The end of the root element.
+fn end_root(alloc: Global, outer: Box<Outer>, root: Obj) -> Result<State, Why>
+    ensures exact { Gives state_of result (Ok (Rattle.ob_xml.specs.Structure.behind (record { ns = outer.value.ns; root = root }))) }
     ensures sound { IfOk result (λ s. IsSound (state_of s)) }
 {
-    match outer.pop() {
-        None => match Box::new(alloc, Doc { ns, root: obj }) {
-            Ok(doc) => Ok(State::Behind { doc }),
-            Err(failed) => refused((outer, failed), Why::Memory),
-        },
+    let ns = Box::into_inner(outer).into_ns();
+    match Box::new(alloc, Doc { ns, root }) {
+        Ok(doc) => Ok(State::Behind { doc }),
+        Err(failed) => refused(failed, Why::Memory),
+    }
+}
+
+fn close(alloc: Global, mut outer: Box<Outer>, obj: Obj) -> Result<State, Why>
+    requires named { is_taken obj.head.name (siblings (reverse outer.value.elements.items)) ≡ false }
+    requires free { AreFree (reverse outer.value.elements.items) }
+    ensures exact { Gives state_of result (Ok (closed outer.value.ns obj (reverse outer.value.elements.items))) }
+    ensures sound { IfOk result (λ s. IsSound (state_of s)) }
+{
+    match outer.elements.pop() {
+        None => end_root(alloc, outer, obj),
         Some(parent) => match parent.with_child(alloc, obj) {
-            Ok(parent) => match outer.push(parent) {
-                Ok(()) => Ok(State::Between { ns, outer }),
-                Err(failed) => refused((ns, outer, failed), Why::Memory),
+            Ok(parent) => match outer.elements.push(parent) {
+                Ok(()) => Ok(State::Between { outer }),
+                Err(failed) => refused((outer, failed), Why::Memory),
             },
-            Err(_) => refused((ns, outer), Why::Memory),
+            Err(_) => refused(outer, Why::Memory),
         },
     }
 }
 
 #[inline(never)]
-fn close_named(
-    alloc: Global,
-    ns: Option<Text>,
-    mut outer: Vec<Open>,
-    name: &[u8],
-) -> Result<State, Why>
-    requires { AreFree (reverse outer.items) }
-    ensures exact { Gives state_of result (end_tag ns (reverse outer.items) name.now) }
+fn close_named(alloc: Global, mut outer: Box<Outer>, name: &[u8]) -> Result<State, Why>
+    requires { AreFree (reverse outer.value.elements.items) }
+    ensures exact { Gives state_of result (end_tag outer.value.ns (reverse outer.value.elements.items) name.now) }
     ensures sound { IfOk result (λ s. IsSound (state_of s)) }
 {
-    match outer.pop() {
-        None => refused((ns, outer), Why::Markup),
+    match outer.elements.pop() {
+        None => refused(outer, Why::Markup),
         Some(open) => match read_kind(name) {
-            None => refused((ns, outer, open), Why::Element),
+            None => refused((outer, open), Why::Element),
             Some(kind) => {
                 if kind.same(open.kind()) {
-                    close(alloc, ns, outer, open.into_obj())
+                    close(alloc, outer, open.into_obj())
                 } else {
-                    refused((ns, outer, open), Why::Mismatch)
+                    refused((outer, open), Why::Mismatch)
                 }
             }
         },
@@ -117,54 +161,63 @@ fn new_head(alloc: Global, kind: Kind) -> Attributes
 
 /// The start of a tag of the kind.
 #[inline(never)]
-fn begin(alloc: Global, ns: Option<Text>, outer: Vec<Open>, kind: Kind) -> Result<State, Why>
-    requires { AreFree (reverse outer.items) }
-    ensures exact { Gives state_of result (Ok (Rattle.ob_xml.specs.Structure.in_tag ns set.empty (empty_head kind) (reverse outer.items))) }
+fn begin(alloc: Global, outer: Box<Outer>, kind: Kind) -> Result<State, Why>
+    requires { AreFree (reverse outer.value.elements.items) }
+    ensures exact { Gives state_of result (Ok (Rattle.ob_xml.specs.Structure.in_tag outer.value.ns set.empty (empty_head kind) (reverse outer.value.elements.items))) }
     ensures sound { IfOk result (λ s. IsSound (state_of s)) }
 {
-    match Box::new(alloc, new_head(alloc, kind)) {
-        Ok(head) => Ok(State::InTag {
-            ns,
-            names: Names::new(alloc),
-            head,
-            outer,
-        }),
-        Err(failed) => refused((ns, outer, failed), Why::Memory),
+    let tag = Tag {
+        names: Names::new(alloc),
+        head: new_head(alloc, kind),
+    };
+    match Box::new(alloc, tag) {
+        Ok(tag) => Ok(State::InTag { tag, outer }),
+        Err(failed) => refused((outer, failed), Why::Memory),
     }
 }
 
-fn open(alloc: Global, ns: Option<Text>, outer: Vec<Open>, name: &[u8]) -> Result<State, Why>
-    requires { AreFree (reverse outer.items) }
-    ensures exact { Gives state_of result (opened_as (kind_of name.now) ns (reverse outer.items)) }
+fn open(alloc: Global, outer: Box<Outer>, name: &[u8]) -> Result<State, Why>
+    requires { AreFree (reverse outer.value.elements.items) }
+    ensures exact { Gives state_of result (opened_as (kind_of name.now) outer.value.ns (reverse outer.value.elements.items)) }
     ensures sound { IfOk result (λ s. IsSound (state_of s)) }
 {
     match read_kind(name) {
-        None => refused((ns, outer), Why::Element),
+        None => refused(outer, Why::Element),
         Some(kind) => {
-            if outer.len() >= MAX_DEPTH {
-                refused((ns, outer), Why::Deep)
+            if outer.elements.len() >= MAX_DEPTH {
+                refused(outer, Why::Deep)
             } else {
-                begin(alloc, ns, outer, kind)
+                begin(alloc, outer, kind)
             }
         }
     }
 }
 
-fn between(
-    alloc: Global,
-    ns: Option<Text>,
-    outer: Vec<Open>,
-    meaning: Meaning<'_>,
-) -> Result<State, Why>
-    requires { AreFree (reverse outer.items) }
-    ensures exact { Gives state_of result (step_between ns (reverse outer.items) (meaning_of meaning.entry)) }
+fn between(alloc: Global, outer: Box<Outer>, meaning: Meaning<'_>) -> Result<State, Why>
+    requires { AreFree (reverse outer.value.elements.items) }
+    ensures exact { Gives state_of result (step_between outer.value.ns (reverse outer.value.elements.items) (meaning_of meaning.entry)) }
     ensures sound { IfOk result (λ s. IsSound (state_of s)) }
 {
     match meaning {
-        Meaning::Open { name } => open(alloc, ns, outer, name),
-        Meaning::Close { name } => close_named(alloc, ns, outer, name),
-        Meaning::Skipped => Ok(State::Between { ns, outer }),
-        other => refused((ns, outer, other), Why::Markup),
+        Meaning::Open { name } => open(alloc, outer, name),
+        Meaning::Close { name } => close_named(alloc, outer, name),
+        Meaning::Skipped => Ok(State::Between { outer }),
+        other => refused((outer, other), Why::Markup),
+    }
+}
+
+/// What a construct makes of a document of which nothing but a mark was read.
+fn first(alloc: Global, meaning: Meaning<'_>) -> Result<State, Why>
+    ensures exact { Gives state_of result (step_between None [] (meaning_of meaning.entry)) }
+    ensures sound { IfOk result (λ s. IsSound (state_of s)) }
+{
+    let outer = Outer {
+        ns: None,
+        elements: Vec::new(alloc),
+    };
+    match Box::new(alloc, outer) {
+        Ok(outer) => between(alloc, outer, meaning),
+        Err(failed) => refused((failed, meaning), Why::Memory),
     }
 }
 
@@ -178,178 +231,144 @@ fn is_named_twice(outer: &[Open], part: &Part) -> bool
     }
 }
 
-/// The xmlns of the root, after an attribute that says nothing of an object.
-fn put_ns(ns: Option<Text>, outer: &[Open], name: &[u8], text: Text) -> Option<Text>
-    ensures { result ≡ with_ns ns (reverse outer.now) name.now text }
+/// Keeps the xmlns of the root, where an attribute that says nothing of an object is one.
+fn put_ns(outer: &mut Outer, name: &[u8], text: Text)
+    ensures ns { outer.new.ns ≡ with_ns outer.old.ns (reverse outer.old.elements.items) name.now text }
+    ensures same { outer.new.elements ≡ outer.old.elements }
 {
-    if outer.is_empty() && is_word(name, "xmlns") {
-        return Some(text);
+    if outer.elements.is_empty() && is_word(name, "xmlns") {
+        outer.ns = Some(text);
     }
-    ns
 }
 
 /// The state with one attribute more, whose part the head has taken.
 fn keep_head(
     alloc: Global,
-    ns: Option<Text>,
-    names: Names,
-    head: Box<Attributes>,
-    outer: Vec<Open>,
+    mut tag: Box<Tag>,
+    outer: Box<Outer>,
     name: &[u8],
     twice: bool,
 ) -> Result<State, Why>
-    requires free { AreFree (reverse outer.items) }
-    requires named { twice ≡ false → is_taken head.value.name (siblings (reverse outer.items)) ≡ false }
-    ensures exact { Gives state_of result (kept ns (set.insert names name.now) head.value (reverse outer.items) twice) }
+    requires free { AreFree (reverse outer.value.elements.items) }
+    requires named { twice ≡ false → is_taken tag.value.head.name (siblings (reverse outer.value.elements.items)) ≡ false }
+    ensures exact { Gives state_of result (kept outer.value.ns (set.insert tag.value.names name.now) tag.value.head (reverse outer.value.elements.items) twice) }
     ensures sound { IfOk result (λ s. IsSound (state_of s)) }
 {
-    if !head.fits() {
-        return refused((ns, names, head, outer), Why::Value(ValueFault::NotName));
+    if !tag.head.fits() {
+        return refused((tag, outer), Why::Value(ValueFault::NotName));
     }
     if twice {
-        return refused((ns, names, head, outer), Why::SameName);
+        return refused((tag, outer), Why::SameName);
     }
-    match names.with(alloc, name) {
-        Ok(names) => Ok(State::InTag {
-            ns,
-            names,
-            head,
-            outer,
-        }),
-        Err(_) => refused((ns, head, outer), Why::Memory),
+    match tag.names.add(alloc, name) {
+        Ok(()) => Ok(State::InTag { tag, outer }),
+        Err(failed) => refused((tag, outer, failed), Why::Memory),
     }
 }
 
 fn keep_part(
     alloc: Global,
-    ns: Option<Text>,
-    names: Names,
-    mut head: Box<Attributes>,
-    outer: Vec<Open>,
+    mut tag: Box<Tag>,
+    outer: Box<Outer>,
     name: &[u8],
     part: Part,
 ) -> Result<State, Why>
-    requires { IsSound (Rattle.ob_xml.specs.Structure.in_tag ns names head.value (reverse outer.items)) }
-    ensures exact { Gives state_of result (told ns names head.value (reverse outer.items) name.now (Ok (Said.Part part))) }
+    requires { IsSound (Rattle.ob_xml.specs.Structure.in_tag outer.value.ns tag.value.names tag.value.head (reverse outer.value.elements.items)) }
+    ensures exact { Gives state_of result (told outer.value.ns tag.value.names tag.value.head (reverse outer.value.elements.items) name.now (Ok (Said.Part part))) }
     ensures sound { IfOk result (λ s. IsSound (state_of s)) }
 {
-    let twice = is_named_twice(&outer, &part);
-    match part.put(&mut *head) {
-        Ok(()) => keep_head(alloc, ns, names, head, outer, name, twice),
-        Err(_) => refused((ns, names, head, outer), Why::Memory),
+    let twice = is_named_twice(&outer.elements, &part);
+    match part.put(&mut tag.head) {
+        Ok(()) => keep_head(alloc, tag, outer, name, twice),
+        Err(_) => refused((tag, outer), Why::Memory),
     }
 }
 
 fn keep_other(
     alloc: Global,
-    ns: Option<Text>,
-    names: Names,
-    head: Box<Attributes>,
-    outer: Vec<Open>,
+    mut tag: Box<Tag>,
+    mut outer: Box<Outer>,
     name: &[u8],
     text: Text,
 ) -> Result<State, Why>
-    requires { IsSound (Rattle.ob_xml.specs.Structure.in_tag ns names head.value (reverse outer.items)) }
-    ensures exact { Gives state_of result (told ns names head.value (reverse outer.items) name.now (Ok (Said.Other text))) }
+    requires { IsSound (Rattle.ob_xml.specs.Structure.in_tag outer.value.ns tag.value.names tag.value.head (reverse outer.value.elements.items)) }
+    ensures exact { Gives state_of result (told outer.value.ns tag.value.names tag.value.head (reverse outer.value.elements.items) name.now (Ok (Said.Other text))) }
     ensures sound { IfOk result (λ s. IsSound (state_of s)) }
 {
-    let ns = put_ns(ns, &outer, name, text);
-    match names.with(alloc, name) {
-        Ok(names) => Ok(State::InTag {
-            ns,
-            names,
-            head,
-            outer,
-        }),
-        Err(_) => refused((ns, head, outer), Why::Memory),
+    put_ns(&mut *outer, name, text);
+    match tag.names.add(alloc, name) {
+        Ok(()) => Ok(State::InTag { tag, outer }),
+        Err(failed) => refused((tag, outer, failed), Why::Memory),
     }
 }
 
 fn attribute(
     alloc: Global,
-    ns: Option<Text>,
-    names: Names,
-    head: Box<Attributes>,
-    outer: Vec<Open>,
+    tag: Box<Tag>,
+    outer: Box<Outer>,
     name: &[u8],
     said: Result<Said, ValueFault>,
 ) -> Result<State, Why>
-    requires { IsSound (Rattle.ob_xml.specs.Structure.in_tag ns names head.value (reverse outer.items)) }
-    ensures exact { Gives state_of result (step_attribute ns names head.value (reverse outer.items) name.now said) }
+    requires { IsSound (Rattle.ob_xml.specs.Structure.in_tag outer.value.ns tag.value.names tag.value.head (reverse outer.value.elements.items)) }
+    ensures exact { Gives state_of result (step_attribute outer.value.ns tag.value.names tag.value.head (reverse outer.value.elements.items) name.now said) }
     ensures sound { IfOk result (λ s. IsSound (state_of s)) }
 {
-    if names.has(name) {
-        return refused((ns, names, head, outer, said), Why::Twice);
+    if tag.names.has(name) {
+        return refused((tag, outer, said), Why::Twice);
     }
     match said {
-        Err(fault) => refused((ns, names, head, outer), Why::Value(fault)),
-        Ok(Said::Other(text)) => keep_other(alloc, ns, names, head, outer, name, text),
-        Ok(Said::Part(part)) => keep_part(alloc, ns, names, head, outer, name, part),
+        Err(fault) => refused((tag, outer), Why::Value(fault)),
+        Ok(Said::Other(text)) => keep_other(alloc, tag, outer, name, text),
+        Ok(Said::Part(part)) => keep_part(alloc, tag, outer, name, part),
     }
 }
 
 /// The end of a start tag: the element is open. Apart, so that a step that ends no tag makes no room for an object.
 #[inline(never)]
-fn end_start(
-    alloc: Global,
-    ns: Option<Text>,
-    head: Box<Attributes>,
-    mut outer: Vec<Open>,
-) -> Result<State, Why>
-    requires fits { IsTrue (fits_head head.value) }
-    requires named { is_taken head.value.name (siblings (reverse outer.items)) ≡ false }
-    requires free { AreFree (reverse outer.items) }
-    ensures exact { Gives state_of result (Ok (Rattle.ob_xml.specs.Structure.between ns (bare head.value ∷ reverse outer.items))) }
+fn end_start(alloc: Global, tag: Box<Tag>, mut outer: Box<Outer>) -> Result<State, Why>
+    requires fits { IsTrue (fits_head tag.value.head) }
+    requires named { is_taken tag.value.head.name (siblings (reverse outer.value.elements.items)) ≡ false }
+    requires free { AreFree (reverse outer.value.elements.items) }
+    ensures exact { Gives state_of result (Ok (Rattle.ob_xml.specs.Structure.between outer.value.ns (bare tag.value.head ∷ reverse outer.value.elements.items))) }
     ensures sound { IfOk result (λ s. IsSound (state_of s)) }
 {
-    match Open::new(alloc, Box::into_inner(head)) {
-        Ok(open) => match outer.push(open) {
-            Ok(()) => Ok(State::Between { ns, outer }),
-            Err(failed) => refused((ns, outer, failed), Why::Memory),
+    match Open::new(alloc, Box::into_inner(tag).into_head()) {
+        Ok(open) => match outer.elements.push(open) {
+            Ok(()) => Ok(State::Between { outer }),
+            Err(failed) => refused((outer, failed), Why::Memory),
         },
-        Err(_) => refused((ns, outer), Why::Memory),
+        Err(_) => refused(outer, Why::Memory),
     }
 }
 
 /// The end of a tag that is an element by itself.
 #[inline(never)]
-fn end_empty(
-    alloc: Global,
-    ns: Option<Text>,
-    head: Box<Attributes>,
-    outer: Vec<Open>,
-) -> Result<State, Why>
-    requires named { is_taken head.value.name (siblings (reverse outer.items)) ≡ false }
-    requires free { AreFree (reverse outer.items) }
-    requires fits { IsTrue (fits_head head.value) }
-    ensures exact { Gives state_of result (Ok (closed ns (bare head.value) (reverse outer.items))) }
+fn end_empty(alloc: Global, tag: Box<Tag>, outer: Box<Outer>) -> Result<State, Why>
+    requires named { is_taken tag.value.head.name (siblings (reverse outer.value.elements.items)) ≡ false }
+    requires free { AreFree (reverse outer.value.elements.items) }
+    requires fits { IsTrue (fits_head tag.value.head) }
+    ensures exact { Gives state_of result (Ok (closed outer.value.ns (bare tag.value.head) (reverse outer.value.elements.items))) }
     ensures sound { IfOk result (λ s. IsSound (state_of s)) }
 {
-    close(
-        alloc,
-        ns,
-        outer,
-        Obj::from_attributes(alloc, Box::into_inner(head)),
-    )
+    let head = Box::into_inner(tag).into_head();
+    close(alloc, outer, Obj::from_attributes(alloc, head))
 }
 
 fn in_tag(
     alloc: Global,
-    ns: Option<Text>,
-    names: Names,
-    head: Box<Attributes>,
-    outer: Vec<Open>,
+    tag: Box<Tag>,
+    outer: Box<Outer>,
     meaning: Meaning<'_>,
 ) -> Result<State, Why>
-    requires { IsSound (Rattle.ob_xml.specs.Structure.in_tag ns names head.value (reverse outer.items)) }
-    ensures exact { Gives state_of result (step_in_tag ns names head.value (reverse outer.items) (meaning_of meaning.entry)) }
+    requires { IsSound (Rattle.ob_xml.specs.Structure.in_tag outer.value.ns tag.value.names tag.value.head (reverse outer.value.elements.items)) }
+    ensures exact { Gives state_of result (step_in_tag outer.value.ns tag.value.names tag.value.head (reverse outer.value.elements.items) (meaning_of meaning.entry)) }
     ensures sound { IfOk result (λ s. IsSound (state_of s)) }
 {
     match meaning {
-        Meaning::Attr { name, said } => attribute(alloc, ns, names, head, outer, name, said),
-        Meaning::TagEnd => end_start(alloc, ns, head, outer),
-        Meaning::EmptyEnd => end_empty(alloc, ns, head, outer),
-        other => refused((ns, names, head, outer, other), Why::Markup),
+        Meaning::Attr { name, said } => attribute(alloc, tag, outer, name, said),
+        Meaning::TagEnd => end_start(alloc, tag, outer),
+        Meaning::EmptyEnd => end_empty(alloc, tag, outer),
+        other => refused((tag, outer, other), Why::Markup),
     }
 }
 
@@ -370,7 +389,7 @@ fn start(alloc: Global, meaning: Meaning<'_>) -> Result<State, Why>
 {
     match meaning {
         Meaning::Mark => Ok(State::Marked),
-        _ => between(alloc, None, Vec::new(alloc), meaning),
+        _ => first(alloc, meaning),
     }
 }
 
@@ -399,7 +418,7 @@ impl State {
         ensures { result ≡ kind_in (state_of self.now) }
     {
         match self {
-            State::InTag { head, .. } => head.kind(),
+            State::InTag { tag, .. } => tag.head.kind(),
             _ => Kind::Obj,
         }
     }
@@ -412,14 +431,9 @@ impl State {
     {
         match self {
             State::Start => start(alloc, meaning),
-            State::Marked => between(alloc, None, Vec::new(alloc), meaning),
-            State::Between { ns, outer } => between(alloc, ns, outer, meaning),
-            State::InTag {
-                ns,
-                names,
-                head,
-                outer,
-            } => in_tag(alloc, ns, names, head, outer, meaning),
+            State::Marked => first(alloc, meaning),
+            State::Between { outer } => between(alloc, outer, meaning),
+            State::InTag { tag, outer } => in_tag(alloc, tag, outer, meaning),
             State::Behind { doc } => behind(doc, meaning),
             State::Whole { doc } => refused((doc, meaning), Why::Markup),
         }
