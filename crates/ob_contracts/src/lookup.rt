@@ -6,7 +6,7 @@ ghost use Rattle.ob_object.specs.Kinds.{is_ref};
 ghost use Rattle.ob_contracts.specs.Found.{found};
 ghost use Rattle.ob_contracts.specs.Inherit.{words_in, or_else, overridden, implied_by, inherited_head, present};
 ghost use Rattle.ob_contracts.specs.Parts.{gives};
-ghost use Rattle.ob_contracts.specs.Shown.{holder_in, source_in};
+ghost use Rattle.ob_contracts.specs.Shown.{holder_in, source_in, IsLooked};
 ghost use Rattle.ob_contracts.specs.Places.{places_by, places_of, sources_by, sources_of, child_in, named_in, overridden_in};
 ghost use Rattle.ob_contracts.specs.Tellers.{TellsIn, heads_in, told_child};
 
@@ -30,6 +30,13 @@ pub struct Sources<'a> {
     pub(crate) over: Option<&'a Obj>,
     // A ref has none, nor has a child that was inherited.
     pub(crate) any: bool,
+}
+
+/// Sources with the one at the first place looked up already, so that parts are taken from them at one look-up.
+#[derive(Clone, Copy)]
+pub(crate) struct Looked<'a> {
+    pub(crate) sources: Sources<'a>,
+    pub(crate) first: Option<&'a Obj>,
 }
 
 /// Words as a slice.
@@ -159,19 +166,34 @@ impl<'a> Sources<'a> {
         }
     }
 
+    /// The source at the first place, if one is there.
+    #[tactic(auto, using(crate::proofs::Giving::none_first))]
+    fn first_source(&self) -> Option<&'a Obj>
+        ensures { option_copied result ≡ source_in (places_of self.now) 0 }
+    {
+        if self.len() == 0 {
+            return None;
+        }
+        self.at(0)
+    }
+
+    /// These with the source at the first place looked up.
+    pub(crate) fn looked(&self) -> Looked<'a>
+        ensures own { result.sources.own.now ≡ self.now.own.now }
+        ensures places { places_of result.sources ≡ places_of self.now }
+        ensures first { IsLooked result }
+    {
+        Looked {
+            sources: *self,
+            first: self.first_source(),
+        }
+    }
+
     /// The first that gives a part.
     fn first(&self, part: &Part) -> Option<&'a Obj>
         ensures { option_copied result ≡ find (gives self.now.own.now.head.kind part.now) (sources_of self.now) }
     {
-        let kind = self.own.kind();
-        for place in 0..self.len() {
-            if let Some(source) = self.at(place) {
-                if gives(kind, part, source) {
-                    return Some(source);
-                }
-            }
-        }
-        None
+        self.looked().first_giver(part)
     }
 
     /// The object that a part comes from: the object itself, where it has the part or no source gives it.
@@ -261,5 +283,51 @@ impl<'a> Sources<'a> {
             }
         }
         Ok(names)
+    }
+}
+
+impl<'a> Looked<'a> {
+    /// The source at a place, if one is there.
+    fn at(&self, place: usize) -> Option<&'a Obj>
+        requires looked { IsLooked self.now }
+        requires within { place < length (places_of self.now.sources) }
+        ensures { option_copied result ≡ source_in (places_of self.now.sources) place }
+    {
+        if place == 0 {
+            self.first
+        } else {
+            self.sources.at(place)
+        }
+    }
+
+    /// The first that gives a part.
+    fn first_giver(&self, part: &Part) -> Option<&'a Obj>
+        requires { IsLooked self.now }
+        ensures { option_copied result ≡ find (gives self.now.sources.own.now.head.kind part.now) (sources_of self.now.sources) }
+    {
+        let kind = self.sources.own.kind();
+        for place in 0..self.sources.len() {
+            if let Some(source) = self.at(place) {
+                if gives(kind, part, source) {
+                    return Some(source);
+                }
+            }
+        }
+        None
+    }
+
+    /// The object that a part comes from: the object itself, where it has the part or no source gives it.
+    pub(crate) fn holder(&self, part: &Part) -> &'a Obj
+        requires { IsLooked self.now }
+        ensures { result.now ≡ holder_in part.now self.now.sources.own.now (sources_of self.now.sources) }
+    {
+        if has_part(self.sources.own, part) {
+            self.sources.own
+        } else {
+            match self.first_giver(part) {
+                Some(source) => source,
+                None => self.sources.own,
+            }
+        }
     }
 }

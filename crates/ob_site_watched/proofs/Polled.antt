@@ -220,10 +220,6 @@ module _ (plan : Plan) (s : State) where
       ap (λ (os : List Object). steps_in s.tree (of_objects os)) (map-append entry here rest) ∙ steps_append (levels (row s.tree)) (map entry here) (map entry rest) in
       together (item_steps plan s i.path i.tracked) (poll_steps plan s items) each others (steps_in s.tree (of_objects (map entry (here ++ rest)))) (item_at_most i.text i.path i.tracked) (all_at_most items) both
 
-  all_hrefs : (rs : List Reading) → list_all (λ (item : Object). is_some item.head.href) (map entry rs) ≡ true
-  all_hrefs [] = refl
-  all_hrefs (r ∷ rs) = all_hrefs rs
-
   -- the entries of a WatchOut are those that it was made of
   entries_are : (rs : List Reading) → entries_of (watch_out (map entry rs)) ≡ Some (map entry rs)
   entries_are rs =

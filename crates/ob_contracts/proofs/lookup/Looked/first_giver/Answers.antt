@@ -4,12 +4,12 @@ use Rattle.ob_object.specs.declared.kind.Kind.{Kind}
 use Rattle.ob_contracts.specs.Parts.{gives}
 use Rattle.ob_contracts.specs.Places.{places_of, sources_of}
 use Rattle.ob_contracts.proofs.Giving.{find_here, find_later, find_past}
-use Rattle.ob_contracts.proofs.lookup.Sources.first.Goals as goal
-use Rattle.ob_contracts.proofs.lookup.Sources.first.Goals.{in-Some+else-gives, in_default}
+use Rattle.ob_contracts.proofs.lookup.Looked.first_giver.Goals as goal
+use Rattle.ob_contracts.proofs.lookup.Looked.first_giver.Goals.{in-Some+else-gives, in_default}
 
 pub returns-then-gives : goal.returns-then-gives
 returns-then-gives c =
-    let s = c.args.self.now in
+    let s = c.args.self.now.sources in
     let place = c.loop-place.place in
     let inside : place < length (places_of s) = omega arith in
     subst (λ (k : Kind). Some c.in-Some.source.now ≡ find (gives k c.args.part.now) (sources_of s)) c.kind-kind.ensures
@@ -17,7 +17,7 @@ returns-then-gives c =
 
 pub loop-place-preserved : goal.loop-place-preserved
 loop-place-preserved c =
-    let s = c.args.self.now in
+    let s = c.args.self.now.sources in
     let place = c.loop-place.place in
     let inside : place < length (places_of s) = omega arith in
     elim c.match-at.branch [
