@@ -5,7 +5,7 @@ use Rattle.std.proofs.lemmas.List.{take-append-le, drop-append-le}
 use Rattle.std.proofs.Math.Seq.{take-append-add, drop-append_seam}
 use Rattle.std.specs.Prelude.{⊤}
 use Rattle.ob_http.specs.declared.fault.FrameFault.{FrameFault}
-use Rattle.ob_http.specs.declared.fault.FrameFault.TheVariants.{Head, Memory}
+use Rattle.ob_http.specs.declared.fault.FrameFault.TheVariants.{Head, HeadBig, Memory}
 use Rattle.ob_http.specs.Message.{Front, whole, refused, unfinished, Opening, head, hopeless, long, short, head_limit, field_limit, looked_at, HasNone, MayHave, OpensBy, Shape, fields_by, length_by, with_body, front_behind, StandsBy}
 use Rattle.ob_http.proofs.FieldLemmas.{length_never_memory}
 
@@ -138,6 +138,18 @@ module _ {H M : Type 0} (Reads : List ℕ → H → List ℕ → Type 0) (IsHope
   front_stays bytes more f final (o, opens, is) =
       let told : IsFinal (front_behind shape bytes o) = subst IsFinal (sym is) final in
       (o, opening_stays bytes more o opens (not_short bytes o told), behind_stays bytes more o told ∙ is)
+
+  -- something stands at the front
+  pub front_there : (bytes : List ℕ) → ¬ ((f : Front M) → ¬ (Stands bytes f))
+  front_there bytes none =
+      let may : MayHave Reads IsHopeless (looked_at bytes) = (
+        (λ h rest reads. none (front_behind shape bytes (head h)) (head h, (rest, reads), refl)),
+        (λ never. none (refused Head) (hopeless, never, refl)),
+      ) in
+      ⊎_elim
+      (λ few. none unfinished (short, (may, few), refl))
+      (λ full. none (refused HeadBig) (long, (may, full), refl))
+      (cases_lt (length bytes) head_limit)
 
   -- ---- a whole message has bytes, and lies in those that are there
 

@@ -1,16 +1,17 @@
 -- What the calls of a framer tell of the stream of requests.
-use Rattle.std.proofs.Common.{◌≡◌, ◌≢◌, ℕ, ◌+◌, ◌<◌, ◌≤◌, Bool, List, [], ◌++◌, length, drop, Option, Some, None, Result, Ok, Err, sym, ap, ◌∙◌, subst, arith, inl, inr, IfOk, IfErr, IfSome, length-drop}
+use Rattle.std.proofs.Common.{◌≡◌, ◌≢◌, ℕ, ◌+◌, ◌<◌, ◌≤◌, Bool, List, [], ◌++◌, length, drop, Option, Some, None, Result, Ok, Err, sym, ap, ◌∙◌, subst, arith, inl, inr, IfOk, IfErr, IfSome, length-drop, slice_range}
 use Rattle.httparse.specs.Grammar.{ReadsRequest, IsToken}
 use Rattle.ob_http.specs.declared.fault.FrameFault.{FrameFault}
 use Rattle.ob_http.specs.declared.fault.FrameFault.TheVariants.{Memory}
 use Rattle.ob_http.specs.declared.asked.Asked.{Asked}
 use Rattle.ob_http.specs.declared.seen.Seen.{Seen}
-use Rattle.ob_http.specs.Message.{whole}
+use Rattle.ob_http.specs.Message.{whole, refused, unfinished}
 use Rattle.ob_http.specs.Request.{Request, request_shape, IsHopeless, Stands}
-use Rattle.ob_http.specs.Requests.{IsTaken, seen_request, asked_request, front_of, Takes, Follows, SeesNext, TakesNext}
+use Rattle.ob_http.specs.Requests.{HasFraming, IsTaken, seen_request, asked_request, front_of, Takes, Follows, SeesNext, TakesNext}
 use Rattle.ob_http.specs.Stream.{Received, behind}
-use Rattle.ob_http.proofs.MessageLemmas.{front_unique, front_stays, whole_fits, whole_message, never_memory}
+use Rattle.ob_http.proofs.MessageLemmas.{front_unique, front_there, front_stays, whole_fits, whole_message, never_memory}
 use Rattle.ob_http.proofs.StreamLemmas.{IsFraming, by_close, taken_start, taken_feed, taken_take, taken_rests, taken_closes, taken_faults, first_more}
+use Rattle.ob_http.proofs.StreamLemmas as stream
 use Rattle.ob_http.proofs.HeadLemmas.{request_grammar}
 
 abbrev closes : Request → Bool
@@ -98,3 +99,38 @@ pub seen_method : (kept : List ℕ) (result : Result (Option Seen) FrameFault) (
     → IsToken seen.method.now
 seen_method kept result seen is stands =
     seen_token kept (seen_request seen) seen.len (subst (λ (r : Result (Option Seen) FrameFault). Stands kept (front_of r)) is stands)
+
+-- ---- there is a framing
+
+pub none_unframed : (place : ℕ) (bytes : List ℕ) → ¬ (¬ (HasFraming place bytes))
+none_unframed place bytes =
+    stream.none_unframed Stands closes request_framing (front_there ReadsRequest IsHopeless request_shape request_grammar) (length bytes) place bytes (omega arith)
+
+abbrev HasSome : List ℕ → Type 0
+HasSome bytes = (place : ℕ) → HasFraming place bytes
+
+pub seen_stands : (bytes : List ℕ) (next : Option Seen) (seen : Seen) → next ≡ Some seen → Stands bytes (front_of (Ok next))
+    → Stands bytes (whole (seen_request seen) seen.len)
+seen_stands bytes next seen is stands = subst (λ (o : Option Seen). Stands bytes (front_of (Ok o))) is stands
+
+pub some_within : (bytes : List ℕ) (seen : Seen) → Stands bytes (whole (seen_request seen) seen.len) → seen.len ≤ length bytes
+some_within bytes seen stands = (request_framing.fits bytes (seen_request seen) seen.len stands).1
+
+pub some_shorter : (bytes : List ℕ) (seen : Seen) → Stands bytes (whole (seen_request seen) seen.len)
+    → length (slice_range bytes seen.len (length bytes)) < length bytes
+some_shorter bytes seen stands =
+    let inside = request_framing.fits bytes (seen_request seen) seen.len stands in
+    let rest = ap (λ (l : List ℕ). length l) (stream.slice_to_end bytes seen.len) in
+    omega (arith, inside.0, inside.1, rest, length-drop seen.len bytes)
+
+pub some_before : (bytes : List ℕ) (seen : Seen) → Stands bytes (whole (seen_request seen) seen.len)
+    → HasSome (slice_range bytes seen.len (length bytes)) → HasSome bytes
+some_before bytes seen stands there =
+    stream.there_before Stands closes request_framing bytes (seen_request seen) seen.len stands
+    (subst HasSome (stream.slice_to_end bytes seen.len) there)
+
+pub some_resting : (bytes : List ℕ) → Stands bytes unfinished → HasSome bytes
+some_resting bytes stands place = stream.rests_there Stands closes request_framing place bytes stands
+
+pub some_faulted : (bytes : List ℕ) (fault : FrameFault) → Stands bytes (refused fault) → HasSome bytes
+some_faulted bytes fault stands place = stream.faulted_there Stands closes request_framing place bytes fault stands

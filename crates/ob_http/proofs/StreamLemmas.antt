@@ -1,10 +1,10 @@
 -- The framing of a stream is one, and it does not depend on how the stream is cut.
-use Rattle.std.proofs.Common.{◌≡◌, ◌≢◌, ℕ, ◌+◌, ◌≤◌, ◌<◌, Bool, true, false, List, [], ◌∷◌, ◌++◌, length, drop, refl, sym, ap, ◌∙◌, subst, arith, append_assoc, append-nil, MatchBool, length-append, length-drop}
+use Rattle.std.proofs.Common.{◌≡◌, ◌≢◌, ℕ, ◌+◌, ◌≤◌, ◌<◌, Bool, true, false, List, [], ◌∷◌, ◌++◌, length, drop, refl, sym, ap, ◌∙◌, subst, arith, append_assoc, append-nil, MatchBool, length-append, length-drop, zero, suc, slice_range, take_all}
 use Rattle.std.proofs.lemmas.List.{drop-append-le}
 use Rattle.std.proofs.Math.Seq.{drop-length}
 use Rattle.ob_http.specs.declared.fault.FrameFault.{FrameFault}
 use Rattle.ob_http.specs.Message.{Front, whole, refused, unfinished}
-use Rattle.ob_http.specs.Stream.{End, resting, closing, faulted, FramedBy, AreFirstBy, IsTakenBy, Received, behind}
+use Rattle.ob_http.specs.Stream.{End, resting, closing, faulted, FramedBy, HasFramingBy, AreFirstBy, IsTakenBy, Received, behind}
 use Rattle.ob_http.proofs.MessageLemmas.{IsFinal}
 
 -- what stands at the front is one thing, which stays, and a whole message has some of the bytes
@@ -12,6 +12,10 @@ pub record IsFraming {M : Type 0} (Stands : List ℕ → Front M → Type 0) : T
   pub unique : (bytes : List ℕ) (a b : Front M) → Stands bytes a → Stands bytes b → a ≡ b
   pub stays : (bytes more : List ℕ) (f : Front M) → IsFinal f → Stands bytes f → Stands (bytes ++ more) f
   pub fits : (bytes : List ℕ) (m : M) (len : ℕ) → Stands bytes (whole m len) → (0 < len) × (len ≤ length bytes)
+
+-- the bytes behind the first ones, as a slice
+pub slice_to_end : (bytes : List ℕ) (len : ℕ) → slice_range bytes len (length bytes) ≡ drop len bytes
+slice_to_end bytes len = take_all _ (drop len bytes) (omega (arith, length-drop len bytes))
 
 pub by_close : (t : Bool) (A B : Type 0) → (t ≡ true → A) → (t ≡ false → B) → MatchBool t A B
 by_close true A B closes goes_on = closes refl
@@ -187,3 +191,56 @@ module _ {M : Type 0} (Stands : List ℕ → Front M → Type 0) (closes : M →
         subst (λ t. MatchBool t ((none ≡ []) × (resting [] ≡ closing)) (FramedFrom (0 + length bytes) (drop (length bytes) bytes) none (resting []))) (sym goes_on)
         (subst (λ (l : List ℕ). Stands l unfinished × ([] ≡ l)) (sym (drop-length bytes)) (rests, refl)),
   )
+
+  -- ---- there is a framing
+
+  abbrev HasFraming : ℕ → List ℕ → Type 0
+  HasFraming place bytes = HasFramingBy Stands closes place bytes
+
+  pub rests_there : (place : ℕ) (bytes : List ℕ) → Stands bytes unfinished → HasFraming place bytes
+  rests_there place bytes stands = ([], (resting bytes, (stands, refl)))
+
+  pub faulted_there : (place : ℕ) (bytes : List ℕ) (fault : FrameFault) → Stands bytes (refused fault) → HasFraming place bytes
+  faulted_there place bytes fault stands = ([], (faulted fault place, (stands, refl)))
+
+  pub closing_there : (place : ℕ) (bytes : List ℕ) (m : M) (len : ℕ) → Stands bytes (whole m len) → closes m ≡ true → HasFraming place bytes
+  closing_there place bytes m len stands last =
+      let none : List M = [] in
+      (m ∷ [], (closing, (len, stands, subst (λ t. MatchBool t ((none ≡ []) × (closing ≡ closing)) (FramedFrom (place + len) (drop len bytes) none closing)) (sym last) (refl, refl))))
+
+  pub onward_there : (place : ℕ) (bytes : List ℕ) (m : M) (len : ℕ) → Stands bytes (whole m len) → closes m ≡ false
+      → HasFraming (place + len) (drop len bytes) → HasFraming place bytes
+  onward_there place bytes m len stands goes_on (later, (end, framed)) =
+      (m ∷ later, (end, (len, stands, subst (λ t. MatchBool t ((later ≡ []) × (end ≡ closing)) (FramedFrom (place + len) (drop len bytes) later end)) (sym goes_on) framed)))
+
+  -- where the bytes behind a message have one, all have
+  pub there_before : (bytes : List ℕ) (m : M) (len : ℕ) → Stands bytes (whole m len) → ((place : ℕ) → HasFraming place (drop len bytes))
+      → (place : ℕ) → HasFraming place bytes
+  there_before bytes m len stands there place = by_last (closes m) refl
+    where
+      by_last : (t : Bool) → closes m ≡ t → HasFraming place bytes
+      by_last true last = closing_there place bytes m len stands last
+      by_last false goes_on = onward_there place bytes m len stands goes_on (there (place + len))
+
+  -- where bytes have no framing, nothing stands at their front, if those behind a message have one
+  nothing_stands : (place : ℕ) (bytes : List ℕ) → ¬ (HasFraming place bytes)
+      → ((m : M) (len : ℕ) → Stands bytes (whole m len) → ¬ (¬ (HasFraming (place + len) (drop len bytes)))) → (f : Front M) → ¬ (Stands bytes f)
+  nothing_stands place bytes none later unfinished stands = none (rests_there place bytes stands)
+  nothing_stands place bytes none later (refused fault) stands = none (faulted_there place bytes fault stands)
+  nothing_stands place bytes none later (whole m len) stands = by_last (closes m) refl
+    where
+      by_last : (t : Bool) → closes m ≡ t → ⊥
+      by_last true last = none (closing_there place bytes m len stands last)
+      by_last false goes_on = later m len stands (λ there. none (onward_there place bytes m len stands goes_on there))
+
+  -- where something stands at each front, none is unframed
+  pub none_unframed : ((bytes : List ℕ) → ¬ ((f : Front M) → ¬ (Stands bytes f))) → (most place : ℕ) (bytes : List ℕ) → length bytes ≤ most
+      → ¬ (¬ (HasFraming place bytes))
+  none_unframed fronts zero place bytes small none =
+      fronts bytes (nothing_stands place bytes none (λ m len stands.
+      let inside = law.fits bytes m len stands in
+      absurd (omega (arith, inside.0, inside.1, small))))
+  none_unframed fronts (suc n) place bytes small none =
+      fronts bytes (nothing_stands place bytes none (λ m len stands.
+      let inside = law.fits bytes m len stands in
+      none_unframed fronts n (place + len) (drop len bytes) (omega (arith, inside.0, inside.1, small, length-drop len bytes))))

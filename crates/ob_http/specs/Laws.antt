@@ -1,9 +1,9 @@
 -- Laws of framing.
 use Rattle.std.specs.Prelude.{◌≡◌, ◌≢◌, ℕ, List, ◌++◌}
 use Rattle.ob_http.specs.Request.{Request}
-use Rattle.ob_http.specs.Requests.{FramedFrom}
+use Rattle.ob_http.specs.Requests.{FramedFrom, HasFraming}
 use Rattle.ob_http.specs.Reply.{Response}
-use Rattle.ob_http.specs.Replies.{Replied}
+use Rattle.ob_http.specs.Replies.{Replied, HasReplies}
 use Rattle.ob_http.specs.Stream.{End, resting}
 
 -- bytes have one framing
@@ -27,3 +27,10 @@ abbrev pub ReplyEndStays : Type 0
 ReplyEndStays =
     (bytes more : List ℕ) (replies : List Response) (end : End) → ((rest : List ℕ) → end ≢ resting rest)
     → Replied bytes replies end → Replied (bytes ++ more) replies end
+
+-- no list of bytes is without a framing, however long it is
+abbrev pub NoneIsUnframed : Type 0
+NoneIsUnframed = (place : ℕ) (bytes : List ℕ) → ¬ (¬ (HasFraming place bytes))
+
+abbrev pub NoReplyIsUnframed : Type 0
+NoReplyIsUnframed = (place : ℕ) (bytes : List ℕ) → ¬ (¬ (HasReplies place bytes))

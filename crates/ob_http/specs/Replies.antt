@@ -6,7 +6,7 @@ use Rattle.ob_http.specs.declared.reply.Reply.{Reply}
 use Rattle.ob_http.specs.declared.reply_head.SeenReply.{SeenReply}
 use Rattle.ob_http.specs.Message.{Front, whole, refused, unfinished}
 use Rattle.ob_http.specs.Reply.{Response, ReplyStands}
-use Rattle.ob_http.specs.Stream.{End, resting, faulted, FramedBy, AreFirstBy, IsTakenBy}
+use Rattle.ob_http.specs.Stream.{End, resting, faulted, FramedBy, HasFramingBy, AreFirstBy, IsTakenBy}
 
 -- no reply is the last: a server that closes says so by the end of its bytes
 abbrev pub never_last : Response → Bool
@@ -15,6 +15,10 @@ never_last reply = false
 -- the bytes are these replies and this end
 abbrev pub Replied : List ℕ → List Response → End → Type 0
 Replied bytes replies end = FramedBy ReplyStands never_last 0 bytes replies end
+
+-- the bytes, of which the first have this place in the stream, are some replies and an end
+abbrev pub HasReplies : ℕ → List ℕ → Type 0
+HasReplies place bytes = HasFramingBy ReplyStands never_last place bytes
 
 -- whatever bytes follow, the stream's first replies are these
 abbrev pub AreFirstReplies : List ℕ → List Response → Type 0

@@ -6,7 +6,7 @@ use Rattle.ob_http.specs.declared.asked.Asked.{Asked}
 use Rattle.ob_http.specs.declared.seen.Seen.{Seen}
 use Rattle.ob_http.specs.Message.{Front, whole, refused, unfinished}
 use Rattle.ob_http.specs.Request.{Request, Stands}
-use Rattle.ob_http.specs.Stream.{End, resting, closing, faulted, FramedBy, AreFirstBy, IsTakenBy, Received, behind}
+use Rattle.ob_http.specs.Stream.{End, resting, closing, faulted, FramedBy, HasFramingBy, AreFirstBy, IsTakenBy, Received, behind}
 
 abbrev pub FramedFrom : ℕ → List ℕ → List Request → End → Type 0
 FramedFrom place bytes requests end = FramedBy Stands (λ r. r.close) place bytes requests end
@@ -14,6 +14,10 @@ FramedFrom place bytes requests end = FramedBy Stands (λ r. r.close) place byte
 -- the bytes are these requests and this end
 abbrev pub Framed : List ℕ → List Request → End → Type 0
 Framed bytes requests end = FramedFrom 0 bytes requests end
+
+-- the bytes, of which the first have this place in the stream, are some requests and an end
+abbrev pub HasFraming : ℕ → List ℕ → Type 0
+HasFraming place bytes = HasFramingBy Stands (λ r. r.close) place bytes
 
 -- whatever bytes follow, the stream's first requests are these
 abbrev pub AreFirst : List ℕ → List Request → Type 0

@@ -24,6 +24,10 @@ FramedBy Stands closes place bytes (m ∷ ms) end =
     × MatchBool (closes m) ((ms ≡ []) × (end ≡ closing))
     (FramedBy Stands closes (place + len) (drop len bytes) ms end)
 
+-- the bytes, of which the first have this place in the stream, have a framing
+abbrev pub HasFramingBy : {M : Type 0} → (List ℕ → Front M → Type 0) → (M → Bool) → ℕ → List ℕ → Type 0
+HasFramingBy {M} Stands closes place bytes = (ms : List M) × ((end : End) × FramedBy Stands closes place bytes ms end)
+
 -- whatever bytes follow, the stream's first messages are these
 abbrev pub AreFirstBy : {M : Type 0} → (List ℕ → Front M → Type 0) → (M → Bool) → List ℕ → List M → Type 0
 AreFirstBy {M} Stands closes stream ms =

@@ -1,5 +1,5 @@
 //! Laws of framing, as the contracts of functions that do nothing.
-ghost use Rattle.ob_http.specs.Laws.{FramingIsOne, EndStays, RepliesAreOne, ReplyEndStays};
+ghost use Rattle.ob_http.specs.Laws.{FramingIsOne, EndStays, RepliesAreOne, ReplyEndStays, NoneIsUnframed, NoReplyIsUnframed};
 ghost use Rattle.ob_http.specs.RoundTrip.{AskedIsFramed, AnswerIsReplied};
 
 /// The bytes of a client have one framing.
@@ -20,6 +20,16 @@ pub fn replies_are_one()
 /// A framing of replies that is at its end stays, whatever bytes follow.
 pub fn reply_end_stays()
     ensures { ReplyEndStays }
+{}
+
+/// No bytes are without a framing: of any list of numbers, however long, it is refuted that it has none.
+pub fn none_is_unframed()
+    ensures { NoneIsUnframed }
+{}
+
+/// No bytes are without a framing as replies.
+pub fn no_reply_is_unframed()
+    ensures { NoReplyIsUnframed }
 {}
 
 /// A request that `write_request` writes is framed as itself.
