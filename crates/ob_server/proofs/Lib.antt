@@ -11,4 +11,3 @@ pub mod TogetherLemmas
 pub mod BackLemmas
 pub mod PortLemmas
 pub mod EndLemmas
-pub mod FramingLemmas

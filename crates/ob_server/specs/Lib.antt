@@ -4,7 +4,6 @@ pub mod Exchange
 pub mod Answered
 pub mod Passes
 pub mod Complete
-pub mod Framings
 pub mod Next
 pub mod Alone
 pub mod Answering

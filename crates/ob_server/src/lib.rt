@@ -9,7 +9,6 @@
 mod alone;
 mod answering;
 mod end;
-mod framings;
 mod laws;
 mod link;
 mod next;
@@ -22,7 +21,6 @@ mod worker;
 pub use alone::serve_alone;
 pub use answering::{Answerer, serve_by};
 pub use end::{Break, LinkEnd, Pause, Stop};
-pub use framings::framing_is_there;
 pub use laws::{one_end, one_sorting};
 pub use link::{end_at, end_of, read_piece, serve_link};
 pub use next::{Next, take_next};
