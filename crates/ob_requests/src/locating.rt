@@ -15,6 +15,9 @@ use std::alloc::{AllocError, Global};
 pub fn located(alloc: Global, plan: &Plan, text: &Text) -> Result<Option<Text>, AllocError>
     ensures { IfOk result (λ path. path ≡ locate (plan_of plan.now).base text.now) }
 {
+    if plan.base.keeps(text.as_str()) {
+        return Ok(Some(text.copy()?));
+    }
     match locate(alloc, &plan.base, text.as_str()) {
         Ok(path) => Ok(Some(path)),
         Err(HrefFault::Memory) => Err(AllocError),
