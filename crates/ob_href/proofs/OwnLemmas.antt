@@ -29,7 +29,7 @@ use Rattle.url.proofs.ValidLemmas.{segment_list_kept, base_from_authority, speci
 use Rattle.ob_values.specs.XmlText.{is_printable}
 use Rattle.ob_href.specs.declared.fault.HrefFault.{HrefFault}
 use Rattle.ob_href.specs.Href.{is_web, IsBase, IsOwnPath, is_unreserved, may_follow, is_path_text, port_of, has_same_origin, without_fragment, target_of, only_if, path_of, resolved_path, located_path}
-use Rattle.ob_href.proofs.WebLemmas.{either}
+use Rattle.ob_values.proofs.Bools.{or_parts}
 use Rattle.ob_href.proofs.XmlLemmas.{is_plain, is_visible, with_query_there}
 
 -- ---- unreserved bytes
@@ -263,7 +263,7 @@ kind_of_web : (scheme : List ℕ) → (bytes_eq scheme (codes "http") || bytes_e
 unfolding scheme_type default_port
 kind_of_web scheme web =
     let P : List ℕ → Type 0 = λ s. scheme_type s ≡ SpecialNotFile in
-    elim (either _ _ web) [
+    elim (or_parts _ _ web) [
       | inl http ↦ subst P (sym ((bytes_eq-Decides scheme (codes "http")).0 http)) refl
       | inr https ↦ subst P (sym ((bytes_eq-Decides scheme (codes "https")).0 https)) refl
     ]
