@@ -29,13 +29,6 @@ use Rattle.ob_plain_state.proofs.Kept.{takes_too, nodes_take, some_rule, of_limi
 use Rattle.ob_consistent_laws.specs.Consistent.{IsConsistent}
 use Rattle.ob_site_written.specs.Fitting.{CanBeWritten}
 
-    here : (b : Bool) → ((k : ℕ) → first_place P rs ≡ Some k → (q : Rule) × (slice_get (numbered_from (n + 1) rs) k ≡ Some q))
-        → cond b (Some 0) (option_map (λ k. k + 1) (first_place P rs)) ≡ Some i → (q : Rule) × (slice_get (numbered_from n (r ∷ rs)) i ≡ Some q)
-    here true later f =
-        let at : 0 ≡ i = cc in
-        (record { source = n; path = r.source; low = r.low; high = r.high; needs_ack = r.needs_ack }, ap (slice_get (numbered_from n (r ∷ rs))) (sym at))
-    here false later f = next (first_place P rs) refl later f
-
 takes_at : (plan : Plan) (p : Path) (k : Kind) (slot : Slot) (place : Option ℕ) → rule_of plan p ≡ place
     → IsTrue (limits_fit k (rule_in plan place)) → IsTrue (fits_slot k slot) → TakesIfRule (numbered_from 0 plan.rules) place slot
 takes_at plan p k slot None is h f = tt

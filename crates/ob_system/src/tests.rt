@@ -106,10 +106,7 @@ fn what_one_end_writes_the_other_reads(rt: HostRuntime) {
 }
 
 // Whether the door's end is closed over a byte that it didn't read, so that its system resets the connection.
-fn resets<'a>(
-    door: &mut TcpDoor<'a, HostRuntime>,
-    near: &mut TcpLink<'a, HostRuntime>,
-) -> bool {
+fn resets<'a>(door: &mut TcpDoor<'a, HostRuntime>, near: &mut TcpLink<'a, HostRuntime>) -> bool {
     let Ok(Some(far)) = door.accept() else {
         return false;
     };

@@ -68,7 +68,12 @@ fn an_interruption_is_no_fault(rt: HostRuntime) {
 }
 
 // Whether the files read so many bytes of a file, of 8 at most.
-fn reads_so_many(rt: &HostRuntime, files: &mut DiskFiles<'_, HostRuntime>, name: &str, length: usize) -> bool {
+fn reads_so_many(
+    rt: &HostRuntime,
+    files: &mut DiskFiles<'_, HostRuntime>,
+    name: &str,
+    length: usize,
+) -> bool {
     match &files.read_file(rt.alloc(), name, 8) {
         Ok(bytes) => bytes.len() == length,
         Err(_) => false,
@@ -77,7 +82,10 @@ fn reads_so_many(rt: &HostRuntime, files: &mut DiskFiles<'_, HostRuntime>, name:
 
 // Whether a file can't be read.
 fn fails_to_read(rt: &HostRuntime, files: &mut DiskFiles<'_, HostRuntime>, name: &str) -> bool {
-    matches!(&files.read_file(rt.alloc(), name, 8), Err(FileFault::Failed))
+    matches!(
+        &files.read_file(rt.alloc(), name, 8),
+        Err(FileFault::Failed)
+    )
 }
 
 #[test]
