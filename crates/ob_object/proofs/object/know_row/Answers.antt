@@ -11,7 +11,7 @@ loop-object-preserved c =
     let i = c.loop-object.object-index in
     let x = c.object-item.result in
     subst (λ (l : List Object). RowIsWellFormed (in_row l)) (sym (take_more os i x c.loop-object-test.true ∙ ap (λ (o : Object). take i os ++ o ∷ []) (sym c.object-item.is)))
-    (RowIsWellFormed-more (take i os) x c.loop-object.invariant c.head.ensures.well_formed)
+    (RowIsWellFormed-more (take i os) x c.loop-object.invariant c.head-head.ensures.well_formed)
 
 pub returns : goal.returns
 returns c = subst (λ (l : List Object). RowIsWellFormed (in_row l)) (take_all c.loop-object.object-index c.args.objects.now (omega arith)) c.loop-object.invariant
