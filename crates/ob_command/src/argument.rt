@@ -1,7 +1,7 @@
 //! The words behind the command: operands, and options with their values.
 ghost use Rattle.std.specs.Prelude.{◌≡◌, ◌≤◌, ◌<◌, ◌^◌, ◌∷◌, [], true, false, length, map, option_map, option_copied, string_bytes, codes, bytes_eq, None, IfSome, MatchOption};
 ghost use Rattle.std.specs.List.{list_any};
-ghost use Rattle.ob_command.specs.Arguments.{operand, is_option, arguments, operands, values, has_only};
+ghost use Rattle.ob_command.specs.Arguments.{is_option, arguments, operands, values, has_only};
 ghost use Rattle.ob_command.specs.Command.{number_given, number_or, word_given};
 ghost use Rattle.ob_command.specs.Words.{argument_of, arguments_of};
 
@@ -69,21 +69,6 @@ fn next_argument<'a>(word: &'a str, rest: &'a [String]) -> (Argument<'a>, Argume
     }
 }
 
-/// The first word as an operand, and those behind it as operands; `None` where there is none.
-fn first_operand<'a>(words: &'a [String]) -> Option<(Argument<'a>, Arguments<'a>)>
-    ensures { MatchOption result (map string_bytes words.now ≡ [])
-        (λ next. (map operand (map string_bytes words.now) ≡ argument_of next.0 ∷ arguments_of next.1) × (length next.1.words.now < length words.now)) }
-{
-    let [word, behind @ ..] = words else {
-        return None;
-    };
-    let left = Arguments {
-        words: behind,
-        plain: true,
-    };
-    Some((Argument::Operand(word.as_str()), left))
-}
-
 impl<'a> Arguments<'a> {
     /// The words as arguments.
     pub(crate) fn of(words: &'a [String]) -> Arguments<'a>
@@ -97,21 +82,36 @@ impl<'a> Arguments<'a> {
     }
 
     /// The first argument, and those behind it; `None` where there is none.
-    #[tactic(auto, using(crate::proofs::ArgumentLemmas::behind_dashes))]
     fn split_first(self) -> Option<(Argument<'a>, Arguments<'a>)>
         ensures { MatchOption result (arguments_of self.entry ≡ [])
             (λ next. (arguments_of self.entry ≡ argument_of next.0 ∷ arguments_of next.1) × (length next.1.words.now < length self.entry.words.now)) }
     {
-        if self.plain {
-            return first_operand(self.words);
-        }
         let [word, behind @ ..] = self.words else {
             return None;
         };
-        if word.as_str() == "--" {
-            return first_operand(behind);
+        if self.plain {
+            return Some((
+                Argument::Operand(word.as_str()),
+                Arguments::behind_dashes(behind),
+            ));
         }
-        Some(next_argument(word.as_str(), behind))
+        if word.as_str() != "--" {
+            return Some(next_argument(word.as_str(), behind));
+        }
+        let [word, behind @ ..] = behind else {
+            return None;
+        };
+        Some((
+            Argument::Operand(word.as_str()),
+            Arguments::behind_dashes(behind),
+        ))
+    }
+
+    /// The words as operands.
+    fn behind_dashes(words: &'a [String]) -> Arguments<'a>
+        ensures { (result.words.now ≡ words.now) × (result.plain ≡ true) }
+    {
+        Arguments { words, plain: true }
     }
 
     /// Whether there is no option but those of these names, each with a value.
