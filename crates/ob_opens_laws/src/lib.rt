@@ -7,6 +7,7 @@
 ghost use Rattle.ob_opens_laws.specs.Moments.{OpensAtEach, RefusedAtEach};
 ghost use Rattle.ob_opens_laws.specs.Records.{OpensRecords};
 ghost use Rattle.ob_opens_laws.specs.Roles.{OpensRoles};
+ghost use Rattle.ob_opens_laws.specs.Sound.{OpensSound};
 ghost use Rattle.ob_opens_laws.specs.Sources.{OpensSources};
 
 /// The logs of the state that a well-formed document opens roll from logs of which nothing is gone, whose entries are records
@@ -33,4 +34,10 @@ pub fn opens_at_each()
 /// A document that is refused at one moment is refused so at every other one.
 pub fn refused_at_each()
     ensures { RefusedAtEach }
+{}
+
+/// The state that a document opens is sound: no watch stands, the next number is 1, and each history is within its
+/// capacity. So the laws of watches hold of every legal history from it.
+pub fn opens_sound()
+    ensures { OpensSound }
 {}

@@ -1,4 +1,3 @@
 pub mod Apart
 pub mod SiteRecords
 pub mod SiteRuns
-mod Rows

@@ -1,2 +1,1 @@
 pub mod SiteLasting
-pub mod RestartRows

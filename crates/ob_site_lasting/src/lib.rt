@@ -5,7 +5,6 @@
 //! ob_site_rules.
 #![tactic(auto)]
 
-ghost use Rattle.ob_site_lasting.specs.RestartRows.{AfterAReplay, AfterARestart, AlarmsStay};
 ghost use Rattle.ob_site_lasting.specs.SiteLasting.{EachRunKeepsWatches, GoneOverRestarts, IsSiteRestartOf, ReadsLeaveAll, SiteCutOff, SiteDoneAgain, SiteDoneAgainFurther, SiteIsApart, SiteRecordGoesOn, SiteRecordLasts, WatchesLeaveAll};
 
 /// What a request leaves of a site doesn't depend on which watches stand: in a batch an item for a watch is refused, whether the
@@ -59,11 +58,4 @@ pub fn each_run_keeps_watches()
 /// Source: oBIX 1.1, chapter Watches; what a restart keeps is this project's own.
 pub fn watch_gone(watch: u64)
     ensures { GoneOverRestarts IsSiteRestartOf watch }
-{}
-
-/// Rows: what requests are answered on a plant before a restart and behind it, computed from the definitions.
-pub fn worked_rows()
-    ensures after_a_restart { AfterARestart }
-    ensures after_a_replay { AfterAReplay }
-    ensures alarms_stay { AlarmsStay }
 {}

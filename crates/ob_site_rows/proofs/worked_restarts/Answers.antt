@@ -1,5 +1,5 @@
-use Rattle.ob_site_lasting.proofs.Rows as rows
-use Rattle.ob_site_lasting.proofs.worked_rows.Goals as goal
+use Rattle.ob_site_rows.proofs.RestartRows as rows
+use Rattle.ob_site_rows.proofs.worked_restarts.Goals as goal
 
 pub returns-clause-after_a_restart : goal.returns-clause-after_a_restart
 returns-clause-after_a_restart c = rows.after_a_restart

@@ -3,7 +3,7 @@ use Rattle.std.specs.Prelude.{refl}
 use Rattle.std.specs.Fmt.{digits}
 use Rattle.ob_contracts.specs.Inherit.{result_of}
 use Rattle.ob_contracts.specs.Standard.{standard}
-use Rattle.ob_site_lasting.specs.RestartRows.{AfterARestart, AfterAReplay, AlarmsStay}
+use Rattle.ob_site_rows.specs.RestartRows.{AfterARestart, AfterAReplay, AlarmsStay}
 
 pub after_a_restart : AfterARestart
 unfolding digits result_of standard
