@@ -14,10 +14,10 @@ use Rattle.ob_site_rules.specs.Shown.{derived, lobby_children, write_point_op, h
 use Rattle.ob_site_rules.specs.Paths.{below, behind, batch_path}
 use Rattle.ob_site_rules.specs.Sites.{SiteState}
 use Rattle.ob_site_rules.specs.Writes.{site_contracts}
-use Rattle.ob_opening.specs.declared.roles.Roles.{Roles}
-use Rattle.ob_opening.specs.Roles.{no_roles, all_roles, is_dropped, holds_contracts, role_at, worded_contracts}
-use Rattle.ob_opening.specs.Opening.{standard_words}
-use Rattle.ob_opening.specs.Loading.{Part, row_of, kept_root, kept_row, parts_of, paths_in, listed_path, derived_paths, is_computed, taken_twice, path_of, histories_in, subjects, root_lobby, opened}
+use Rattle.ob_site_rules.specs.declared.roles.Roles.{Roles}
+use Rattle.ob_site_rules.specs.Roles.{no_roles, all_roles, is_dropped, holds_contracts, role_at, worded_contracts}
+use Rattle.ob_site_rules.specs.Opening.{standard_words}
+use Rattle.ob_site_rules.specs.Loading.{Part, row_of, kept_root, kept_row, parts_of, paths_in, listed_path, derived_paths, is_computed, taken_twice, path_of, histories_in, subjects, root_lobby, opened}
 use Rattle.ob_consistent_laws.specs.Laws.{Apart, row_paths}
 use Rattle.ob_consistent_laws.proofs.Lists.{each_first, each_second, each_more, each_two}
 use Rattle.ob_values.proofs.Bools.{neither_left, neither_right, both_false}

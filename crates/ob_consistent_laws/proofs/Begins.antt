@@ -16,9 +16,9 @@ use Rattle.ob_hrefs.specs.Hrefs.{root_url, site_path, bad_href, made_object}
 use Rattle.ob_site_rules.specs.Build.{Text, Path}
 use Rattle.ob_site_rules.specs.Writes.{site_contracts}
 use Rattle.ob_site_rules.specs.Sites.{SiteState}
-use Rattle.ob_opening.specs.Roles.{worded_contracts}
-use Rattle.ob_opening.specs.Opening.{standard_words, opening}
-use Rattle.ob_opening.specs.Loading.{LoadFault, Href, RootHref, Contract, add_contracts, opened_by, opening_at, root_of}
+use Rattle.ob_site_rules.specs.Roles.{worded_contracts}
+use Rattle.ob_site_rules.specs.Opening.{standard_words, opening}
+use Rattle.ob_site_rules.specs.Loading.{LoadFault, Href, RootHref, Contract, add_contracts, opened_by, opening_at, root_of}
 use Rattle.ob_consistent_laws.proofs.Inverted.{Opens, opens, not_bad}
 
 -- the library with words that tells the roles of a made root

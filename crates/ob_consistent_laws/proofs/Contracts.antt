@@ -5,9 +5,9 @@ use Rattle.ob_object.specs.Object.{Object, Objects, none, node, count, listed, c
 use Rattle.ob_object.specs.WellFormed.{has_name, named}
 use Rattle.ob_object.specs.Paths.{node_path}
 use Rattle.ob_site_rules.specs.Writes.{site_contracts}
-use Rattle.ob_opening.specs.declared.roles.Roles.{Roles}
-use Rattle.ob_opening.specs.Roles.{no_roles, is_dropped, role_at}
-use Rattle.ob_opening.specs.Loading.{kept_row, kept_root}
+use Rattle.ob_site_rules.specs.declared.roles.Roles.{Roles}
+use Rattle.ob_site_rules.specs.Roles.{no_roles, is_dropped, role_at}
+use Rattle.ob_site_rules.specs.Loading.{kept_row, kept_root}
 use Rattle.ob_consistent_laws.proofs.Fit.{Fit}
 use Rattle.ob_consistent_laws.proofs.Walk.{none_dropped}
 use Rattle.ob_consistent_laws.proofs.Names.{contracts_stay}

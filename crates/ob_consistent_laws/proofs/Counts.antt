@@ -8,9 +8,9 @@ use Rattle.ob_site_rules.specs.Build.{Text}
 use Rattle.ob_site_rules.specs.State.{Log, rolled}
 use Rattle.ob_plain_state.specs.States.{AreCounted}
 use Rattle.ob_plain_state.proofs.Keeping.{rolled_counted}
-use Rattle.ob_opening.specs.declared.roles.Roles.{Roles}
-use Rattle.ob_opening.specs.Roles.{is_part}
-use Rattle.ob_opening.specs.Loading.{Part, parts_of, numbered, items_of, record_in, records_of, capacity_of, path_of}
+use Rattle.ob_site_rules.specs.declared.roles.Roles.{Roles}
+use Rattle.ob_site_rules.specs.Roles.{is_part}
+use Rattle.ob_site_rules.specs.Loading.{Part, parts_of, numbered, items_of, record_in, records_of, capacity_of, path_of}
 use Rattle.ob_consistent_laws.proofs.Walk.{Walks, each_part}
 
 -- what is in a part is less than so many

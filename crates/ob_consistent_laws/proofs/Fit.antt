@@ -7,8 +7,8 @@ use Rattle.ob_object.specs.Object.{Object, Objects, none, node, count}
 use Rattle.ob_object.specs.Paths.{node_path}
 use Rattle.ob_contracts.specs.Ancestry.{own_words}
 use Rattle.ob_contracts.specs.Inherit.{Contracts, Words, sources, overridden, implied_by, inherited_head}
-use Rattle.ob_opening.specs.declared.roles.Roles.{Roles}
-use Rattle.ob_opening.specs.Roles.{no_roles, roles_there, holds_contracts, row_roles, all_roles, role_at}
+use Rattle.ob_site_rules.specs.declared.roles.Roles.{Roles}
+use Rattle.ob_site_rules.specs.Roles.{no_roles, roles_there, holds_contracts, row_roles, all_roles, role_at}
 
 -- the roles from a number on begin with those
 abbrev pub At : List Roles → ℕ → List Roles → Type 0

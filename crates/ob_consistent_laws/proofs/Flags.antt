@@ -11,8 +11,8 @@ use Rattle.ob_site_rules.specs.Build.{Text, Path}
 use Rattle.ob_site_rules.specs.State.{Plan, State, Log, at, is_among}
 use Rattle.ob_site_rules.specs.Shown.{derived, lobby_children, write_point_op, history_part, subject_children}
 use Rattle.ob_plain_state.proofs.Keeping.{names_of}
-use Rattle.ob_opening.specs.Roles.{derived_names}
-use Rattle.ob_opening.specs.Loading.{Part, path_of, root_lobby}
+use Rattle.ob_site_rules.specs.Roles.{derived_names}
+use Rattle.ob_site_rules.specs.Loading.{Part, path_of, root_lobby}
 use Rattle.ob_consistent_laws.proofs.Names.{names, same_names, distinct_names}
 use Rattle.ob_consistent_laws.proofs.Roled.{is_lobby, is_subject, IsPlaced}
 use Rattle.ob_consistent_laws.proofs.Kept.{unless}

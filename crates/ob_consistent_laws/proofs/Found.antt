@@ -5,7 +5,7 @@ use Rattle.std.specs.List.{AllByRecursion}
 use Rattle.ob_site_rules.specs.Build.{Path}
 use Rattle.ob_object.specs.Paths.{is_path, node_path}
 use Rattle.ob_site_rules.specs.State.{is_among}
-use Rattle.ob_opening.specs.Loading.{Part, listed_path, path_of}
+use Rattle.ob_site_rules.specs.Loading.{Part, listed_path, path_of}
 use Rattle.ob_consistent_laws.specs.Laws.{Apart}
 use Rattle.ob_values.proofs.Bools.{or_true}
 use Rattle.ob_consistent_laws.proofs.OneKind.{among_append, apart_second, apart_not, listed_is}

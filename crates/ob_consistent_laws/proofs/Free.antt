@@ -12,9 +12,9 @@ use Rattle.ob_site_rules.specs.State.{Plan, State, is_among}
 use Rattle.ob_site_rules.specs.Shown.{derived}
 use Rattle.ob_plain_state.specs.States.{NamesAreFree}
 use Rattle.ob_plain_state.proofs.Keeping.{names_of, taken_among, taken-among}
-use Rattle.ob_opening.specs.declared.roles.Roles.{Roles}
-use Rattle.ob_opening.specs.Roles.{derived_names, name_among, is_dropped, holds_contracts, role_at}
-use Rattle.ob_opening.specs.Loading.{Part, parts_of, kept_row}
+use Rattle.ob_site_rules.specs.declared.roles.Roles.{Roles}
+use Rattle.ob_site_rules.specs.Roles.{derived_names, name_among, is_dropped, holds_contracts, role_at}
+use Rattle.ob_site_rules.specs.Loading.{Part, parts_of, kept_row}
 use Rattle.ob_consistent_laws.proofs.Lists.{each_first, each_second}
 use Rattle.ob_values.proofs.Bools.{neither_left, neither_right, both_false}
 use Rattle.ob_consistent_laws.proofs.Names.{distinct}

@@ -7,8 +7,8 @@ use Rattle.ob_contracts.specs.Inherit.{Contracts}
 use Rattle.ob_site_rules.specs.Build.{Path}
 use Rattle.ob_site_rules.specs.Shown.{shown_root}
 use Rattle.ob_site_rules.specs.Sites.{SiteState}
-use Rattle.ob_opening.specs.Roles.{no_roles, all_roles}
-use Rattle.ob_opening.specs.Loading.{LoadFault, Size, PathTwice, BadRule, Part, row_of, kept_root, parts_of, paths_in, taken_twice, bad_part, bad_history, bad_rules, bad_subjects, overfull, least, histories_in, subjects, items_of, opened, or_twice, or_bad, within_size, opened_with}
+use Rattle.ob_site_rules.specs.Roles.{no_roles, all_roles}
+use Rattle.ob_site_rules.specs.Loading.{LoadFault, Size, PathTwice, BadRule, Part, row_of, kept_root, parts_of, paths_in, taken_twice, bad_part, bad_history, bad_rules, bad_subjects, overfull, least, histories_in, subjects, items_of, opened, or_twice, or_bad, within_size, opened_with}
 use Rattle.ob_consistent_laws.proofs.Flags.{IsOneAtMost}
 
 err_no_ok : (f : LoadFault) (st : SiteState) → Err f ≡ Ok st → ⊥

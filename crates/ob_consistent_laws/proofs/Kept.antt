@@ -5,9 +5,9 @@ use Rattle.ob_object.specs.Object.{Object, Objects, none, node, count}
 use Rattle.ob_object.specs.Paths.{node_path}
 use Rattle.ob_site_rules.specs.Build.{Path}
 use Rattle.ob_site_rules.specs.State.{is_among}
-use Rattle.ob_opening.specs.declared.roles.Roles.{Roles}
-use Rattle.ob_opening.specs.Roles.{no_roles, is_dropped, holds_contracts, role_at}
-use Rattle.ob_opening.specs.Loading.{Part, parts_of, kept_row, kept_root, row_of, paths_in, listed_path, derived_paths}
+use Rattle.ob_site_rules.specs.declared.roles.Roles.{Roles}
+use Rattle.ob_site_rules.specs.Roles.{no_roles, is_dropped, holds_contracts, role_at}
+use Rattle.ob_site_rules.specs.Loading.{Part, parts_of, kept_row, kept_root, row_of, paths_in, listed_path, derived_paths}
 use Rattle.ob_consistent_laws.specs.Laws.{Apart, row_paths}
 use Rattle.ob_values.proofs.Bools.{neither_right, both_false, or_true}
 use Rattle.ob_consistent_laws.proofs.OneKind.{among_append, apart_first, apart_second, apart_not}

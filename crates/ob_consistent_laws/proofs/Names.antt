@@ -9,8 +9,8 @@ use Rattle.ob_object.specs.Kinds.{same_kind}
 use Rattle.ob_object.specs.WellFormed.{has_name}
 use Rattle.ob_site_rules.specs.Build.{Text}
 use Rattle.ob_site_rules.specs.State.{is_among}
-use Rattle.ob_opening.specs.declared.roles.Roles.{Roles}
-use Rattle.ob_opening.specs.Roles.{derived_names, name_among, is_dropped}
+use Rattle.ob_site_rules.specs.declared.roles.Roles.{Roles}
+use Rattle.ob_site_rules.specs.Roles.{derived_names, name_among, is_dropped}
 
 -- the names that roles derive, by the flags of a lobby, a point, a history and a subject
 abbrev pub names : Bool → Bool → Bool → Bool → List Text

@@ -4,7 +4,7 @@ use Rattle.std.proofs.lemmas.Slice.Eq.{bytes_eq-Decides}
 use Rattle.ob_values.proofs.Bools.{neither_left, neither_right, both_false}
 use Rattle.ob_site_rules.specs.Build.{Path}
 use Rattle.ob_site_rules.specs.State.{is_among}
-use Rattle.ob_opening.specs.Loading.{is_computed, taken_twice}
+use Rattle.ob_site_rules.specs.Loading.{is_computed, taken_twice}
 use Rattle.ob_consistent_laws.specs.Laws.{Apart, TakenOnce}
 
 -- none of the paths is among those

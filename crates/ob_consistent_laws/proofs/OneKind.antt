@@ -11,7 +11,7 @@ use Rattle.ob_contracts.specs.Inherit.{or_else, only_if}
 use Rattle.ob_site_rules.specs.Build.{Path}
 use Rattle.ob_site_rules.specs.State.{is_among}
 use Rattle.ob_site_rules.specs.Shown.{node_in}
-use Rattle.ob_opening.specs.Loading.{listed_path}
+use Rattle.ob_site_rules.specs.Loading.{listed_path}
 use Rattle.ob_plain_state.specs.States.{IsOfKindAt, NodesAre}
 use Rattle.ob_consistent_laws.specs.Laws.{Apart, row_paths, kind_or_obj, ApartAreOfOneKind}
 

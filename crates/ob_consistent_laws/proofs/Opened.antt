@@ -16,10 +16,10 @@ use Rattle.ob_site_rules.specs.Shown.{node_in, node_of}
 use Rattle.ob_site_rules.specs.Writes.{site_contracts}
 use Rattle.ob_site_rules.specs.Sites.{SiteState}
 use Rattle.ob_plain_state.specs.States.{AreCounted, NamesAreFree, NodesAre, AreTaken}
-use Rattle.ob_opening.specs.declared.roles.Roles.{Roles}
-use Rattle.ob_opening.specs.Roles.{no_roles, all_roles, role_at, worded_contracts}
-use Rattle.ob_opening.specs.Opening.{standard_words}
-use Rattle.ob_opening.specs.Loading.{Part, row_of, kept_root, parts_of, kept_row, paths_in, path_of, histories_in, subjects, root_lobby, add_contracts, opened}
+use Rattle.ob_site_rules.specs.declared.roles.Roles.{Roles}
+use Rattle.ob_site_rules.specs.Roles.{no_roles, all_roles, role_at, worded_contracts}
+use Rattle.ob_site_rules.specs.Opening.{standard_words}
+use Rattle.ob_site_rules.specs.Loading.{Part, row_of, kept_root, parts_of, kept_row, paths_in, path_of, histories_in, subjects, root_lobby, add_contracts, opened}
 use Rattle.ob_consistent_laws.specs.Laws.{Apart, row_paths, kind_or_obj}
 use Rattle.ob_consistent_laws.specs.Opens.{IsOpened, OpensConsistent, OpensCounted}
 use Rattle.ob_consistent_laws.proofs.Lists.{each_more, each_two, each_filter}

@@ -15,9 +15,9 @@ use Rattle.ob_site_rules.specs.Build.{Path}
 use Rattle.ob_site_rules.specs.State.{PointRule, Log, is_among, rolled}
 use Rattle.ob_site_rules.specs.Writes.{stored_in, stored_logs}
 use Rattle.ob_site_rules.specs.Sites.{SiteState}
-use Rattle.ob_opening.specs.declared.roles.Roles.{Roles}
-use Rattle.ob_opening.specs.Roles.{no_roles, all_roles}
-use Rattle.ob_opening.specs.Loading.{Part, row_of, kept_root, parts_of, paths_in, path_of, listed_path, is_computed, taken_twice, items_of, rule_in, bad_rules, is_bad_rule, after_rule, bad_subjects, subjects, histories_in, capacity_of, records_of, overfull, bad_part, ms_up, greatest, last_moment, opened}
+use Rattle.ob_site_rules.specs.declared.roles.Roles.{Roles}
+use Rattle.ob_site_rules.specs.Roles.{no_roles, all_roles}
+use Rattle.ob_site_rules.specs.Loading.{Part, row_of, kept_root, parts_of, paths_in, path_of, listed_path, is_computed, taken_twice, items_of, rule_in, bad_rules, is_bad_rule, after_rule, bad_subjects, subjects, histories_in, capacity_of, records_of, overfull, bad_part, ms_up, greatest, last_moment, opened}
 use Rattle.ob_consistent_laws.specs.Laws.{Apart, row_paths}
 use Rattle.ob_consistent_laws.specs.Ordered.{IsBy, IsOrdered, whole_log, moment_from, OpensInTime, OpensOrdered}
 use Rattle.ob_consistent_laws.proofs.Lists.{each_more, each_map, each_first, each_second}
@@ -34,7 +34,7 @@ use Rattle.ob_consistent_laws.proofs.Flags.{IsOneAtMost}
 use Rattle.ob_consistent_laws.proofs.Times.{not_after}
 use Rattle.ob_consistent_laws.proofs.Begins.{Begins, begins, words_of}
 use Rattle.ob_hrefs.specs.Hrefs.{site_path, made_object}
-use Rattle.ob_opening.specs.Opening.{standard_words}
+use Rattle.ob_site_rules.specs.Opening.{standard_words}
 
 -- paths of which none is refused aren't computed
 none_computed : (r : Path) (seen ps : List Path) → taken_twice r seen ps ≡ None → AllByRecursion (λ p. is_computed r p ≡ false) ps

@@ -6,7 +6,7 @@ use Rattle.ob_object.specs.Object.{Object}
 use Rattle.ob_history.specs.declared.records.Record.{Record}
 use Rattle.ob_history.specs.Records.{InOrder, IsNotBefore}
 use Rattle.ob_site_rules.specs.State.{rolled}
-use Rattle.ob_opening.specs.Loading.{Part, items_of, record_in, records_of, bad_records, bad_history, bad_part, after_item, is_bad_item, is_late, is_earlier, has_bad_source, has_bad_capacity, histories_in, ms_up, last_moment}
+use Rattle.ob_site_rules.specs.Loading.{Part, items_of, record_in, records_of, bad_records, bad_history, bad_part, after_item, is_bad_item, is_late, is_earlier, has_bad_source, has_bad_capacity, histories_in, ms_up, last_moment}
 use Rattle.ob_values.proofs.Bools.{neither_left, neither_right}
 use Rattle.ob_consistent_laws.proofs.Inverted.{all_good, first_none, second_none}
 use Rattle.ob_consistent_laws.proofs.Times.{ms_up_most, not_before}

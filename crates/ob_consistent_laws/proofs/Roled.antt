@@ -7,9 +7,9 @@ use Rattle.ob_object.specs.Object.{Object, Objects, node, count}
 use Rattle.ob_object.specs.Paths.{node_path}
 use Rattle.ob_site_rules.specs.Build.{Path}
 use Rattle.ob_site_rules.specs.Paths.{below}
-use Rattle.ob_opening.specs.declared.roles.Roles.{Roles}
-use Rattle.ob_opening.specs.Roles.{no_roles, is_dropped, role_at}
-use Rattle.ob_opening.specs.Loading.{Part, parts_of, paths_in, listed_path, derived_paths, row_of}
+use Rattle.ob_site_rules.specs.declared.roles.Roles.{Roles}
+use Rattle.ob_site_rules.specs.Roles.{no_roles, is_dropped, role_at}
+use Rattle.ob_site_rules.specs.Loading.{Part, parts_of, paths_in, listed_path, derived_paths, row_of}
 use Rattle.ob_consistent_laws.specs.Laws.{Apart}
 use Rattle.ob_values.proofs.Bools.{neither_left, neither_right}
 use Rattle.ob_consistent_laws.proofs.OneKind.{apart_first, apart_second}

@@ -26,9 +26,9 @@ use Rattle.ob_site_rules.specs.Shown.{rule_of}
 use Rattle.ob_site_rules.specs.Writes.{number_in}
 use Rattle.ob_plain_state.specs.States.{IsOfKindAt, NodesAre, limits_fit, rule_at}
 use Rattle.ob_plain_state.specs.States as states
-use Rattle.ob_opening.specs.declared.roles.Roles.{Roles}
-use Rattle.ob_opening.specs.Roles.{is_part, is_dropped, role_at}
-use Rattle.ob_opening.specs.Loading.{Part, parts_of, kept_row, items_of, numbered, of_kind, child_of, own_number, is_number_kind, node_there, source_ref, truth_in, rule_from, rule_on, rule_in, subjects}
+use Rattle.ob_site_rules.specs.declared.roles.Roles.{Roles}
+use Rattle.ob_site_rules.specs.Roles.{is_part, is_dropped, role_at}
+use Rattle.ob_site_rules.specs.Loading.{Part, parts_of, kept_row, items_of, numbered, of_kind, child_of, own_number, is_number_kind, node_there, source_ref, truth_in, rule_from, rule_on, rule_in, subjects}
 use Rattle.ob_consistent_laws.proofs.Lists.{each_filter, each_found, each_flat_map, each_filter_map, each_more, all_places}
 use Rattle.ob_consistent_laws.proofs.Walk.{Walks, each_part}
 use Rattle.ob_consistent_laws.proofs.Sound.{Sound}

@@ -7,7 +7,7 @@ use Rattle.ob_contracts.specs.Adding.{added, names_word, library_names}
 use Rattle.ob_contracts.specs.Standard.{with_added}
 use Rattle.ob_contracts.specs.declared.adding.LibFault.{LibFault}
 use Rattle.ob_contracts.specs.declared.adding.LibFault.TheVariants.{Twice, Later, Large}
-use Rattle.ob_opening.specs.Loading.{add_contracts}
+use Rattle.ob_site_rules.specs.Loading.{add_contracts}
 use Rattle.ob_plain_state.specs.States.{AreTaken}
 use Rattle.ob_consistent_laws.specs.Laws.{AddedAreTaken}
 

@@ -2,7 +2,7 @@
 use Rattle.std.proofs.Common.{◌≡◌, ℕ, ◌+◌, ◌*◌, ◌/◌, ◌%◌, ◌<◌, ◌≤◌, ℤ, pos, negsuc, ◌≤ℤ◌, int_lt, false, arith, div-add-mod', mod-lt}
 use Rattle.std.proofs.lemmas.Int.{ints}
 use Rattle.ob_times.specs.Times.{Instant, instant, moment_instant}
-use Rattle.ob_opening.specs.Loading.{ms_up, last_moment, is_earlier}
+use Rattle.ob_site_rules.specs.Loading.{ms_up, last_moment, is_earlier}
 
 abbrev in_ms : ℕ → ℕ
 in_ms n = (n + 999_999) / 1_000_000

@@ -4,9 +4,9 @@ use Rattle.std.specs.List.{AllByRecursion}
 use Rattle.ob_object.specs.declared.head.Head.{Head}
 use Rattle.ob_object.specs.Object.{Object, Objects, none, node, count}
 use Rattle.ob_site_rules.specs.Build.{Text}
-use Rattle.ob_opening.specs.declared.roles.Roles.{Roles}
-use Rattle.ob_opening.specs.Roles.{no_roles, name_among, is_dropped, holds_contracts, role_at}
-use Rattle.ob_opening.specs.Loading.{Part, parts_of, kept_row, kept_root, row_of}
+use Rattle.ob_site_rules.specs.declared.roles.Roles.{Roles}
+use Rattle.ob_site_rules.specs.Roles.{no_roles, name_among, is_dropped, holds_contracts, role_at}
+use Rattle.ob_site_rules.specs.Loading.{Part, parts_of, kept_row, kept_root, row_of}
 use Rattle.ob_consistent_laws.proofs.Lists.{each_both}
 
 -- the part that an object is

@@ -7,7 +7,7 @@ use Rattle.ob_alarms.specs.Limits.{IsRule}
 use Rattle.ob_site_rules.specs.State.{numbered_from, board, roll}
 use Rattle.ob_site_rules.specs.Writes.{site_contracts}
 use Rattle.ob_site_rules.specs.Sites.{SiteState}
-use Rattle.ob_opening.specs.Opening.{opening}
+use Rattle.ob_site_rules.specs.Opening.{opening}
 use Rattle.ob_plain_state.specs.States.{AreCounted, state_of, unspared, IsOf}
 use Rattle.ob_plain_state.specs.declared.state.State as value
 use Rattle.ob_consistent_laws.specs.Consistent.{IsConsistent}

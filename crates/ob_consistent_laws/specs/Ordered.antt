@@ -10,8 +10,8 @@ use Rattle.ob_site_rules.specs.Build.{Path}
 use Rattle.ob_site_rules.specs.State.{Plan, State, Log, is_among, board, roll}
 use Rattle.ob_site_rules.specs.Writes.{stored}
 use Rattle.ob_site_rules.specs.Sites.{SiteState}
-use Rattle.ob_opening.specs.Opening.{opening}
-use Rattle.ob_opening.specs.Loading.{Part, row_of, is_computed, bad_part, histories_in, path_of, capacity_of, records_of, ms_up, greatest, last_moment}
+use Rattle.ob_site_rules.specs.Opening.{opening}
+use Rattle.ob_site_rules.specs.Loading.{Part, row_of, is_computed, bad_part, histories_in, path_of, capacity_of, records_of, ms_up, greatest, last_moment}
 use Rattle.ob_consistent_laws.specs.Laws.{Apart, row_paths}
 use Rattle.ob_consistent_laws.specs.Consistent.{IsConsistent}
 

@@ -3,7 +3,7 @@ use Rattle.std.proofs.Common.{◌≡◌, inl, inr, ℕ, List, [], ◌∷◌, len
 use Rattle.std.specs.Prelude.{IfSome, Ok}
 use Rattle.ob_load.specs.Loads.{IsSite}
 use Rattle.ob_object.specs.Object.{Object}
-use Rattle.ob_opening.specs.Opening.{opening}
+use Rattle.ob_site_rules.specs.Opening.{opening}
 use Rattle.ob_record.specs.Broken.{OneRun}
 use Rattle.ob_record.specs.Legal.{IsLegalRun, left_by_told, left_by_entry, after_entries}
 use Rattle.ob_record.specs.Runs.{Recorded, Records, IsRecord}

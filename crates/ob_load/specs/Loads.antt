@@ -4,7 +4,7 @@ use Rattle.ob_object.specs.Object.{Object}
 use Rattle.ob_documents.specs.Spelling.{Spells}
 use Rattle.ob_xml.specs.Judged.{Judged, fault}
 use Rattle.ob_site_rules.specs.Sites.{SiteState}
-use Rattle.ob_opening.specs.Opening.{opening}
+use Rattle.ob_site_rules.specs.Opening.{opening}
 use Rattle.ob_site_file.specs.Passes.{Refuses}
 use Rattle.ob_site_file.specs.declared.fault.LoadFault.{LoadFault}
 use Rattle.ob_site_file.specs.declared.fault.LoadFault.TheVariants.{Read, Document, Memory}

@@ -1,6 +1,6 @@
 //! A site from its file.
 ghost use Rattle.std.specs.Prelude.{◌≡◌, ◌⊎◌, ℕ, List, Ok, map, take, IfOk, IfErr, IfSome};
-ghost use Rattle.ob_opening.specs.Opening.{opening};
+ghost use Rattle.ob_site_rules.specs.Opening.{opening};
 ghost use Rattle.ob_plain_state.specs.States.{entry_of, AreCounted};
 ghost use Rattle.ob_site.specs.Between.{IsShallow};
 ghost use Rattle.ob_site_file.specs.Opened.{site_of};

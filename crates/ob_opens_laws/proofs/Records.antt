@@ -19,9 +19,9 @@ use Rattle.ob_hrefs.specs.Hrefs.{site_path, made_object}
 use Rattle.ob_site_rules.specs.Build.{Text, Path, child}
 use Rattle.ob_site_rules.specs.State.{Log, rolled, rolled_logs}
 use Rattle.ob_site_rules.specs.Sites.{SiteState}
-use Rattle.ob_opening.specs.Roles.{no_roles, all_roles}
-use Rattle.ob_opening.specs.Opening.{standard_words}
-use Rattle.ob_opening.specs.Loading.{Part, row_of, kept_root, parts_of, path_of, histories_in, items_of, record_from, record_in, records_of, value_of_record, time_of, child_of, opened, ms_up, greatest}
+use Rattle.ob_site_rules.specs.Roles.{no_roles, all_roles}
+use Rattle.ob_site_rules.specs.Opening.{standard_words}
+use Rattle.ob_site_rules.specs.Loading.{Part, row_of, kept_root, parts_of, path_of, histories_in, items_of, record_from, record_in, records_of, value_of_record, time_of, child_of, opened, ms_up, greatest}
 use Rattle.ob_consistent_laws.specs.Ordered.{IsBy, whole_log, whole_logs, opening_time}
 use Rattle.ob_consistent_laws.proofs.Lists.{each_first, each_second, each_more, each_map, each_filter, each_filter_map}
 use Rattle.ob_consistent_laws.proofs.Sound.{Sound, slot_fits, formed_sound, made_differ, made_sound}

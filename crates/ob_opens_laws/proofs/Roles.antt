@@ -16,10 +16,10 @@ use Rattle.ob_hrefs.specs.Hrefs.{site_path, made_object}
 use Rattle.ob_site_rules.specs.Build.{Path}
 use Rattle.ob_site_rules.specs.State.{PointRule, is_among}
 use Rattle.ob_site_rules.specs.Sites.{SiteState}
-use Rattle.ob_opening.specs.declared.roles.Roles.{Roles}
-use Rattle.ob_opening.specs.Roles.{no_roles, all_roles}
-use Rattle.ob_opening.specs.Opening.{standard_words}
-use Rattle.ob_opening.specs.Loading.{Part, row_of, kept_root, parts_of, path_of, listed_path, items_of, source_ref, node_there, is_number_kind, own_number, truth_in, child_of, rule_from, rule_on, rule_in, subjects, opened}
+use Rattle.ob_site_rules.specs.declared.roles.Roles.{Roles}
+use Rattle.ob_site_rules.specs.Roles.{no_roles, all_roles}
+use Rattle.ob_site_rules.specs.Opening.{standard_words}
+use Rattle.ob_site_rules.specs.Loading.{Part, row_of, kept_root, parts_of, path_of, listed_path, items_of, source_ref, node_there, is_number_kind, own_number, truth_in, child_of, rule_from, rule_on, rule_in, subjects, opened}
 use Rattle.ob_consistent_laws.specs.Laws.{row_paths}
 use Rattle.ob_consistent_laws.proofs.Lists.{each_flat_map, each_filter_map, each_more}
 use Rattle.ob_values.proofs.Bools.{or_true}

@@ -14,10 +14,10 @@ use Rattle.ob_site_rules.specs.Shown.{shown_root}
 use Rattle.ob_site_rules.specs.Writes.{site_contracts}
 use Rattle.ob_site_rules.specs.Sites.{SiteState, site}
 use Rattle.ob_opens_laws.specs.Sound.{IsSoundIfOpen, OpensSound}
-use Rattle.ob_opening.specs.declared.roles.Roles.{Roles}
-use Rattle.ob_opening.specs.Roles.{no_roles, all_roles, worded_contracts}
+use Rattle.ob_site_rules.specs.declared.roles.Roles.{Roles}
+use Rattle.ob_site_rules.specs.Roles.{no_roles, all_roles, worded_contracts}
 use Rattle.ob_hrefs.specs.Hrefs.{bad_href}
-use Rattle.ob_opening.specs.Loading.{LoadFault, Size, Href, BadRule, Part, row_of, kept_root, parts_of, paths_in, taken_twice, bad_part, add_contracts, opened, or_twice, or_bad, within_size, opened_with, opened_by, opening_at, root_of, made_root, opening_of}
+use Rattle.ob_site_rules.specs.Loading.{LoadFault, Size, Href, BadRule, Part, row_of, kept_root, parts_of, paths_in, taken_twice, bad_part, add_contracts, opened, or_twice, or_bad, within_size, opened_with, opened_by, opening_at, root_of, made_root, opening_of}
 
 abbrev log : Option ℕ → ℕ → List Record → Log
 log c g k = record { capacity = c; gone = g; kept = k }

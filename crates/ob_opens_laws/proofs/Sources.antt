@@ -15,10 +15,10 @@ use Rattle.ob_site_rules.specs.State.{at, source_of}
 use Rattle.ob_site_rules.specs.Shown.{node_in, node_of}
 use Rattle.ob_site_rules.specs.Sites.{SiteState}
 use Rattle.ob_plain_state.specs.States.{IsOfKindAt, NodesAre}
-use Rattle.ob_opening.specs.declared.roles.Roles.{Roles}
-use Rattle.ob_opening.specs.Roles.{no_roles, all_roles}
-use Rattle.ob_opening.specs.Opening.{standard_words}
-use Rattle.ob_opening.specs.Loading.{Part, row_of, kept_root, kept_row, parts_of, paths_in, path_of, histories_in, source_ref, node_there, has_bad_source, has_bad_capacity, bad_history, bad_part, bad_records, items_of, taken_twice, opened}
+use Rattle.ob_site_rules.specs.declared.roles.Roles.{Roles}
+use Rattle.ob_site_rules.specs.Roles.{no_roles, all_roles}
+use Rattle.ob_site_rules.specs.Opening.{standard_words}
+use Rattle.ob_site_rules.specs.Loading.{Part, row_of, kept_root, kept_row, parts_of, paths_in, path_of, histories_in, source_ref, node_there, has_bad_source, has_bad_capacity, bad_history, bad_part, bad_records, items_of, taken_twice, opened}
 use Rattle.ob_consistent_laws.specs.Laws.{Apart, row_paths, kind_or_obj}
 use Rattle.ob_consistent_laws.proofs.Lists.{each_found}
 use Rattle.ob_values.proofs.Bools.{neither_left}

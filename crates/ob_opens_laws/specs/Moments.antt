@@ -2,8 +2,8 @@
 use Rattle.std.specs.Prelude.{◌≡◌, ℕ, Ok, Err}
 use Rattle.ob_object.specs.Object.{Object}
 use Rattle.ob_site_rules.specs.Sites.{SiteState}
-use Rattle.ob_opening.specs.Loading.{LoadFault}
-use Rattle.ob_opening.specs.Opening.{opening}
+use Rattle.ob_site_rules.specs.Loading.{LoadFault}
+use Rattle.ob_site_rules.specs.Opening.{opening}
 
 -- a state with this moment as its boot's, and this time
 abbrev pub at_moment : (boot time : ℕ) → SiteState → SiteState

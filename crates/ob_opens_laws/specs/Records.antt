@@ -7,7 +7,7 @@ use Rattle.ob_history.specs.Records.{InOrder, IsRecord}
 use Rattle.ob_site_rules.specs.Build.{Path}
 use Rattle.ob_site_rules.specs.State.{Log, rolled_logs}
 use Rattle.ob_site_rules.specs.Sites.{SiteState}
-use Rattle.ob_opening.specs.Opening.{opening}
+use Rattle.ob_site_rules.specs.Opening.{opening}
 use Rattle.ob_consistent_laws.specs.Ordered.{IsBy, opening_time}
 
 -- a fact of each log

@@ -4,8 +4,8 @@ use Rattle.ob_object.specs.Object.{Object}
 use Rattle.ob_site_rules.specs.Build.{Path}
 use Rattle.ob_site_rules.specs.State.{is_among}
 use Rattle.ob_site_rules.specs.Sites.{SiteState}
-use Rattle.ob_opening.specs.Opening.{opening}
-use Rattle.ob_opening.specs.Loading.{row_of}
+use Rattle.ob_site_rules.specs.Opening.{opening}
+use Rattle.ob_site_rules.specs.Loading.{row_of}
 use Rattle.ob_consistent_laws.specs.Laws.{row_paths}
 
 -- In each state that a document opens, the path of each rule's source and that of the alarm subject are paths of own nodes.

@@ -14,7 +14,7 @@ use Rattle.url.specs.Scheme.{default_port, scheme_type, scheme_len}
 use Rattle.ob_contracts.specs.Inherit.{result_of}
 use Rattle.ob_contracts.specs.Standard.{standard}
 use Rattle.ob_load.specs.Loads.{OpensSite}
-use Rattle.ob_opening.specs.Opening.{opening}
+use Rattle.ob_site_rules.specs.Opening.{opening}
 use Rattle.ob_storm.specs.Runs.{boot}
 use Rattle.ob_storm.specs.Site.{site_text}
 use Rattle.ob_program.specs.Stdio.{site_bytes}

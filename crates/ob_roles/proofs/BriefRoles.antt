@@ -5,7 +5,7 @@ use Rattle.ob_object.specs.declared.head.Head.{Head}
 use Rattle.ob_object.specs.Object.{Object, Objects, none, node}
 use Rattle.ob_contracts.specs.Ancestry.{is_a, own_words}
 use Rattle.ob_contracts.specs.Inherit.{Contracts, Words, words_in, or_else, overridden, sources, inherited_head, implied_by}
-use Rattle.ob_opening.specs.Roles.{no_roles, roles_of, roles_there, holds_contracts, row_roles, all_roles}
+use Rattle.ob_site_rules.specs.Roles.{no_roles, roles_of, roles_there, holds_contracts, row_roles, all_roles}
 use Rattle.ob_roles.specs.declared.ancestors.Ancestors.{Ancestors}
 use Rattle.ob_roles.specs.Few.{few_words, brief, brief_contracts}
 use Rattle.ob_roles.specs.Kinds.{Are}

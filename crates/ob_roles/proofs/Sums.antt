@@ -10,7 +10,7 @@ use Rattle.ob_contracts.specs.Inherit.{Contracts, result_of}
 use Rattle.ob_contracts.specs.Adding.{added}
 use Rattle.ob_contracts.specs.declared.adding.LibFault.{LibFault}
 use Rattle.ob_contracts.specs.declared.adding.LibFault.TheVariants.{Memory}
-use Rattle.ob_opening.specs.Loading.{add_contracts, and_add}
+use Rattle.ob_site_rules.specs.Loading.{add_contracts, and_add}
 use Rattle.ob_site_rules.specs.Build.{Path}
 use Rattle.ob_roles.specs.Sums.{nodes_of, Gives, IsAddedIf}
 

@@ -10,7 +10,7 @@ use Rattle.std.proofs.lemmas.Slice.Eq.{bytes_eq-Decides}
 use Rattle.ob_object.specs.Object.{Object}
 use Rattle.ob_object.specs.Paths.{node_path}
 use Rattle.ob_contracts.specs.Inherit.{Contracts, contract_of}
-use Rattle.ob_opening.specs.Roles.{worded, worded_contracts}
+use Rattle.ob_site_rules.specs.Roles.{worded, worded_contracts}
 use Rattle.ob_site_rules.specs.Build.{Path}
 use Rattle.ob_roles.specs.Few.{brief_contracts}
 use Rattle.ob_roles.specs.Sums.{nodes_of}

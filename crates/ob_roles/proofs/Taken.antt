@@ -12,8 +12,8 @@ use Rattle.ob_object.specs.WellFormed.{named}
 use Rattle.ob_object.specs.Kinds.{same_kind}
 use Rattle.ob_object.specs.Paths.{node_path}
 use Rattle.ob_object.specs.declared.kind.Kind.TheVariants as kind
-use Rattle.ob_opening.specs.declared.roles.Roles.{Roles}
-use Rattle.ob_opening.specs.Roles.{roles_of}
+use Rattle.ob_site_rules.specs.declared.roles.Roles.{Roles}
+use Rattle.ob_site_rules.specs.Roles.{roles_of}
 use Rattle.ob_roles.specs.declared.ancestors.Ancestors.{Ancestors}
 use Rattle.ob_roles.specs.Kinds.{Are}
 use Rattle.ob_contracts.specs.Found.{Names, found, lent}

@@ -5,8 +5,8 @@ use Rattle.ob_object.specs.declared.head.Head.{Head}
 use Rattle.ob_object.specs.Object.{Object, none, in_row, children}
 use Rattle.ob_contracts.specs.Ancestry.{own_words}
 use Rattle.ob_contracts.specs.Inherit.{Contracts, Words, sources, overridden, implied_by, inherited_head}
-use Rattle.ob_opening.specs.declared.roles.Roles.{Roles}
-use Rattle.ob_opening.specs.Roles.{roles_there, holds_contracts, row_roles}
+use Rattle.ob_site_rules.specs.declared.roles.Roles.{Roles}
+use Rattle.ob_site_rules.specs.Roles.{roles_there, holds_contracts, row_roles}
 use Rattle.ob_hrefs.proofs.Rows.{row_more, row_past, inner_row}
 
 module _ (lib : Contracts) (root under inside : Bool) (implied : Option Words) (above : List Object) where

@@ -10,7 +10,7 @@ use Rattle.ob_object.specs.Object.{Object, Objects, none, node, listed, in_row, 
 use Rattle.ob_object.specs.WellFormed.{NamesDiffer, is_taken, has_name, named, with_child}
 use Rattle.ob_contracts.specs.Inherit.{Contracts, Words, sources, overridden, inherited_head, implied_by, missing, only_if, or_else}
 use Rattle.ob_contracts.proofs.Distinct.{free_at, differ_map}
-use Rattle.ob_opening.specs.Roles.{thin, worded_row, worded}
+use Rattle.ob_site_rules.specs.Roles.{thin, worded_row, worded}
 use Rattle.ob_roles.specs.Few.{briefly, brief}
 use Rattle.ob_roles.specs.Worded.{with_more, worded_at}
 use Rattle.ob_roles.proofs.Brief.{row_brief, same_brief}

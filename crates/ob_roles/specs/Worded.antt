@@ -3,7 +3,7 @@ use Rattle.std.specs.Prelude.{◌++◌, List, Option}
 use Rattle.ob_object.specs.Object.{Object, listed, in_row, children}
 use Rattle.ob_contracts.specs.Inherit.{Contracts, Words, sources, inherited_head, implied_by, missing}
 use Rattle.ob_contracts.specs.Ancestry.{own_words}
-use Rattle.ob_opening.specs.Roles.{thin, worded_row}
+use Rattle.ob_site_rules.specs.Roles.{thin, worded_row}
 
 -- an object with these children behind its own
 abbrev pub with_more : Object → List Object → Object

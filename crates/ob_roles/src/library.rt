@@ -1,7 +1,7 @@
 //! The contracts of a site.
 ghost use Rattle.std.specs.Prelude.{Ok};
 ghost use Rattle.ob_contracts.specs.Standard.{standard};
-ghost use Rattle.ob_opening.specs.Loading.{add_contracts};
+ghost use Rattle.ob_site_rules.specs.Loading.{add_contracts};
 ghost use Rattle.ob_object.specs.Paths.{node_path};
 ghost use Rattle.ob_site_rules.specs.Writes.{site_contracts};
 ghost use Rattle.ob_roles.specs.Sums.{Gives, IsAddedIf};

@@ -6,7 +6,7 @@ ghost use Rattle.std.specs.BTreeSet.{contains};
 ghost use Rattle.ob_values.specs.XmlText.{is_printable};
 ghost use Rattle.ob_site_rules.specs.Paths.{behind};
 ghost use Rattle.ob_site_rules.specs.State.{is_among};
-ghost use Rattle.ob_opening.specs.Loading.{is_computed, taken_twice};
+ghost use Rattle.ob_site_rules.specs.Loading.{is_computed, taken_twice};
 
 use ob_values::Text;
 use std::alloc::{AllocError, Global};

@@ -1,10 +1,10 @@
 //! What the roles of an object mean for its children.
 ghost use Rattle.std.specs.Prelude.{◌≡◌, ◌||◌, ◌∷◌, [], codes};
-ghost use Rattle.ob_opening.specs.Roles.{no_roles, role_at, derived_names, is_part, is_dropped, holds_contracts, name_among};
+ghost use Rattle.ob_site_rules.specs.Roles.{no_roles, role_at, derived_names, is_part, is_dropped, holds_contracts, name_among};
 ghost use Rattle.ob_site_rules.specs.State.{is_among};
 
 use ob_object::{Attributes, Kind};
-use ob_opening::Roles;
+use ob_site_rules::Roles;
 
 /// No role.
 pub(crate) fn no_roles() -> Roles

@@ -3,7 +3,7 @@ ghost use Rattle.std.specs.Prelude.{◌≡◌, ◌++◌, List, IfOk};
 ghost use Rattle.std.specs.Option.{option_copied};
 ghost use Rattle.ob_object.specs.Object.{Object, in_row};
 ghost use Rattle.ob_contracts.specs.Inherit.{Contracts};
-ghost use Rattle.ob_opening.specs.Roles.{row_roles, all_roles};
+ghost use Rattle.ob_site_rules.specs.Roles.{row_roles, all_roles};
 ghost use Rattle.ob_roles.specs.Kinds.{Tells};
 ghost use Rattle.ob_roles.specs.Tables.{Holds, HoldsBrief};
 ghost use Rattle.ob_roles.specs.Given.{IsGiven, IsAbove};
@@ -14,7 +14,7 @@ use crate::roles::roles_by;
 use crate::taking::Table;
 use crate::told::is_below;
 use ob_object::Obj;
-use ob_opening::Roles;
+use ob_site_rules::Roles;
 use std::alloc::{AllocError, Global};
 use std::collections::BTreeMap;
 

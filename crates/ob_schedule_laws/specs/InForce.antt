@@ -8,7 +8,7 @@ use Rattle.ob_machine.specs.History.{left_by, after, IsLegal}
 use Rattle.ob_object.specs.declared.head.Slot.{Slot}
 use Rattle.ob_object.specs.Object.{Object, parts}
 use Rattle.ob_object.specs.WellFormed.{IsWellFormed}
-use Rattle.ob_opening.specs.Opening.{opening}
+use Rattle.ob_site_rules.specs.Opening.{opening}
 use Rattle.ob_schedule.specs.Forms.{IsFile}
 use Rattle.ob_schedule.specs.Weeks.{Says}
 use Rattle.ob_schedule_rules.specs.Merged.{Timed, post, Merges}

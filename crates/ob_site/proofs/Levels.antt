@@ -4,10 +4,10 @@ use Rattle.std.specs.Prelude.{nat_lt, max, Ok}
 use Rattle.ob_object.specs.declared.head.Head.{Head}
 use Rattle.ob_object.specs.Object.{Objects, none, node, Object, count}
 use Rattle.ob_hrefs.specs.Hrefs.{site_path, made_object, row_with_paths}
-use Rattle.ob_opening.specs.declared.roles.Roles.{Roles}
-use Rattle.ob_opening.specs.Loading.{kept_row, kept_root}
-use Rattle.ob_opening.specs.Opening.{opening, standard_words}
-use Rattle.ob_opening.specs.Roles.{all_roles, is_dropped, role_at}
+use Rattle.ob_site_rules.specs.declared.roles.Roles.{Roles}
+use Rattle.ob_site_rules.specs.Loading.{kept_row, kept_root}
+use Rattle.ob_site_rules.specs.Opening.{opening, standard_words}
+use Rattle.ob_site_rules.specs.Roles.{all_roles, is_dropped, role_at}
 use Rattle.ob_consistent_laws.proofs.Begins.{Begins, begins, words_of}
 use Rattle.ob_site_rules.specs.Build.{Path, Text}
 use Rattle.ob_site_rules.specs.Sites.{SiteState}

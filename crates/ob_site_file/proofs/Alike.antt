@@ -6,8 +6,8 @@ use Rattle.ob_contracts.specs.Inherit.{Contracts, Words, words_in, or_else, resu
 use Rattle.ob_contracts.specs.Adding.{is_among}
 use Rattle.ob_contracts.specs.Ancestry.{is_one, is_a}
 use Rattle.ob_contracts.specs.Standard.{standard, with_added}
-use Rattle.ob_opening.specs.Opening.{standard_words}
-use Rattle.ob_opening.specs.Roles.{worded, worded_contracts}
+use Rattle.ob_site_rules.specs.Opening.{standard_words}
+use Rattle.ob_site_rules.specs.Roles.{worded, worded_contracts}
 use Rattle.ob_roles.specs.Kinds.{Known, word_is, Are, Tells}
 use Rattle.ob_roles.proofs.WordRows.{worded_is}
 

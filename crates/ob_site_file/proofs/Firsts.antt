@@ -2,7 +2,7 @@
 use Rattle.std.proofs.Common.{◌≡◌, ℕ, ◌≤◌, Bool, true, false, cond, List, [], ◌∷◌, ◌++◌, Option, Some, None, refl, sym, ap, ◌∙◌, arith}
 use Rattle.std.specs.Prelude.{min, nat_lt, unwrap_or, option_map}
 use Rattle.std.proofs.lemmas.Bool.Decides.{nat_tests}
-use Rattle.ob_opening.specs.Loading.{least}
+use Rattle.ob_site_rules.specs.Loading.{least}
 use Rattle.ob_site_file.specs.Numbers.{earlier}
 
 min_assoc : (m n k : ℕ) → min (min m n) k ≡ min m (min n k)

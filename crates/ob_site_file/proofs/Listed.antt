@@ -10,8 +10,8 @@ use Rattle.ob_object.specs.Kinds.{same_kind}
 use Rattle.ob_object.specs.Object.{Object, children, count, parts, in_row}
 use Rattle.ob_object.specs.WellFormed.{NamesDiffer, is_taken, has_name, named}
 use Rattle.ob_site_rules.specs.Build.{Text}
-use Rattle.ob_opening.specs.Roles.{is_part}
-use Rattle.ob_opening.specs.Loading.{Part, numbered, items_of}
+use Rattle.ob_site_rules.specs.Roles.{is_part}
+use Rattle.ob_site_rules.specs.Loading.{Part, numbered, items_of}
 use Rattle.ob_hrefs.proofs.Rows.{inner_row}
 use Rattle.ob_roles.proofs.PartRows.{Numbers, numbers_more, numbers_within}
 use Rattle.ob_site_file.specs.Numbers.{IsNumbered}

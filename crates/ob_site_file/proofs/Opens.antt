@@ -12,7 +12,7 @@ use Rattle.ob_site_rules.specs.Build.{Path}
 use Rattle.ob_site_rules.specs.State.{PointRule, Plan, Log, rolled, rolled_logs, at}
 use Rattle.ob_site_rules.specs.Sites.{SiteState}
 use Rattle.ob_plain_state.specs.States.{entry_of}
-use Rattle.ob_opening.specs.Loading.{Part, path_of, capacity_of, records_of, histories_in, items_of, rule_in, subjects, bad_part, bad_history, bad_subjects, bad_records, bad_rules, overfull, least, record_in, is_bad_item, after_item, is_late, is_earlier, has_bad_source, has_bad_capacity, ms_up, last_moment, greatest, opened, kept_root}
+use Rattle.ob_site_rules.specs.Loading.{Part, path_of, capacity_of, records_of, histories_in, items_of, rule_in, subjects, bad_part, bad_history, bad_subjects, bad_records, bad_rules, overfull, least, record_in, is_bad_item, after_item, is_late, is_earlier, has_bad_source, has_bad_capacity, ms_up, last_moment, greatest, opened, kept_root}
 use Rattle.ob_site_file.specs.Opened.{whole_log, rules_at, subject_of, plan_with, state_with, site_with, site_of, Plans}
 use Rattle.ob_site_file.specs.Passes.{site_roles, site_parts}
 use Rattle.ob_site_file.specs.declared.document.Opened.{Opened}

@@ -5,7 +5,7 @@ use Rattle.std.proofs.lemmas.List.{append-nil}
 use Rattle.ob_times.specs.Times.{Instant}
 use Rattle.ob_object.specs.Object.{Object, parts}
 use Rattle.ob_history.specs.declared.records.Record.{Record}
-use Rattle.ob_opening.specs.Loading.{numbered, record_in, is_bad_item, after_item, bad_records, least}
+use Rattle.ob_site_rules.specs.Loading.{numbered, record_in, is_bad_item, after_item, bad_records, least}
 use Rattle.ob_roles.proofs.PartRows.{Numbers, numbers_more}
 use Rattle.ob_site_file.proofs.Firsts.{From, from_below, from_if, least_from}
 use Rattle.ob_values.proofs.Lists.{drop_all}

@@ -11,9 +11,9 @@ use Rattle.ob_hrefs.specs.Hrefs.{root_url, site_path, root_of, bad_href, made_ob
 use Rattle.ob_site_rules.specs.Shown.{shown_root}
 use Rattle.ob_site_rules.specs.Sites.{SiteState}
 use Rattle.ob_site_rules.specs.Writes.{site_contracts}
-use Rattle.ob_opening.specs.Loading as loading
-use Rattle.ob_opening.specs.Loading.{add_contracts, taken_twice, bad_part, kept_root, opened, or_twice, or_bad, within_size, opened_by, opening_at}
-use Rattle.ob_opening.specs.Opening.{standard_words, opening}
+use Rattle.ob_site_rules.specs.Loading as loading
+use Rattle.ob_site_rules.specs.Loading.{add_contracts, taken_twice, bad_part, kept_root, opened, or_twice, or_bad, within_size, opened_by, opening_at}
+use Rattle.ob_site_rules.specs.Opening.{standard_words, opening}
 use Rattle.ob_roles.specs.Sums.{Gives}
 use Rattle.ob_site_file.specs.Opened.{opened_made}
 use Rattle.ob_site_file.specs.Passes.{contract_fault, site_roles, site_paths, site_parts, IsApart, IsRefusal, Refuses, RefusesMade}

@@ -15,7 +15,7 @@ use Rattle.ob_object.specs.declared.kind.Kind.{Kind}
 use Rattle.ob_object.specs.Object.{Object, parts}
 use Rattle.ob_site_rules.specs.Build.{Path}
 use Rattle.ob_site_rules.specs.State.{PointRule, is_among}
-use Rattle.ob_opening.specs.Loading.{Part, numbered, node_there, is_number_kind, rule_in, is_bad_rule, after_rule, bad_rules, least}
+use Rattle.ob_site_rules.specs.Loading.{Part, numbered, node_there, is_number_kind, rule_in, is_bad_rule, after_rule, bad_rules, least}
 use Rattle.ob_site_file.specs.Told.{Has, IsNext}
 use Rattle.ob_site_file.specs.declared.nodes.Nodes.{Nodes}
 use Rattle.ob_site_file.proofs.Firsts.{From, from_below, from_if, least_from}

@@ -18,7 +18,7 @@ use Rattle.ob_object.specs.Paths.{is_path, node_path}
 use Rattle.ob_object.specs.Kinds.{has_values}
 use Rattle.ob_contracts.specs.Inherit.{or_else}
 use Rattle.ob_site_rules.specs.Build.{Path}
-use Rattle.ob_opening.specs.Loading.{Part, node_there, is_number_kind}
+use Rattle.ob_site_rules.specs.Loading.{Part, node_there, is_number_kind}
 use Rattle.ob_roles.specs.Told.{part}
 use Rattle.ob_roles.specs.declared.part.Part.{Part as OwnPart}
 use Rattle.ob_site_file.specs.Sought.{has_path, kind_under, or_this, Sees}

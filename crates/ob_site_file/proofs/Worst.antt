@@ -4,10 +4,10 @@ use Rattle.std.specs.Prelude.{find, nat_lt}
 use Rattle.std.specs.List.{flat_map}
 use Rattle.std.proofs.lemmas.Bool.Decides.{nat_tests}
 use Rattle.ob_object.specs.Object.{Object, Objects, none, node, count, parts}
-use Rattle.ob_opening.specs.declared.roles.Roles.{Roles}
-use Rattle.ob_opening.specs.Roles.{role_at, is_dropped, holds_contracts, no_roles}
+use Rattle.ob_site_rules.specs.declared.roles.Roles.{Roles}
+use Rattle.ob_site_rules.specs.Roles.{role_at, is_dropped, holds_contracts, no_roles}
 use Rattle.ob_site_rules.specs.Writes.{stored_in}
-use Rattle.ob_opening.specs.Loading.{Part, parts_of, capacity_of, records_of, has_bad_source, has_bad_capacity, bad_records, items_of, bad_history, overfull, histories_in, bad_rules, bad_subjects, subjects, least, bad_part}
+use Rattle.ob_site_rules.specs.Loading.{Part, parts_of, capacity_of, records_of, has_bad_source, has_bad_capacity, bad_records, items_of, bad_history, overfull, histories_in, bad_rules, bad_subjects, subjects, least, bad_part}
 use Rattle.ob_roles.specs.Told.{part}
 use Rattle.ob_roles.specs.declared.part.Part.{Part as OwnPart}
 use Rattle.ob_site_file.specs.Numbers.{earlier, IsNumbered, AreNumbered}

@@ -4,7 +4,7 @@ use Rattle.std.specs.List.{filter_map}
 use Rattle.ob_object.specs.Kinds.{same_kind}
 use Rattle.ob_object.specs.Object.{Object}
 use Rattle.ob_site_rules.specs.Build.{Text}
-use Rattle.ob_opening.specs.Loading.{about_kind, text_in}
+use Rattle.ob_site_rules.specs.Loading.{about_kind, text_in}
 
 -- those that objects give
 abbrev pub texts_in : List Object → List (Text × Text)

@@ -1,7 +1,7 @@
 -- Numbers of parts.
 use Rattle.std.specs.Prelude.{ℕ, ◌+◌, ◌<◌, ◌^◌, min, List, [], ◌∷◌, Option, Some, None}
 use Rattle.ob_object.specs.Object.{parts}
-use Rattle.ob_opening.specs.Loading.{Part}
+use Rattle.ob_site_rules.specs.Loading.{Part}
 
 -- the lesser of two numbers, of those that are there
 abbrev pub earlier : Option ℕ → Option ℕ → Option ℕ

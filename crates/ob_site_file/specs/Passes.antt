@@ -9,11 +9,11 @@ use Rattle.ob_contracts.specs.declared.adding.LibFault.TheVariants as lib
 use Rattle.ob_site_rules.specs.Build.{Path}
 use Rattle.ob_site_rules.specs.Sites.{SiteState}
 use Rattle.ob_site_rules.specs.Writes.{site_contracts}
-use Rattle.ob_opening.specs.declared.roles.Roles.{Roles}
-use Rattle.ob_opening.specs.Roles.{no_roles, all_roles, worded_contracts}
-use Rattle.ob_opening.specs.Loading as loading
-use Rattle.ob_opening.specs.Loading.{Part, add_contracts, parts_of, paths_in, taken_twice, bad_part}
-use Rattle.ob_opening.specs.Opening.{standard_words, opening}
+use Rattle.ob_site_rules.specs.declared.roles.Roles.{Roles}
+use Rattle.ob_site_rules.specs.Roles.{no_roles, all_roles, worded_contracts}
+use Rattle.ob_site_rules.specs.Loading as loading
+use Rattle.ob_site_rules.specs.Loading.{Part, add_contracts, parts_of, paths_in, taken_twice, bad_part}
+use Rattle.ob_site_rules.specs.Opening.{standard_words, opening}
 use Rattle.ob_site_file.specs.declared.fault.LoadFault.{LoadFault}
 use Rattle.ob_site_file.specs.declared.fault.LoadFault.TheVariants.{Read, Document, RootHref, Href, Contract, PathTwice, Rule, Size, Memory}
 

@@ -7,7 +7,7 @@ use Rattle.std.specs.BTreeSet.{BTreeSet, contains}
 use Rattle.ob_object.specs.declared.kind.Kind.{Kind}
 use Rattle.ob_object.specs.Kinds.{has_values}
 use Rattle.ob_site_rules.specs.Build.{Path}
-use Rattle.ob_opening.specs.Loading.{Part, node_there, is_number_kind}
+use Rattle.ob_site_rules.specs.Loading.{Part, node_there, is_number_kind}
 use Rattle.ob_site_file.specs.declared.nodes.Nodes.{Nodes}
 
 -- whether a path is among these

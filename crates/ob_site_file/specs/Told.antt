@@ -14,7 +14,7 @@ use Rattle.ob_alarms.specs.declared.rule.Num.{Num}
 use Rattle.ob_alarms.specs.declared.rule.Num.TheVariants as num
 use Rattle.ob_site_rules.specs.Build.{Path}
 use Rattle.ob_site_rules.specs.State.{PointRule, is_among}
-use Rattle.ob_opening.specs.Loading.{Part, rule_in, is_bad_rule, after_rule}
+use Rattle.ob_site_rules.specs.Loading.{Part, rule_in, is_bad_rule, after_rule}
 use Rattle.ob_site_file.specs.declared.rules.Limits.{Limits}
 
 -- the record of a time and a value

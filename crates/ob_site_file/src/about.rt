@@ -2,7 +2,7 @@
 ghost use Rattle.std.specs.Prelude.{◌≡◌, ◌++◌, ◌∷◌, [], cond, None, IfOk};
 ghost use Rattle.std.specs.Option.{option_copied};
 ghost use Rattle.ob_object.specs.Kinds.{same_kind};
-ghost use Rattle.ob_opening.specs.Loading.{about_kind, about_texts, text_in};
+ghost use Rattle.ob_site_rules.specs.Loading.{about_kind, about_texts, text_in};
 ghost use Rattle.ob_site_file.specs.Abouts.{texts_in};
 
 use crate::items::child_of;

@@ -2,7 +2,7 @@
 ghost use Rattle.std.specs.Prelude.{◌≡◌, ◌+◌, ◌<◌, ◌^◌, ℕ, Some, None, Ok, map, nat_lt, IsTrue, IfOk, IfErr};
 ghost use Rattle.ob_hrefs.specs.Hrefs.{site_path, root_of, bad_href};
 ghost use Rattle.ob_object.specs.Object.{parts};
-ghost use Rattle.ob_opening.specs.Opening.{opening};
+ghost use Rattle.ob_site_rules.specs.Opening.{opening};
 ghost use Rattle.ob_site_rules.specs.Shown.{shown_root};
 ghost use Rattle.ob_plain_state.specs.States.{entry_of, AreCounted};
 ghost use Rattle.ob_site_file.specs.Opened.{Plans, site_of, opened_made};

@@ -4,7 +4,7 @@ ghost use Rattle.url.specs.Parts.{Parts};
 ghost use Rattle.ob_object.specs.Object.{parts};
 ghost use Rattle.ob_contracts.specs.Inherit.{Contracts};
 ghost use Rattle.ob_contracts.specs.Standard.{standard, with_added};
-ghost use Rattle.ob_opening.specs.Loading.{add_contracts, taken_twice, bad_part};
+ghost use Rattle.ob_site_rules.specs.Loading.{add_contracts, taken_twice, bad_part};
 ghost use Rattle.ob_site_rules.specs.Writes.{site_contracts};
 ghost use Rattle.ob_site_file.specs.Passes.{site_roles, site_paths, site_parts, IsApart, RefusesMade};
 
@@ -14,8 +14,8 @@ use crate::nodes::nodes_of;
 use ob_contracts::Library;
 use ob_href::Base;
 use ob_object::Obj;
-use ob_opening::Roles;
 use ob_roles::{all_parts, all_paths, all_roles, kinds_of, library_of, table_of, taken_twice};
+use ob_site_rules::Roles;
 use std::alloc::{AllocError, Global};
 
 // The standard library with the contracts of a root.

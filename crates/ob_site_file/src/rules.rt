@@ -8,7 +8,7 @@ ghost use Rattle.ob_object.specs.Object.{in_row, count};
 ghost use Rattle.ob_object.specs.declared.kind.Kind.TheVariants as kinds;
 ghost use Rattle.ob_site_rules.specs.Build.{Path};
 ghost use Rattle.ob_site_rules.specs.Writes.{number_in};
-ghost use Rattle.ob_opening.specs.Loading.{Part as SitePart, truth_in, child_of, own_number, source_ref, rule_from, rule_in, bad_rules, numbered, least};
+ghost use Rattle.ob_site_rules.specs.Loading.{Part as SitePart, truth_in, child_of, own_number, source_ref, rule_from, rule_in, bad_rules, numbered, least};
 ghost use Rattle.ob_site_file.specs.Sought.{Sees};
 ghost use Rattle.ob_site_file.specs.Told.{rule_by, rule_at, num_kind, Has, IsNext};
 

@@ -16,7 +16,7 @@ use Rattle.ob_site_rules.specs.State.{Plan, State, Log, numbered_from, rolled_lo
 use Rattle.ob_site_rules.specs.Shown.{dressed}
 use Rattle.ob_site_rules.specs.Sites.{SiteState}
 use Rattle.ob_site_laws.proofs.Rolling.{rolls_once}
-use Rattle.ob_opening.specs.Opening.{opening}
+use Rattle.ob_site_rules.specs.Opening.{opening}
 use Rattle.ob_plain_state.specs.States.{AreCounted, entry_of}
 use Rattle.ob_plain_state.proofs.Keeping.{rolled_counted}
 use Rattle.ob_consistent_laws.specs.Consistent.{IsConsistent}

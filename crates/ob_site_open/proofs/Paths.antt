@@ -9,7 +9,7 @@ use Rattle.ob_object.specs.Object.{Objects, none, node, Object}
 use Rattle.ob_object.specs.Paths.{node_path}
 use Rattle.ob_site_rules.specs.Build.{Path}
 use Rattle.ob_site_rules.specs.State.{is_among}
-use Rattle.ob_opening.specs.Loading.{listed_path, row_of}
+use Rattle.ob_site_rules.specs.Loading.{listed_path, row_of}
 use Rattle.ob_tree.specs.Laid.{heads, paths}
 use Rattle.ob_tree.specs.Paths.{place_of, first_twice}
 use Rattle.ob_shown_laws.proofs.Places.{row_paths as tree_paths, paths_by_row, has, has-append}

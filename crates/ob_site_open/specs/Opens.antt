@@ -2,7 +2,7 @@
 use Rattle.std.specs.Prelude.{◌≡◌, ℕ, replicate, Ok}
 use Rattle.ob_object.specs.Object.{Object, parts}
 use Rattle.ob_site_rules.specs.Sites.{SiteState}
-use Rattle.ob_opening.specs.Opening.{opening}
+use Rattle.ob_site_rules.specs.Opening.{opening}
 use Rattle.ob_site_state.specs.Kept.{Kept}
 
 -- a site of which no step has changed anything yet: what is before is what is now, and nothing was touched

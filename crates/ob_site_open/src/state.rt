@@ -4,7 +4,7 @@ ghost use Rattle.ob_object.specs.Object.{parts};
 ghost use Rattle.ob_object.specs.WellFormed.{IsWellFormed};
 ghost use Rattle.ob_tree.specs.Laid.{paths};
 ghost use Rattle.ob_tree.specs.Paths.{first_twice};
-ghost use Rattle.ob_opening.specs.Opening.{opening};
+ghost use Rattle.ob_site_rules.specs.Opening.{opening};
 ghost use Rattle.ob_plain_state.specs.States.{AreCounted, entry_of as opened_entry};
 ghost use Rattle.ob_site_file.specs.Opened.{site_of};
 ghost use Rattle.ob_site_file.specs.Passes.{Refuses};

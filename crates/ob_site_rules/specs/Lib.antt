@@ -14,3 +14,6 @@ pub mod Watched
 pub mod Replies
 pub mod Sites
 pub mod Locating
+pub mod Roles
+pub mod Loading
+pub mod Opening

@@ -17,10 +17,10 @@ use Rattle.ob_site_rules.specs.State.{is_among}
 use Rattle.ob_site_rules.specs.Shown.{node_in, node_of}
 use Rattle.ob_site_rules.specs.Sites.{SiteState}
 use Rattle.ob_plain_state.specs.States.{IsOfKindAt, NodesAre}
-use Rattle.ob_opening.specs.declared.roles.Roles.{Roles}
-use Rattle.ob_opening.specs.Roles.{no_roles, roles_there, holds_contracts, row_roles, all_roles, role_at}
-use Rattle.ob_opening.specs.Opening.{standard_words}
-use Rattle.ob_opening.specs.Loading.{Part, row_of, kept_root, kept_row, parts_of, paths_in, path_of, taken_twice, opened}
+use Rattle.ob_site_rules.specs.declared.roles.Roles.{Roles}
+use Rattle.ob_site_rules.specs.Roles.{no_roles, roles_there, holds_contracts, row_roles, all_roles, role_at}
+use Rattle.ob_site_rules.specs.Opening.{standard_words}
+use Rattle.ob_site_rules.specs.Loading.{Part, row_of, kept_root, kept_row, parts_of, paths_in, path_of, taken_twice, opened}
 use Rattle.ob_consistent_laws.specs.Laws.{Apart, row_paths, kind_or_obj}
 use Rattle.ob_consistent_laws.proofs.Lists.{each_two, each_more}
 use Rattle.ob_consistent_laws.proofs.Once.{taken_once}

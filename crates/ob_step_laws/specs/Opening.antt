@@ -6,7 +6,7 @@ use Rattle.ob_site_rules.specs.Build.{Path}
 use Rattle.ob_site_rules.specs.State.{is_among}
 use Rattle.ob_site_rules.specs.Shown.{node_of}
 use Rattle.ob_site_rules.specs.Sites.{SiteState}
-use Rattle.ob_opening.specs.Opening.{opening}
+use Rattle.ob_site_rules.specs.Opening.{opening}
 
 -- In each state that a document opens, the node at the path of a writable point is of a kind that has values.
 abbrev pub OpensPoints : Type 0

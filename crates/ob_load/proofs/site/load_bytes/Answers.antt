@@ -1,7 +1,7 @@
 use Rattle.std.proofs.Common.{◌≡◌, ℕ, List, Option, sym, subst}
 use Rattle.std.specs.Prelude.{Ok}
 use Rattle.ob_object.specs.Object.{Object}
-use Rattle.ob_opening.specs.Opening.{opening}
+use Rattle.ob_site_rules.specs.Opening.{opening}
 use Rattle.ob_site_file.specs.Passes.{Refuses}
 use Rattle.ob_site.specs.Between.{IsShallow}
 use Rattle.ob_load.specs.Loads.{IsSite, refused}

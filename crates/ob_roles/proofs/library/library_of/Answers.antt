@@ -2,7 +2,7 @@ use Rattle.std.proofs.Common.{◌≡◌, rules, sym, subst}
 use Rattle.std.specs.Prelude.{Ok, Err}
 use Rattle.ob_contracts.specs.Inherit.{Contracts}
 use Rattle.ob_contracts.specs.Standard.{standard}
-use Rattle.ob_opening.specs.Loading.{add_contracts}
+use Rattle.ob_site_rules.specs.Loading.{add_contracts}
 use Rattle.ob_site_rules.specs.Writes.{site_contracts}
 use Rattle.ob_roles.specs.Sums.{nodes_of, Gives}
 use Rattle.ob_roles.proofs.Sums.{sum_refused}

@@ -1,7 +1,7 @@
 use Rattle.std.proofs.Common.{sym, ap, ◌∙◌, cond}
 use Rattle.std.specs.Option.{option_copied}
 use Rattle.ob_contracts.specs.Ancestry.{own_words}
-use Rattle.ob_opening.specs.Roles.{no_roles, roles_of}
+use Rattle.ob_site_rules.specs.Roles.{no_roles, roles_of}
 use Rattle.ob_roles.proofs.Taken.{roles_are}
 use Rattle.ob_roles.proofs.roles.roles_by.Goals as goal
 

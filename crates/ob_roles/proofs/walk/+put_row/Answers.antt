@@ -5,7 +5,7 @@ use Rattle.ob_object.specs.declared.head.Head.{Head}
 use Rattle.ob_object.specs.Object.{Object, in_row, children, count}
 use Rattle.ob_contracts.specs.Ancestry.{own_words}
 use Rattle.ob_contracts.specs.Inherit.{sources, overridden}
-use Rattle.ob_opening.specs.Roles.{roles_there, holds_contracts, row_roles}
+use Rattle.ob_site_rules.specs.Roles.{roles_there, holds_contracts, row_roles}
 use Rattle.ob_roles.specs.Given.{IsBase}
 use Rattle.ob_hrefs.proofs.Rows.{inside_fewer, inner_row}
 use Rattle.ob_roles.proofs.Walks.{goes_more, inner_put, inner_none}

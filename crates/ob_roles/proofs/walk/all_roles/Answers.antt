@@ -8,8 +8,8 @@ use denote.Ref.{Bor}
 use Rattle.ob_object.specs.Object.{Object, in_row}
 use Rattle.ob_contracts.specs.Found.{found}
 use Rattle.ob_contracts.specs.Inherit.{Words, overridden}
-use Rattle.ob_opening.specs.declared.roles.Roles.{Roles}
-use Rattle.ob_opening.specs.Roles.{row_roles}
+use Rattle.ob_site_rules.specs.declared.roles.Roles.{Roles}
+use Rattle.ob_site_rules.specs.Roles.{row_roles}
 use Rattle.ob_roles.specs.Few.{brief_contracts}
 use Rattle.ob_roles.proofs.Brief.{tells_brief}
 use Rattle.ob_roles.proofs.BriefRoles.{all_brief}

@@ -3,7 +3,7 @@ use Rattle.std.specs.Option.{option_copied}
 use Rattle.ob_object.specs.Object.{Object, children, parts}
 use Rattle.ob_contracts.specs.Found.{lent}
 use Rattle.ob_contracts.specs.Inherit.{Contracts, Words, sources, missing}
-use Rattle.ob_opening.specs.Roles.{thin}
+use Rattle.ob_site_rules.specs.Roles.{thin}
 use Rattle.ob_roles.specs.Few.{brief, brief_contracts}
 use Rattle.ob_roles.specs.Kinds.{Tells}
 use Rattle.ob_roles.specs.Summed.{HasNames, IsGivenBy}

@@ -1,7 +1,7 @@
 use Rattle.std.proofs.Common.{◌≡◌, ◌++◌, ◌∷◌, [], Option, None, refl, sym, ap, ◌∙◌, subst}
 use Rattle.ob_object.specs.Object.{Object}
 use Rattle.ob_contracts.specs.Inherit.{Contracts, Words}
-use Rattle.ob_opening.specs.Roles.{worded}
+use Rattle.ob_site_rules.specs.Roles.{worded}
 use Rattle.ob_roles.specs.Few.{briefly, brief_contracts}
 use Rattle.ob_roles.specs.Tables.{Holds}
 use Rattle.ob_roles.specs.Worded.{worded_at}

@@ -2,7 +2,7 @@ use Rattle.std.proofs.Common.{◌≡◌, ◌++◌, ◌∷◌, [], Some, None, re
 use Rattle.std.specs.Option.{option_copied}
 use Rattle.ob_contracts.specs.Inherit.{Contracts}
 use Rattle.ob_object.specs.Paths.{node_path}
-use Rattle.ob_opening.specs.Roles.{worded}
+use Rattle.ob_site_rules.specs.Roles.{worded}
 use Rattle.ob_roles.specs.Few.{brief_contracts}
 use Rattle.ob_roles.specs.Tables.{Holds}
 use Rattle.ob_roles.proofs.Tabled.{Table, nodes_left, nodes_passed, nodes_done}

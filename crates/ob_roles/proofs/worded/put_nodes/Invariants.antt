@@ -1,6 +1,6 @@
 use Rattle.std.proofs.Common.{◌≡◌, drop}
 use Rattle.ob_contracts.specs.Inherit.{Contracts}
-use Rattle.ob_opening.specs.Roles.{worded_contracts}
+use Rattle.ob_site_rules.specs.Roles.{worded_contracts}
 use Rattle.ob_roles.specs.Sums.{nodes_of}
 use Rattle.ob_roles.specs.Few.{brief_contracts}
 use Rattle.ob_roles.specs.Kinds.{Tells}

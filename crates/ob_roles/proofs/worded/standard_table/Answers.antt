@@ -1,5 +1,5 @@
 use Rattle.std.proofs.Common.{[], take}
-use Rattle.ob_opening.specs.Roles.{worded_contracts}
+use Rattle.ob_site_rules.specs.Roles.{worded_contracts}
 use Rattle.ob_roles.proofs.Tabled.{holds_taken}
 use Rattle.ob_roles.proofs.worded.standard_table.Goals as goal
 

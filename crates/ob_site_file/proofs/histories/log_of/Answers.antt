@@ -2,7 +2,7 @@ use Rattle.std.proofs.Common.{◌≡◌, ℕ, codes, List, Option, ap, ◌∙◌
 use Rattle.std.specs.List.{filter_map}
 use Rattle.ob_history.specs.declared.records.Record.{Record}
 use Rattle.ob_object.specs.Object.{Object}
-use Rattle.ob_opening.specs.Loading.{capacity_of, items_of, record_in, records_of}
+use Rattle.ob_site_rules.specs.Loading.{capacity_of, items_of, record_in, records_of}
 use Rattle.ob_roles.specs.Told.{part as site_part}
 use Rattle.ob_site_rules.specs.State.{Log}
 use Rattle.ob_site_file.proofs.Rests.{filter_map-map}

@@ -1,7 +1,7 @@
 use Rattle.std.proofs.Common.{◌∙◌, subst}
 use Rattle.ob_contracts.specs.Standard.{standard, with_added}
-use Rattle.ob_opening.specs.Opening.{standard_words}
-use Rattle.ob_opening.specs.Roles.{worded_contracts}
+use Rattle.ob_site_rules.specs.Opening.{standard_words}
+use Rattle.ob_site_rules.specs.Roles.{worded_contracts}
 use Rattle.ob_site_rules.specs.Writes.{site_contracts}
 use Rattle.ob_roles.specs.Kinds.{Tells}
 use Rattle.ob_site_file.proofs.Alike.{site_alike, tells_alike}

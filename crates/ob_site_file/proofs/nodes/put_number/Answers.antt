@@ -2,7 +2,7 @@ use Rattle.std.proofs.Common.{◌≡◌, ℕ, List, Some, true, sym, ◌∙◌, 
 use Rattle.std.specs.Ordering.{nat_cmp}
 use Rattle.std.specs.Cmp.Lexicographic.{slice_cmp}
 use Rattle.std.specs.BTreeMap.{Updates}
-use Rattle.ob_opening.specs.Loading.{is_number_kind}
+use Rattle.ob_site_rules.specs.Loading.{is_number_kind}
 use Rattle.ob_site_file.proofs.Seen.{kind_put}
 use Rattle.ob_site_file.proofs.nodes.put_number.Goals as goal
 

@@ -1,4 +1,4 @@
-use Rattle.ob_opening.specs.Loading.{path_of}
+use Rattle.ob_site_rules.specs.Loading.{path_of}
 use Rattle.ob_site_file.proofs.Planned.{Gives}
 use Rattle.ob_site_file.proofs.plan.put_points.Given as goal
 

@@ -1,5 +1,5 @@
 use Rattle.std.proofs.Common.{◌≡◌, true, rules}
-use Rattle.ob_opening.specs.Loading.{record_in, is_bad_item}
+use Rattle.ob_site_rules.specs.Loading.{record_in, is_bad_item}
 use Rattle.ob_site_file.proofs.Recorded.{records_bad}
 use Rattle.ob_site_file.proofs.records.bad_record.Goals as goal
 

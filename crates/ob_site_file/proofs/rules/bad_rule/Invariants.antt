@@ -1,5 +1,5 @@
 use Rattle.std.proofs.Common.{List}
-use Rattle.ob_opening.specs.Loading.{Part}
+use Rattle.ob_site_rules.specs.Loading.{Part}
 use Rattle.ob_roles.proofs.PartRows.{Numbers}
 use Rattle.ob_site_file.specs.Sought.{Sees}
 use Rattle.ob_site_file.proofs.Ruled.{RulesLeft}

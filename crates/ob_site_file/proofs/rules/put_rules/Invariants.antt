@@ -1,5 +1,5 @@
 use Rattle.std.proofs.Common.{List}
-use Rattle.ob_opening.specs.Loading.{Part}
+use Rattle.ob_site_rules.specs.Loading.{Part}
 use Rattle.ob_site_file.specs.Sought.{Sees}
 use Rattle.ob_site_file.proofs.Ruled.{RulesPut}
 use Rattle.ob_site_file.proofs.rules.put_rules.Given as goal

@@ -1,6 +1,6 @@
 use Rattle.std.proofs.Common.{◌≡◌, ◌+◌, ◌≤◌, length, drop}
 use Rattle.std.specs.List.{filter_map}
-use Rattle.ob_opening.specs.Loading.{record_in}
+use Rattle.ob_site_rules.specs.Loading.{record_in}
 use Rattle.ob_site_file.proofs.stored.record_count.Given as goal
 
 abbrev pub invariant-loop-item : goal.invariant-loop-item

@@ -2,7 +2,7 @@ use Rattle.std.proofs.Common.{ℕ, codes, length, ap, ◌∙◌}
 use Rattle.std.specs.Prelude.{Option}
 use Rattle.std.specs.List.{filter_map}
 use Rattle.ob_site_rules.specs.Writes.{stored_in}
-use Rattle.ob_opening.specs.Loading.{record_in, records_of, items_of}
+use Rattle.ob_site_rules.specs.Loading.{record_in, records_of, items_of}
 use Rattle.ob_roles.specs.Told.{part as site_part}
 use Rattle.ob_site_file.proofs.Rests.{filter_map-map}
 use Rattle.ob_site_file.proofs.stored.stored_in.Goals as goal

@@ -1,5 +1,5 @@
 use Rattle.std.proofs.Common.{◌≡◌, drop, map}
-use Rattle.ob_opening.specs.Loading.{greatest}
+use Rattle.ob_site_rules.specs.Loading.{greatest}
 use Rattle.ob_consistent_laws.specs.Ordered.{moment_from}
 use Rattle.ob_site_open.proofs.time.latest.Given as goal
 

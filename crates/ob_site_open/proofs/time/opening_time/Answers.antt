@@ -1,7 +1,7 @@
 use Rattle.std.proofs.Common.{◌≡◌, ◌+◌, List, suc, drop, map, drop-cons, add-one, ap, sym, ◌∙◌, ◌∷◌}
 use Rattle.ob_site_rules.specs.Build.{Path}
 use Rattle.ob_plain_state.specs.States.{entry_of}
-use Rattle.ob_opening.specs.Loading.{greatest}
+use Rattle.ob_site_rules.specs.Loading.{greatest}
 use Rattle.ob_consistent_laws.specs.Ordered.{moment_from, opening_time}
 use Rattle.ob_plain_state.specs.declared.log.Log.{Log}
 use Rattle.ob_history.specs.declared.records.Record.{Record}

@@ -6,8 +6,8 @@ use Rattle.ob_contracts.specs.Inherit.{Contracts}
 use Rattle.ob_contracts.specs.Standard.{standard}
 use Rattle.ob_hrefs.specs.Hrefs.{root_url, site_path}
 use Rattle.ob_site_rules.specs.Sites.{SiteState}
-use Rattle.ob_opening.specs.Roles.{worded_contracts}
-use Rattle.ob_opening.specs.Loading.{LoadFault, opening_of}
+use Rattle.ob_site_rules.specs.Roles.{worded_contracts}
+use Rattle.ob_site_rules.specs.Loading.{LoadFault, opening_of}
 
 -- the built-in contracts, each part with its words as `is`
 abbrev pub standard_words : Contracts

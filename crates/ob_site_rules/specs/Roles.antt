@@ -10,7 +10,7 @@ use Rattle.ob_object.specs.WellFormed.{has_name}
 use Rattle.ob_object.specs.Paths.{node_path}
 use Rattle.ob_contracts.specs.Inherit.{Contracts, Words, words_in, sources, overridden, inherited_head, implied_by, missing}
 use Rattle.ob_contracts.specs.Ancestry.{is_a, own_words}
-use Rattle.ob_opening.specs.declared.roles.Roles.{Roles}
+use Rattle.ob_site_rules.specs.declared.roles.Roles.{Roles}
 use Rattle.ob_site_rules.specs.Build.{Text}
 use Rattle.ob_site_rules.specs.State.{is_among}
 

@@ -30,8 +30,8 @@ use Rattle.ob_site_rules.specs.Paths.{below, behind}
 use Rattle.ob_site_rules.specs.Shown.{shown_root}
 use Rattle.ob_site_rules.specs.Writes.{number_in, site_contracts, stored_in}
 use Rattle.ob_site_rules.specs.Sites.{SiteState}
-use Rattle.ob_opening.specs.declared.roles.Roles.{Roles}
-use Rattle.ob_opening.specs.Roles.{no_roles, is_dropped, is_part, holds_contracts, role_at, all_roles, worded_contracts}
+use Rattle.ob_site_rules.specs.declared.roles.Roles.{Roles}
+use Rattle.ob_site_rules.specs.Roles.{no_roles, is_dropped, is_part, holds_contracts, role_at, all_roles, worded_contracts}
 
 -- Why a document opens no site, in the order in which the refusals are looked for; a part is told by its number in the order
 -- of the document, the root being 0.
