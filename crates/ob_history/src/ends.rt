@@ -17,7 +17,7 @@ fn time_of(kept: Option<&Record>) -> Option<Abstime>
 }
 
 /// The time of the first of some records, which stand in two slices.
-#[tactic(auto, using(crate::proofs::Ends::first_of))]
+#[tactic(auto, using(crate::proofs::RecordEnds::first_of))]
 pub fn first_time(front: &[Record], back: &[Record]) -> Option<Abstime>
     ensures { result ≡ option_map (λ r. r.time) (slice_get (front.now ++ back.now) 0) }
 {
@@ -25,7 +25,7 @@ pub fn first_time(front: &[Record], back: &[Record]) -> Option<Abstime>
 }
 
 /// The time of the last of some records, which stand in two slices.
-#[tactic(auto, using(crate::proofs::Ends::last_of))]
+#[tactic(auto, using(crate::proofs::RecordEnds::last_of))]
 pub fn last_time(front: &[Record], back: &[Record]) -> Option<Abstime>
     ensures { result ≡ option_map (λ r. r.time) (last_item (front.now ++ back.now)) }
 {
