@@ -16,5 +16,5 @@ keep_head-requires-clause-named c = λ e.
     subst (λ (h : Head). is_taken h.name round ≡ false) (sym c.in-Ok.ensures)
     (subst (λ (t : Tag). is_taken (put_part c.args.part t.head).name round ≡ false) (sym c.deref_mut.ensures.value)
     (still_free c.args.part c.args.tag.value.head round c.requires.1.0
-    (ap (λ (o : Outer). is_twice c.args.part (siblings (reverse o.elements.items))) (sym c.deref.ensures.value)
+    (ap (λ (o : Outer). is_twice c.args.part (siblings (reverse o.elements.items))) (sym c.deref.ensures)
     ∙ ap (λ (xs : List Object). is_twice c.args.part (siblings (reverse xs))) (sym c.deref-2.ensures.value) ∙ sym c.is_named_twice-twice.ensures ∙ e)))
