@@ -17,7 +17,7 @@ invariant_of-result c =
     let all : os ≡ map leaf (heads_of o) = c.in_ok-lay_leaves.ensures ∙ ap (λ (l : List Object). l ++ map leaf (heads_of o)) c.in_ok-leaves.ensures.items in
     let h : said os ≡ heads_of o = ap said all ∙ said_leaves (heads_of o) in
     let both = rw c.in-Ok.is at c.in_ok-places.ensures in
-    let n = ap length c.in_ok-stamps.ensures ∙ length-replicate c.len.result 0 ∙ c.len.ensures ∙ c.lay_leaves.new.into.ok.0 ∙ count_leaves o os h in
+    let n = ap length c.in_ok-stamps.ensures ∙ length-replicate c.len-2.result 0 ∙ c.len-2.ensures ∙ c.lay_leaves.new.into.ok.0 ∙ count_leaves o os h in
     record {
       leaves = subst (λ (l : List Object). AreLeaves l) (sym all) (are_leaves (heads_of o));
       laid = laid_as o (said os) c.lay_spots.new.into.items c.in_ok-stamps.stamps.items c.in-Ok.places h
@@ -36,7 +36,7 @@ returns-in-Ok c =
     let h : said os ≡ heads_of o = ap said all ∙ said_leaves (heads_of o) in
     let s : c.lay_spots.new.into.items ≡ spots_of 0 None o = c.in_ok-lay_spots.ensures ∙ ap (λ (l : List Spot). l ++ spots_of (length l) None o) c.in_ok-spots.ensures.items in
     let both = rw c.in-Ok.is at c.in_ok-places.ensures in
-    let n : c.len.result ≡ parts o = c.len.ensures ∙ c.lay_leaves.new.into.ok.0 ∙ count_leaves o os h in (
+    let n : c.len-2.result ≡ parts o = c.len-2.ensures ∙ c.lay_leaves.new.into.ok.0 ∙ count_leaves o os h in (
       ap (λ (l : List Head). first_twice [] (map node_path l)) (sym h) ∙ sym (ap (λ (l : List Object). first_twice [] (map node_path (said l))) c.deref.ensures.value) ∙ both.0,
       same_tree _ _ _ _ _ _ (stands_for o (said os) c.lay_spots.new.into.items h s) (c.in_ok-stamps.ensures ∙ ap (λ (k : ℕ). replicate k 0) n) refl,
     )
