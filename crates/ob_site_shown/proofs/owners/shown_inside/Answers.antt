@@ -10,10 +10,10 @@ use Rattle.ob_site_shown.proofs.owners.shown_inside.Goals as goal
 
 pub returns : goal.returns
 returns g c =
-    let g = c.args.contents.now.ground in
+    let ground = c.args.contents.now.ground in
     let n = c.args.node.number in
     let named : option_copied c.name.result ≡ c.args.child.now.head.name = c.name.ensures ∙ ap (λ (h : Head). h.name) c.head.ensures.value in
-    let stands : Some (context c.inside-inside.result) ≡ inside_at g.library n c.args.child.now.head.name g.tree.root =
-    c.inside-inside.ensures.inside ∙ ap (λ (m : Option (List ℕ)). inside_at g.library n m g.tree.root) named in
+    let stands : Some (context c.inside-inside.result) ≡ inside_at ground.library n c.args.child.now.head.name ground.tree.root =
+    c.inside-inside.ensures.inside ∙ ap (λ (m : Option (List ℕ)). inside_at ground.library n m ground.tree.root) named in
     IfOk-weaker c.whole.result _ _
-    (λ made is. ap (λ (o : Object). Some o) is ∙ comes_inside g.library g.tree.root n c.args.child.now (context c.inside-inside.result) stands) c.whole.ensures.whole
+    (λ made is. ap (λ (o : Object). Some o) is ∙ comes_inside ground.library ground.tree.root n c.args.child.now (context c.inside-inside.result) stands) c.whole.ensures.whole
