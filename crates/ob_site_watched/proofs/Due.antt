@@ -9,7 +9,7 @@ use Rattle.ob_tree.specs.Paths.{place_of}
 use Rattle.ob_tree.proofs.Within.{place_within}
 use Rattle.ob_history.specs.declared.records.Filter.{Filter}
 use Rattle.ob_watching.specs.Sites.{Site}
-use Rattle.ob_watching.specs.Watches.{TrackedOf, Item as Flagged, Object, Feed, since, changes, changes_of, lists_some}
+use Rattle.ob_watching.specs.Watches.{TrackedOf, Item as Flagged, Object, Feed, since, changes, changes_of, lists_some, reading}
 use Rattle.ob_site_rules.specs.Build.{Text, Path, under_href}
 use Rattle.ob_site_rules.specs.State.{Plan, State}
 use Rattle.ob_site_rules.specs.Replies.{content_object, entry}
@@ -20,7 +20,7 @@ use Rattle.ob_watch.specs.Counted.{of_plan}
 use Rattle.ob_watch.specs.Flags.{flags, flag_of}
 use Rattle.ob_watch.specs.Items.{is_due}
 use Rattle.ob_watch.proofs.LawLemmas.{reports_agree}
-use Rattle.ob_site_watched.specs.Entries.{all_changes, changes_in}
+use Rattle.ob_site_watched.specs.Entries.{all_changes, all_readings, changes_in, reading_entry}
 use Rattle.ob_site_watched.specs.Known.{AreKnown, IsKnown}
 
 -- a node that is found at a path is one of the tree
@@ -78,6 +78,15 @@ module _ (plan : Plan) where
       ∙ ap (λ is. map entry (changes m (state_in c) is)) (map-append (flags c.ground.tree) (take k items) (i ∷ []))
       ∙ ap (map entry) (changes_push m (state_in c) (map (flags c.ground.tree) (take k items)) (flags c.ground.tree i))
       ∙ map-append entry (changes m (state_in c) (map (flags c.ground.tree) (take k items))) (changes_in plan c i)
+
+  -- what is read of one more item
+  pub read_more : (c : Contents) (items : List Item) (k : ℕ) (i : Item) → k < length items → i ≡ get_or items k i
+      → all_readings plan c (take (k + 1) items) ≡ all_readings plan c (take k items) ++ reading_entry plan c i ∷ []
+  read_more c items k i l at =
+      ap (all_readings plan c) (take_more items k i l ∙ ap (λ j. take k items ++ j ∷ []) (sym at))
+      ∙ ap (λ is. map entry (map (reading m (state_in c)) is)) (map-append (flags c.ground.tree) (take k items) (i ∷ []))
+      ∙ ap (map entry) (map-append (reading m (state_in c)) (map (flags c.ground.tree) (take k items)) (flags c.ground.tree i ∷ []))
+      ∙ map-append entry (map (reading m (state_in c)) (map (flags c.ground.tree) (take k items))) (reading m (state_in c) (flags c.ground.tree i) ∷ [])
 
   -- where nothing is due, nothing has an entry
   pub none_due : (c : Contents) (items : List Item) → AreKnown plan c items → list_any (is_due c.ground.tree) items ≡ false → all_changes plan c items ≡ []
