@@ -16,3 +16,4 @@ pub mod Counts
 pub mod Keeping
 pub mod Crossing
 mod OwnAt
+mod BareNodes

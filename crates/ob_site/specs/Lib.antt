@@ -7,3 +7,4 @@ pub mod Steps
 pub mod Counts
 pub mod Ending
 pub mod Worked
+pub mod Bare

@@ -1,6 +1,7 @@
 //! The writable points of a site.
 ghost use Rattle.std.specs.Prelude.{◌≡◌, option_map, option_copied};
 ghost use Rattle.ob_points.specs.Points.{point_at};
+ghost use Rattle.ob_site.specs.Bare.{is_bare};
 ghost use Rattle.ob_site_rules.specs.Build.{leaf};
 ghost use Rattle.ob_site_rules.specs.Shown.{node_of};
 
@@ -31,7 +32,9 @@ pub(crate) fn point<'a>(state: &'a State, path: &Text) -> Option<&'a Obj>
 }
 
 /// Whether a path is that of an own node whose values no history records and no rule looks at.
-pub(crate) fn is_bare(state: &State, path: &Text) -> bool {
+pub(crate) fn is_bare(state: &State, path: &Text) -> bool
+    ensures { result ≡ is_bare state.now.plan state.now.now path.now }
+{
     let roles = &state.contents().roles;
     own_at(state.tree(), path).is_some()
         && state.recorders(path).is_empty()

@@ -5,6 +5,7 @@ ghost use Rattle.ob_site_rules.specs.Locating.{locate};
 ghost use Rattle.ob_site_rules.specs.Sites.{step};
 ghost use Rattle.ob_site_watched.specs.Polls.{object_entries, steps_for};
 ghost use Rattle.ob_site.specs.Counts.{IsPoll, RequestTakes};
+ghost use Rattle.ob_site.specs.Bare.{is_bare};
 ghost use Rattle.ob_site.specs.Keeping.{Keeps, MayKeep, stepping};
 ghost use Rattle.ob_points.specs.Points.{point_at, passes};
 
@@ -158,9 +159,10 @@ impl Site {
     }
 
     /// Whether a path is that of an own node whose values no history records and no rule looks at: a Put there leaves nothing but
-    /// the value and, where it is a part of a contract, what others inherit of it. A guess for who looks at what comes of it: no
-    /// clause says it.
-    pub fn is_bare(&self, path: &Text) -> bool {
+    /// the value and, where it is a part of a contract, what others inherit of it.
+    pub fn is_bare(&self, path: &Text) -> bool
+        ensures { result ≡ is_bare self.now.plan self.now.world.site path.now }
+    {
         is_bare(&self.state, path)
     }
 
