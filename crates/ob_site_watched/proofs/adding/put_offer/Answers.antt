@@ -51,7 +51,7 @@ returns-in-Ok g c =
     let n = c.args.adding.now.number in
     let old = c.args.watches.now in
     subst (λ (o : Offer). OfHeld n old (IsPut plan site n o old c.add.new.self c.args.undo.now c.add.new.undo (Ok c.in_ok-entry.entry))) (sym c.in-Item.is)
-    (λ w there. put_added n plan site c.in-Item.item old c.add.new.self c.args.undo.now c.add.new.undo c.add.result w c.in-Ok.field-0 c.in_ok-entry.entry there c.in_ok-entry.ensures c.in-Ok.is c.add.ensures)
+    (λ w there. put_added n plan site c.in-Item.item old c.add.new.self c.args.undo.now c.add.new.undo c.add.result w c.in-Ok.field-0 c.in_ok-entry.entry there c.in_ok-entry.ensures.entry c.in-Ok.is c.add.ensures)
 
 pub returns-in-Err-ItemsFull : goal.returns-in-Err-ItemsFull
 returns-in-Err-ItemsFull g c =
@@ -60,7 +60,7 @@ returns-in-Err-ItemsFull g c =
     let n = c.args.adding.now.number in
     let old = c.args.watches.now in
     subst (λ (o : Offer). OfHeld n old (IsPut plan site n o old c.add.new.self c.args.undo.now c.add.new.undo c.too_many.result)) (sym c.in-Item.is)
-    (λ w there. put_full n plan site c.in-Item.item old c.add.new.self c.args.undo.now c.add.new.undo c.add.result w c.too_many.result c.in_ok-entry.entry there c.in_ok-entry.ensures
+    (λ w there. put_full n plan site c.in-Item.item old c.add.new.self c.args.undo.now c.add.new.undo c.add.result w c.too_many.result c.in_ok-entry.entry there c.in_ok-entry.ensures.entry
     (c.in-Err-ItemsFull.is ∙ ap (λ (f : WatchFault). (let r : Added = Err f in r)) c.in-Err-ItemsFull.field-0-is) c.add.ensures c.too_many.ensures)
 
 pub returns : goal.returns

@@ -1,11 +1,14 @@
-use Rattle.std.proofs.Common.{Some, refl, sym, subst, inl, inr}
+use Rattle.std.proofs.Common.{◌≡◌, ◌+◌, List, map, Some, refl, sym, subst, inl, inr}
+use Rattle.std.specs.Prelude.{IfOk}
 use Rattle.std.proofs.lemmas.Result.{IfOk-weaker}
+use Rattle.ob_object.specs.Object.{Object}
 use Rattle.ob_replies.specs.Plans.{plan as plan_of}
 use Rattle.ob_requests.specs.declared.target.Operation.{Operation}
 use Rattle.ob_requests.specs.Targets.{operation_of}
 use Rattle.ob_site_state.specs.Contents.{state_in}
-use Rattle.ob_watch.specs.Flags.{flagged}
-use Rattle.ob_site_watched.specs.Polls.{WatchTakes}
+use Rattle.ob_watch.specs.declared.item.Item.{Item}
+use Rattle.ob_watch.specs.Flags.{flagged, flags}
+use Rattle.ob_site_watched.specs.Polls.{WatchTakes, refresh_steps}
 use Rattle.ob_site_watched.proofs.Polled.{whatever}
 use Rattle.ob_site_watched.proofs.operations.reply.Goals as goal
 
@@ -39,5 +42,10 @@ returns-in-PollChanges-clause-steps g c =
 
 pub returns-in-PollRefresh-clause-steps : goal.returns-in-PollRefresh-clause-steps
 returns-in-PollRefresh-clause-steps g c =
+    let plan = plan_of c.args.plan.now in
+    let s = state_in c.args.contents.now in
+    let tree = c.args.contents.now.ground.tree in
+    let taken : IfOk c.refresh.result (λ (o : Object). c.refresh.new.steps ≡ c.args.steps.now + refresh_steps plan s (map (flags tree) c.args.watch.now.items)) =
+    subst (λ (is : List Item). IfOk c.refresh.result (λ (o : Object). c.refresh.new.steps ≡ c.args.steps.now + refresh_steps plan s (map (flags tree) is))) c.items.ensures.items c.refresh.ensures.steps in
     IfOk-weaker c.refresh.result _ _
-    (λ o steps. subst (λ (a : Operation). WatchTakes (plan_of c.args.plan.now) (state_in c.args.contents.now) (Some (flagged c.args.contents.now.ground.tree c.args.watch.now)) (operation_of a) c.args.steps.now c.refresh.new.steps) (sym c.in-PollRefresh.is) steps) c.refresh.ensures.steps
+    (λ o steps. subst (λ (a : Operation). WatchTakes plan s (Some (flagged tree c.args.watch.now)) (operation_of a) c.args.steps.now c.refresh.new.steps) (sym c.in-PollRefresh.is) steps) taken
