@@ -36,6 +36,7 @@ returns-in-Some-2-clause-stop g c =
     let p = c.args.point.now in
     let new = c.in-Some.new.now in
     let refused : IsRefused old.plan old.now p (λ o. write_by old.plan old.now old.time p o None new) (told.fault c.in-Some-2.fault) =
-    subst (λ (o : Option Fault). IfSome o (λ f. IsRefused old.plan old.now p (λ o. write_by old.plan old.now old.time p o None new) (told.fault f))) c.in-Some-2.is c.in_ok-fault.ensures.fault in
-    (c.in_ok-fault.ensures.same,
-    ap (λ (o : Option (Bor Object)). write_point old.plan old.now old.time p (option_copied o)) c.in-Some.is ∙ point_refused old.plan old.now old.time p new (told.fault c.in-Some-2.fault) refused)
+    subst (λ (o : Option Fault). IfSome o (λ f. IsRefused old.plan old.now p (λ o. write_by old.plan old.now old.time p o None new) (told.fault f))) c.in-Some-2.is c.in_ok-fault.ensures.fault in (
+      c.in_ok-fault.ensures.same,
+      ap (λ (o : Option (Bor Object)). write_point old.plan old.now old.time p (option_copied o)) c.in-Some.is ∙ point_refused old.plan old.now old.time p new (told.fault c.in-Some-2.fault) refused,
+    )
