@@ -29,7 +29,7 @@ fn reads<L: Link>(link: &mut L, bytes: &[u8]) -> bool {
     }
 }
 
-// Whether a door takes a link back in less than three seconds.
+// Whether a door takes a link back in less than a minute: it waits two seconds for what the peer still sends.
 fn takes_back<D: Door>(rt: &HostRuntime, door: &mut D, link: D::L) -> bool {
     let begun = Instant::now(rt);
     door.back(link);
@@ -37,7 +37,7 @@ fn takes_back<D: Door>(rt: &HostRuntime, door: &mut D, link: D::L) -> bool {
         return false;
     };
     match begun.elapsed(rt) {
-        Ok(gone) => gone.as_millis() < 3_000,
+        Ok(gone) => gone.as_secs() < 60,
         Err(_) => false,
     }
 }
