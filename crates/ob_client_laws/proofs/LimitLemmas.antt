@@ -21,9 +21,12 @@ use Rattle.ob_watching.specs.Tables.{lookup, numbers_of}
 use Rattle.ob_watching.specs.Watches.{first_lease, World, Watch, begun, made, is_full, on_watch, acted, Reply}
 use Rattle.ob_site_rules.specs.declared.request.Request.{Request}
 use Rattle.ob_site_rules.specs.Build.{Text, Path, child}
-use Rattle.ob_site_rules.specs.Faults.{Fault, OtherShape, TextTooLong, TooManyWatches, NotInBatch, TooManyEntries, err}
+use Rattle.ob_site_rules.specs.declared.fault.Fault.{Fault}
+use Rattle.ob_site_rules.specs.declared.fault.Fault.TheVariants.{OtherShape, TextTooLong, TooManyWatches, NotInBatch, TooManyEntries}
+use Rattle.ob_site_rules.specs.Faults.{err}
 use Rattle.ob_site_rules.specs.Locating.{locate}
-use Rattle.ob_site_rules.specs.Paths.{WatchPart, Whole}
+use Rattle.ob_site_rules.specs.declared.watch_part.WatchPart.{WatchPart}
+use Rattle.ob_site_rules.specs.declared.watch_part.WatchPart.TheVariants.{Whole}
 use Rattle.ob_site_rules.specs.State.{Plan, State, board, roll, with_board}
 use Rattle.ob_site_rules.specs.Sameness.{same_slot}
 use Rattle.ob_site_rules.specs.Places.{Place, About, Batch, Service, Make, AlarmAt, AckOf, WritePointOf, QueryOf, FeedOf, AlarmQuery, AlarmFeed, Node, place_at}

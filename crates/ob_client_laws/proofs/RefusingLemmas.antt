@@ -21,8 +21,10 @@ use Rattle.ob_watching.specs.Tables.{lookup, numbers_of}
 use Rattle.ob_watching.specs.Watches.{Asks, Watch, World, Reading, reading, changes, readings_added, firsts, touched, reply_to, begun, on_watch, acted, has_lapsed, Distinct, IsSound}
 use Rattle.ob_watching.specs.WatchOuts.{Text, Held, Heard, is_of_kind, entries_of, entry_read, heard_entries}
 use Rattle.ob_site_rules.specs.Computed.{watch_out}
-use Rattle.ob_site_rules.specs.Paths.{WatchPart}
-use Rattle.ob_site_rules.specs.Faults.{Fault, NoSuchObject, err}
+use Rattle.ob_site_rules.specs.declared.watch_part.WatchPart.{WatchPart}
+use Rattle.ob_site_rules.specs.declared.fault.Fault.{Fault}
+use Rattle.ob_site_rules.specs.declared.fault.Fault.TheVariants.{NoSuchObject}
+use Rattle.ob_site_rules.specs.Faults.{err}
 use Rattle.ob_site_rules.specs.Replies.{entry, sent}
 use Rattle.ob_site_rules.specs.Sites.{SiteState}
 use Rattle.ob_site_rules.specs.State.{Plan, State}

@@ -11,7 +11,9 @@ use Rattle.ob_watching.specs.Tables.{is_among}
 use Rattle.ob_watching.specs.Watches.{max_items, Object as ObjectItem, Feed as FeedItem, Tracked, Item, Reading, count, since, reading, lists_some, changes_of, changes, put_item, has_text, added, add_found, readings_added, firsts, Distinct}
 use Rattle.ob_watching.specs.WatchOuts.{Text}
 use Rattle.ob_site_rules.specs.Build.{Path}
-use Rattle.ob_site_rules.specs.Faults.{Fault, TooManyItems, err}
+use Rattle.ob_site_rules.specs.declared.fault.Fault.{Fault}
+use Rattle.ob_site_rules.specs.declared.fault.Fault.TheVariants.{TooManyItems}
+use Rattle.ob_site_rules.specs.Faults.{err}
 use Rattle.ob_site_rules.specs.Replies.{entry}
 use Rattle.ob_site_rules.specs.State.{Plan, State}
 use Rattle.ob_site_laws.specs.SiteLaws.{of_plan}

@@ -7,7 +7,9 @@ use Rattle.ob_object.specs.Object.{Object, children}
 use Rattle.ob_object.specs.declared.kind.Kind.TheVariants as kind
 use Rattle.ob_site_rules.specs.declared.request.Request.{Request}
 use Rattle.ob_site_rules.specs.Build.{Text, Path}
-use Rattle.ob_site_rules.specs.Faults.{Fault, OtherShape, TooManyBatchItems, first_fault}
+use Rattle.ob_site_rules.specs.declared.fault.Fault.{Fault}
+use Rattle.ob_site_rules.specs.declared.fault.Fault.TheVariants.{OtherShape, TooManyBatchItems}
+use Rattle.ob_site_rules.specs.Faults.{first_fault}
 use Rattle.ob_site_rules.specs.State.{Plan, State}
 use Rattle.ob_site_rules.specs.Places.{Place, Batch, place_at}
 use Rattle.ob_site_rules.specs.Actions.{is_post, batch_or, batch, act_on, act_located, act_itself, act_at}

@@ -12,7 +12,7 @@ use Rattle.ob_history.specs.declared.records.Filter.{Filter}
 use Rattle.ob_history.specs.Filters.{filter_of}
 use Rattle.ob_watching.specs.Asked.{ObjectAt, NotFound}
 use Rattle.ob_site_rules.specs.Build.{Path}
-use Rattle.ob_site_rules.specs.Faults.{HrefTooLong, NotWatchable}
+use Rattle.ob_site_rules.specs.declared.fault.Fault.TheVariants.{HrefTooLong, NotWatchable}
 use Rattle.ob_site_rules.specs.Locating.{locate}
 use Rattle.ob_site_rules.specs.Places.{Place, About, Batch, Service, Make, AlarmAt, AckOf, WritePointOf, QueryOf, FeedOf, AlarmQuery, AlarmFeed, Node, computed_places}
 use Rattle.ob_site_rules.specs.State.{Plan, State, at}

@@ -7,7 +7,8 @@ use Rattle.ob_object.specs.declared.head.Slot.TheVariants.{Is}
 use Rattle.ob_object.specs.Facets.{no_facets}
 use Rattle.ob_object.specs.Object.{Object, empty_head}
 use Rattle.ob_site_rules.specs.Build.{Text, Path, leaf, op_at}
-use Rattle.ob_site_rules.specs.Paths.{WatchPart, Whole, Lease, AddOp, RemoveOp, PollChangesOp, PollRefreshOp, DeleteOp}
+use Rattle.ob_site_rules.specs.declared.watch_part.WatchPart.{WatchPart}
+use Rattle.ob_site_rules.specs.declared.watch_part.WatchPart.TheVariants.{Whole, Lease, Add, Remove, PollChanges, PollRefresh, Delete}
 
 -- so many nanoseconds
 abbrev pub span_value : ℕ → Value
@@ -28,19 +29,19 @@ op_of_watch path name takes gives = op_at name (path ++ name) takes gives
 abbrev pub child_at : Path → ℕ → WatchPart → Object
 child_at path lease Whole = leaf (empty_head kind.Obj)
 child_at path lease Lease = lease_at path lease
-child_at path lease AddOp = op_of_watch path (codes "add") (codes "obix:WatchIn") (codes "obix:WatchOut")
-child_at path lease RemoveOp = op_of_watch path (codes "remove") (codes "obix:WatchIn") (codes "obix:Nil")
-child_at path lease PollChangesOp = op_of_watch path (codes "pollChanges") (codes "obix:Nil") (codes "obix:WatchOut")
-child_at path lease PollRefreshOp = op_of_watch path (codes "pollRefresh") (codes "obix:Nil") (codes "obix:WatchOut")
-child_at path lease DeleteOp = op_of_watch path (codes "delete") (codes "obix:Nil") (codes "obix:Nil")
+child_at path lease Add = op_of_watch path (codes "add") (codes "obix:WatchIn") (codes "obix:WatchOut")
+child_at path lease Remove = op_of_watch path (codes "remove") (codes "obix:WatchIn") (codes "obix:Nil")
+child_at path lease PollChanges = op_of_watch path (codes "pollChanges") (codes "obix:Nil") (codes "obix:WatchOut")
+child_at path lease PollRefresh = op_of_watch path (codes "pollRefresh") (codes "obix:Nil") (codes "obix:WatchOut")
+child_at path lease Delete = op_of_watch path (codes "delete") (codes "obix:Nil") (codes "obix:Nil")
 
 -- the lease, and then the ops
 abbrev pub children_at : Path → ℕ → List Object
 children_at path lease =
     child_at path lease Lease
-    ∷ child_at path lease AddOp
-    ∷ child_at path lease RemoveOp
-    ∷ child_at path lease PollChangesOp
-    ∷ child_at path lease PollRefreshOp
-    ∷ child_at path lease DeleteOp
+    ∷ child_at path lease Add
+    ∷ child_at path lease Remove
+    ∷ child_at path lease PollChanges
+    ∷ child_at path lease PollRefresh
+    ∷ child_at path lease Delete
     ∷ []

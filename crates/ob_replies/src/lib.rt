@@ -20,7 +20,7 @@ mod watches;
 
 pub use alarms::{alarm_object, alarms_out};
 pub use contract::Contract;
-pub use fault::{Fault, refusal};
+pub use fault::refusal;
 pub use feeds::{feed_entry, feed_there};
 pub use fixed::{about, ack_op, ack_out, batch_op, batch_out, make_op, nil, service};
 pub use paths::{ack_path, alarm_path, below};
@@ -28,4 +28,4 @@ pub use plan::{Plan, PointRule};
 pub use query::passes;
 pub use records::{record_object, records_out};
 pub use roles::{count_child, lobby_children, subject_children, write_point_op};
-pub use watches::{WatchPart, entry, watch, watch_out, watch_part};
+pub use watches::{entry, watch, watch_out, watch_part};

@@ -13,6 +13,7 @@ use crate::contract::Contract;
 use crate::paths::watch_path;
 use crate::plan::Plan;
 use ob_object::{Attributes, Kind, Obj, Slot};
+use ob_site_rules::WatchPart;
 use ob_times::Reltime;
 use ob_values::{Text, Value};
 use std::alloc::{AllocError, Global};
@@ -20,18 +21,6 @@ use std::alloc::{AllocError, Global};
 const SECOND: u64 = 1_000_000_000;
 
 const DAY: u64 = 86_400_000_000_000;
-
-/// A watch, its lease, or one of its ops.
-#[derive(Clone, Copy, PartialEq, Eq)]
-pub enum WatchPart {
-    Whole,
-    Lease,
-    Add,
-    Remove,
-    PollChanges,
-    PollRefresh,
-    Delete,
-}
 
 /// A span without months.
 fn span(nanos: u64) -> Value
@@ -80,7 +69,7 @@ fn watch_op(
 /// A part of a watch at a path, as it stands in the watch.
 fn child(alloc: Global, path: &Text, lease: u64, part: WatchPart) -> Result<Obj, AllocError>
     requires { lease < 2 ^ 63 }
-    ensures { IfOk result (λ o. o ≡ child_at path.now lease (told.part part)) }
+    ensures { IfOk result (λ o. o ≡ child_at path.now lease part) }
 {
     let nothing = Contract::Nil;
     let asked = Contract::WatchIn;
@@ -105,7 +94,7 @@ fn put_child(
     part: WatchPart,
 ) -> Result<(), AllocError>
     requires { lease < 2 ^ 63 }
-    ensures { IfOk result (λ _. children.new.items ≡ children.old.items ++ child_at path.now lease (told.part part) ∷ []) }
+    ensures { IfOk result (λ _. children.new.items ≡ children.old.items ++ child_at path.now lease part ∷ []) }
 {
     put(children, child(alloc, path, lease, part)?)
 }
@@ -154,7 +143,7 @@ pub fn watch_part(
     part: WatchPart,
 ) -> Result<Obj, AllocError>
     requires { lease < 2 ^ 63 }
-    ensures { IfOk result (λ o. o ≡ watch_part_object (plan_of plan.now) number lease (told.part part)) }
+    ensures { IfOk result (λ o. o ≡ watch_part_object (plan_of plan.now) number lease part) }
 {
     if part == WatchPart::Whole {
         return watch(alloc, plan, number, lease);

@@ -11,7 +11,9 @@ use Rattle.ob_history.specs.Filters.{filter_of}
 use Rattle.ob_alarms.specs.Changes.{State as Board, alarm_of}
 use Rattle.ob_site_rules.specs.declared.request.Request.{Request}
 use Rattle.ob_site_rules.specs.Build.{Text, Path}
-use Rattle.ob_site_rules.specs.Faults.{Fault, OtherShape, NotInBatch, err}
+use Rattle.ob_site_rules.specs.declared.fault.Fault.{Fault}
+use Rattle.ob_site_rules.specs.declared.fault.Fault.TheVariants.{OtherShape, NotInBatch}
+use Rattle.ob_site_rules.specs.Faults.{err}
 use Rattle.ob_site_rules.specs.State.{Plan, State, board, with_board}
 use Rattle.ob_site_rules.specs.Shown.{shown}
 use Rattle.ob_site_rules.specs.Computed.{ack_out}

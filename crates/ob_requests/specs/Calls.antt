@@ -1,5 +1,5 @@
 -- What is asked for, as the definitions of the site have it.
-use Rattle.std.specs.Prelude.{◌≡◌, ℕ, Bool, cond, List, [], ◌∷◌, ◌++◌, codes, Option, Some, None, option_map, Result, Ok, Err}
+use Rattle.std.specs.Prelude.{◌≡◌, ℕ, Bool, cond, List, [], ◌∷◌, ◌++◌, codes, Option, Some, None, option_map, Result, Err}
 use Rattle.std.specs.List.{list_any}
 use Rattle.std.specs.Str.{bytes_eq}
 use Rattle.std.specs.BTreeSet.{BTreeSet}
@@ -11,12 +11,10 @@ use Rattle.ob_object.specs.Object.{Object}
 use Rattle.ob_contracts.specs.Inherit.{Contracts, effective_of}
 use Rattle.ob_watching.specs.Asked.{ObjectAt, FeedAt, NotFound}
 use Rattle.ob_site_rules.specs.Build.{Text, child}
-use Rattle.ob_site_rules.specs.Faults as faults
-use Rattle.ob_site_rules.specs.Faults.{Fault as SiteFault}
+use Rattle.ob_site_rules.specs.declared.fault.Fault.TheVariants as faults
+use Rattle.ob_site_rules.specs.declared.fault.Fault.{Fault}
 use Rattle.ob_site_rules.specs.Actions.{uri_of}
 use Rattle.ob_site_rules.specs.Watched.{Asked, SiteFound, lease_of}
-use Rattle.ob_replies.specs.declared.fault.Fault.{Fault}
-use Rattle.ob_replies.specs.Told as told
 use Rattle.ob_requests.specs.declared.lease.Found.{Found}
 use Rattle.ob_requests.specs.declared.lease.Found.TheVariants as found_as
 
@@ -46,17 +44,12 @@ firsts_behind kept (a ∷ asked) = firsts_behind (cond (holds_text kept a.0) kep
 abbrev pub firsts : List Asked → List Asked
 firsts asked = firsts_behind [] asked
 
--- a lease in nanoseconds, or a refusal
-abbrev pub nanos_or_fault : Result ℕ Fault → Result ℕ SiteFault
-nanos_or_fault (Ok nanos) = Ok nanos
-nanos_or_fault (Err fault) = Err (told.fault fault)
-
 -- the lease that an input gives by a library, in nanoseconds
-abbrev pub lease_in : Contracts → Option Object → Result ℕ SiteFault
+abbrev pub lease_in : Contracts → Option Object → Result ℕ Fault
 lease_in library None = Err faults.OtherShape
 lease_in library (Some o) = cond (same_kind o.head.kind kind.Reltime) (lease_of (effective_of library o None None).head.slot) (Err faults.OtherKind)
 
 abbrev pub found : Found → SiteFound
 found (found_as.Object path) = ObjectAt path
 found (found_as.Feed path filter) = FeedAt path filter
-found (found_as.Nothing fault) = NotFound (told.fault fault)
+found (found_as.Nothing fault) = NotFound fault

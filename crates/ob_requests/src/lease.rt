@@ -3,12 +3,12 @@ ghost use Rattle.std.specs.Prelude.{◌≡◌, ◌≤◌, None, IfOk};
 ghost use Rattle.std.specs.Option.{option_copied};
 ghost use Rattle.ob_contracts.specs.Inherit.{effective_of};
 ghost use Rattle.ob_site_rules.specs.Watched.{feed_with, has_value, lease_of, lease_within, sets_limit};
-ghost use Rattle.ob_requests.specs.Calls.{found, lease_in, nanos_or_fault};
+ghost use Rattle.ob_requests.specs.Calls.{found, lease_in};
 
 use ob_contracts::{Library, Steps, View};
 use ob_history::{Filter, read_filter};
 use ob_object::{Kind, Obj, Slot};
-use ob_replies::Fault;
+use ob_site_rules::Fault;
 use ob_times::Reltime;
 use ob_values::{Text, Value};
 use std::sync::ledger::Ledger;
@@ -24,7 +24,7 @@ pub enum Found {
 
 // A second to a day, without months.
 fn lease_within(span: &Reltime) -> Result<u64, Fault>
-    ensures value { nanos_or_fault result ≡ lease_within span.now.months span.now.nanos }
+    ensures value { result ≡ lease_within span.now.months span.now.nanos }
     ensures bounded { IfOk result (λ nanos. nanos ≤ 86_400_000_000_000) }
 {
     let (months, nanos) = span.parts();
@@ -41,7 +41,7 @@ fn lease_given<'x, L: Ledger>(
     input: &'x Obj,
     steps: &mut Steps<L>,
 ) -> Result<u64, Fault>
-    ensures value { nanos_or_fault result ≡ lease_of (effective_of library.now input.now None None).head.slot }
+    ensures value { result ≡ lease_of (effective_of library.now input.now None None).head.slot }
     ensures bounded { IfOk result (λ nanos. nanos ≤ 86_400_000_000_000) }
 {
     match View::new(library, input, None, None, steps).slot() {
@@ -60,7 +60,7 @@ pub fn lease_asked<L: Ledger>(
     input: &Option<Obj>,
     steps: &mut Steps<L>,
 ) -> Result<u64, Fault>
-    ensures value { nanos_or_fault result ≡ lease_in library.now input.now }
+    ensures value { result ≡ lease_in library.now input.now }
     ensures bounded { IfOk result (λ nanos. nanos ≤ 86_400_000_000_000) }
 {
     let Some(input) = input else {

@@ -7,11 +7,11 @@ ghost use Rattle.ob_site_rules.specs.Paths.{behind, before_slash, behind_slash, 
 ghost use Rattle.ob_site_rules.specs.State.{at};
 ghost use Rattle.ob_site_rules.specs.Actions.{is_of_watch};
 ghost use Rattle.ob_replies.specs.Plans.{plan as plan_of};
-ghost use Rattle.ob_replies.specs.Told as told;
 ghost use Rattle.ob_requests.specs.Numbers.{is_number, is_slash};
 ghost use Rattle.ob_requests.specs.Parts.{IsSpelled, IsOfWatch, late_parts, watch_behind};
 
-use ob_replies::{Plan, WatchPart};
+use ob_replies::Plan;
+use ob_site_rules::WatchPart;
 use std::str;
 
 /// What a path says of watches.
@@ -110,7 +110,7 @@ fn is_text(text: &[u8], other: &[u8]) -> bool
 // The op that polls or ends a watch under this text behind the path of its watch.
 #[tactic(auto, using(crate::proofs::Parted::late_none))]
 fn late_part(text: &[u8]) -> Option<WatchPart>
-    ensures { option_map told.part result ≡ at text.now late_parts }
+    ensures { result ≡ at text.now late_parts }
 {
     if is_text(text, b"pollChanges") {
         Some(WatchPart::PollChanges)
@@ -126,7 +126,7 @@ fn late_part(text: &[u8]) -> Option<WatchPart>
 // The part that stands under this text behind the path of its watch.
 #[tactic(auto, using(crate::proofs::Parted::part_rest))]
 fn part_named(text: &[u8]) -> Option<WatchPart>
-    ensures { option_map told.part result ≡ part_named text.now }
+    ensures { result ≡ part_named text.now }
 {
     if is_text(text, b"") {
         Some(WatchPart::Whole)

@@ -1,17 +1,16 @@
 //! Whom a request is for.
 ghost use Rattle.std.specs.Prelude.{◌≡◌, IfOk};
 ghost use Rattle.std.specs.Str.{bytes_eq};
-ghost use Rattle.ob_site_rules.specs.Paths.{AddOp, RemoveOp, make_path, watch_part};
+ghost use Rattle.ob_site_rules.specs.Paths.{make_path, watch_part};
 ghost use Rattle.ob_site_rules.specs.Watched.{call_of_watch, operation, put_to_watch, target_at, target_part};
 ghost use Rattle.ob_replies.specs.Plans.{plan as plan_of};
-ghost use Rattle.ob_replies.specs.Told as told;
 ghost use Rattle.ob_requests.specs.Targets.{IsTarget, operation_of};
 
 use crate::asked::{Asked, asked_by, texts_of};
 use crate::paths::{OfWatch, watch_part};
 use ob_object::Obj;
-use ob_replies::{Fault, Plan, WatchPart};
-use ob_site_rules::Request;
+use ob_replies::Plan;
+use ob_site_rules::{Fault, Request, WatchPart};
 use ob_values::{Text, Verb};
 use std::alloc::{AllocError, Global};
 
@@ -57,7 +56,7 @@ fn copy_input(input: &Option<Obj>) -> Result<Option<Obj>, AllocError>
 
 // Watch.add or a refusal.
 fn add(alloc: Global, input: &Option<Obj>) -> Result<Operation, AllocError>
-    ensures { IfOk result (λ asks. operation_of asks ≡ call_of_watch AddOp input.now) }
+    ensures { IfOk result (λ asks. operation_of asks ≡ call_of_watch WatchPart.Add input.now) }
 {
     match asked_by(alloc, input)? {
         Some(asked) => Ok(Operation::Add(asked)),
@@ -67,7 +66,7 @@ fn add(alloc: Global, input: &Option<Obj>) -> Result<Operation, AllocError>
 
 // Watch.remove or a refusal.
 fn remove(alloc: Global, input: &Option<Obj>) -> Result<Operation, AllocError>
-    ensures { IfOk result (λ asks. operation_of asks ≡ call_of_watch RemoveOp input.now) }
+    ensures { IfOk result (λ asks. operation_of asks ≡ call_of_watch WatchPart.Remove input.now) }
 {
     match asked_by(alloc, input)? {
         Some(asked) => {
@@ -84,7 +83,7 @@ fn call_of_watch(
     part: WatchPart,
     input: &Option<Obj>,
 ) -> Result<Operation, AllocError>
-    ensures { IfOk result (λ asks. operation_of asks ≡ call_of_watch (told.part part) input.now) }
+    ensures { IfOk result (λ asks. operation_of asks ≡ call_of_watch part input.now) }
 {
     match part {
         WatchPart::Add => add(alloc, input),
@@ -98,7 +97,7 @@ fn call_of_watch(
 
 // Write to the lease of a watch; nothing else of it is written.
 fn put_to_watch(part: WatchPart, input: &Option<Obj>) -> Result<Operation, AllocError>
-    ensures { IfOk result (λ asks. operation_of asks ≡ put_to_watch (told.part part) input.now) }
+    ensures { IfOk result (λ asks. operation_of asks ≡ put_to_watch part input.now) }
 {
     match part {
         WatchPart::Lease => {
@@ -116,7 +115,7 @@ fn asks_of(
     part: WatchPart,
     input: &Option<Obj>,
 ) -> Result<Operation, AllocError>
-    ensures { IfOk result (λ asks. operation_of asks ≡ operation verb (told.part part) input.now) }
+    ensures { IfOk result (λ asks. operation_of asks ≡ operation verb part input.now) }
 {
     match verb {
         Verb::Get => Ok(Operation::Look(part)),

@@ -6,8 +6,10 @@ use Rattle.std.proofs.lemmas.Bool.{eqb-true}
 use Rattle.ob_site_laws.proofs.Same.{tells_text}
 use Rattle.ob_site_rules.specs.Build.{Text, Path}
 use Rattle.ob_site_rules.specs.State.{Plan, at}
-use Rattle.ob_site_rules.specs.Paths.{WatchPart, Whole, Lease, AddOp, RemoveOp, PollChangesOp, PollRefreshOp, DeleteOp, below, ends_with_slash, about_path, batch_path, service_path, make_path, both, behind, before_slash, behind_slash, number_spelled, part_named, watch_part}
 use Rattle.ob_requests.proofs.Parted.{both_none}
+use Rattle.ob_site_rules.specs.Paths.{about_path, batch_path, before_slash, behind, behind_slash, below, both, ends_with_slash, make_path, number_spelled, part_named, service_path, watch_part}
+use Rattle.ob_site_rules.specs.declared.watch_part.WatchPart.TheVariants.{Add, Delete, Lease, PollChanges, PollRefresh, Remove, Whole}
+use Rattle.ob_site_rules.specs.declared.watch_part.WatchPart.{WatchPart}
 
 -- the last two of a text
 abbrev last_two : Text → ℕ × ℕ
@@ -86,19 +88,19 @@ slash_is (c ∷ t) rest e = go (c == 47) refl e (slash_is t rest)
 
 -- the parts of a watch behind the first ones
 abbrev from_deleteop : List (Text × WatchPart)
-from_deleteop = (codes "delete", DeleteOp) ∷ []
+from_deleteop = (codes "delete", Delete) ∷ []
 
 abbrev from_pollrefreshop : List (Text × WatchPart)
-from_pollrefreshop = (codes "pollRefresh", PollRefreshOp) ∷ from_deleteop
+from_pollrefreshop = (codes "pollRefresh", PollRefresh) ∷ from_deleteop
 
 abbrev from_pollchangesop : List (Text × WatchPart)
-from_pollchangesop = (codes "pollChanges", PollChangesOp) ∷ from_pollrefreshop
+from_pollchangesop = (codes "pollChanges", PollChanges) ∷ from_pollrefreshop
 
 abbrev from_removeop : List (Text × WatchPart)
-from_removeop = (codes "remove", RemoveOp) ∷ from_pollchangesop
+from_removeop = (codes "remove", Remove) ∷ from_pollchangesop
 
 abbrev from_addop : List (Text × WatchPart)
-from_addop = (codes "add", AddOp) ∷ from_removeop
+from_addop = (codes "add", Add) ∷ from_removeop
 
 abbrev from_lease : List (Text × WatchPart)
 from_lease = (codes "lease", Lease) ∷ from_addop
@@ -108,11 +110,11 @@ no_part : (rest : Text) → (last_two (47 ∷ rest)).1 ≡ 116 → part_named re
 no_part rest end =
     step [] Whole from_lease 47 refl (apart 47 116 refl)
     (step (codes "lease") Lease from_addop 101 refl (apart 101 116 refl)
-    (step (codes "add") AddOp from_removeop 100 refl (apart 100 116 refl)
-    (step (codes "remove") RemoveOp from_pollchangesop 101 refl (apart 101 116 refl)
-    (step (codes "pollChanges") PollChangesOp from_pollrefreshop 115 refl (apart 115 116 refl)
-    (step (codes "pollRefresh") PollRefreshOp from_deleteop 104 refl (apart 104 116 refl)
-    (step (codes "delete") DeleteOp [] 101 refl (apart 101 116 refl) refl))))))
+    (step (codes "add") Add from_removeop 100 refl (apart 100 116 refl)
+    (step (codes "remove") Remove from_pollchangesop 101 refl (apart 101 116 refl)
+    (step (codes "pollChanges") PollChanges from_pollrefreshop 115 refl (apart 115 116 refl)
+    (step (codes "pollRefresh") PollRefresh from_deleteop 104 refl (apart 104 116 refl)
+    (step (codes "delete") Delete [] 101 refl (apart 101 116 refl) refl))))))
   where
     step : (key : Text) (part : WatchPart) (more : List (Text × WatchPart)) (last : ℕ) → (last_two (47 ∷ key)).1 ≡ last → (last ≡ 116 → ⊥) → at rest more ≡ None → at rest ((key, part) ∷ more) ≡ None
     step key part more last is isnt later = go (bytes_eq key rest) (bytes_no key rest (λ same. isnt (sym is ∙ (ap (λ (t : Text). (last_two (47 ∷ t)).1) same ∙ end))))

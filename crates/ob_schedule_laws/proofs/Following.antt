@@ -10,7 +10,9 @@ use Rattle.ob_site_rules.specs.Computed.{ack_out}
 use Rattle.ob_site_rules.specs.Entries.{alarm_object}
 use Rattle.ob_site_rules.specs.declared.request.Request.{Request}
 use Rattle.ob_site_rules.specs.Build.{Path}
-use Rattle.ob_site_rules.specs.Faults.{Fault, NotInBatch, err}
+use Rattle.ob_site_rules.specs.declared.fault.Fault.{Fault}
+use Rattle.ob_site_rules.specs.declared.fault.Fault.TheVariants.{NotInBatch}
+use Rattle.ob_site_rules.specs.Faults.{err}
 use Rattle.ob_site_rules.specs.Locating.{locate}
 use Rattle.ob_site_rules.specs.State.{Plan, State, board, with_board}
 use Rattle.ob_site_rules.specs.Sameness.{same_slot}

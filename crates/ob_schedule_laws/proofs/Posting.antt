@@ -20,7 +20,9 @@ use Rattle.ob_site_laws.specs.SiteLaws.{Call, acts, of_plan}
 use Rattle.ob_site_laws.proofs.Same.{tells_slot, tells_kind}
 use Rattle.ob_site_rules.specs.declared.request.Request.{Request}
 use Rattle.ob_site_rules.specs.Build.{Path, leaf, valued}
-use Rattle.ob_site_rules.specs.Faults.{Fault, TooManyEntries, OtherKind, err, first_fault}
+use Rattle.ob_site_rules.specs.declared.fault.Fault.{Fault}
+use Rattle.ob_site_rules.specs.declared.fault.Fault.TheVariants.{TooManyEntries, OtherKind}
+use Rattle.ob_site_rules.specs.Faults.{err, first_fault}
 use Rattle.ob_site_rules.specs.Locating.{locate}
 use Rattle.ob_site_rules.specs.Paths.{below, watch_part}
 use Rattle.ob_site_rules.specs.State.{Plan, State, is_among, roll}

@@ -15,7 +15,8 @@ use Rattle.ob_schedule_rules.specs.Merged.{Timed, post, Merges}
 use Rattle.ob_schedule_rules.specs.Rules.{rules_of}
 use Rattle.ob_site_laws.specs.SiteLaws.{Call, acts}
 use Rattle.ob_site_rules.specs.Build.{Path}
-use Rattle.ob_site_rules.specs.Faults.{TooManyEntries, err}
+use Rattle.ob_site_rules.specs.declared.fault.Fault.TheVariants.{TooManyEntries}
+use Rattle.ob_site_rules.specs.Faults.{err}
 use Rattle.ob_site_rules.specs.Locating.{locate}
 use Rattle.ob_site_rules.specs.Paths.{below}
 use Rattle.ob_site_rules.specs.Shown.{node_of, shown}

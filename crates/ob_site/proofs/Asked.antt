@@ -9,7 +9,8 @@ use Rattle.ob_watching.specs.Tables.{lookup, numbers_of}
 use Rattle.ob_watching.specs.Watches.{WatchOf, on_watch}
 use Rattle.ob_site_rules.specs.declared.request.Request.{Request}
 use Rattle.ob_site_rules.specs.Build.{Path, Text}
-use Rattle.ob_site_rules.specs.Faults.{NoSuchObject, err}
+use Rattle.ob_site_rules.specs.declared.fault.Fault.TheVariants.{NoSuchObject}
+use Rattle.ob_site_rules.specs.Faults.{err}
 use Rattle.ob_site_rules.specs.Replies.{sent}
 use Rattle.ob_site_rules.specs.State.{Plan, State}
 use Rattle.ob_site_rules.specs.Watched.{WatchOperation}

@@ -12,9 +12,9 @@ use Rattle.ob_site_rules.specs.declared.request.Request.{Request}
 use Rattle.ob_site_rules.specs.Actions.{act_on, act_located, act_itself}
 use Rattle.ob_site_rules.specs.Build.{Path, Text}
 use Rattle.ob_site_rules.specs.Computed.{watch_part_object}
-use Rattle.ob_site_rules.specs.Faults.{TooManyWatches}
+use Rattle.ob_site_rules.specs.declared.fault.Fault.TheVariants.{TooManyWatches}
 use Rattle.ob_site_rules.specs.Locating.{locate}
-use Rattle.ob_site_rules.specs.Paths.{Whole}
+use Rattle.ob_site_rules.specs.declared.watch_part.WatchPart.TheVariants.{Whole}
 use Rattle.ob_site_rules.specs.Places.{Place, Batch, place_at}
 use Rattle.ob_site_rules.specs.Replies.{sent}
 use Rattle.ob_site_rules.specs.Sites.{SiteState}

@@ -9,7 +9,7 @@ use Rattle.ob_watching.specs.Watches.{WorldOf, first_lease}
 use Rattle.ob_site_rules.specs.declared.request.Request.{Request}
 use Rattle.ob_site_rules.specs.Build.{Path, Text}
 use Rattle.ob_site_rules.specs.Computed.{watch_part_object}
-use Rattle.ob_site_rules.specs.Paths.{Whole}
+use Rattle.ob_site_rules.specs.declared.watch_part.WatchPart.TheVariants.{Whole}
 use Rattle.ob_site_rules.specs.Sites.{SiteState}
 use Rattle.ob_site_rules.specs.State.{Plan, State, roll}
 use Rattle.ob_site_rules.specs.Watched.{SiteTarget}

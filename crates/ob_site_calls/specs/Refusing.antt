@@ -4,7 +4,8 @@ use Rattle.ob_object.specs.Object.{Object}
 use Rattle.ob_values.specs.declared.verb.Verb.{Verb}
 use Rattle.ob_site_rules.specs.Actions.{act_at}
 use Rattle.ob_site_rules.specs.Build.{Path}
-use Rattle.ob_site_rules.specs.Faults.{Fault, err}
+use Rattle.ob_site_rules.specs.declared.fault.Fault.{Fault}
+use Rattle.ob_site_rules.specs.Faults.{err}
 use Rattle.ob_site_rules.specs.Places.{Node, place_at}
 use Rattle.ob_site_rules.specs.State.{Plan, State}
 

@@ -1,7 +1,6 @@
 //! Acknowledgements.
-ghost use Rattle.std.specs.Prelude.{◌≡◌, option_map, IfOk, IfErr};
+ghost use Rattle.std.specs.Prelude.{◌≡◌, IfOk, IfErr};
 ghost use Rattle.std.specs.Option.{option_copied};
-ghost use Rattle.ob_replies.specs.Told as told;
 ghost use Rattle.ob_alarms.specs.Changes.{State as Board, alarm_of};
 ghost use Rattle.ob_site_rules.specs.State.{board, with_board};
 ghost use Rattle.ob_site_rules.specs.Computed.{ack_out};
@@ -12,7 +11,8 @@ ghost use Rattle.ob_site_writes.specs.Stops.{IsDone, Stops};
 
 use ob_alarms::Alarms;
 use ob_object::{Kind, Obj, Slot};
-use ob_replies::{Fault, ack_out, alarm_object};
+use ob_replies::{ack_out, alarm_object};
+use ob_site_rules::Fault;
 use ob_site_state::State;
 use ob_site_writes::Stop;
 use ob_site_written::ack_overfills;
@@ -77,8 +77,7 @@ fn is_unacked(alarms: &Alarms, number: u64) -> bool
 /// be too many. All stays as it is.
 fn ack_fault(state: &mut State, number: u64, input: &Obj) -> Result<Option<Fault>, AllocError>
     ensures same { state.new ≡ state.old }
-    ensures fault { IfOk result (λ fault. option_map told.fault fault
-        ≡ ack_fault state.old.plan state.old.now state.old.time number input.now) }
+    ensures fault { IfOk result (λ fault. fault ≡ ack_fault state.old.plan state.old.now state.old.time number input.now) }
 {
     if !is_ack_in(input) {
         return Ok(Some(Fault::OtherShape));

@@ -2,8 +2,8 @@
 ghost use Rattle.std.specs.Prelude.{◌≡◌, Some, true, cond, is_none, option_map, IfOk, IfErr};
 ghost use Rattle.std.specs.List.{list_all};
 ghost use Rattle.std.specs.Option.{option_copied};
-ghost use Rattle.ob_replies.specs.Told as told;
-ghost use Rattle.ob_site_rules.specs.Faults.{first_fault, NotInBatch, NoSuchObject};
+ghost use Rattle.ob_site_rules.specs.declared.fault.Fault.TheVariants.{NotInBatch, NoSuchObject};
+ghost use Rattle.ob_site_rules.specs.Faults.{first_fault};
 ghost use Rattle.ob_site_rules.specs.Locating.{locate};
 ghost use Rattle.ob_site_rules.specs.Places.{place_at};
 ghost use Rattle.ob_site_rules.specs.Actions.{is_of_watch, is_post, is_left_out, item_on, act_item, act_all, item_request};
@@ -18,10 +18,10 @@ use ob_contracts::Steps;
 use ob_object::{Kind, Obj};
 use ob_plain_state::Place;
 use ob_replies::build::put;
-use ob_replies::{Fault, batch_out, refusal};
+use ob_replies::{batch_out, refusal};
 use ob_requests::{is_of_watch, item_request, located};
 use ob_site_places::place_at;
-use ob_site_rules::Request;
+use ob_site_rules::{Fault, Request};
 use ob_site_state::State;
 use ob_site_writes::Stop;
 use ob_values::{Text, Verb};
@@ -67,7 +67,7 @@ fn named<L: Ledger>(
 
 /// Why an item whose path names nothing is refused.
 fn nowhere(state: &State, numbers: &[u64], path: &Text) -> Fault
-    ensures { told.fault result ≡ cond (is_of_watch state.now.plan numbers.now path.now) NotInBatch NoSuchObject }
+    ensures { result ≡ cond (is_of_watch state.now.plan numbers.now path.now) NotInBatch NoSuchObject }
 {
     if is_of_watch(state.plan(), numbers, path.as_str()) {
         Fault::NotInBatch
@@ -229,7 +229,7 @@ fn batch<L: Ledger>(
 
 /// What is wrong with the body of a batch: it is no list, or has more than 1,000 items.
 fn batch_fault(body: &Obj) -> Option<Fault>
-    ensures { option_map told.fault result ≡ first_fault (batch_rows locate body.now) }
+    ensures { result ≡ first_fault (batch_rows locate body.now) }
 {
     if !body.kind().same(Kind::List) {
         Some(Fault::OtherShape)

@@ -1,7 +1,6 @@
 //! Requests that an own node refuses, told by its own head.
 ghost use Rattle.std.specs.Prelude.{◌≡◌, true, None, IfOk, IfSome};
 ghost use Rattle.std.specs.Option.{option_copied};
-ghost use Rattle.ob_replies.specs.Told as told;
 ghost use Rattle.ob_values.specs.declared.verb.Verb.TheVariants.{Post};
 ghost use Rattle.ob_site_rules.specs.Actions.{act_at};
 ghost use Rattle.ob_site_rules.specs.State.{at};
@@ -11,8 +10,8 @@ ghost use Rattle.ob_site_calls.specs.Refusing.{IsRefusedThere};
 
 use ob_contracts::Steps;
 use ob_object::Obj;
-use ob_replies::Fault;
 use ob_site_places::computed_place;
+use ob_site_rules::Fault;
 use ob_site_shown::own_kind;
 use ob_site_state::State;
 use ob_site_writes::put_fault;
@@ -31,7 +30,7 @@ fn is_free(state: &State, path: &Text) -> Result<bool, AllocError>
 
 /// Why the own node of a path refuses to be called: no node is an op that is called.
 fn post_fault(state: &State, path: &Text, body: Option<&Obj>) -> Option<Fault>
-    ensures { IfSome result (λ f. IsRefused state.now.plan state.now.now path.now (λ o. act_at state.now.plan state.now.now state.now.time path.now Post (Node o) (option_copied body.entry)) (told.fault f)) }
+    ensures { IfSome result (λ f. IsRefused state.now.plan state.now.now path.now (λ o. act_at state.now.plan state.now.now state.now.time path.now Post (Node o) (option_copied body.entry)) f) }
 {
     state.is_sound();
     match own_kind(state.plan(), state.contents(), path) {
@@ -49,7 +48,7 @@ fn node_fault<L: Ledger>(
     steps: &mut Steps<L>,
 ) -> Result<Option<Fault>, AllocError>
     ensures same { state.new ≡ state.old }
-    ensures fault { IfOk result (λ fault. IfSome fault (λ f. IsRefused state.old.plan state.old.now path.now (λ o. act_at state.old.plan state.old.now state.old.time path.now verb (Node o) (option_copied body.entry)) (told.fault f))) }
+    ensures fault { IfOk result (λ fault. IfSome fault (λ f. IsRefused state.old.plan state.old.now path.now (λ o. act_at state.old.plan state.old.now state.old.time path.now verb (Node o) (option_copied body.entry)) f)) }
 {
     match verb {
         Verb::Get => Ok(None),
@@ -68,7 +67,7 @@ pub(crate) fn refused<L: Ledger>(
     steps: &mut Steps<L>,
 ) -> Result<Option<Fault>, AllocError>
     ensures same { state.new ≡ state.old }
-    ensures fault { IfOk result (λ fault. IfSome fault (λ f. IsRefusedThere state.old.plan state.old.now state.old.time path.now verb (option_copied body.entry) (told.fault f))) }
+    ensures fault { IfOk result (λ fault. IfSome fault (λ f. IsRefusedThere state.old.plan state.old.now state.old.time path.now verb (option_copied body.entry) f)) }
 {
     let fault = node_fault(state, path, verb, body, steps)?;
     if fault.is_none() || is_free(state, path)? {

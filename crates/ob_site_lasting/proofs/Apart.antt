@@ -5,7 +5,8 @@ use Rattle.ob_values.specs.declared.verb.Verb.TheVariants.{Get}
 use Rattle.ob_object.specs.Object.{Object, children}
 use Rattle.ob_site_rules.specs.declared.request.Request.{Request}
 use Rattle.ob_site_rules.specs.Build.{Text, Path}
-use Rattle.ob_site_rules.specs.Faults.{Fault, first_fault}
+use Rattle.ob_site_rules.specs.declared.fault.Fault.{Fault}
+use Rattle.ob_site_rules.specs.Faults.{first_fault}
 use Rattle.ob_site_rules.specs.State.{Plan, State}
 use Rattle.ob_site_rules.specs.Places.{Place, Batch, place_at}
 use Rattle.ob_site_rules.specs.Actions.{is_post, item_at, item_on, item_request, act_item, act_all, batch_rows, batch_or, batch, act_on, act_located, act_itself, act_at}

@@ -13,7 +13,8 @@ use Rattle.ob_site_rules.specs.declared.request.Request.{Request}
 use Rattle.ob_site_rules.specs.Locating.{locate}
 use Rattle.ob_site_rules.specs.Build.{Path}
 use Rattle.ob_site_rules.specs.State.{Plan}
-use Rattle.ob_site_rules.specs.Paths.{WatchPart, make_path, watch_part}
+use Rattle.ob_site_rules.specs.declared.watch_part.WatchPart.{WatchPart}
+use Rattle.ob_site_rules.specs.Paths.{make_path, watch_part}
 use Rattle.ob_site_rules.specs.Watched.{SiteTarget, target_part, target_at}
 use Rattle.ob_site_rules.specs.Sites.{SiteState}
 use Rattle.ob_site_laws.specs.SiteLaws.{acts, of_plan, Call, IsSoundSite}

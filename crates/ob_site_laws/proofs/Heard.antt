@@ -11,9 +11,10 @@ use Rattle.ob_watching.specs.Asked.{Operation, Look, Renew, Add, Remove, PollCha
 use Rattle.ob_watching.specs.WatchOuts.{is_of_kind, without_name, is_dropped, number_in, feed_read, content_if, entry_read, entries_of, heard_entries, heard}
 use Rattle.ob_site_rules.specs.Build.{Text, under_href, valued, number_slot}
 use Rattle.ob_site_rules.specs.Computed.{watch_out}
-use Rattle.ob_site_rules.specs.Faults.{Fault, err}
+use Rattle.ob_site_rules.specs.declared.fault.Fault.{Fault}
+use Rattle.ob_site_rules.specs.Faults.{err}
 use Rattle.ob_site_rules.specs.State.{Plan}
-use Rattle.ob_site_rules.specs.Paths.{WatchPart}
+use Rattle.ob_site_rules.specs.declared.watch_part.WatchPart.{WatchPart}
 use Rattle.ob_site_rules.specs.Replies.{Content, Reading, dropped_child, entry, sent, is_plain}
 use Rattle.ob_site_rules.specs.Watched.{feed_of}
 

@@ -6,7 +6,7 @@ use Rattle.ob_contracts.specs.Inherit.{or_else}
 use Rattle.ob_watching.specs.Asked.{NotFound, ObjectAt}
 use Rattle.ob_site_rules.specs.Actions.{is_of_watch}
 use Rattle.ob_site_rules.specs.Build.{Path}
-use Rattle.ob_site_rules.specs.Faults.{NoSuchObject, NotWatchable}
+use Rattle.ob_site_rules.specs.declared.fault.Fault.TheVariants.{NoSuchObject, NotWatchable}
 use Rattle.ob_site_rules.specs.Places.{Node, Place}
 use Rattle.ob_site_rules.specs.State.{Plan}
 use Rattle.ob_site_rules.specs.Watched.{SiteFound, found_at, found_place, is_call_kind}

@@ -14,7 +14,9 @@ use Rattle.ob_object.specs.Object.{Object, children}
 use Rattle.ob_contracts.specs.Inherit.{words_in}
 use Rattle.ob_site_rules.specs.declared.request.Request.{Request}
 use Rattle.ob_site_rules.specs.Build.{Text, Path, nameless, child}
-use Rattle.ob_site_rules.specs.Faults.{Fault, NoSuchObject, NotSupported, OtherShape, NotInBatch, TooManyBatchItems, err, first_fault}
+use Rattle.ob_site_rules.specs.declared.fault.Fault.{Fault}
+use Rattle.ob_site_rules.specs.declared.fault.Fault.TheVariants.{NoSuchObject, NotSupported, OtherShape, NotInBatch, TooManyBatchItems}
+use Rattle.ob_site_rules.specs.Faults.{err, first_fault}
 use Rattle.ob_site_rules.specs.State.{Plan, State, at}
 use Rattle.ob_site_rules.specs.Paths.{watch_part}
 use Rattle.ob_site_rules.specs.Computed.{batch_out}

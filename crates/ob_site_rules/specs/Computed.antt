@@ -10,7 +10,9 @@ use Rattle.ob_object.specs.Facets.{no_facets}
 use Rattle.ob_object.specs.Object.{Object, empty_head}
 use Rattle.ob_site_rules.specs.Build.{Text, whole, leaf, nameless, under_name, valued, word, text_slot, time_slot, op_at}
 use Rattle.ob_site_rules.specs.State.{Plan, at}
-use Rattle.ob_site_rules.specs.Paths.{WatchPart, Whole, Lease, AddOp, RemoveOp, PollChangesOp, PollRefreshOp, DeleteOp, about_path, batch_path, service_path, make_path, watch_path}
+use Rattle.ob_site_rules.specs.declared.watch_part.WatchPart.{WatchPart}
+use Rattle.ob_site_rules.specs.declared.watch_part.WatchPart.TheVariants.{Whole, Lease, Add, Remove, PollChanges, PollRefresh, Delete}
+use Rattle.ob_site_rules.specs.Paths.{about_path, batch_path, service_path, make_path, watch_path}
 
 -- Nil
 abbrev pub nil_object : Object
@@ -81,22 +83,22 @@ watch_op plan n name takes gives = op_at name (watch_path plan n ++ name) takes 
 abbrev pub watch_child : Plan → ℕ → ℕ → WatchPart → Object
 watch_child plan n lease Whole = leaf (empty_head kind.Obj)
 watch_child plan n lease Lease = lease_child plan n lease
-watch_child plan n lease AddOp = watch_op plan n (codes "add") (codes "obix:WatchIn") (codes "obix:WatchOut")
-watch_child plan n lease RemoveOp = watch_op plan n (codes "remove") (codes "obix:WatchIn") (codes "obix:Nil")
-watch_child plan n lease PollChangesOp = watch_op plan n (codes "pollChanges") (codes "obix:Nil") (codes "obix:WatchOut")
-watch_child plan n lease PollRefreshOp = watch_op plan n (codes "pollRefresh") (codes "obix:Nil") (codes "obix:WatchOut")
-watch_child plan n lease DeleteOp = watch_op plan n (codes "delete") (codes "obix:Nil") (codes "obix:Nil")
+watch_child plan n lease Add = watch_op plan n (codes "add") (codes "obix:WatchIn") (codes "obix:WatchOut")
+watch_child plan n lease Remove = watch_op plan n (codes "remove") (codes "obix:WatchIn") (codes "obix:Nil")
+watch_child plan n lease PollChanges = watch_op plan n (codes "pollChanges") (codes "obix:Nil") (codes "obix:WatchOut")
+watch_child plan n lease PollRefresh = watch_op plan n (codes "pollRefresh") (codes "obix:Nil") (codes "obix:WatchOut")
+watch_child plan n lease Delete = watch_op plan n (codes "delete") (codes "obix:Nil") (codes "obix:Nil")
 
 -- Watch
 abbrev pub watch_object : Plan → ℕ → ℕ → Object
 watch_object plan n lease =
     whole (record (empty_head kind.Obj) { href = Some (watch_path plan n); is = word (codes "obix:Watch") })
     (watch_child plan n lease Lease
-    ∷ watch_child plan n lease AddOp
-    ∷ watch_child plan n lease RemoveOp
-    ∷ watch_child plan n lease PollChangesOp
-    ∷ watch_child plan n lease PollRefreshOp
-    ∷ watch_child plan n lease DeleteOp
+    ∷ watch_child plan n lease Add
+    ∷ watch_child plan n lease Remove
+    ∷ watch_child plan n lease PollChanges
+    ∷ watch_child plan n lease PollRefresh
+    ∷ watch_child plan n lease Delete
     ∷ [])
 
 -- what is seen of a watch: the whole, or one of its children

@@ -1,30 +1,12 @@
--- Refusals, as err objects. Source: oBIX 1.1, chapter 10 (Networking: errors). Which err answers which refusal, and its words, are
--- this profile's own.
+-- Refusals (`Fault` of src/fault.rt), as err objects. Source: oBIX 1.1, chapter 10 (Networking: errors). Which err answers
+-- which refusal, and its words, are this profile's own.
 use Rattle.std.specs.Prelude.{Bool, cond, codes, List, [], ◌∷◌, Option, Some, None}
 use Rattle.ob_object.specs.declared.kind.Kind.TheVariants as kind
 use Rattle.ob_object.specs.Facets.{no_facets}
 use Rattle.ob_object.specs.Object.{Object, empty_head}
 use Rattle.ob_site_rules.specs.Build.{Text, word, leaf}
-
--- why a request is refused
-pub data Fault : Type 0 where
-  NoSuchObject : Fault
-  NotSupported : Fault
-  OtherShape : Fault
-  NotWatchable : Fault
-  NotInBatch : Fault
-  NotWritable : Fault
-  OtherKind : Fault
-  BelowMin : Fault
-  AboveMax : Fault
-  NotInRange : Fault
-  TextTooLong : Fault
-  LeaseOutOfRange : Fault
-  TooManyWatches : Fault
-  TooManyItems : Fault
-  HrefTooLong : Fault
-  TooManyBatchItems : Fault
-  TooManyEntries : Fault
+use Rattle.ob_site_rules.specs.declared.fault.Fault.{Fault}
+use Rattle.ob_site_rules.specs.declared.fault.Fault.TheVariants.{NoSuchObject, NotSupported, OtherShape, NotWatchable, NotInBatch, NotWritable, OtherKind, BelowMin, AboveMax, NotInRange, TextTooLong, LeaseOutOfRange, TooManyWatches, TooManyItems, HrefTooLong, TooManyBatchItems, TooManyEntries}
 
 -- the contract of a refusal
 abbrev pub fault_is : Fault → Option (List Text)

@@ -4,6 +4,8 @@ use Rattle.std.specs.Str.{bytes_eq}
 use Rattle.ob_alarms.specs.AlarmObjects.{alarm_path}
 use Rattle.ob_site_rules.specs.Build.{Text, Path}
 use Rattle.ob_site_rules.specs.State.{Plan, at}
+use Rattle.ob_site_rules.specs.declared.watch_part.WatchPart.{WatchPart}
+use Rattle.ob_site_rules.specs.declared.watch_part.WatchPart.TheVariants.{Whole, Lease, Add, Remove, PollChanges, PollRefresh, Delete}
 
 -- whether a path ends with a slash
 abbrev pub ends_with_slash : Path → Bool
@@ -39,26 +41,16 @@ watch_path plan n = plan.root ++ codes "watch/" ++ decimal n ++ 47 ∷ []
 abbrev pub ack_path : Plan → ℕ → Path
 ack_path plan n = alarm_path plan.root n ++ codes "ack"
 
--- a watch, its lease, or one of its ops
-pub data WatchPart : Type 0 where
-  Whole : WatchPart
-  Lease : WatchPart
-  AddOp : WatchPart
-  RemoveOp : WatchPart
-  PollChangesOp : WatchPart
-  PollRefreshOp : WatchPart
-  DeleteOp : WatchPart
-
 -- the part that stands under this text behind the path of its watch
 abbrev pub part_named : Text → Option WatchPart
 part_named t = at t (
     ([], Whole)
     ∷ (codes "lease", Lease)
-    ∷ (codes "add", AddOp)
-    ∷ (codes "remove", RemoveOp)
-    ∷ (codes "pollChanges", PollChangesOp)
-    ∷ (codes "pollRefresh", PollRefreshOp)
-    ∷ (codes "delete", DeleteOp)
+    ∷ (codes "add", Add)
+    ∷ (codes "remove", Remove)
+    ∷ (codes "pollChanges", PollChanges)
+    ∷ (codes "pollRefresh", PollRefresh)
+    ∷ (codes "delete", Delete)
     ∷ []
     )
 

@@ -14,7 +14,9 @@ use Rattle.ob_history.specs.Filters.{filter_of}
 use Rattle.ob_alarms.specs.Changes.{State as Board, alarm_of, on_ack}
 use Rattle.ob_alarms.specs.declared.alarm.Alarm.{Alarm}
 use Rattle.ob_site_rules.specs.Build.{Text, Path, child}
-use Rattle.ob_site_rules.specs.Faults.{Fault, NotSupported, OtherShape, TextTooLong, TooManyEntries, err, first_fault}
+use Rattle.ob_site_rules.specs.declared.fault.Fault.{Fault}
+use Rattle.ob_site_rules.specs.declared.fault.Fault.TheVariants.{NotSupported, OtherShape, TextTooLong, TooManyEntries}
+use Rattle.ob_site_rules.specs.Faults.{err, first_fault}
 use Rattle.ob_site_rules.specs.State.{Plan, Log, State, at, board, with_board}
 use Rattle.ob_site_rules.specs.Entries.{records_out, alarms_out, alarm_object}
 use Rattle.ob_site_rules.specs.Computed.{nil_object, ack_out}

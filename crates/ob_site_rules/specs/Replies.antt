@@ -6,9 +6,10 @@ use Rattle.ob_object.specs.Object.{Object, in_row}
 use Rattle.ob_watching.specs.Asked.{ContentOf, Shows, Lists, Refuses, ReadingOf, ReplyOf, Answered, Told, Out, Nil, Refused}
 use Rattle.ob_watching.specs.WatchOuts.{is_of_kind}
 use Rattle.ob_site_rules.specs.Build.{Text, under_href, valued, number_slot}
-use Rattle.ob_site_rules.specs.Faults.{Fault, err}
+use Rattle.ob_site_rules.specs.declared.fault.Fault.{Fault}
+use Rattle.ob_site_rules.specs.Faults.{err}
 use Rattle.ob_site_rules.specs.State.{Plan}
-use Rattle.ob_site_rules.specs.Paths.{WatchPart}
+use Rattle.ob_site_rules.specs.declared.watch_part.WatchPart.{WatchPart}
 use Rattle.ob_site_rules.specs.Computed.{nil_object, watch_part_object, watch_out}
 
 -- what a reading of this site tells: an object, the events of a feed, or an err

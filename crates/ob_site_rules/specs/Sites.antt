@@ -10,9 +10,12 @@ use Rattle.ob_watching.specs.WatchOuts.{heard}
 use Rattle.ob_watching.specs.Watches.{WorldOf, act}
 use Rattle.ob_site_rules.specs.declared.request.Request.{Request}
 use Rattle.ob_site_rules.specs.Build.{Text, Path, nameless, under_href}
-use Rattle.ob_site_rules.specs.Faults.{Fault, NoSuchObject, TooManyWatches, TooManyItems, HrefTooLong, err}
+use Rattle.ob_site_rules.specs.declared.fault.Fault.{Fault}
+use Rattle.ob_site_rules.specs.declared.fault.Fault.TheVariants.{NoSuchObject, TooManyWatches, TooManyItems, HrefTooLong}
+use Rattle.ob_site_rules.specs.Faults.{err}
 use Rattle.ob_site_rules.specs.State.{Plan, State, at, roll}
-use Rattle.ob_site_rules.specs.Paths.{WatchPart, Whole, Lease}
+use Rattle.ob_site_rules.specs.declared.watch_part.WatchPart.{WatchPart}
+use Rattle.ob_site_rules.specs.declared.watch_part.WatchPart.TheVariants.{Whole, Lease}
 use Rattle.ob_site_rules.specs.Shown.{shown}
 use Rattle.ob_site_rules.specs.Entries.{empty_object}
 use Rattle.ob_site_rules.specs.Places.{event_places}

@@ -17,10 +17,13 @@ use Rattle.ob_history.specs.declared.records.Filter.{Filter}
 use Rattle.ob_history.specs.Filters.{filter_of}
 use Rattle.ob_watching.specs.Asked.{Operation, Look, Renew, Add, Remove, PollChanges, PollRefresh, Delete, Refuse, Target, Itself, Nowhere, NewWatch, OneWatch, Found, ObjectAt, FeedAt, NotFound}
 use Rattle.ob_site_rules.specs.declared.request.Request.{Request}
+use Rattle.ob_site_rules.specs.declared.watch_part.WatchPart.TheVariants as parts
 use Rattle.ob_site_rules.specs.Build.{Text, Path, child, leaf, word}
-use Rattle.ob_site_rules.specs.Faults.{Fault, NoSuchObject, NotSupported, OtherShape, NotWatchable, OtherKind, LeaseOutOfRange}
+use Rattle.ob_site_rules.specs.Paths.{below, make_path, watch_part}
 use Rattle.ob_site_rules.specs.State.{Plan, Log, State, at, board}
-use Rattle.ob_site_rules.specs.Paths.{WatchPart, Lease, AddOp, RemoveOp, PollChangesOp, PollRefreshOp, DeleteOp, make_path, watch_part, below}
+use Rattle.ob_site_rules.specs.declared.fault.Fault.{Fault}
+use Rattle.ob_site_rules.specs.declared.fault.Fault.TheVariants.{LeaseOutOfRange, NoSuchObject, NotSupported, NotWatchable, OtherKind, OtherShape}
+use Rattle.ob_site_rules.specs.declared.watch_part.WatchPart.{WatchPart}
 use Rattle.ob_site_rules.specs.Entries.{record_object, event_objects, is_within}
 use Rattle.ob_site_rules.specs.Places.{Place, FeedOf, AlarmFeed, Node, place_at}
 use Rattle.ob_site_rules.specs.Writes.{given_by}
@@ -70,16 +73,16 @@ on_asked f (Some asked) = f asked
 
 -- Invoke of the op of a watch
 abbrev pub call_of_watch : WatchPart → Option Object → WatchOperation
-call_of_watch AddOp body = on_asked Add (asked_by body)
-call_of_watch RemoveOp body = on_asked (λ asked. Remove (map (λ a. a.0) asked)) (asked_by body)
-call_of_watch PollChangesOp body = PollChanges
-call_of_watch PollRefreshOp body = PollRefresh
-call_of_watch DeleteOp body = Delete
+call_of_watch parts.Add body = on_asked Add (asked_by body)
+call_of_watch parts.Remove body = on_asked (λ asked. Remove (map (λ a. a.0) asked)) (asked_by body)
+call_of_watch parts.PollChanges body = PollChanges
+call_of_watch parts.PollRefresh body = PollRefresh
+call_of_watch parts.Delete body = Delete
 call_of_watch _ body = Refuse NotSupported
 
 -- Write to the lease of a watch; nothing else of it is written
 abbrev pub put_to_watch : WatchPart → Option Object → WatchOperation
-put_to_watch Lease body = Renew body
+put_to_watch parts.Lease body = Renew body
 put_to_watch _ body = Refuse NotSupported
 
 -- what a verb at a part of a watch asks for

@@ -1,8 +1,12 @@
-//! //! What the site is, and what a document opens, as definitions.
+//! What the site is, and what a document opens, as definitions, and the types that definitions and code have in common.
 #![tactic(auto)]
 
+mod fault;
 mod request;
 mod roles;
+mod watch_part;
 
+pub use fault::Fault;
 pub use request::Request;
 pub use roles::Roles;
+pub use watch_part::WatchPart;

@@ -11,7 +11,9 @@ use Rattle.ob_watching.specs.Tables.{lookup, replace, numbers_of}
 use Rattle.ob_watching.specs.Watches.{ItemOf, WatchOf, on_watch, reported, touched, watch_after, with_items, with_lease}
 use Rattle.ob_history.specs.declared.records.Filter.{Filter}
 use Rattle.ob_site_rules.specs.Build.{Text}
-use Rattle.ob_site_rules.specs.Faults.{Fault, NoSuchObject, err}
+use Rattle.ob_site_rules.specs.declared.fault.Fault.{Fault}
+use Rattle.ob_site_rules.specs.declared.fault.Fault.TheVariants.{NoSuchObject}
+use Rattle.ob_site_rules.specs.Faults.{err}
 use Rattle.ob_site_rules.specs.State.{Plan, State}
 use Rattle.ob_requests.specs.Calls.{lease_in}
 use Rattle.ob_watch.proofs.TableLemmas.{elsewhere}

@@ -16,8 +16,7 @@ use Rattle.ob_site_rules.specs.Replies.{Reading, entry}
 use Rattle.ob_site_rules.specs.Sites.{found}
 use Rattle.ob_site_rules.specs.State.{Plan, State}
 use Rattle.ob_site_rules.specs.Watched.{Asked, SiteFound}
-use Rattle.ob_replies.specs.declared.fault.Fault.{Fault}
-use Rattle.ob_replies.specs.Told as told
+use Rattle.ob_site_rules.specs.declared.fault.Fault.{Fault}
 use Rattle.ob_site_state.specs.declared.contents.Contents.{Contents}
 use Rattle.ob_site_state.specs.Contents.{state_in}
 use Rattle.ob_watch.specs.declared.item.Item.{Item}
@@ -64,10 +63,10 @@ module _ (plan : Plan) (c : Contents) where
       subst (λ (g : SiteFound). IsItemFor plan c asked.0 g item) same_found (subst (λ (x : Text). IsItemFor plan c x f item) same_text is)
 
   pub refusal_offered : (ns : List ℕ) (asked : Asked) (text : Text) (f : SiteFound) (fault : Fault) (o : Node) → text ≡ asked.0 → f ≡ there ns asked
-      → IsRefusedFor plan c text f (told.fault fault) → o ≡ refused_entry asked.0 (told.fault fault) → IsOffered plan c ns asked (offer.Refused o)
+      → IsRefusedFor plan c text f fault → o ≡ refused_entry asked.0 fault → IsOffered plan c ns asked (offer.Refused o)
   refusal_offered ns asked text f fault o same_text same_found is e =
       λ items. (ap (λ (p : List (Flagged m) × Reading). p.0) (here items), ap (λ (p : List (Flagged m) × Reading). entry p.1) (here items) ∙ sym e)
     where
-      here : (items : List (Flagged m)) → add_found m s items asked.0 (there ns asked) ≡ (items, record { text = asked.0; content = Refuses (err (told.fault fault)) })
-      here items = subst (λ (g : SiteFound). add_found m s items asked.0 g ≡ (items, record { text = asked.0; content = Refuses (err (told.fault fault)) })) same_found
-          (subst (λ (x : Text). add_found m s items x f ≡ (items, record { text = x; content = Refuses (err (told.fault fault)) })) same_text (is items))
+      here : (items : List (Flagged m)) → add_found m s items asked.0 (there ns asked) ≡ (items, record { text = asked.0; content = Refuses (err fault) })
+      here items = subst (λ (g : SiteFound). add_found m s items asked.0 g ≡ (items, record { text = asked.0; content = Refuses (err fault) })) same_found
+          (subst (λ (x : Text). add_found m s items x f ≡ (items, record { text = x; content = Refuses (err fault) })) same_text (is items))

@@ -9,7 +9,8 @@ use Rattle.ob_object.specs.Object.{Object}
 use Rattle.ob_watching.specs.Tables.{lookup, numbers_of, replace}
 use Rattle.ob_site_rules.specs.Build.{under_href}
 use Rattle.ob_site_rules.specs.Computed.{watch_out}
-use Rattle.ob_site_rules.specs.Faults.{TooManyItems, err}
+use Rattle.ob_site_rules.specs.declared.fault.Fault.TheVariants.{TooManyItems}
+use Rattle.ob_site_rules.specs.Faults.{err}
 use Rattle.ob_watch.specs.declared.fault.WatchFault.{WatchFault}
 use Rattle.ob_watch.specs.declared.fault.WatchFault.TheVariants.{ItemsFull}
 use Rattle.ob_watch.specs.declared.item.Item.{Item}

@@ -10,7 +10,8 @@ use Rattle.ob_object.specs.declared.head.Slot.{Slot}
 use Rattle.ob_object.specs.declared.head.Slot.TheVariants.{Absent, Null, Is}
 use Rattle.ob_values.specs.declared.value.Value.TheVariants as value
 use Rattle.ob_contracts.specs.Inherit.{Contracts, effective_of}
-use Rattle.ob_site_rules.specs.Faults.{Fault, LeaseOutOfRange, OtherKind}
+use Rattle.ob_site_rules.specs.declared.fault.Fault.{Fault}
+use Rattle.ob_site_rules.specs.declared.fault.Fault.TheVariants.{LeaseOutOfRange, OtherKind}
 use Rattle.ob_site_rules.specs.Watched.{lease_of, lease_within}
 use Rattle.ob_requests.specs.Calls.{lease_in}
 use Rattle.ob_watch.specs.Tables.{IsLease}

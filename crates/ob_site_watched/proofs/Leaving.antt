@@ -3,7 +3,7 @@ use Rattle.std.proofs.Common.{◌≡◌, ◌⊎◌, inl, inr, ℕ, ◌==◌, Boo
 use Rattle.std.specs.Prelude.{option_map, option_and_then}
 use Rattle.ob_watching.specs.Tables.{lookup, replace}
 use Rattle.ob_watch.specs.Tables.{Leased, Table, at_number, holding, leased_for}
-use Rattle.ob_site_rules.specs.Faults.{Fault}
+use Rattle.ob_site_rules.specs.declared.fault.Fault.{Fault}
 use Rattle.ob_site_rules.specs.Watched.{WatchOperation}
 use Rattle.ob_site_state.specs.declared.contents.Contents.{Contents}
 use Rattle.ob_watching.specs.Asked.{PollChanges}

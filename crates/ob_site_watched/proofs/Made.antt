@@ -6,8 +6,9 @@ use Rattle.ob_watching.specs.Asked.{Refused, Told}
 use Rattle.ob_watching.specs.Sites.{Site}
 use Rattle.ob_watching.specs.Watches.{World, Reply, first_lease, is_full, made}
 use Rattle.ob_site_rules.specs.Computed.{watch_part_object}
-use Rattle.ob_site_rules.specs.Faults.{TooManyWatches, err}
-use Rattle.ob_site_rules.specs.Paths.{Whole}
+use Rattle.ob_site_rules.specs.declared.fault.Fault.TheVariants.{TooManyWatches}
+use Rattle.ob_site_rules.specs.Faults.{err}
+use Rattle.ob_site_rules.specs.declared.watch_part.WatchPart.TheVariants.{Whole}
 use Rattle.ob_site_rules.specs.Replies.{sent}
 use Rattle.ob_site_rules.specs.State.{Plan, State}
 use Rattle.ob_watch.specs.AsRules.{world_of}

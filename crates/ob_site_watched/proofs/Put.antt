@@ -12,7 +12,8 @@ use Rattle.ob_watching.specs.Tables.{lookup, numbers_of, replace}
 use Rattle.ob_watching.specs.Watches.{ItemOf, WatchOf, add_found, added, has_text as has_flagged, items_added, max_items, put_item as put_flagged, reading, readings_added, touched, watch_after, with_items}
 use Rattle.ob_site_rules.specs.Build.{Text}
 use Rattle.ob_site_rules.specs.Computed.{watch_out}
-use Rattle.ob_site_rules.specs.Faults.{TooManyItems, err}
+use Rattle.ob_site_rules.specs.declared.fault.Fault.TheVariants.{TooManyItems}
+use Rattle.ob_site_rules.specs.Faults.{err}
 use Rattle.ob_site_rules.specs.Locating.{locate}
 use Rattle.ob_site_rules.specs.Replies.{Reading, entry}
 use Rattle.ob_site_rules.specs.Sites.{found}

@@ -7,7 +7,7 @@ use Rattle.ob_watching.specs.Watches.{acted, first_lease, on_watch, reply_to, to
 use Rattle.ob_watching.specs.Asked.{NewWatch}
 use Rattle.ob_site_rules.specs.declared.request.Request.{Request}
 use Rattle.ob_site_rules.specs.Computed.{watch_part_object}
-use Rattle.ob_site_rules.specs.Paths.{Whole}
+use Rattle.ob_site_rules.specs.declared.watch_part.WatchPart.TheVariants.{Whole}
 use Rattle.ob_site_rules.specs.State.{Plan, State}
 use Rattle.ob_tree.specs.Trees.{Stamped}
 use Rattle.ob_site_rules.specs.Watched.{WatchOperation}

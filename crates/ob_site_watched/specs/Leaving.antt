@@ -2,7 +2,7 @@
 use Rattle.std.specs.Prelude.{◌≡◌, ℕ, Bool, true, false, Option, Some, None, option_and_then, Result, Ok, Err}
 use Rattle.ob_watching.specs.Asked.{Add, Renew, Remove, PollChanges, PollRefresh, Delete}
 use Rattle.ob_watching.specs.Tables.{lookup, replace}
-use Rattle.ob_site_rules.specs.Faults.{Fault}
+use Rattle.ob_site_rules.specs.declared.fault.Fault.{Fault}
 use Rattle.ob_site_rules.specs.Watched.{WatchOperation, lease_asked}
 use Rattle.ob_site_state.specs.declared.contents.Contents.{Contents}
 use Rattle.ob_site_state.specs.Contents.{state_in}

@@ -5,14 +5,12 @@ use Rattle.ob_watching.specs.Asked.{Refuses}
 use Rattle.ob_watching.specs.Watches.{Item as Flagged, add_found, added}
 use Rattle.ob_site_rules.specs.Build.{Text}
 use Rattle.ob_site_rules.specs.Faults.{err}
-use Rattle.ob_site_rules.specs.Faults as faults
 use Rattle.ob_site_rules.specs.Locating.{locate}
 use Rattle.ob_site_rules.specs.Replies.{Reading, entry}
 use Rattle.ob_site_rules.specs.Sites.{found}
 use Rattle.ob_site_rules.specs.State.{Plan}
 use Rattle.ob_site_rules.specs.Watched.{Asked, SiteFound}
-use Rattle.ob_replies.specs.declared.fault.Fault.{Fault}
-use Rattle.ob_replies.specs.Told as told
+use Rattle.ob_site_rules.specs.declared.fault.Fault.{Fault}
 use Rattle.ob_site_state.specs.declared.contents.Contents.{Contents}
 use Rattle.ob_site_state.specs.Contents.{state_in}
 use Rattle.ob_watch.specs.declared.item.Item.{Item}
@@ -28,20 +26,20 @@ pub record IsItemFor (plan : Plan) (c : Contents) (text : Text) (f : SiteFound) 
   pub known : IsKnown plan c item
 
 -- or leaving them, with this refusal
-abbrev pub IsRefusedFor : Plan → Contents → Text → SiteFound → faults.Fault → Type 0
+abbrev pub IsRefusedFor : Plan → Contents → Text → SiteFound → Fault → Type 0
 IsRefusedFor plan c text f fault =
     (items : List (Flagged (of_plan plan))) → add_found (of_plan plan) (state_in c) items text f ≡ (items, record { text = text; content = Refuses (err fault) })
 
 abbrev pub IsFor : Plan → Contents → Text → SiteFound → Result Item Fault → Type 0
 IsFor plan c text f (Ok item) = IsItemFor plan c text f item
-IsFor plan c text f (Err fault) = IsRefusedFor plan c text f (told.fault fault)
+IsFor plan c text f (Err fault) = IsRefusedFor plan c text f fault
 
 -- the items are left, and this is the entry
 abbrev pub IsLeft : {I : Type 0} → List I → List I × Reading → Object → Type 0
 IsLeft items done o = (done.0 ≡ items) × (entry done.1 ≡ o)
 
 -- the entry of an href that is refused
-abbrev pub refused_entry : Text → faults.Fault → Object
+abbrev pub refused_entry : Text → Fault → Object
 refused_entry text fault = entry (record { text = text; content = Refuses (err fault) })
 
 -- what it is to be added as

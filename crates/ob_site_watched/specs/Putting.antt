@@ -5,7 +5,7 @@ use Rattle.ob_object.specs.Object.{Object}
 use Rattle.ob_watching.specs.Tables.{lookup}
 use Rattle.ob_watching.specs.Watches.{items_added, readings_added}
 use Rattle.ob_site_rules.specs.Computed.{watch_out}
-use Rattle.ob_site_rules.specs.Faults.{TooManyItems}
+use Rattle.ob_site_rules.specs.declared.fault.Fault.TheVariants.{TooManyItems}
 use Rattle.ob_site_rules.specs.Replies.{entry}
 use Rattle.ob_site_rules.specs.State.{Plan}
 use Rattle.ob_site_rules.specs.Watched.{Asked}

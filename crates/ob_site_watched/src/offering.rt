@@ -1,7 +1,6 @@
 //! What is asked for of a watch, before it is added.
 ghost use Rattle.std.specs.Prelude.{◌≡◌, IfOk};
 ghost use Rattle.ob_replies.specs.Plans.{plan as plan_of};
-ghost use Rattle.ob_replies.specs.Told as told;
 ghost use Rattle.ob_marks_laws.specs.Watched.{IsOwnFound};
 ghost use Rattle.ob_site_places.specs.Complete.{IsComplete};
 ghost use Rattle.ob_site_state.specs.Contents.{state_in};
@@ -12,9 +11,10 @@ ghost use Rattle.ob_site_watched.specs.Offered.{IsFor, IsOffered, refused_entry}
 use ob_contracts::Steps;
 use ob_marks_laws::watched_are_own;
 use ob_object::Obj;
-use ob_replies::{Fault, Plan, entry, refusal};
+use ob_replies::{Plan, entry, refusal};
 use ob_requests::{Asked, Found};
 use ob_site_reads::{count_at, found};
+use ob_site_rules::Fault;
 use ob_site_state::Contents;
 use ob_values::Text;
 use ob_watch::Item;
@@ -57,7 +57,7 @@ fn item_for(
 
 /// The entry of an href that is refused. An error only for want of memory.
 pub(crate) fn refused(alloc: Global, text: &Text, fault: Fault) -> Result<Obj, AllocError>
-    ensures { IfOk result (λ o. o ≡ refused_entry text.now (told.fault fault)) }
+    ensures { IfOk result (λ o. o ≡ refused_entry text.now fault) }
 {
     let object = refusal(alloc, fault)?;
     let text = text.copy()?;

@@ -3,7 +3,7 @@ use Rattle.std.proofs.Common.{◌≡◌, Bool, true, false, not, cond, Option, S
 use Rattle.ob_object.specs.Object.{Object}
 use Rattle.ob_site_written.proofs.Refused.{by_table}
 use Rattle.ob_site_rules.specs.Build.{Path}
-use Rattle.ob_site_rules.specs.Faults.{Fault as SiteFault}
+use Rattle.ob_site_rules.specs.declared.fault.Fault.{Fault}
 use Rattle.ob_site_rules.specs.State.{Plan, State}
 use Rattle.ob_site_rules.specs.Places.{reply_at}
 use Rattle.ob_site_rules.specs.Writes.{showing}
@@ -19,6 +19,6 @@ shown_then k t made p o default reply is same shows = record {
 }
 
 -- where nothing is wrong, the kind is the same
-pub same_of : (same : Bool) (fault : Option SiteFault) (over : Bool) → by_table same fault over ≡ None → same ≡ true
+pub same_of : (same : Bool) (fault : Option Fault) (over : Bool) → by_table same fault over ≡ None → same ≡ true
 same_of true fault over e = refl
 same_of false fault over e = absurd cc

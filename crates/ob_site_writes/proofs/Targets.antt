@@ -11,11 +11,10 @@ use Rattle.ob_object.specs.Kinds.{same_kind}
 use Rattle.ob_object.specs.Object.{Object}
 use Rattle.ob_object.specs.Write.{verdict}
 use Rattle.ob_points.specs.Points.{suits, passes}
-use Rattle.ob_replies.specs.declared.fault.Fault.{Fault}
-use Rattle.ob_replies.specs.Told as told
 use Rattle.ob_site_rules.specs.Build.{Path}
-use Rattle.ob_site_rules.specs.Faults as faults
-use Rattle.ob_site_rules.specs.Faults.{Fault as SiteFault, OtherKind, OtherShape, TooManyEntries, err, first_fault}
+use Rattle.ob_site_rules.specs.declared.fault.Fault.{Fault}
+use Rattle.ob_site_rules.specs.declared.fault.Fault.TheVariants.{OtherKind, OtherShape, TooManyEntries}
+use Rattle.ob_site_rules.specs.Faults.{err, first_fault}
 use Rattle.ob_site_rules.specs.Shown.{shown}
 use Rattle.ob_site_rules.specs.State.{Plan, State}
 use Rattle.ob_site_rules.specs.Writes.{given_by, is_listed, overfills, put, showing, slot_fault, target_fault, unless, value_fault, verdict_fault, write_by, written}
@@ -60,13 +59,13 @@ slot_same plan s h (Is v) = ap (λ (b : Bool). verdict_fault (verdict h.kind h.f
 
 value_same : (plan : Plan) (s : State) (now : ℕ) (p : Path) (h new : Head) → value_fault plan s now p (target_head h) new ≡ value_fault plan s now p h new
 value_same plan s now p h new =
-    ap (λ (f : Option SiteFault). option_or (first_fault ((not (same_kind new.kind h.kind), OtherKind) ∷ [])) (option_or f (first_fault ((overfills plan s now p h new.slot, TooManyEntries) ∷ []))))
+    ap (λ (f : Option Fault). option_or (first_fault ((not (same_kind new.kind h.kind), OtherKind) ∷ [])) (option_or f (first_fault ((overfills plan s now p h new.slot, TooManyEntries) ∷ []))))
     (slot_same plan s h new.slot)
 
 -- so what lets a value through tells what is shown
 pub passes_by : (plan : Plan) (s : State) (p : Path) (v : Value) (o : Object) → IsTarget plan s p o → suits plan s v o ≡ passes plan s p v
 passes_by plan s p v o is =
-    ap (λ (f : Option SiteFault). not (is_some f))
+    ap (λ (f : Option Fault). not (is_some f))
     (sym (slot_same plan s o.head (Is v)) ∙ sym (ap (λ (x : Object). slot_fault plan s x.head (Is v)) is.1.1) ∙ slot_same plan s is.0.head (Is v))
     ∙ sym (ap (λ (q : Option Object). unwrap_or (option_map (suits plan s v) q) false) is.1.0)
 
@@ -75,36 +74,36 @@ value_told plan s now p new o x same =
     sym (value_same plan s now p x.head new) ∙ ap (λ (y : Object). value_fault plan s now p y.head new) same ∙ value_same plan s now p o.head new
 
 -- what is wrong with a value refuses its write
-refuses_value : (plan : Plan) (s : State) (now : ℕ) (p : Path) (o body : Object) (before : Option SiteFault) (f : SiteFault) (is : IsTarget plan s p o) → before ≡ None
+refuses_value : (plan : Plan) (s : State) (now : ℕ) (p : Path) (o body : Object) (before : Option Fault) (f : Fault) (is : IsTarget plan s p o) → before ≡ None
     → value_fault plan s now p o.head (given_by s body) ≡ Some f → write_by plan s now p is.0 before body ≡ (s, err f)
 refuses_value plan s now p o body before f is free e =
-    ap (λ (b : Option SiteFault). write_by plan s now p is.0 b body) free
-    ∙ ap (λ (b : Option SiteFault). unless b s (showing plan p is.0 (written plan now p is.0 (given_by s body).slot s))) (value_told plan s now p (given_by s body) o is.0 is.1.1 ∙ e)
+    ap (λ (b : Option Fault). write_by plan s now p is.0 b body) free
+    ∙ ap (λ (b : Option Fault). unless b s (showing plan p is.0 (written plan now p is.0 (given_by s body).slot s))) (value_told plan s now p (given_by s body) o is.0 is.1.1 ∙ e)
 
-pub write_refused : (plan : Plan) (s : State) (now : ℕ) (p : Path) (o body : Object) (fault : Option Fault) → IsTarget plan s p o → option_map told.fault fault ≡ value_fault plan s now p o.head (given_by s body)
-    → IfSome fault (λ f. IsRefused plan s p (λ x. write_by plan s now p x None body) (told.fault f))
+pub write_refused : (plan : Plan) (s : State) (now : ℕ) (p : Path) (o body : Object) (fault : Option Fault) → IsTarget plan s p o → fault ≡ value_fault plan s now p o.head (given_by s body)
+    → IfSome fault (λ f. IsRefused plan s p (λ x. write_by plan s now p x None body) f)
 write_refused plan s now p o body None is e = tt
-write_refused plan s now p o body (Some f) is e = (is.0, (is.1.0, refuses_value plan s now p o body None (told.fault f) is refl (sym e)))
+write_refused plan s now p o body (Some f) is e = (is.0, (is.1.0, refuses_value plan s now p o body None f is refl (sym e)))
 
 target_told : (o x : Object) → target x ≡ target o → target_fault x.head ≡ target_fault o.head
 target_told o x same = ap (λ (y : Object). target_fault y.head) same
 
 pub put_refused : (plan : Plan) (s : State) (now : ℕ) (p : Path) (o body : Object) (fault : Option Fault) → IsTarget plan s p o → target_fault o.head ≡ None
-    → option_map told.fault fault ≡ value_fault plan s now p o.head (given_by s body) → IfSome fault (λ f. IsRefused plan s p (λ x. put plan s now p x (Some body)) (told.fault f))
+    → fault ≡ value_fault plan s now p o.head (given_by s body) → IfSome fault (λ f. IsRefused plan s p (λ x. put plan s now p x (Some body)) f)
 put_refused plan s now p o body None is free e = tt
 put_refused plan s now p o body (Some f) is free e =
-    (is.0, (is.1.0, refuses_value plan s now p o body (target_fault is.0.head) (told.fault f) is (target_told o is.0 is.1.1 ∙ free) (sym e)))
+    (is.0, (is.1.0, refuses_value plan s now p o body (target_fault is.0.head) f is (target_told o is.0 is.1.1 ∙ free) (sym e)))
 
 -- and so does what is wrong with the target, and that there is no body
-pub target_refused : (plan : Plan) (s : State) (now : ℕ) (p : Path) (o : Object) (body : Option Object) (fault : Option Fault) → IsTarget plan s p o → option_map told.fault fault ≡ target_fault o.head
-    → IfSome fault (λ f. IsRefused plan s p (λ x. put plan s now p x body) (told.fault f))
+pub target_refused : (plan : Plan) (s : State) (now : ℕ) (p : Path) (o : Object) (body : Option Object) (fault : Option Fault) → IsTarget plan s p o → fault ≡ target_fault o.head
+    → IfSome fault (λ f. IsRefused plan s p (λ x. put plan s now p x body) f)
 target_refused plan s now p o body None is e = tt
 target_refused plan s now p o body (Some f) is e = (is.0, (is.1.0, go body (target_told o is.0 is.1.1 ∙ sym e)))
   where
-    go : (b : Option Object) → target_fault is.0.head ≡ Some (told.fault f) → put plan s now p is.0 b ≡ (s, err (told.fault f))
-    go None t = ap (λ (g : Option SiteFault). unless (option_or g (Some OtherShape)) s (s, is.0)) t
-    go (Some x) t = ap (λ (g : Option SiteFault). write_by plan s now p is.0 g x) t
+    go : (b : Option Object) → target_fault is.0.head ≡ Some f → put plan s now p is.0 b ≡ (s, err f)
+    go None t = ap (λ (g : Option Fault). unless (option_or g (Some OtherShape)) s (s, is.0)) t
+    go (Some x) t = ap (λ (g : Option Fault). write_by plan s now p is.0 g x) t
 
 pub bodiless_refused : (plan : Plan) (s : State) (now : ℕ) (p : Path) (o : Object) → IsTarget plan s p o → target_fault o.head ≡ None → IsRefused plan s p (λ x. put plan s now p x None) OtherShape
 bodiless_refused plan s now p o is free =
-    (is.0, (is.1.0, ap (λ (g : Option SiteFault). unless (option_or g (Some OtherShape)) s (s, is.0)) (target_told o is.0 is.1.1 ∙ free)))
+    (is.0, (is.1.0, ap (λ (g : Option Fault). unless (option_or g (Some OtherShape)) s (s, is.0)) (target_told o is.0 is.1.1 ∙ free)))

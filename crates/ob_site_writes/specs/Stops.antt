@@ -1,7 +1,6 @@
 -- What a request leaves of a state, and what it is answered.
 use Rattle.std.specs.Prelude.{◌≡◌}
 use Rattle.ob_object.specs.Object.{Object}
-use Rattle.ob_replies.specs.Told as told
 use Rattle.ob_site_rules.specs.Faults.{err}
 use Rattle.ob_site_rules.specs.State.{State}
 use Rattle.ob_site_state.specs.Kept.{Kept}
@@ -15,5 +14,5 @@ pub record IsDone (old new : Kept) (made : State × Object) (reply : Object) : T
 
 -- A refusal leaves all as it was, and the reply is its err; want of memory leaves all but the state now.
 abbrev pub Stops : Kept → Kept → State × Object → Stop → Type 0
-Stops old new made (Refused fault) = (new ≡ old) × (made ≡ (old.now, err (told.fault fault)))
+Stops old new made (Refused fault) = (new ≡ old) × (made ≡ (old.now, err fault))
 Stops old new made Memory = new ≡ record old { now = new.now }

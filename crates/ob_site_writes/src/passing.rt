@@ -1,6 +1,5 @@
 //! Whether a value may be put to what is shown at a path.
-ghost use Rattle.std.specs.Prelude.{◌≡◌, not, is_some, option_map, IfOk};
-ghost use Rattle.ob_replies.specs.Told as told;
+ghost use Rattle.std.specs.Prelude.{◌≡◌, not, is_some, IfOk};
 ghost use Rattle.ob_points.specs.Points.{suits, passes};
 
 use crate::reading::shown;
@@ -8,7 +7,7 @@ use crate::refusing::target_at;
 use crate::value::held_fault;
 use ob_contracts::Steps;
 use ob_object::Obj;
-use ob_replies::Fault;
+use ob_site_rules::Fault;
 use ob_site_state::State;
 use ob_values::{Text, Value};
 use std::alloc::AllocError;
@@ -16,7 +15,7 @@ use std::sync::ledger::Ledger;
 
 /// Whether no fault was found.
 fn is_nothing(fault: Option<Fault>) -> bool
-    ensures { result ≡ not (is_some (option_map told.fault fault)) }
+    ensures { result ≡ not (is_some (fault)) }
 {
     match fault {
         Some(_) => false,

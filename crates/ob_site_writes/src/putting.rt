@@ -17,7 +17,7 @@ use crate::value::{target_fault, value_fault};
 use crate::written::written_at;
 use ob_contracts::{Library, Steps, View};
 use ob_object::{Attributes, Obj, Slot};
-use ob_replies::Fault;
+use ob_site_rules::Fault;
 use ob_site_state::State;
 use ob_values::Text;
 use std::alloc::{AllocError, Global};

@@ -1,7 +1,6 @@
 //! What is wrong with a write, told by the own head of the node that it is for: nothing is shown for it.
-ghost use Rattle.std.specs.Prelude.{◌≡◌, None, option_map, IfOk, IfSome};
+ghost use Rattle.std.specs.Prelude.{◌≡◌, None, IfOk, IfSome};
 ghost use Rattle.std.specs.Option.{option_copied};
-ghost use Rattle.ob_replies.specs.Told as told;
 ghost use Rattle.ob_site_rules.specs.Writes.{given_by, put, value_fault, write_by};
 ghost use Rattle.ob_site_writes.specs.Targets.{IsRefused, IsTarget};
 
@@ -9,7 +8,7 @@ use crate::putting::given_by;
 use crate::value::{target_fault, value_fault};
 use ob_contracts::Steps;
 use ob_object::Obj;
-use ob_replies::Fault;
+use ob_site_rules::Fault;
 use ob_site_shown::own_target;
 use ob_site_state::State;
 use ob_values::Text;
@@ -44,7 +43,7 @@ fn body_fault<L: Ledger>(
 ) -> Result<Option<Fault>, AllocError>
     requires { IsTarget state.old.plan state.old.now path.now target.now }
     ensures same { state.new ≡ state.old }
-    ensures fault { IfOk result (λ fault. option_map told.fault fault ≡ value_fault state.old.plan state.old.now state.old.time path.now target.now.head (given_by state.old.now body.now)) }
+    ensures fault { IfOk result (λ fault. fault ≡ value_fault state.old.plan state.old.now state.old.time path.now target.now.head (given_by state.old.now body.now)) }
 {
     let given = given_by(state.allocator(), state.library(), body, steps)?;
     value_fault(state, path, target, &given, steps)
@@ -59,7 +58,7 @@ pub fn write_fault<L: Ledger>(
     steps: &mut Steps<L>,
 ) -> Result<Option<Fault>, AllocError>
     ensures same { state.new ≡ state.old }
-    ensures fault { IfOk result (λ fault. IfSome fault (λ f. IsRefused state.old.plan state.old.now path.now (λ o. write_by state.old.plan state.old.now state.old.time path.now o None body.now) (told.fault f))) }
+    ensures fault { IfOk result (λ fault. IfSome fault (λ f. IsRefused state.old.plan state.old.now path.now (λ o. write_by state.old.plan state.old.now state.old.time path.now o None body.now) f)) }
 {
     match target_at(state, path, steps)? {
         Some(target) => body_fault(state, path, &target, body, steps),
@@ -77,7 +76,7 @@ fn target_refusal<L: Ledger>(
 ) -> Result<Option<Fault>, AllocError>
     requires { IsTarget state.old.plan state.old.now path.now target.now }
     ensures same { state.new ≡ state.old }
-    ensures fault { IfOk result (λ fault. IfSome fault (λ f. IsRefused state.old.plan state.old.now path.now (λ o. put state.old.plan state.old.now state.old.time path.now o (option_copied body.entry)) (told.fault f))) }
+    ensures fault { IfOk result (λ fault. IfSome fault (λ f. IsRefused state.old.plan state.old.now path.now (λ o. put state.old.plan state.old.now state.old.time path.now o (option_copied body.entry)) f)) }
 {
     let fault = target_fault(target.head());
     if fault.is_some() {
@@ -98,7 +97,7 @@ pub fn put_fault<L: Ledger>(
     steps: &mut Steps<L>,
 ) -> Result<Option<Fault>, AllocError>
     ensures same { state.new ≡ state.old }
-    ensures fault { IfOk result (λ fault. IfSome fault (λ f. IsRefused state.old.plan state.old.now path.now (λ o. put state.old.plan state.old.now state.old.time path.now o (option_copied body.entry)) (told.fault f))) }
+    ensures fault { IfOk result (λ fault. IfSome fault (λ f. IsRefused state.old.plan state.old.now path.now (λ o. put state.old.plan state.old.now state.old.time path.now o (option_copied body.entry)) f)) }
 {
     match target_at(state, path, steps)? {
         Some(target) => target_refusal(state, path, &target, body, steps),

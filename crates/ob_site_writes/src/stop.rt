@@ -1,5 +1,5 @@
 //! Why a request did nothing.
-use ob_replies::Fault;
+use ob_site_rules::Fault;
 use std::alloc::AllocError;
 
 /// Why a request did nothing.

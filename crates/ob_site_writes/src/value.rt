@@ -1,16 +1,15 @@
 //! What is wrong with a write.
-ghost use Rattle.std.specs.Prelude.{◌≡◌, None, option_map, option_and_then, option_copied, IfOk};
+ghost use Rattle.std.specs.Prelude.{◌≡◌, None, option_and_then, option_copied, IfOk};
 ghost use Rattle.ob_object.specs.declared.head.Slot.TheVariants.{Is};
 ghost use Rattle.ob_object.specs.Write.{verdict};
 ghost use Rattle.ob_object.specs.Kinds.{has_values};
 ghost use Rattle.ob_contracts.specs.Inherit.{contract_of};
-ghost use Rattle.ob_replies.specs.Told as told;
 ghost use Rattle.ob_site_rules.specs.Writes.{ranged, has_child, is_listed, fault_of, verdict_fault, slot_fault, value_fault, target_fault};
 ghost use Rattle.ob_site_writes.specs.Targets.{IsTarget};
 
 use ob_contracts::Steps;
 use ob_object::{Attributes, Obj, Slot, WriteFault, check_write};
-use ob_replies::Fault;
+use ob_site_rules::Fault;
 use ob_site_shown::shows_child;
 use ob_site_state::State;
 use ob_site_written::overfills;
@@ -20,7 +19,7 @@ use std::sync::ledger::Ledger;
 
 /// What is wrong with a node that is to be put to: it has no value, or isn't shown as writable.
 pub(crate) fn target_fault(head: &Attributes) -> Option<Fault>
-    ensures { option_map told.fault result ≡ target_fault head.now }
+    ensures { result ≡ target_fault head.now }
 {
     if !head.kind().has_values() {
         return Some(Fault::NotSupported);
@@ -105,7 +104,7 @@ fn is_listed<L: Ledger>(
 
 /// The refusal of a write fault.
 fn fault_of(fault: WriteFault) -> Fault
-    ensures { told.fault result ≡ fault_of fault }
+    ensures { result ≡ fault_of fault }
 {
     match fault {
         WriteFault::WrongKind => Fault::OtherKind,
@@ -118,7 +117,7 @@ fn fault_of(fault: WriteFault) -> Fault
 
 /// The refusal of what was found wrong with a value, if anything was.
 fn verdict_fault(verdict: Result<(), WriteFault>) -> Option<Fault>
-    ensures { option_map told.fault result ≡ verdict_fault verdict }
+    ensures { result ≡ verdict_fault verdict }
 {
     match verdict {
         Ok(()) => None,
@@ -128,7 +127,7 @@ fn verdict_fault(verdict: Result<(), WriteFault>) -> Option<Fault>
 
 /// What is wrong with a value for an object, where it is listed or not in what the object's range names.
 fn listed_fault(object: &Obj, value: &Value, listed: bool) -> Option<Fault>
-    ensures { option_map told.fault result ≡ verdict_fault (verdict object.now.head.kind object.now.head.facets.min object.now.head.facets.max value.now listed) }
+    ensures { result ≡ verdict_fault (verdict object.now.head.kind object.now.head.facets.min object.now.head.facets.max value.now listed) }
 {
     let head = object.head();
     verdict_fault(check_write(head.kind(), head.min(), head.max(), value, listed))
@@ -141,7 +140,7 @@ pub(crate) fn held_fault<L: Ledger>(
     value: &Value,
     steps: &mut Steps<L>,
 ) -> Result<Option<Fault>, AllocError>
-    ensures { IfOk result (λ fault. option_map told.fault fault ≡ slot_fault state.now.plan state.now.now object.now.head (Is value.now)) }
+    ensures { IfOk result (λ fault. fault ≡ slot_fault state.now.plan state.now.now object.now.head (Is value.now)) }
 {
     let listed = is_listed(state, object.head(), value, steps)?;
     Ok(listed_fault(object, value, listed))
@@ -154,7 +153,7 @@ fn slot_fault<L: Ledger>(
     slot: &Slot,
     steps: &mut Steps<L>,
 ) -> Result<Option<Fault>, AllocError>
-    ensures { IfOk result (λ fault. option_map told.fault fault ≡ slot_fault state.now.plan state.now.now object.now.head slot.now) }
+    ensures { IfOk result (λ fault. fault ≡ slot_fault state.now.plan state.now.now object.now.head slot.now) }
 {
     match slot {
         Slot::Is(value) => held_fault(state, object, value, steps),
@@ -173,7 +172,7 @@ pub(crate) fn value_fault<L: Ledger>(
 ) -> Result<Option<Fault>, AllocError>
     requires { IsTarget state.old.plan state.old.now path.now object.now }
     ensures same { state.new ≡ state.old }
-    ensures fault { IfOk result (λ fault. option_map told.fault fault ≡ value_fault state.old.plan state.old.now state.old.time path.now object.now.head new.now) }
+    ensures fault { IfOk result (λ fault. fault ≡ value_fault state.old.plan state.old.now state.old.time path.now object.now.head new.now) }
 {
     let head = object.head();
     if !new.kind().same(head.kind()) {

@@ -2,7 +2,7 @@ use Rattle.std.proofs.Common.{◌≡◌, true, Ok, Err, sym, ap, ◌∙◌, subs
 use Rattle.std.specs.Prelude.{IfOk}
 use Rattle.ob_replies.specs.Plans.{plan as plan_of}
 use Rattle.ob_site_rules.specs.Build.{Text}
-use Rattle.ob_site_rules.specs.Faults.{TooManyItems}
+use Rattle.ob_site_rules.specs.declared.fault.Fault.TheVariants.{TooManyItems}
 use Rattle.ob_watch.specs.declared.fault.WatchFault.{WatchFault}
 use Rattle.ob_watch.specs.Adding.{Added, is_refused}
 use Rattle.ob_site_watched.specs.declared.offering.Offer.{Offer}

@@ -3,7 +3,7 @@ use Rattle.std.specs.Prelude.{option_and_then}
 use Rattle.ob_watching.specs.Tables.{lookup, replace}
 use Rattle.ob_watching.specs.Asked.{Remove}
 use Rattle.ob_site_rules.specs.Build.{Text}
-use Rattle.ob_site_rules.specs.Faults.{Fault}
+use Rattle.ob_site_rules.specs.declared.fault.Fault.{Fault}
 use Rattle.ob_site_rules.specs.Watched.{WatchOperation}
 use Rattle.ob_site_state.specs.Contents.{state_in}
 use Rattle.ob_requests.specs.Calls.{lease_in}

@@ -1,4 +1,4 @@
-use Rattle.std.proofs.Common.{◌≡◌, true, Option, None, option_map, sym, ap, ◌∙◌, subst, IsTrue}
+use Rattle.std.proofs.Common.{◌≡◌, true, Option, None, sym, ◌∙◌, subst, IsTrue}
 use Rattle.ob_object.specs.declared.head.Slot.{Slot}
 use Rattle.ob_object.specs.declared.kind.Kind.{Kind}
 use Rattle.ob_object.specs.Fits.{fits_slot}
@@ -6,9 +6,7 @@ use Rattle.ob_object.specs.Kinds.{same_kind, has_values}
 use Rattle.ob_object.specs.Object.{Object}
 use Rattle.ob_contracts.proofs.Fitting.{one_kind}
 use Rattle.ob_history.specs.Records.{holds_value}
-use Rattle.ob_replies.specs.declared.fault.Fault.{Fault}
-use Rattle.ob_replies.specs.Told as told
-use Rattle.ob_site_rules.specs.Faults.{Fault as SiteFault}
+use Rattle.ob_site_rules.specs.declared.fault.Fault.{Fault}
 use Rattle.ob_site_rules.specs.State.{State}
 use Rattle.ob_site_rules.specs.Writes.{slot_fault, overfills, value_fault, written, showing, unless}
 use Rattle.ob_site_written.proofs.Passed.{slot_fits}
@@ -26,7 +24,7 @@ show_written-requires-clause-can g c =
     let p = c.args.path.now in
     let o = c.args.object.now in
     let new = c.args.new.now in
-    let right : value_fault k.plan k.now k.time p o.head new ≡ None = sym c.in_ok-fault.ensures.fault ∙ ap (λ (f : Option Fault). option_map told.fault f) c.in_default.is in
+    let right : value_fault k.plan k.now k.time p o.head new ≡ None = sym c.in_ok-fault.ensures.fault ∙ c.in_default.is in
     let over = overfills k.plan k.now k.time p o.head new.slot in
     let found = slot_fault k.plan k.now o.head new.slot in
     let fits : IsTrue (fits_slot o.head.kind new.slot) = slot_fits k.plan k.now o.head new.slot (nothing_of (same_kind new.kind o.head.kind) found over right).0 in
@@ -44,9 +42,9 @@ returns-clause-ok g c =
     let o = c.args.object.now in
     let new = c.args.new.now in
     let reply = c.in_ok-reply.reply in
-    let right : value_fault k.plan k.now k.time p o.head new ≡ None = sym c.in_ok-fault.ensures.fault ∙ ap (λ (f : Option Fault). option_map told.fault f) c.in_default.is in
+    let right : value_fault k.plan k.now k.time p o.head new ≡ None = sym c.in_ok-fault.ensures.fault ∙ c.in_default.is in
     let made : Kept → Slot → State × Object = λ x s. showing x.plan p o (written x.plan x.time p o s x.now) in
     let done : IsDone k t (made k new.slot) reply =
     subst (λ (s : Slot). IsDone k t (made k s) reply) c.slot.ensures
     (subst (λ (x : Kept). IsDone x t (made x c.slot.result.now) reply) c.in_ok-fault.ensures.same c.in_ok-reply.ensures.ok) in
-    subst (λ (f : Option SiteFault). IsDone k t (unless f k.now (made k new.slot)) reply) (sym right) done
+    subst (λ (f : Option Fault). IsDone k t (unless f k.now (made k new.slot)) reply) (sym right) done

@@ -1,8 +1,7 @@
-use Rattle.std.proofs.Common.{◌≡◌, None, Option, option_map, subst}
+use Rattle.std.proofs.Common.{◌≡◌, None, Option, subst}
 use Rattle.std.specs.Prelude.{IfSome}
 use Rattle.std.proofs.lemmas.Result.{IfOk-weaker}
 use Rattle.ob_object.specs.Object.{Object}
-use Rattle.ob_replies.specs.Told as told
 use Rattle.ob_site_rules.specs.Writes.{given_by, value_fault, write_by}
 use Rattle.ob_site_writes.specs.Targets.{IsRefused, IsTarget}
 use Rattle.ob_site_writes.proofs.Targets.{write_refused}
@@ -21,5 +20,5 @@ returns-in-Some-clause-fault g c =
     let body = c.args.body.now in
     let t = c.in-Some.target in
     let is : IsTarget k.plan k.now p t = subst (λ (found : Option Object). IfSome found (λ o. IsTarget k.plan k.now p o)) c.in-Some.is c.in_ok-target.ensures in
-    IfOk-weaker c.body_fault.result (λ f. option_map told.fault f ≡ value_fault k.plan k.now k.time p t.head (given_by k.now body))
-    (λ f. IfSome f (λ g. IsRefused k.plan k.now p (λ o. write_by k.plan k.now k.time p o None body) (told.fault g))) (λ f e. write_refused k.plan k.now k.time p t body f is e) c.body_fault.ensures.fault
+    IfOk-weaker c.body_fault.result (λ f. f ≡ value_fault k.plan k.now k.time p t.head (given_by k.now body))
+    (λ f. IfSome f (λ g. IsRefused k.plan k.now p (λ o. write_by k.plan k.now k.time p o None body) g)) (λ f e. write_refused k.plan k.now k.time p t body f is e) c.body_fault.ensures.fault
