@@ -6,7 +6,8 @@ use Rattle.std.specs.Prelude.{nat_lt}
 use Rattle.std.specs.List.{AllByRecursion, list_any}
 use Rattle.ob_history.specs.declared.records.Record.{Record}
 use Rattle.ob_alarms.specs.Changes.{State as Board}
-use Rattle.ob_site_rules.specs.State.{Plan, State, board, rolled, rolled_logs, roll}
+use Rattle.ob_site_rules.specs.State.{State, board, roll, rolled, rolled_logs}
+use Rattle.ob_site_rules.specs.declared.plan.Plan.{Plan}
 use Rattle.ob_site_rules.specs.Writes.{stored, stored_logs, events_ever, is_over}
 use Rattle.ob_consistent_laws.specs.Opens as opens
 use Rattle.ob_plain_state.specs.States as plain

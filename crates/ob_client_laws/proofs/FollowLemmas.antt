@@ -23,7 +23,8 @@ use Rattle.ob_site_rules.specs.Places.{Place, About, Batch, Service, Make, Alarm
 use Rattle.ob_site_rules.specs.Posts.{kept_in, records_of}
 use Rattle.ob_site_rules.specs.Replies.{dropped_child, entry}
 use Rattle.ob_site_rules.specs.Sites.{watched_object}
-use Rattle.ob_site_rules.specs.State.{Plan, State, Log, at, board}
+use Rattle.ob_site_rules.specs.declared.plan.Plan.{Plan}
+use Rattle.ob_site_rules.specs.State.{State, Log, at, board}
 use Rattle.ob_site_rules.specs.Watched.{events_at, gone_in, gone_at}
 use Rattle.ob_site_rules.specs.Writes.{events_ever}
 use Rattle.ob_site_laws.specs.SiteLaws.{of_plan}

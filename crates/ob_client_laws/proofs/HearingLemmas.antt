@@ -14,7 +14,7 @@ use Rattle.ob_watching.specs.Laws.{IsRead}
 use Rattle.ob_watching.specs.Replay.{replay_heard}
 use Rattle.ob_watching.specs.Watches.{Asks}
 use Rattle.ob_watching.specs.WatchOuts.{Text, Held, Heard, is_of_kind, entries_of, heard_entries}
-use Rattle.ob_site_rules.specs.State.{Plan}
+use Rattle.ob_site_rules.specs.declared.plan.Plan.{Plan}
 use Rattle.ob_site_laws.specs.SiteLaws.{acts, of_plan, IsSoundSite, ClientsHold, ClientsHoldAll}
 use Rattle.ob_site_laws.specs.SiteLaws as site
 use Rattle.ob_client.specs.Mirrors.{Mirrored, added, removed, Refreshes, Adds, Changes}

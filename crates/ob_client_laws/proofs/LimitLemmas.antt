@@ -27,7 +27,8 @@ use Rattle.ob_site_rules.specs.Faults.{err}
 use Rattle.ob_site_rules.specs.Locating.{locate}
 use Rattle.ob_site_rules.specs.declared.watch_part.WatchPart.{WatchPart}
 use Rattle.ob_site_rules.specs.declared.watch_part.WatchPart.TheVariants.{Whole}
-use Rattle.ob_site_rules.specs.State.{Plan, State, board, roll, with_board}
+use Rattle.ob_site_rules.specs.declared.plan.Plan.{Plan}
+use Rattle.ob_site_rules.specs.State.{State, board, roll, with_board}
 use Rattle.ob_site_rules.specs.Sameness.{same_slot}
 use Rattle.ob_site_rules.specs.Places.{Place, About, Batch, Service, Make, AlarmAt, AckOf, WritePointOf, QueryOf, FeedOf, AlarmQuery, AlarmFeed, Node, place_at}
 use Rattle.ob_site_rules.specs.Writes.{recorded, board_after, write, written, is_over, overfills, slot_fault, value_fault, target_fault, given_by, unless, write_by, put}

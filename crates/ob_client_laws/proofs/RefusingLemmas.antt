@@ -27,7 +27,8 @@ use Rattle.ob_site_rules.specs.declared.fault.Fault.TheVariants.{NoSuchObject}
 use Rattle.ob_site_rules.specs.Faults.{err}
 use Rattle.ob_site_rules.specs.Replies.{entry, sent}
 use Rattle.ob_site_rules.specs.Sites.{SiteState}
-use Rattle.ob_site_rules.specs.State.{Plan, State}
+use Rattle.ob_site_rules.specs.declared.plan.Plan.{Plan}
+use Rattle.ob_site_rules.specs.State.{State}
 use Rattle.ob_site_laws.specs.SiteLaws.{acts, of_plan, IsSoundSite, Stays, ClientsHold, ClientsHoldAll}
 use Rattle.ob_site_laws.specs.SiteLaws as site
 use Rattle.ob_client.specs.Entries.{text_of, each_once, if_once, entries_once}

@@ -5,7 +5,8 @@ use Rattle.std.specs.Prelude.{nat_lt}
 use Rattle.std.specs.List.{list_any}
 use Rattle.ob_history.specs.declared.records.Record.{Record}
 use Rattle.ob_site_rules.specs.Build.{Path}
-use Rattle.ob_site_rules.specs.State.{Plan, Log, State, board, rolled, rolled_logs, roll}
+use Rattle.ob_site_rules.specs.declared.plan.Plan.{Plan}
+use Rattle.ob_site_rules.specs.State.{Log, State, board, rolled, rolled_logs, roll}
 use Rattle.ob_site_rules.specs.Writes.{stored, stored_in, stored_logs, events_ever, is_over}
 use Rattle.ob_consistent_laws.specs.Ordered.{OpensOrdered}
 use Rattle.ob_client_laws.specs.Storing.{StoresFew, StoredStays, OpenedStoresFew}

@@ -15,7 +15,8 @@ use Rattle.ob_site_rules.specs.declared.fault.Fault.{Fault}
 use Rattle.ob_site_rules.specs.declared.fault.Fault.TheVariants.{TooManyItems}
 use Rattle.ob_site_rules.specs.Faults.{err}
 use Rattle.ob_site_rules.specs.Replies.{entry}
-use Rattle.ob_site_rules.specs.State.{Plan, State}
+use Rattle.ob_site_rules.specs.declared.plan.Plan.{Plan}
+use Rattle.ob_site_rules.specs.State.{State}
 use Rattle.ob_site_laws.specs.SiteLaws.{of_plan}
 use Rattle.ob_client.specs.Entries.{text_of, each_once}
 use Rattle.ob_client.proofs.TableLemmas.{bytes_eq_sym}

@@ -14,7 +14,7 @@ use Rattle.ob_watching.specs.Laws as watches
 use Rattle.ob_watching.specs.Tables.{lookup}
 use Rattle.ob_watching.specs.Watches.{Watch, World, Asks}
 use Rattle.ob_watching.specs.WatchOuts.{Text, Held, is_of_kind, entries_of}
-use Rattle.ob_site_rules.specs.State.{Plan}
+use Rattle.ob_site_rules.specs.declared.plan.Plan.{Plan}
 use Rattle.ob_site_rules.specs.Sites.{SiteState}
 use Rattle.ob_site_laws.specs.SiteLaws.{acts, of_plan, IsSoundSite, KeepsAllOf}
 use Rattle.ob_site_laws.specs.SiteLaws as site

@@ -3,7 +3,8 @@ use Rattle.std.specs.Prelude.{◌≡◌, ℕ, ◌≤◌, List, Ok}
 use Rattle.ob_machine.specs.History.{after}
 use Rattle.ob_object.specs.Object.{Object}
 use Rattle.ob_site_rules.specs.Opening.{opening}
-use Rattle.ob_site_rules.specs.State.{Plan, State, board}
+use Rattle.ob_site_rules.specs.State.{State, board}
+use Rattle.ob_site_rules.specs.declared.plan.Plan.{Plan}
 use Rattle.ob_site_rules.specs.Sites.{SiteState}
 use Rattle.ob_site_rules.specs.Writes.{stored}
 use Rattle.ob_site_laws.specs.SiteLaws.{acts, Call}

@@ -8,8 +8,9 @@ use Rattle.ob_values.proofs.Bools.{bool_same}
 use Rattle.ob_object.specs.Object.{Object}
 use Rattle.ob_object.specs.Paths.{is_path, node_path}
 use Rattle.ob_site_rules.specs.Build.{Text, Path}
-use Rattle.ob_site_rules.specs.State.{Plan, State, Log, at, is_among}
 use Rattle.ob_site_rules.specs.Shown.{derived, lobby_children, write_point_op, history_part, subject_children}
+use Rattle.ob_site_rules.specs.State.{Log, State, at, is_among}
+use Rattle.ob_site_rules.specs.declared.plan.Plan.{Plan}
 use Rattle.ob_plain_state.proofs.Keeping.{names_of}
 use Rattle.ob_site_rules.specs.Roles.{derived_names}
 use Rattle.ob_site_rules.specs.Loading.{Part, path_of, root_lobby}

@@ -8,8 +8,9 @@ use Rattle.ob_object.specs.WellFormed.{NamesDiffer, is_taken, has_name}
 use Rattle.ob_object.specs.Paths.{node_path}
 use Rattle.ob_contracts.proofs.Missing.{taken-append}
 use Rattle.ob_site_rules.specs.Build.{Text}
-use Rattle.ob_site_rules.specs.State.{Plan, State, is_among}
 use Rattle.ob_site_rules.specs.Shown.{derived}
+use Rattle.ob_site_rules.specs.State.{State, is_among}
+use Rattle.ob_site_rules.specs.declared.plan.Plan.{Plan}
 use Rattle.ob_plain_state.specs.States.{NamesAreFree}
 use Rattle.ob_plain_state.proofs.Keeping.{names_of, taken_among, taken-among}
 use Rattle.ob_site_rules.specs.declared.roles.Roles.{Roles}

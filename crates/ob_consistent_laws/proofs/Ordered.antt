@@ -12,7 +12,8 @@ use Rattle.ob_contracts.specs.Inherit.{Contracts}
 use Rattle.ob_history.specs.declared.records.Record.{Record}
 use Rattle.ob_history.specs.Records.{InOrder}
 use Rattle.ob_site_rules.specs.Build.{Path}
-use Rattle.ob_site_rules.specs.State.{PointRule, Log, is_among, rolled}
+use Rattle.ob_site_rules.specs.State.{Log, is_among, rolled}
+use Rattle.ob_site_rules.specs.declared.plan.PointRule.{PointRule}
 use Rattle.ob_site_rules.specs.Writes.{stored_in, stored_logs}
 use Rattle.ob_site_rules.specs.Sites.{SiteState}
 use Rattle.ob_site_rules.specs.declared.roles.Roles.{Roles}

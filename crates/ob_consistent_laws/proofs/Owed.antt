@@ -1,6 +1,7 @@
 -- A `State` owes its plan what it should exactly where it is consistent, and so where a document opens it.
 use Rattle.std.proofs.Common.{◌≡◌, sym, subst}
-use Rattle.ob_site_rules.specs.State.{Plan, State as SiteState, board}
+use Rattle.ob_site_rules.specs.declared.plan.Plan.{Plan}
+use Rattle.ob_site_rules.specs.State.{State as SiteState, board}
 use Rattle.ob_plain_state.specs.States.{AreCounted, state_of, unspared, IsOf}
 use Rattle.ob_plain_state.proofs.Keeping.{rolled_counted}
 use Rattle.ob_plain_state.specs.declared.state.State.{State}

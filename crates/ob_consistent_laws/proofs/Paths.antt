@@ -4,8 +4,9 @@ use Rattle.ob_object.specs.declared.head.Slot.{Slot}
 use Rattle.ob_object.specs.Object.{Objects, none, node}
 use Rattle.ob_object.specs.Paths.{is_path, node_path}
 use Rattle.ob_site_rules.specs.Build.{Path}
-use Rattle.ob_site_rules.specs.State.{Plan, State, with_board, roll}
 use Rattle.ob_site_rules.specs.Shown.{dressed}
+use Rattle.ob_site_rules.specs.State.{State, roll, with_board}
+use Rattle.ob_site_rules.specs.declared.plan.Plan.{Plan}
 use Rattle.ob_site_rules.specs.Writes.{with_slot, with_slot_in}
 use Rattle.ob_plain_state.proofs.Keeping.{keys-rolled}
 use Rattle.ob_shown_laws.specs.Alike.{row, DifferInSlots}

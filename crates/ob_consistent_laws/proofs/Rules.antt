@@ -21,8 +21,10 @@ use Rattle.ob_alarms.specs.declared.rule.Rule.{Rule}
 use Rattle.ob_alarms.specs.Limits.{IsRule, is_below, same_kind as same_kind_num}
 use Rattle.ob_alarms.specs.Lists.{first_place}
 use Rattle.ob_site_rules.specs.Build.{Text, Path, child}
-use Rattle.ob_site_rules.specs.State.{Plan, PointRule, numbered_from}
 use Rattle.ob_site_rules.specs.Shown.{rule_of}
+use Rattle.ob_site_rules.specs.State.{numbered_from}
+use Rattle.ob_site_rules.specs.declared.plan.Plan.{Plan}
+use Rattle.ob_site_rules.specs.declared.plan.PointRule.{PointRule}
 use Rattle.ob_site_rules.specs.Writes.{number_in}
 use Rattle.ob_plain_state.specs.States.{IsOfKindAt, NodesAre, limits_fit, rule_at}
 use Rattle.ob_plain_state.specs.States as states

@@ -6,8 +6,9 @@ use Rattle.ob_object.specs.Object.{Object, Objects, none, node}
 use Rattle.ob_object.specs.Paths.{is_path, node_path}
 use Rattle.ob_contracts.specs.Standard.{standard}
 use Rattle.ob_site_rules.specs.Build.{Path}
-use Rattle.ob_site_rules.specs.State.{Plan, State, roll}
 use Rattle.ob_site_rules.specs.Shown.{node_of}
+use Rattle.ob_site_rules.specs.State.{State, roll}
+use Rattle.ob_site_rules.specs.declared.plan.Plan.{Plan}
 use Rattle.ob_site_rules.specs.Writes.{with_slot, with_slot_in}
 use Rattle.ob_plain_state.proofs.Keeping.{NamesAreFree-same, rolled_counted, keys-rolled}
 use Rattle.ob_plain_state.proofs.Slots.{taken_whatever}

@@ -4,7 +4,8 @@ use Rattle.ob_object.specs.declared.kind.Kind.{Kind}
 use Rattle.ob_object.specs.Object.{none, node}
 use Rattle.ob_contracts.specs.Standard.{standard}
 use Rattle.ob_site_rules.specs.Build.{Path}
-use Rattle.ob_site_rules.specs.State.{Plan, State, is_among, board}
+use Rattle.ob_site_rules.specs.declared.plan.Plan.{Plan}
+use Rattle.ob_site_rules.specs.State.{State, is_among, board}
 use Rattle.ob_site_rules.specs.Shown.{node_of}
 use Rattle.ob_site_rules.specs.Writes.{site_contracts}
 use Rattle.ob_plain_state.specs.States.{NamesAreFree, NodesAre, AreTaken, AreCounted, limits_fit, rule_at, state_of, unspared, IsOf}

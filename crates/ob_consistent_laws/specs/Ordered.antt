@@ -7,7 +7,8 @@ use Rattle.ob_object.specs.Paths.{node_path}
 use Rattle.ob_history.specs.declared.records.Record.{Record}
 use Rattle.ob_history.specs.Records.{InOrder}
 use Rattle.ob_site_rules.specs.Build.{Path}
-use Rattle.ob_site_rules.specs.State.{Plan, State, Log, is_among, board, roll}
+use Rattle.ob_site_rules.specs.State.{Log, State, board, is_among, roll}
+use Rattle.ob_site_rules.specs.declared.plan.Plan.{Plan}
 use Rattle.ob_site_rules.specs.Writes.{stored}
 use Rattle.ob_site_rules.specs.Sites.{SiteState}
 use Rattle.ob_site_rules.specs.Opening.{opening}

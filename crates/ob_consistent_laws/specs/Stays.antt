@@ -4,7 +4,8 @@ use Rattle.ob_object.specs.declared.head.Slot.{Slot}
 use Rattle.ob_contracts.specs.Inherit.{Contracts}
 use Rattle.ob_alarms.specs.Changes.{State as Board}
 use Rattle.ob_site_rules.specs.Build.{Path}
-use Rattle.ob_site_rules.specs.State.{Plan, Log, State, with_board, roll}
+use Rattle.ob_site_rules.specs.declared.plan.Plan.{Plan}
+use Rattle.ob_site_rules.specs.State.{Log, State, with_board, roll}
 use Rattle.ob_site_rules.specs.Shown.{dressed}
 use Rattle.ob_site_rules.specs.Writes.{with_slot}
 use Rattle.ob_shown_laws.specs.Alike.{row}

@@ -10,7 +10,8 @@ use Rattle.ob_site_rules.specs.Build.{Text, Path}
 use Rattle.ob_site_rules.specs.declared.fault.Fault.{Fault}
 use Rattle.ob_site_rules.specs.declared.fault.Fault.TheVariants.{OtherShape, TooManyBatchItems}
 use Rattle.ob_site_rules.specs.Faults.{first_fault}
-use Rattle.ob_site_rules.specs.State.{Plan, State}
+use Rattle.ob_site_rules.specs.declared.plan.Plan.{Plan}
+use Rattle.ob_site_rules.specs.State.{State}
 use Rattle.ob_site_rules.specs.Places.{Place, Batch, place_at}
 use Rattle.ob_site_rules.specs.Actions.{is_post, batch_or, batch, act_on, act_located, act_itself, act_at}
 use Rattle.ob_kept.specs.Redone.{is_list, is_batch}

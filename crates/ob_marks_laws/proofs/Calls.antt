@@ -11,8 +11,9 @@ use Rattle.ob_alarms.specs.declared.alarm.Alarm.{Alarm}
 use Rattle.ob_alarms.specs.declared.rule.Rule.{Rule}
 use Rattle.ob_site_rules.specs.Build.{Path}
 use Rattle.ob_site_rules.specs.Paths.{below, ack_path}
-use Rattle.ob_site_rules.specs.State.{Plan, State, Log, at, is_among, board}
 use Rattle.ob_site_rules.specs.Shown.{derived, lobby_children, write_point_op, history_part, subject_children}
+use Rattle.ob_site_rules.specs.State.{Log, State, at, board, is_among}
+use Rattle.ob_site_rules.specs.declared.plan.Plan.{Plan}
 use Rattle.ob_site_rules.specs.Places.{Place, AckOf, WritePointOf, QueryOf, FeedOf, Node, fixed_places, point_places, history_places, subject_places, event_places, alarm_places, computed_places}
 use Rattle.ob_site_rules.specs.Watched.{is_call_kind}
 use Rattle.ob_standing.specs.Contexts.{HandedDown, handed_down, under}

@@ -15,8 +15,9 @@ use Rattle.ob_site_rules.specs.Build.{Path}
 use Rattle.ob_site_rules.specs.declared.fault.Fault.TheVariants.{HrefTooLong, NotWatchable}
 use Rattle.ob_site_rules.specs.Locating.{locate}
 use Rattle.ob_site_rules.specs.Places.{Place, About, Batch, Service, Make, AlarmAt, AckOf, WritePointOf, QueryOf, FeedOf, AlarmQuery, AlarmFeed, Node, computed_places}
-use Rattle.ob_site_rules.specs.State.{Plan, State, at}
 use Rattle.ob_site_rules.specs.Shown.{derived, rule_of, with_status, with_status_at, with_status_by, with_roles, shown}
+use Rattle.ob_site_rules.specs.State.{State, at}
+use Rattle.ob_site_rules.specs.declared.plan.Plan.{Plan}
 use Rattle.ob_site_rules.specs.Watched.{is_call_kind, feed_if, feed_with, sets_limit, found_place, found_at, found_located}
 use Rattle.ob_standing.specs.Contexts.{HandedDown, handed_down, under}
 use Rattle.ob_shown_laws.specs.Alike.{row}

@@ -1,6 +1,6 @@
 -- All watches when the steps of a tree are counted from 1 again.
 use Rattle.std.specs.Prelude.{◌≡◌, ℕ, List}
-use Rattle.ob_site_rules.specs.State.{Plan}
+use Rattle.ob_site_rules.specs.declared.plan.Plan.{Plan}
 use Rattle.ob_tree.specs.Trees.{Stamped}
 use Rattle.ob_watch.specs.Flags.{anew, flags_of}
 use Rattle.ob_watch.specs.Items.{marked_anew}

@@ -4,7 +4,8 @@ use Rattle.ob_times.specs.Times.{Instant}
 use Rattle.ob_object.specs.Object.{Object}
 use Rattle.ob_history.specs.declared.records.Filter.{Filter}
 use Rattle.ob_shown_laws.specs.Alike.{row, DifferInSlots}
-use Rattle.ob_site_rules.specs.State.{Plan, State}
+use Rattle.ob_site_rules.specs.declared.plan.Plan.{Plan}
+use Rattle.ob_site_rules.specs.State.{State}
 use Rattle.ob_tree.specs.declared.node.NodeId.{NodeId}
 use Rattle.ob_tree.specs.Trees.{Stamped}
 use Rattle.ob_marks_laws.specs.Watched.{IsOwnAt}

@@ -7,7 +7,8 @@ use Rattle.ob_watching.specs.Asked.{ObjectAt}
 use Rattle.ob_site_rules.specs.Build.{Path, Text}
 use Rattle.ob_site_rules.specs.Locating.{locate}
 use Rattle.ob_site_rules.specs.Sites.{found}
-use Rattle.ob_site_rules.specs.State.{Plan, State}
+use Rattle.ob_site_rules.specs.declared.plan.Plan.{Plan}
+use Rattle.ob_site_rules.specs.State.{State}
 use Rattle.ob_site_rules.specs.Watched.{SiteFound}
 use Rattle.ob_shown_laws.specs.Alike.{row, DifferInSlots}
 use Rattle.ob_shown_laws.specs.Changed.{is_watchable}

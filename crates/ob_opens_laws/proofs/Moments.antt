@@ -10,8 +10,9 @@ use Rattle.ob_contracts.specs.Standard.{standard}
 use Rattle.ob_contracts.specs.declared.adding.LibFault.{LibFault}
 use Rattle.ob_hrefs.specs.Hrefs.{root_url, site_path, bad_href}
 use Rattle.ob_site_rules.specs.Build.{Path}
-use Rattle.ob_site_rules.specs.State.{Plan, State}
 use Rattle.ob_site_rules.specs.Shown.{rule_of, with_status_by, with_status_at, with_status, derived, with_roles, dressed, shown_root}
+use Rattle.ob_site_rules.specs.State.{State}
+use Rattle.ob_site_rules.specs.declared.plan.Plan.{Plan}
 use Rattle.ob_site_rules.specs.Writes.{site_contracts}
 use Rattle.ob_site_rules.specs.Sites.{SiteState}
 use Rattle.ob_site_rules.specs.Roles.{no_roles, all_roles, worded_contracts}

@@ -7,8 +7,9 @@ use Rattle.ob_object.specs.Object.{Object, Objects, none, node, listed, in_row, 
 use Rattle.ob_object.specs.WellFormed.{NamesDiffer}
 use Rattle.ob_object.specs.Paths.{node_path}
 use Rattle.ob_site_rules.specs.Build.{Path}
-use Rattle.ob_site_rules.specs.State.{Plan, State}
 use Rattle.ob_site_rules.specs.Shown.{with_status_by, with_status_at, with_status, with_roles, derived, rule_of}
+use Rattle.ob_site_rules.specs.State.{State}
+use Rattle.ob_site_rules.specs.declared.plan.Plan.{Plan}
 use Rattle.ob_plain_state.specs.States.{NamesAreFree}
 use Rattle.ob_plain_state.proofs.Keeping.{names_of, NamesDiffer-same}
 use Rattle.ob_plain_state.specs.Dressed.{dressed_object}

@@ -9,7 +9,8 @@ use Rattle.ob_object.specs.WellFormed.{has_name, named, is_taken, NamesDiffer}
 use Rattle.ob_object.specs.Paths.{is_path, node_path}
 use Rattle.ob_contracts.specs.Standard.{standard}
 use Rattle.ob_alarms.specs.Changes.{State as Board}
-use Rattle.ob_site_rules.specs.State.{Plan, State as SiteState, Log as SiteLog, at, is_among, board, rolled, rolled_logs}
+use Rattle.ob_site_rules.specs.State.{Log as SiteLog, State as SiteState, at, board, is_among, rolled, rolled_logs}
+use Rattle.ob_site_rules.specs.declared.plan.Plan.{Plan}
 use Rattle.ob_site_rules.specs.Build.{Path}
 use Rattle.ob_site_rules.specs.Shown.{derived, derived_at, lobby_children, write_point_op, history_part, subject_children, node_of}
 use Rattle.ob_site_rules.specs.Writes.{events_ever, site_contracts}

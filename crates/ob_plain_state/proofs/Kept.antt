@@ -23,8 +23,10 @@ use Rattle.ob_alarms.specs.Limits.{TakenBy, IsOfKind, same_kind as same_kind_num
 use Rattle.ob_alarms.specs.Lists.{first_place}
 use Rattle.ob_alarms.specs.Changes.{State as Board, turn, outside_of, current}
 use Rattle.ob_site_rules.specs.Build.{Path}
-use Rattle.ob_site_rules.specs.State.{Plan, PointRule, State as SiteState, Log as SiteLog, numbered_from, board}
 use Rattle.ob_site_rules.specs.Shown.{node_in, node_of, rule_of, shown, derived}
+use Rattle.ob_site_rules.specs.State.{Log as SiteLog, State as SiteState, board, numbered_from}
+use Rattle.ob_site_rules.specs.declared.plan.Plan.{Plan}
+use Rattle.ob_site_rules.specs.declared.plan.PointRule.{PointRule}
 use Rattle.ob_site_rules.specs.Writes.{with_slot, with_slot_in, recorded, board_by, number_in}
 use Rattle.ob_plain_state.specs.States.{state_of, unspared, entry_of, NamesAreFree, NodesAre, IsOfKindAt, AreCounted, IsOf, limits_fit, rule_in, is_int}
 use Rattle.ob_plain_state.specs.declared.state.State.{State}

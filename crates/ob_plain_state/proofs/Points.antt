@@ -7,8 +7,9 @@ use Rattle.ob_object.specs.declared.head.Head.{Head}
 use Rattle.ob_object.specs.Paths.{is_path, node_path}
 use Rattle.ob_contracts.specs.Inherit.{Contracts, Words, sources, overridden, implied_by, inherited_head, row_results, result_of, missing, bare, row_with_defaults, effective_of}
 use Rattle.ob_site_rules.specs.Build.{Path}
-use Rattle.ob_site_rules.specs.State.{Plan, State as SiteState, is_among}
 use Rattle.ob_site_rules.specs.Shown.{derived, with_status_by, with_status_at, with_status, with_roles, dressed, shown_root, node_of, shown, rule_of}
+use Rattle.ob_site_rules.specs.State.{State as SiteState, is_among}
+use Rattle.ob_site_rules.specs.declared.plan.Plan.{Plan}
 use Rattle.ob_plain_state.specs.States.{state_of, IsOf}
 use Rattle.ob_plain_state.specs.declared.state.State.{State}
 use Rattle.ob_plain_state.proofs.Kept.{is_in, in_row_there}

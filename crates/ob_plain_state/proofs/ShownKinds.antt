@@ -9,8 +9,9 @@ use Rattle.ob_object.specs.Object.{Object, Objects, none, node, listed, in_row, 
 use Rattle.ob_object.specs.Paths.{is_path, node_path}
 use Rattle.ob_contracts.specs.Inherit.{Contracts, Words, or_else, only_if, sources, overridden, implied_by, inherited_head, row_results, result_of, missing, bare, bare_row, row_with_defaults, effective_of}
 use Rattle.ob_site_rules.specs.Build.{Path}
-use Rattle.ob_site_rules.specs.State.{Plan, State as SiteState, Log as SiteLog, at, is_among}
 use Rattle.ob_site_rules.specs.Shown.{lobby_children, write_point_op, history_part, subject_children, derived, with_status_by, with_status_at, with_status, with_roles, dressed, shown_root, node_in, shown, rule_of}
+use Rattle.ob_site_rules.specs.State.{Log as SiteLog, State as SiteState, at, is_among}
+use Rattle.ob_site_rules.specs.declared.plan.Plan.{Plan}
 use Rattle.ob_plain_state.specs.States.{IsOfKindAt, NodesAre}
 
 module _ (kind_at : Path → Kind) where

@@ -8,8 +8,8 @@ use Rattle.ob_object.specs.Paths.{is_path, node_path}
 use Rattle.ob_alarms.specs.Limits.{Takes}
 use Rattle.ob_alarms.specs.declared.rule.Rule.{Rule}
 use Rattle.ob_site_rules.specs.Build.{Path}
-use Rattle.ob_site_rules.specs.State.{Plan}
 use Rattle.ob_site_rules.specs.Shown.{rule_of}
+use Rattle.ob_site_rules.specs.declared.plan.Plan.{Plan}
 use Rattle.ob_site_rules.specs.Writes.{number_in}
 use Rattle.ob_plain_state.specs.declared.state.State.{State}
 

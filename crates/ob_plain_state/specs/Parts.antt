@@ -5,7 +5,7 @@ use Rattle.ob_alarms.specs.States.{needs_ack}
 use Rattle.ob_alarms.specs.declared.alarm.Alarm.{Alarm}
 use Rattle.ob_alarms.specs.declared.rule.Rule.{Rule}
 use Rattle.ob_site_rules.specs.Build.{Path}
-use Rattle.ob_site_rules.specs.State.{Plan}
+use Rattle.ob_site_rules.specs.declared.plan.Plan.{Plan}
 use Rattle.ob_site_rules.specs.Paths.{below, ack_path}
 use Rattle.ob_site_rules.specs.Places.{Place, AlarmAt, AckOf, WritePointOf, QueryOf, FeedOf}
 

@@ -12,7 +12,8 @@ use Rattle.ob_alarms.specs.Changes.{State as Board}
 use Rattle.ob_alarms.specs.declared.rule.Num.{Num}
 use Rattle.ob_alarms.specs.declared.rule.Num.TheVariants as num
 use Rattle.ob_alarms.specs.declared.rule.Rule.{Rule}
-use Rattle.ob_site_rules.specs.State.{Plan, State as SiteState, Log as SiteLog, board, numbered_from, is_among}
+use Rattle.ob_site_rules.specs.declared.plan.Plan.{Plan}
+use Rattle.ob_site_rules.specs.State.{State as SiteState, Log as SiteLog, board, numbered_from, is_among}
 use Rattle.ob_site_rules.specs.Build.{Path}
 use Rattle.ob_site_rules.specs.Shown.{derived, rule_of, node_of}
 use Rattle.ob_site_rules.specs.Writes.{events_ever, site_contracts}

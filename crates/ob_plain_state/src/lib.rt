@@ -10,12 +10,10 @@ mod find;
 mod log;
 mod paths;
 mod place;
-mod roles;
 mod state;
 
 pub use find::node_of;
 pub use log::Log;
 pub use paths::is_path;
 pub use place::Place;
-pub use roles::rule_of;
 pub use state::State;

@@ -6,7 +6,8 @@ use Rattle.ob_object.specs.declared.head.Slot.TheVariants.{Is}
 use Rattle.ob_object.specs.Object.{Object}
 use Rattle.ob_site_rules.specs.Build.{Path, leaf}
 use Rattle.ob_site_rules.specs.Shown.{node_of, shown}
-use Rattle.ob_site_rules.specs.State.{Plan, State, is_among}
+use Rattle.ob_site_rules.specs.declared.plan.Plan.{Plan}
+use Rattle.ob_site_rules.specs.State.{State, is_among}
 use Rattle.ob_site_rules.specs.Writes.{slot_fault}
 
 -- the own object of the writable point at a path, without its children; none at every other path

@@ -12,7 +12,8 @@ use Rattle.ob_schedule_rules.specs.Rules.{rules_of}
 use Rattle.ob_site_rules.specs.Build.{Path, Text}
 use Rattle.ob_site_rules.specs.Shown.{node_of}
 use Rattle.ob_site_rules.specs.Sites.{SiteState}
-use Rattle.ob_site_rules.specs.State.{Plan, State}
+use Rattle.ob_site_rules.specs.declared.plan.Plan.{Plan}
+use Rattle.ob_site_rules.specs.State.{State}
 use Rattle.ob_site_rules.specs.Writes.{is_listed, has_child, verdict_fault}
 use Rattle.ob_values.specs.declared.value.Value.{Value}
 use Rattle.ob_values.specs.declared.value.Value.TheVariants as value

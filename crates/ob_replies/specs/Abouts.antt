@@ -4,7 +4,7 @@ use Rattle.ob_times.specs.Times.{moment_instant}
 use Rattle.ob_object.specs.declared.kind.Kind.TheVariants as kind
 use Rattle.ob_object.specs.Object.{Object}
 use Rattle.ob_site_rules.specs.Build.{valued, text_slot, time_slot}
-use Rattle.ob_site_rules.specs.State.{Plan}
+use Rattle.ob_site_rules.specs.declared.plan.Plan.{Plan}
 use Rattle.ob_site_rules.specs.Computed.{about_str, about_uri}
 
 abbrev pub server_children : Plan → ℕ → List Object

@@ -9,8 +9,8 @@ ghost use Rattle.ob_replies.specs.Plans.{plan as plan_of};
 use crate::build::{put, valued, whole};
 use crate::contract::Contract;
 use crate::paths::below;
-use crate::plan::Plan;
 use ob_object::{Attributes, Kind, Obj, Slot};
+use ob_site_rules::Plan;
 use ob_values::{Text, Value};
 use std::alloc::{AllocError, Global};
 

@@ -14,8 +14,8 @@ ghost use Rattle.ob_replies.specs.Abouts.{server_children, vendor_children, prod
 use crate::build::{named, obj_head, one_child, op_at, put, timed, valued, whole};
 use crate::contract::Contract;
 use crate::paths::ack_path;
-use crate::plan::Plan;
 use ob_object::{Attributes, Kind, Obj, Slot};
+use ob_site_rules::Plan;
 use ob_times::Moment;
 use ob_values::{Text, Value};
 use std::alloc::{AllocError, Global};
@@ -33,9 +33,12 @@ pub fn nil(alloc: Global) -> Result<Obj, AllocError>
 
 /// The site's own text of a name, with the name.
 fn own_text<'a>(plan: &'a Plan, name: &str) -> Option<&'a (Text, Text)>
-    ensures { option_copied result ≡ find (λ e. bytes_eq e.0 name.now) plan.entry.now.about.items }
+    ensures { option_copied result ≡ find (λ e. bytes_eq e.0 name.now) plan.entry.now.about }
 {
-    plan.about.iter().find(|entry| entry.0.as_str() == name)
+    plan.about
+        .as_slice()
+        .iter()
+        .find(|entry| entry.0.as_str() == name)
 }
 
 /// A text of About: the site's own, or else the default.

@@ -5,7 +5,7 @@ ghost use Rattle.ob_alarms.specs.AlarmObjects.{alarm_path};
 ghost use Rattle.ob_site_rules.specs.Paths.{below, ends_with_slash, ack_path};
 ghost use Rattle.ob_replies.specs.Plans.{plan as plan_of};
 
-use crate::plan::Plan;
+use ob_site_rules::Plan;
 use ob_values::Text;
 use std::alloc::{AllocError, Global};
 

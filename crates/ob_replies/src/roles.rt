@@ -8,8 +8,8 @@ use crate::build::{feed_at, op_at, put, ref_to};
 use crate::contract::Contract;
 use crate::fixed::batch_op;
 use crate::paths::below;
-use crate::plan::Plan;
 use ob_object::{Attributes, Kind, Obj, Slot};
+use ob_site_rules::Plan;
 use ob_values::{Text, Value};
 use std::alloc::{AllocError, Global};
 

@@ -5,7 +5,8 @@ use Rattle.std.specs.List.{list_any}
 use Rattle.std.proofs.lemmas.Bool.Decides.{nat_tests}
 use Rattle.ob_site_rules.specs.Build.{Text}
 use Rattle.std.specs.Str.{bytes_eq}
-use Rattle.ob_site_rules.specs.State.{Plan, at}
+use Rattle.ob_site_rules.specs.declared.plan.Plan.{Plan}
+use Rattle.ob_site_rules.specs.State.{at}
 use Rattle.ob_site_rules.specs.declared.watch_part.WatchPart.{WatchPart}
 use Rattle.ob_site_rules.specs.Paths.{both, behind, before_slash, behind_slash, number_spelled, part_named, watch_part}
 use Rattle.ob_site_rules.specs.Actions.{is_number_in, is_of_watch}

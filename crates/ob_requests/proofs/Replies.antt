@@ -14,7 +14,8 @@ use Rattle.ob_site_rules.specs.Build.{Text, Path}
 use Rattle.ob_site_rules.specs.declared.fault.Fault.{Fault}
 use Rattle.ob_site_rules.specs.declared.fault.Fault.TheVariants.{OtherShape, NotInBatch}
 use Rattle.ob_site_rules.specs.Faults.{err}
-use Rattle.ob_site_rules.specs.State.{Plan, State, board, with_board}
+use Rattle.ob_site_rules.specs.declared.plan.Plan.{Plan}
+use Rattle.ob_site_rules.specs.State.{State, board, with_board}
 use Rattle.ob_site_rules.specs.Shown.{shown}
 use Rattle.ob_site_rules.specs.Computed.{ack_out}
 use Rattle.ob_site_rules.specs.Entries.{alarm_object, records_out, alarms_out}

@@ -6,7 +6,8 @@ use Rattle.ob_site_rules.specs.declared.request.Request.{Request}
 use Rattle.ob_site_rules.specs.Build.{Text, Path}
 use Rattle.ob_site_rules.specs.declared.fault.Fault.TheVariants.{NoSuchObject, NotInBatch}
 use Rattle.ob_site_rules.specs.Faults.{err}
-use Rattle.ob_site_rules.specs.State.{Plan, State}
+use Rattle.ob_site_rules.specs.declared.plan.Plan.{Plan}
+use Rattle.ob_site_rules.specs.State.{State}
 use Rattle.ob_site_rules.specs.Places.{Place, About, Batch, Service, Make, AlarmAt, AckOf, WritePointOf, QueryOf, FeedOf, AlarmQuery, AlarmFeed, Node, place_at}
 use Rattle.ob_site_rules.specs.Actions.{act_at, act_located, act_on, batch, is_left_out, is_of_watch, item_at, item_on}
 use Rattle.ob_requests.specs.BatchCalls.{is_batch_call}

@@ -3,7 +3,8 @@ use Rattle.std.specs.Prelude.{◌≡◌, List, [], Option}
 use Rattle.ob_object.specs.Object.{Object}
 use Rattle.ob_watching.specs.Watches.{firsts as firsts_of}
 use Rattle.ob_site_rules.specs.Locating.{locate}
-use Rattle.ob_site_rules.specs.State.{Plan, State}
+use Rattle.ob_site_rules.specs.declared.plan.Plan.{Plan}
+use Rattle.ob_site_rules.specs.State.{State}
 use Rattle.ob_site_rules.specs.Sites.{site}
 use Rattle.ob_site_rules.specs.Watched.{Asked, lease_asked}
 use Rattle.ob_requests.specs.Calls.{firsts, lease_in}

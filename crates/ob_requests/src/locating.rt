@@ -4,7 +4,7 @@ ghost use Rattle.ob_replies.specs.Plans.{plan as plan_of};
 ghost use Rattle.ob_site_rules.specs.Locating.{locate};
 
 use ob_href::{HrefFault, locate};
-use ob_replies::Plan;
+use ob_site_rules::Plan;
 use ob_values::Text;
 use std::alloc::{AllocError, Global};
 

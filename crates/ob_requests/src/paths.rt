@@ -10,8 +10,7 @@ ghost use Rattle.ob_replies.specs.Plans.{plan as plan_of};
 ghost use Rattle.ob_requests.specs.Numbers.{is_number, is_slash};
 ghost use Rattle.ob_requests.specs.Parts.{IsSpelled, IsOfWatch, late_parts, watch_behind};
 
-use ob_replies::Plan;
-use ob_site_rules::WatchPart;
+use ob_site_rules::{Plan, WatchPart};
 use std::str;
 
 /// What a path says of watches.

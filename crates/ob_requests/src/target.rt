@@ -9,8 +9,7 @@ ghost use Rattle.ob_requests.specs.Targets.{IsTarget, operation_of};
 use crate::asked::{Asked, asked_by, texts_of};
 use crate::paths::{OfWatch, watch_part};
 use ob_object::Obj;
-use ob_replies::Plan;
-use ob_site_rules::{Fault, Request, WatchPart};
+use ob_site_rules::{Fault, Plan, Request, WatchPart};
 use ob_values::{Text, Verb};
 use std::alloc::{AllocError, Global};
 

@@ -5,9 +5,10 @@ use Rattle.std.specs.Str.{bytes_eq}
 use Rattle.std.proofs.lemmas.Bool.{eqb-true}
 use Rattle.ob_site_laws.proofs.Same.{tells_text}
 use Rattle.ob_site_rules.specs.Build.{Text, Path}
-use Rattle.ob_site_rules.specs.State.{Plan, at}
 use Rattle.ob_requests.proofs.Parted.{both_none}
 use Rattle.ob_site_rules.specs.Paths.{about_path, batch_path, before_slash, behind, behind_slash, below, both, ends_with_slash, make_path, number_spelled, part_named, service_path, watch_part}
+use Rattle.ob_site_rules.specs.State.{at}
+use Rattle.ob_site_rules.specs.declared.plan.Plan.{Plan}
 use Rattle.ob_site_rules.specs.declared.watch_part.WatchPart.TheVariants.{Add, Delete, Lease, PollChanges, PollRefresh, Remove, Whole}
 use Rattle.ob_site_rules.specs.declared.watch_part.WatchPart.{WatchPart}
 

@@ -8,7 +8,8 @@ use Rattle.ob_machine.specs.declared.call.Answer.TheVariants.{Done, NoMemory}
 use Rattle.ob_object.specs.declared.head.Head.{Head}
 use Rattle.ob_object.specs.Object.{Object}
 use Rattle.ob_object.specs.Kinds.{has_values}
-use Rattle.ob_site_rules.specs.State.{Plan, State, is_among}
+use Rattle.ob_site_rules.specs.State.{State, is_among}
+use Rattle.ob_site_rules.specs.declared.plan.Plan.{Plan}
 use Rattle.ob_site_rules.specs.Sites.{SiteState}
 use Rattle.ob_site_rules.specs.Shown.{node_of, dressed}
 use Rattle.ob_site_rules.specs.Writes.{site_contracts}

@@ -14,8 +14,9 @@ use Rattle.ob_object.specs.Paths.{node_path}
 use Rattle.ob_points.specs.Points.{suits, passes}
 use Rattle.ob_site_rules.specs.Build.{Text, Path}
 use Rattle.ob_site_rules.specs.declared.fault.Fault.{Fault}
-use Rattle.ob_site_rules.specs.State.{Plan, State}
 use Rattle.ob_site_rules.specs.Shown.{node_of, derived, with_roles, with_status, dressed, shown}
+use Rattle.ob_site_rules.specs.State.{State}
+use Rattle.ob_site_rules.specs.declared.plan.Plan.{Plan}
 use Rattle.ob_site_rules.specs.Writes.{ranged, has_child, is_listed, verdict_fault, slot_fault}
 use Rattle.ob_plain_state.proofs.Keeping.{found_or}
 use Rattle.ob_shown_laws.specs.Alike.{row, without_values, AreAlike, DifferInSlots, DifferInValues}

@@ -10,7 +10,8 @@ use Rattle.ob_object.specs.declared.head.Head.{Head}
 use Rattle.ob_object.specs.Paths.{is_path, node_path}
 use Rattle.ob_site_laws.proofs.Same.{tells_text}
 use Rattle.ob_site_rules.specs.Build.{Path}
-use Rattle.ob_site_rules.specs.State.{Plan, State, at, is_among, board}
+use Rattle.ob_site_rules.specs.State.{State, at, board, is_among}
+use Rattle.ob_site_rules.specs.declared.plan.Plan.{Plan}
 use Rattle.ob_site_rules.specs.Paths.{below, about_path, batch_path, service_path, make_path}
 use Rattle.ob_site_rules.specs.Places.{Place, About, Batch, Service, Make, WritePointOf, Node, point_places, event_places, alarm_places, place_at}
 use Rattle.ob_site_rules.specs.Shown.{derived, derived_at, lobby_children, write_point_op, with_roles, with_status, dressed, shown}

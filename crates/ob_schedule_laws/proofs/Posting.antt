@@ -25,7 +25,8 @@ use Rattle.ob_site_rules.specs.declared.fault.Fault.TheVariants.{TooManyEntries,
 use Rattle.ob_site_rules.specs.Faults.{err, first_fault}
 use Rattle.ob_site_rules.specs.Locating.{locate}
 use Rattle.ob_site_rules.specs.Paths.{below, watch_part}
-use Rattle.ob_site_rules.specs.State.{Plan, State, is_among, roll}
+use Rattle.ob_site_rules.specs.declared.plan.Plan.{Plan}
+use Rattle.ob_site_rules.specs.State.{State, is_among, roll}
 use Rattle.ob_site_rules.specs.Sites.{SiteState}
 use Rattle.ob_site_rules.specs.Sameness.{same_slot}
 use Rattle.ob_site_rules.specs.Shown.{node_of, dressed, shown}

@@ -10,8 +10,9 @@ use Rattle.ob_object.specs.Object.{Object}
 use Rattle.ob_object.specs.Paths.{node_path}
 use Rattle.ob_parts.proofs.Earliest.{some_one}
 use Rattle.ob_site_rules.specs.Build.{Path}
-use Rattle.ob_site_rules.specs.State.{Plan, State}
 use Rattle.ob_site_rules.specs.Shown.{node_of, rule_of, with_status, with_status_at, with_status_by, dressed, shown}
+use Rattle.ob_site_rules.specs.State.{State}
+use Rattle.ob_site_rules.specs.declared.plan.Plan.{Plan}
 use Rattle.ob_shown_laws.specs.Alike.{row, without_slot, DifferInSlots, DifferInValues}
 use Rattle.ob_shown_laws.specs.Changed.{head_in, is_in, PathsDiffer}
 use Rattle.ob_shown_laws.specs.Own.{dressed_own}

@@ -3,7 +3,8 @@ use Rattle.std.proofs.Common.{◌≡◌, true, option_map, sym, ap, subst, ◌�
 use Rattle.std.specs.Prelude.{is_some}
 use Rattle.ob_object.specs.Object.{Object}
 use Rattle.ob_site_rules.specs.Build.{Path}
-use Rattle.ob_site_rules.specs.State.{Plan, is_among}
+use Rattle.ob_site_rules.specs.declared.plan.Plan.{Plan}
+use Rattle.ob_site_rules.specs.State.{is_among}
 use Rattle.ob_site_rules.specs.Sites.{SiteState}
 use Rattle.ob_site_rules.specs.Shown.{node_of, dressed, shown}
 use Rattle.ob_shown_laws.specs.Alike.{row}

@@ -6,8 +6,9 @@ use Rattle.ob_object.specs.declared.head.Head.{Head}
 use Rattle.ob_object.specs.Object.{Objects, none, node, Object, count, parts}
 use Rattle.ob_object.specs.Paths.{node_path}
 use Rattle.ob_site_rules.specs.Build.{Path}
-use Rattle.ob_site_rules.specs.State.{Plan, State}
 use Rattle.ob_site_rules.specs.Shown.{rule_of, with_status, with_status_at, with_status_by, dressed}
+use Rattle.ob_site_rules.specs.State.{State}
+use Rattle.ob_site_rules.specs.declared.plan.Plan.{Plan}
 use Rattle.ob_standing.specs.Contexts.{Context, under}
 use Rattle.ob_shown_laws.specs.Alike.{DifferInSlots}
 use Rattle.ob_shown_laws.specs.Standing.{standing_at as site_standing}

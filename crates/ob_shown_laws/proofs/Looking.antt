@@ -14,8 +14,9 @@ use Rattle.ob_site_rules.specs.Sameness.{same_slot}
 use Rattle.ob_contracts.specs.Inherit.{or_else, only_if}
 use Rattle.ob_alarms.specs.States.{status_of}
 use Rattle.ob_site_rules.specs.Build.{Path, number_slot, time_slot}
-use Rattle.ob_site_rules.specs.State.{Plan, Log, State, at, is_among, numbered_from}
 use Rattle.ob_site_rules.specs.Shown.{first_record, lobby_children, write_point_op, subject_children, history_part, derived, rule_of, with_status_by, with_status_at, with_status, with_roles}
+use Rattle.ob_site_rules.specs.State.{Log, State, at, is_among, numbered_from}
+use Rattle.ob_site_rules.specs.declared.plan.Plan.{Plan}
 use Rattle.ob_shown_laws.specs.Alike.{without_values, AreAlike, DifferInSlots, paths_of, DifferInValues}
 use Rattle.ob_standing.specs.Contexts.{Context, HandedDown, handed_down, under}
 use Rattle.ob_shown_laws.specs.Standing.{Standing, standing_in}

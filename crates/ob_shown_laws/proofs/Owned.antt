@@ -7,8 +7,9 @@ use Rattle.ob_object.specs.Object.{Objects, none, node, Object, count, parts}
 use Rattle.ob_object.specs.Paths.{is_path, node_path}
 use Rattle.ob_contracts.specs.Inherit.{Contracts, or_else, only_if}
 use Rattle.ob_site_rules.specs.Build.{Path}
-use Rattle.ob_site_rules.specs.State.{Plan, State}
 use Rattle.ob_site_rules.specs.Shown.{derived_at, with_status, dressed, shown}
+use Rattle.ob_site_rules.specs.State.{State}
+use Rattle.ob_site_rules.specs.declared.plan.Plan.{Plan}
 use Rattle.ob_standing.specs.Contexts.{Context, HandedDown, handed_down, under, comes_to}
 use Rattle.ob_shown_laws.specs.Alike.{without_slot, without_values, DifferInSlots, DifferInValues}
 use Rattle.ob_shown_laws.specs.Standing.{Standing, effective, root_standing}

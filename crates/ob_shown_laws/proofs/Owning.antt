@@ -15,8 +15,9 @@ use Rattle.ob_contracts.specs.Standard.{standard, with_added}
 use Rattle.ob_times.specs.Times.{Instant}
 use Rattle.ob_values.proofs.Bools.{or_second, or_first, and_true}
 use Rattle.ob_site_rules.specs.Build.{Path, number_slot, time_slot, valued}
-use Rattle.ob_site_rules.specs.State.{Plan, Log, State, at, is_among, rolled_logs}
 use Rattle.ob_site_rules.specs.Shown.{lobby_children, write_point_op, count_child, first_record, subject_children, history_part, derived, with_status, with_status_by, with_status_at, with_roles, rule_of}
+use Rattle.ob_site_rules.specs.State.{Log, State, at, is_among, rolled_logs}
+use Rattle.ob_site_rules.specs.declared.plan.Plan.{Plan}
 use Rattle.ob_site_rules.specs.Sameness.{same_slot}
 use Rattle.ob_site_rules.specs.Writes.{with_slot, with_slot_in, site_contracts, recorded}
 use Rattle.ob_shown_laws.specs.Alike.{without_slot, AreAlike, DifferInSlots, paths_of}

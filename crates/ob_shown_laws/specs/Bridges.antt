@@ -3,7 +3,8 @@ use Rattle.std.specs.Prelude.{◌≡◌, ℕ, ◌+◌, ◌&&◌, nat_le, nat_lt,
 use Rattle.ob_object.specs.declared.head.Slot.{Slot}
 use Rattle.ob_object.specs.Object.{Object, parts}
 use Rattle.ob_site_rules.specs.Build.{Path}
-use Rattle.ob_site_rules.specs.State.{Plan, State}
+use Rattle.ob_site_rules.specs.declared.plan.Plan.{Plan}
+use Rattle.ob_site_rules.specs.State.{State}
 use Rattle.ob_site_rules.specs.Shown.{dressed, shown}
 use Rattle.ob_site_rules.specs.Writes.{with_slot}
 use Rattle.ob_shown_laws.specs.Changed.{is_round, PathsDiffer}

@@ -10,8 +10,9 @@ use Rattle.ob_object.specs.Object.{Objects, none, node, Object}
 use Rattle.ob_object.specs.Paths.{is_path, node_path}
 use Rattle.ob_contracts.specs.Inherit.{inherited_head, head_with_default}
 use Rattle.ob_site_rules.specs.Build.{Path, number_slot, time_slot}
-use Rattle.ob_site_rules.specs.State.{Plan, Log, State, at, is_among}
 use Rattle.ob_site_rules.specs.Shown.{first_record}
+use Rattle.ob_site_rules.specs.State.{Log, State, at, is_among}
+use Rattle.ob_site_rules.specs.declared.plan.Plan.{Plan}
 use Rattle.ob_site_rules.specs.Sameness.{same_slot, same_option, same_status, same_object}
 use Rattle.ob_site_rules.specs.Sites.{watched_object}
 use Rattle.ob_standing.specs.Contexts.{Context, HandedDown, sources_in, handed_down, under}

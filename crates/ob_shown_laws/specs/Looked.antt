@@ -4,8 +4,9 @@ use Rattle.ob_object.specs.Object.{Objects, none, node}
 use Rattle.ob_object.specs.Paths.{is_path, node_path}
 use Rattle.ob_alarms.specs.States.{status_of}
 use Rattle.ob_site_rules.specs.Build.{Path}
-use Rattle.ob_site_rules.specs.State.{Plan, State, at, is_among, numbered_from}
 use Rattle.ob_site_rules.specs.Shown.{rule_of}
+use Rattle.ob_site_rules.specs.State.{State, at, is_among, numbered_from}
+use Rattle.ob_site_rules.specs.declared.plan.Plan.{Plan}
 use Rattle.ob_shown_laws.specs.Alike.{row, DifferInValues}
 use Rattle.ob_shown_laws.specs.Changed.{differs, AreTouched}
 

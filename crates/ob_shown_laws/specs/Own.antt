@@ -5,8 +5,9 @@ use Rattle.ob_object.specs.declared.head.Slot.{Slot}
 use Rattle.ob_object.specs.Object.{Object, listed, in_row}
 use Rattle.ob_object.specs.Paths.{node_path}
 use Rattle.ob_site_rules.specs.Build.{Path}
-use Rattle.ob_site_rules.specs.State.{Plan, State, roll, with_board}
 use Rattle.ob_site_rules.specs.Shown.{derived, with_status, with_roles, dressed}
+use Rattle.ob_site_rules.specs.State.{State, roll, with_board}
+use Rattle.ob_site_rules.specs.declared.plan.Plan.{Plan}
 use Rattle.ob_site_rules.specs.Writes.{with_slot, is_in_contract, write}
 use Rattle.ob_alarms.specs.Changes.{State as Board}
 use Rattle.ob_standing.specs.Contexts.{Context}

@@ -4,8 +4,9 @@ use Rattle.std.specs.Prelude.{◌≡◌, ℕ, true, false, not, ◌&&◌, Option
 use Rattle.ob_object.specs.Object.{Objects, none, node, Object, in_row}
 use Rattle.ob_object.specs.Paths.{node_path}
 use Rattle.ob_site_rules.specs.Build.{Path}
-use Rattle.ob_site_rules.specs.State.{Plan, State}
 use Rattle.ob_site_rules.specs.Shown.{derived, derived_at, with_status, dressed, shown}
+use Rattle.ob_site_rules.specs.State.{State}
+use Rattle.ob_site_rules.specs.declared.plan.Plan.{Plan}
 use Rattle.ob_standing.specs.Contexts.{handed_down, under}
 use Rattle.ob_shown_laws.specs.Alike.{row, DifferInValues}
 use Rattle.ob_shown_laws.specs.Standing.{Standing, effective, standing_in, standing_at}

@@ -7,7 +7,8 @@ use Rattle.ob_object.specs.Paths.{is_path}
 use Rattle.ob_alarms.specs.declared.alarm.Alarm.{Alarm}
 use Rattle.ob_alarms.specs.Changes.{alarm_of, on_ack}
 use Rattle.ob_site_rules.specs.Build.{Text, Path}
-use Rattle.ob_site_rules.specs.State.{Plan, Log, State, at, board, with_board, rolled, roll}
+use Rattle.ob_site_rules.specs.State.{Log, State, at, board, roll, rolled, with_board}
+use Rattle.ob_site_rules.specs.declared.plan.Plan.{Plan}
 use Rattle.ob_site_rules.specs.Shown.{rule_of}
 use Rattle.ob_site_rules.specs.Writes.{records_from, write}
 use Rattle.ob_shown_laws.specs.Looked.{IsLeft}

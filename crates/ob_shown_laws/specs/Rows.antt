@@ -9,7 +9,8 @@ use Rattle.ob_alarms.specs.declared.alarm.Alarm.{Alarm}
 use Rattle.ob_alarms.specs.declared.rule.Num.TheVariants as num
 use Rattle.ob_history.specs.declared.records.Record.{Record}
 use Rattle.ob_site_rules.specs.Build.{Path, whole, leaf, valued, number_slot}
-use Rattle.ob_site_rules.specs.State.{Plan, State}
+use Rattle.ob_site_rules.specs.declared.plan.Plan.{Plan}
+use Rattle.ob_site_rules.specs.State.{State}
 use Rattle.ob_site_rules.specs.Sameness.{same_object}
 use Rattle.ob_site_rules.specs.Sites.{watched_object}
 use Rattle.ob_shown_laws.specs.Changed.{differs}

@@ -7,7 +7,8 @@ use Rattle.ob_watching.specs.Tables.{map_values}
 use Rattle.ob_watching.specs.Watches.{TrackedOf, Object, Feed, ItemOf, WatchOf, count, settled, reported, with_items}
 use Rattle.ob_site_rules.specs.Build.{Path}
 use Rattle.ob_site_rules.specs.Locating.{locate}
-use Rattle.ob_site_rules.specs.State.{Plan, State, is_among}
+use Rattle.ob_site_rules.specs.declared.plan.Plan.{Plan}
+use Rattle.ob_site_rules.specs.State.{State, is_among}
 use Rattle.ob_site_rules.specs.Sites.{site}
 use Rattle.ob_shown_laws.specs.Alike.{row, DifferInValues}
 use Rattle.ob_shown_laws.specs.Standing.{root_standing, standing_at}

@@ -5,8 +5,9 @@ use Rattle.ob_object.specs.Paths.{is_path, node_path}
 use Rattle.ob_contracts.specs.Inherit.{or_else, only_if}
 use Rattle.ob_standing.specs.Contexts.{Context, HandedDown, at_root, handed_down, under, comes_to}
 use Rattle.ob_site_rules.specs.Build.{Path}
-use Rattle.ob_site_rules.specs.State.{Plan, State}
 use Rattle.ob_site_rules.specs.Shown.{node_of, dressed, shown}
+use Rattle.ob_site_rules.specs.State.{State}
+use Rattle.ob_site_rules.specs.declared.plan.Plan.{Plan}
 
 -- an object, and where it stands
 pub record Standing : Type 0 where

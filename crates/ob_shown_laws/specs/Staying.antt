@@ -5,8 +5,9 @@ use Rattle.ob_object.specs.Object.{Objects, none, node, Object, count}
 use Rattle.ob_object.specs.Paths.{node_path}
 use Rattle.ob_contracts.specs.Inherit.{or_else}
 use Rattle.ob_site_rules.specs.Build.{Path}
-use Rattle.ob_site_rules.specs.State.{Plan, State, is_among}
 use Rattle.ob_site_rules.specs.Shown.{dressed}
+use Rattle.ob_site_rules.specs.State.{State, is_among}
+use Rattle.ob_site_rules.specs.declared.plan.Plan.{Plan}
 use Rattle.ob_shown_laws.specs.Alike.{row, AreAlike, DifferInValues}
 use Rattle.ob_shown_laws.specs.Looked.{IsLeft}
 

@@ -7,8 +7,9 @@ use Rattle.ob_object.specs.declared.head.Slot.{Slot}
 use Rattle.ob_object.specs.Object.{Objects, none, node, Object, listed, in_row}
 use Rattle.ob_object.specs.Paths.{is_path, node_path}
 use Rattle.ob_site_rules.specs.Build.{Path}
-use Rattle.ob_site_rules.specs.State.{Plan, State, is_among}
 use Rattle.ob_site_rules.specs.Shown.{rule_of, dressed}
+use Rattle.ob_site_rules.specs.State.{State, is_among}
+use Rattle.ob_site_rules.specs.declared.plan.Plan.{Plan}
 use Rattle.ob_site_rules.specs.Writes.{with_slot}
 use Rattle.ob_shown_laws.specs.Alike.{row, paths_of}
 use Rattle.ob_shown_laws.specs.Changed.{is_in, PathsDiffer}

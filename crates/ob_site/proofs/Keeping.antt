@@ -18,7 +18,8 @@ use Rattle.ob_site_rules.specs.declared.watch_part.WatchPart.TheVariants.{Whole}
 use Rattle.ob_site_rules.specs.Places.{Place, Batch, place_at}
 use Rattle.ob_site_rules.specs.Replies.{sent}
 use Rattle.ob_site_rules.specs.Sites.{SiteState}
-use Rattle.ob_site_rules.specs.State.{Plan, State, roll}
+use Rattle.ob_site_rules.specs.declared.plan.Plan.{Plan}
+use Rattle.ob_site_rules.specs.State.{State, roll}
 use Rattle.ob_site_rules.specs.Watched.{WatchOperation}
 use Rattle.ob_site_state.specs.Kept.{Kept}
 use Rattle.ob_site_state.specs.Stamping.{tree_of}

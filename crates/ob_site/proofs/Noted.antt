@@ -15,7 +15,8 @@ use Rattle.ob_step_laws.specs.Given.{IsMade}
 use Rattle.ob_site_laws.proofs.Same.{tells_slot}
 use Rattle.ob_site_rules.specs.Build.{Path}
 use Rattle.ob_site_rules.specs.Sameness.{same_slot}
-use Rattle.ob_site_rules.specs.State.{Plan, Log, State, rolled_logs, roll}
+use Rattle.ob_site_rules.specs.State.{Log, State, roll, rolled_logs}
+use Rattle.ob_site_rules.specs.declared.plan.Plan.{Plan}
 use Rattle.ob_site_rules.specs.Writes.{events_ever, site_contracts}
 use Rattle.ob_site_state.specs.declared.change.Change.{Change}
 use Rattle.ob_site_state.specs.declared.change.Change.TheVariants as change

@@ -7,7 +7,8 @@ use Rattle.ob_site_feeds.specs.News.{IsNews}
 use Rattle.ob_site_feeds.specs.Told.{FeedsAreTold, Stays, StaysBy, TellsAll, all_told}
 use Rattle.ob_site_feeds.proofs.Counting.{kept_by}
 use Rattle.ob_site_rules.specs.Build.{Path}
-use Rattle.ob_site_rules.specs.State.{Plan, State, roll}
+use Rattle.ob_site_rules.specs.declared.plan.Plan.{Plan}
+use Rattle.ob_site_rules.specs.State.{State, roll}
 use Rattle.ob_site_settled.specs.Ending.{IsOwn, IsOwnBy}
 use Rattle.ob_watch.specs.declared.item.Tracked.{Tracked}
 use Rattle.ob_watch.specs.declared.item.Tracked.TheVariants as tracked

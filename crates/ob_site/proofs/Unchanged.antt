@@ -12,7 +12,8 @@ use Rattle.ob_site_rules.specs.declared.request.Request.{Request}
 use Rattle.ob_site_rules.specs.Build.{Path, Text}
 use Rattle.ob_site_rules.specs.Sameness.{same_object}
 use Rattle.ob_site_rules.specs.Sites.{watched_object}
-use Rattle.ob_site_rules.specs.State.{Plan, State, roll}
+use Rattle.ob_site_rules.specs.declared.plan.Plan.{Plan}
+use Rattle.ob_site_rules.specs.State.{State, roll}
 use Rattle.ob_site_rules.specs.Watched.{SiteTarget}
 use Rattle.ob_site_settled.specs.Ending.{IsOwn}
 use Rattle.ob_site_state.specs.Kept.{Kept}

@@ -6,7 +6,8 @@ use Rattle.ob_step_laws.specs.Given.{IsMade, PointsHaveValues}
 use Rattle.ob_marks_laws.specs.Tables.{AllItems}
 use Rattle.ob_site_laws.specs.SiteLaws.{IsSoundSite}
 use Rattle.ob_site_open.specs.Opens.{Opens}
-use Rattle.ob_site_rules.specs.State.{Plan, State, roll}
+use Rattle.ob_site_rules.specs.declared.plan.Plan.{Plan}
+use Rattle.ob_site_rules.specs.State.{State, roll}
 use Rattle.ob_site_settled.specs.Ending.{IsOwn}
 use Rattle.ob_site_state.specs.Kept.{Kept}
 use Rattle.ob_tree.specs.Depths.{levels}

@@ -6,7 +6,8 @@ use Rattle.ob_history.specs.declared.records.Filter.{Filter}
 use Rattle.ob_history.specs.contracts.records.Filter.{the_row as filter_row}
 use Rattle.ob_watching.specs.Watches.{TrackedOf, Object, Feed, ItemOf, WatchOf}
 use Rattle.ob_site_rules.specs.Build.{Path, Text}
-use Rattle.ob_site_rules.specs.State.{Plan, State}
+use Rattle.ob_site_rules.specs.declared.plan.Plan.{Plan}
+use Rattle.ob_site_rules.specs.State.{State}
 use Rattle.ob_site_rules.specs.Sites.{SiteState}
 use Rattle.ob_site_state.specs.Codes.{text_code, plan_code, state_code}
 

@@ -7,7 +7,8 @@ use Rattle.ob_tree.specs.Trees.{Stamped}
 use Rattle.ob_watching.specs.Watches.{ended}
 use Rattle.ob_marks_laws.specs.Tables.{AllItems}
 use Rattle.ob_site_rules.specs.Build.{Path}
-use Rattle.ob_site_rules.specs.State.{Plan, State, roll}
+use Rattle.ob_site_rules.specs.declared.plan.Plan.{Plan}
+use Rattle.ob_site_rules.specs.State.{State, roll}
 use Rattle.ob_site_state.specs.Kept.{Kept}
 use Rattle.ob_site_state.specs.Stamping.{tree_of}
 use Rattle.ob_site_settled.specs.Ending.{IsOwn, IsOwnBy}

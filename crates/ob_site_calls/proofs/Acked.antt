@@ -3,7 +3,8 @@ use Rattle.std.proofs.Common.{◌≡◌, ℕ, Bool, true, false, Option, Some, N
 use Rattle.ob_object.specs.Object.{Object}
 use Rattle.ob_alarms.specs.Changes.{State as Board, answered, acked_if_needed, alarm_of, on_ack}
 use Rattle.ob_site_rules.specs.Build.{Text}
-use Rattle.ob_site_rules.specs.State.{Plan, State, board, with_board}
+use Rattle.ob_site_rules.specs.declared.plan.Plan.{Plan}
+use Rattle.ob_site_rules.specs.State.{State, board, with_board}
 use Rattle.ob_site_rules.specs.Entries.{alarm_object}
 use Rattle.ob_site_rules.specs.Computed.{ack_out}
 use Rattle.ob_site_rules.specs.Posts.{acked}

@@ -14,8 +14,9 @@ use Rattle.ob_shown_laws.specs.Alike.{row}
 use Rattle.ob_shown_laws.specs.Own.{dressed_own}
 use Rattle.ob_shown_laws.proofs.Looking.{at_path}
 use Rattle.ob_site_rules.specs.Build.{Path}
-use Rattle.ob_site_rules.specs.State.{Plan, State, source_of}
 use Rattle.ob_site_rules.specs.Shown.{node_of, rule_of, with_status_at, with_status_by}
+use Rattle.ob_site_rules.specs.State.{State, source_of}
+use Rattle.ob_site_rules.specs.declared.plan.Plan.{Plan}
 use Rattle.ob_plain_state.specs.States.{NodesAre, IsOfKindAt}
 use Rattle.ob_plain_state.proofs.ShownKinds.{good_nodes, found_kind}
 use Rattle.ob_tree.specs.Laid.{heads, heads_of, head_at, paths}

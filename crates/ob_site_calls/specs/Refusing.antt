@@ -7,7 +7,8 @@ use Rattle.ob_site_rules.specs.Build.{Path}
 use Rattle.ob_site_rules.specs.declared.fault.Fault.{Fault}
 use Rattle.ob_site_rules.specs.Faults.{err}
 use Rattle.ob_site_rules.specs.Places.{Node, place_at}
-use Rattle.ob_site_rules.specs.State.{Plan, State}
+use Rattle.ob_site_rules.specs.declared.plan.Plan.{Plan}
+use Rattle.ob_site_rules.specs.State.{State}
 
 -- a path names a node that refuses with this fault what a verb asks of it with a body
 abbrev pub IsRefusedThere : Plan → State → ℕ → Path → Verb → Option Object → Fault → Type 0

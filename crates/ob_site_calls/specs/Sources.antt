@@ -5,7 +5,8 @@ use Rattle.ob_object.specs.Kinds.{has_values}
 use Rattle.ob_shown_laws.specs.Alike.{row}
 use Rattle.ob_shown_laws.specs.Changed.{PathsDiffer}
 use Rattle.ob_site_rules.specs.Build.{Path}
-use Rattle.ob_site_rules.specs.State.{Plan, State, is_among}
+use Rattle.ob_site_rules.specs.declared.plan.Plan.{Plan}
+use Rattle.ob_site_rules.specs.State.{State, is_among}
 use Rattle.ob_site_rules.specs.Shown.{dressed, shown}
 use Rattle.ob_site_rules.specs.Writes.{records_from}
 use Rattle.ob_consistent_laws.specs.Consistent.{IsConsistent}

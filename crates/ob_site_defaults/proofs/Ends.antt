@@ -11,7 +11,8 @@ use Rattle.ob_object.specs.declared.head.Head.{Head}
 use Rattle.ob_object.specs.Object.{Objects, none, node, Object, count, parts}
 use Rattle.ob_contracts.specs.Inherit.{Contracts}
 use Rattle.ob_site_rules.specs.Build.{Path}
-use Rattle.ob_site_rules.specs.State.{Plan, State, roll}
+use Rattle.ob_site_rules.specs.declared.plan.Plan.{Plan}
+use Rattle.ob_site_rules.specs.State.{State, roll}
 use Rattle.ob_site_rules.specs.Shown.{dressed}
 use Rattle.ob_shown_laws.specs.Alike.{without_slot, row, DifferInSlots, DifferInValues}
 use Rattle.ob_shown_laws.specs.Changed.{is_watchable, PathsDiffer}

@@ -6,7 +6,8 @@ use Rattle.std.proofs.lemmas.List.{map-append, get_or-map, length-map}
 use Rattle.std.proofs.lemmas.List.Elements.{All-weaker}
 use Rattle.ob_object.specs.Object.{parts}
 use Rattle.ob_contracts.specs.Inherit.{Contracts}
-use Rattle.ob_site_rules.specs.State.{Plan, State}
+use Rattle.ob_site_rules.specs.declared.plan.Plan.{Plan}
+use Rattle.ob_site_rules.specs.State.{State}
 use Rattle.ob_tree.specs.declared.node.NodeId.{NodeId}
 use Rattle.ob_tree.proofs.Collecting.{Collected, none_yet, takes, leaves}
 use Rattle.ob_site_state.proofs.Stepping.{numbers_of}

@@ -6,8 +6,9 @@ use Rattle.ob_object.specs.declared.head.Head.{Head}
 use Rattle.ob_object.specs.Object.{Objects, none, node, Object, count, listed, in_row, children}
 use Rattle.ob_object.specs.Paths.{node_path}
 use Rattle.ob_contracts.specs.Inherit.{Contracts, Words, bare, effective_of, missing, overridden, result_of, row_results, row_with_defaults}
-use Rattle.ob_site_rules.specs.State.{Plan, State}
 use Rattle.ob_site_rules.specs.Shown.{with_roles}
+use Rattle.ob_site_rules.specs.State.{State}
+use Rattle.ob_site_rules.specs.declared.plan.Plan.{Plan}
 use Rattle.ob_standing.specs.Contexts.{Context, HandedDown, comes_to, handed_down, under}
 use Rattle.ob_shown_laws.specs.Own.{dressed_own}
 use Rattle.ob_shown_laws.proofs.Alikes.{handed_alike}

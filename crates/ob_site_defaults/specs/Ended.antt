@@ -1,7 +1,8 @@
 -- The end of a step that left another library.
 use Rattle.std.specs.Prelude.{◌≡◌, ℕ, List, ◌++◌, length}
 use Rattle.ob_object.specs.Object.{parts}
-use Rattle.ob_site_rules.specs.State.{Plan, State, roll}
+use Rattle.ob_site_rules.specs.declared.plan.Plan.{Plan}
+use Rattle.ob_site_rules.specs.State.{State, roll}
 use Rattle.ob_site_rules.specs.Shown.{dressed}
 use Rattle.ob_shown_laws.specs.Alike.{row, DifferInValues}
 use Rattle.ob_shown_laws.specs.Changed.{PathsDiffer}

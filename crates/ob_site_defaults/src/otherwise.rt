@@ -9,7 +9,8 @@ ghost use Rattle.ob_shown_laws.specs.OwnTree.{own_shown_at};
 ghost use Rattle.ob_standing.specs.Contexts.{comes_to};
 ghost use Rattle.ob_standing.specs.Standings.{context};
 ghost use Rattle.ob_replies.specs.Plans.{plan as plan_of};
-ghost use Rattle.ob_site_rules.specs.State.{Plan as SitePlan, State as SiteState};
+ghost use Rattle.ob_site_rules.specs.declared.plan.Plan.{Plan as SitePlan};
+ghost use Rattle.ob_site_rules.specs.State.{State as SiteState};
 ghost use Rattle.ob_step_laws.specs.Defaults.{with_library};
 ghost use Rattle.ob_site_state.specs.Contents.{state_in};
 ghost use Rattle.ob_site_shown.specs.Readable.{IsReadable};
@@ -18,7 +19,7 @@ ghost use Rattle.ob_site_defaults.specs.Watched.{can_be_watched};
 
 use ob_contracts::{Library, Steps};
 use ob_object::{Kind, Obj};
-use ob_replies::Plan;
+use ob_site_rules::Plan;
 use ob_site_settled::library_before;
 use ob_site_shown::dressed_part;
 use ob_site_state::{Contents, State};

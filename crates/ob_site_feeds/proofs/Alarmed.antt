@@ -18,7 +18,9 @@ use Rattle.ob_alarms.specs.Lists.{changed_at}
 use Rattle.ob_site_laws.proofs.Boards.{IsNext, next_events}
 use Rattle.ob_site_rules.specs.Build.{Path}
 use Rattle.ob_site_rules.specs.Entries.{empty_object, event_object, first_events, event_objects}
-use Rattle.ob_site_rules.specs.State.{Plan, PointRule, State, numbered_from, board}
+use Rattle.ob_site_rules.specs.State.{State, board, numbered_from}
+use Rattle.ob_site_rules.specs.declared.plan.Plan.{Plan}
+use Rattle.ob_site_rules.specs.declared.plan.PointRule.{PointRule}
 use Rattle.ob_site_state.specs.declared.change.Change.{Change}
 use Rattle.ob_site_state.specs.declared.change.Change.TheVariants as change
 use Rattle.ob_site_state.specs.Changes.{alarms_before, events_before, undone, rewound, CanRewind, IsNewest, AreTold}

@@ -12,7 +12,8 @@ use Rattle.ob_watching.specs.Watches.{ItemOf, WatchOf, TrackedOf, count}
 use Rattle.ob_site_rules.specs.Build.{Path}
 use Rattle.ob_site_rules.specs.Entries.{is_within}
 use Rattle.ob_site_rules.specs.Locating.{locate}
-use Rattle.ob_site_rules.specs.State.{Plan, State, is_among, roll}
+use Rattle.ob_site_rules.specs.declared.plan.Plan.{Plan}
+use Rattle.ob_site_rules.specs.State.{State, is_among, roll}
 use Rattle.ob_site_rules.specs.Watched.{passes}
 use Rattle.ob_site_laws.proofs.Rolling.{rolls}
 use Rattle.ob_tree.specs.Trees.{Stamped}

@@ -12,7 +12,8 @@ use Rattle.ob_site_rules.specs.Build.{Path}
 use Rattle.ob_site_rules.specs.Entries.{record_object}
 use Rattle.ob_site_rules.specs.Places.{Place, About, Batch, Service, Make, AlarmAt, AckOf, WritePointOf, QueryOf, FeedOf, AlarmQuery, AlarmFeed, Node, event_places}
 use Rattle.ob_site_rules.specs.Posts.{kept_in, records_of}
-use Rattle.ob_site_rules.specs.State.{Plan, Log, State, at, is_among, board, roll}
+use Rattle.ob_site_rules.specs.declared.plan.Plan.{Plan}
+use Rattle.ob_site_rules.specs.State.{Log, State, at, is_among, board, roll}
 use Rattle.ob_site_rules.specs.Watched.{events_at, gone_in, gone_at}
 use Rattle.ob_site_rules.specs.Writes.{events_ever}
 use Rattle.ob_plain_state.specs.States.{AreCounted}

@@ -10,7 +10,8 @@ use Rattle.ob_site_rules.specs.Build.{Path}
 use Rattle.ob_site_rules.specs.Paths.{below, ends_with_slash}
 use Rattle.ob_site_rules.specs.Places.{Place, QueryOf, FeedOf, AlarmQuery, AlarmFeed, subject_places, event_places}
 use Rattle.ob_site_rules.specs.Shown.{write_point_op, history_part, subject_children, lobby_children, derived, with_status, with_roles, dressed}
-use Rattle.ob_site_rules.specs.State.{Plan, Log, State, at, is_among}
+use Rattle.ob_site_rules.specs.State.{Log, State, at, is_among}
+use Rattle.ob_site_rules.specs.declared.plan.Plan.{Plan}
 use Rattle.ob_shown_laws.specs.Alike.{row}
 use Rattle.ob_shown_laws.specs.Changed.{is_in, PathsDiffer}
 use Rattle.ob_values.proofs.Bools.{or_first, or_second}

@@ -8,7 +8,8 @@ use Rattle.ob_history.specs.declared.records.Record.{Record}
 use Rattle.ob_site_rules.specs.Build.{Path}
 use Rattle.ob_site_rules.specs.Places.{FeedOf, event_places}
 use Rattle.ob_site_rules.specs.Posts.{kept_in, records_of}
-use Rattle.ob_site_rules.specs.State.{Plan, Log, State, at, is_among}
+use Rattle.ob_site_rules.specs.declared.plan.Plan.{Plan}
+use Rattle.ob_site_rules.specs.State.{Log, State, at, is_among}
 use Rattle.ob_site_rules.specs.Watched.{gone_in}
 use Rattle.ob_consistent_laws.specs.Laws.{Apart}
 use Rattle.ob_values.proofs.Bools.{or_first, or_second}

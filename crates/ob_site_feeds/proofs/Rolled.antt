@@ -9,7 +9,8 @@ use Rattle.ob_site_laws.proofs.Rolling.{rolled_at}
 use Rattle.ob_site_laws.proofs.Endless.{log}
 use Rattle.ob_site_rules.specs.Build.{Path}
 use Rattle.ob_site_rules.specs.Places.{Place, About, Batch, Service, Make, AlarmAt, AckOf, WritePointOf, QueryOf, FeedOf, AlarmQuery, AlarmFeed, Node, event_places}
-use Rattle.ob_site_rules.specs.State.{Plan, Log, State, at, is_among, rolled, roll}
+use Rattle.ob_site_rules.specs.declared.plan.Plan.{Plan}
+use Rattle.ob_site_rules.specs.State.{Log, State, at, is_among, rolled, roll}
 use Rattle.ob_site_rules.specs.Watched.{gone_in, gone_at}
 use Rattle.ob_site_state.specs.declared.change.Change.{Change}
 use Rattle.ob_site_state.specs.declared.change.Change.TheVariants as change

@@ -8,7 +8,8 @@ use Rattle.ob_times.specs.Times.{Instant}
 use Rattle.ob_object.specs.Object.{Object}
 use Rattle.ob_watching.specs.Watches.{count}
 use Rattle.ob_site_rules.specs.Build.{Path, child}
-use Rattle.ob_site_rules.specs.State.{Plan, State, is_among, roll}
+use Rattle.ob_site_rules.specs.declared.plan.Plan.{Plan}
+use Rattle.ob_site_rules.specs.State.{State, is_among, roll}
 use Rattle.ob_site_rules.specs.Watched.{time_in}
 use Rattle.ob_watch.specs.Counted.{of_plan}
 use Rattle.ob_site_feeds.specs.declared.feeds.FeedEvent.{FeedEvent}

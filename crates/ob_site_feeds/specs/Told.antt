@@ -1,7 +1,8 @@
 -- What telling watches of their feeds leaves of them.
 use Rattle.std.specs.Prelude.{◌≡◌, ℕ, Bool, List, [], ◌∷◌}
 use Rattle.std.specs.List.{AllByRecursion}
-use Rattle.ob_site_rules.specs.State.{Plan, State, roll}
+use Rattle.ob_site_rules.specs.declared.plan.Plan.{Plan}
+use Rattle.ob_site_rules.specs.State.{State, roll}
 use Rattle.ob_tree.specs.Trees.{Stamped}
 use Rattle.ob_watch.specs.declared.item.Tracked.{Tracked}
 use Rattle.ob_watch.specs.declared.item.Tracked.TheVariants.{Object, Feed}

@@ -9,7 +9,9 @@ use Rattle.ob_object.specs.Object.{Object}
 use Rattle.ob_contracts.specs.Inherit.{Contracts}
 use Rattle.ob_history.specs.declared.records.Record.{Record}
 use Rattle.ob_site_rules.specs.Build.{Path}
-use Rattle.ob_site_rules.specs.State.{PointRule, Plan, Log, rolled, rolled_logs, at}
+use Rattle.ob_site_rules.specs.declared.plan.PointRule.{PointRule}
+use Rattle.ob_site_rules.specs.declared.plan.Plan.{Plan}
+use Rattle.ob_site_rules.specs.State.{Log, rolled, rolled_logs, at}
 use Rattle.ob_site_rules.specs.Sites.{SiteState}
 use Rattle.ob_plain_state.specs.States.{entry_of}
 use Rattle.ob_site_rules.specs.Loading.{Part, path_of, capacity_of, records_of, histories_in, items_of, rule_in, subjects, bad_part, bad_history, bad_subjects, bad_records, bad_rules, overfull, least, record_in, is_bad_item, after_item, is_late, is_earlier, has_bad_source, has_bad_capacity, ms_up, last_moment, greatest, opened, kept_root}

@@ -1,5 +1,5 @@
 -- The items of `rules`, one after the other.
-use Rattle.std.proofs.Common.{◌≡◌, ℕ, ◌+◌, ◌<◌, ◌≤◌, Bool, true, false, cond, not, List, [], ◌∷◌, ◌++◌, map, length, drop, get_or, Option, Some, None, refl, sym, ap, ◌∙◌, subst, append_assoc, arith}
+use Rattle.std.proofs.Common.{Bool, List, None, Option, Some, [], ap, append_assoc, arith, cond, drop, false, get_or, length, not, refl, subst, sym, true, ℕ, ◌++◌, ◌+◌, ◌<◌, ◌∙◌, ◌∷◌, ◌≡◌, ◌≤◌}
 use Rattle.std.specs.Prelude.{option_map, option_and_then, bytes_eq}
 use Rattle.std.specs.List.{filter_map, cons_option}
 use Rattle.std.specs.Ordering.{nat_cmp, is_eq}
@@ -9,13 +9,12 @@ use Rattle.std.proofs.lemmas.List.{append-nil}
 use Rattle.std.proofs.lemmas.Map.Text.{is_eq-slice_cmp}
 use denote.Ref.{Bor}
 use Rattle.ob_values.proofs.Bools.{or_cond}
-use Rattle.ob_replies.specs.Plans.{point_rule}
-use Rattle.ob_replies.specs.declared.plan.PointRule.{PointRule as OwnRule}
 use Rattle.ob_object.specs.declared.kind.Kind.{Kind}
 use Rattle.ob_object.specs.Object.{Object, parts}
 use Rattle.ob_site_rules.specs.Build.{Path}
-use Rattle.ob_site_rules.specs.State.{PointRule, is_among}
 use Rattle.ob_site_rules.specs.Loading.{Part, numbered, node_there, is_number_kind, rule_in, is_bad_rule, after_rule, bad_rules, least}
+use Rattle.ob_site_rules.specs.State.{is_among}
+use Rattle.ob_site_rules.specs.declared.plan.PointRule.{PointRule}
 use Rattle.ob_site_file.specs.Told.{Has, IsNext}
 use Rattle.ob_site_file.specs.declared.nodes.Nodes.{Nodes}
 use Rattle.ob_site_file.proofs.Firsts.{From, from_below, from_if, least_from}
@@ -105,20 +104,20 @@ cons_is None rs = refl
 cons_is (Some r) rs = refl
 
 -- the rules that are put, and those of the items that are left
-pub record RulesPut (ps : List Part) (all : List Object) (i : ℕ) (old new : List OwnRule) : Type 0 where
-  pub same : map point_rule new ++ filter_map (rule_in ps) (drop i all) ≡ map point_rule old ++ filter_map (rule_in ps) all
+pub record RulesPut (ps : List Part) (all : List Object) (i : ℕ) (old new : List PointRule) : Type 0 where
+  pub same : new ++ filter_map (rule_in ps) (drop i all) ≡ old ++ filter_map (rule_in ps) all
 
-pub put_first : (ps : List Part) (all : List Object) (old : List OwnRule) → RulesPut ps all 0 old old
+pub put_first : (ps : List Part) (all : List Object) (old : List PointRule) → RulesPut ps all 0 old old
 put_first ps all old = record { same = refl }
 
-pub put_more : (ps : List Part) (all : List Object) (i : ℕ) (x : Object) (old made new : List OwnRule) → i < length all → x ≡ get_or all i x → map point_rule new ≡ map point_rule made ++ filter_map (rule_in ps) (x ∷ []) → RulesPut ps all i old made
+pub put_more : (ps : List Part) (all : List Object) (i : ℕ) (x : Object) (old made new : List PointRule) → i < length all → x ≡ get_or all i x → new ≡ made ++ filter_map (rule_in ps) (x ∷ []) → RulesPut ps all i old made
     → RulesPut ps all (i + 1) old new
 put_more ps all i x old made new h is put l =
     let rest = filter_map (rule_in ps) (drop (i + 1) all) in
     record {
-      same = ap (λ rs. rs ++ rest) put ∙ append_assoc (map point_rule made) (filter_map (rule_in ps) (x ∷ [])) rest
-          ∙ ap (λ rs. map point_rule made ++ rs) (sym (ap (filter_map (rule_in ps)) (rest_more all i x h is) ∙ cons_is (rule_in ps x) rest)) ∙ l.same;
+      same = ap (λ rs. rs ++ rest) put ∙ append_assoc made (filter_map (rule_in ps) (x ∷ [])) rest
+          ∙ ap (λ rs. made ++ rs) (sym (ap (filter_map (rule_in ps)) (rest_more all i x h is) ∙ cons_is (rule_in ps x) rest)) ∙ l.same;
     }
 
-pub put_all : (ps : List Part) (all : List Object) (i : ℕ) (old new : List OwnRule) → length all ≤ i → RulesPut ps all i old new → map point_rule new ≡ map point_rule old ++ filter_map (rule_in ps) all
-put_all ps all i old new h l = sym (append-nil (map point_rule new)) ∙ ap (λ os. map point_rule new ++ filter_map (rule_in ps) os) (sym (drop_all all i h)) ∙ l.same
+pub put_all : (ps : List Part) (all : List Object) (i : ℕ) (old new : List PointRule) → length all ≤ i → RulesPut ps all i old new → new ≡ old ++ filter_map (rule_in ps) all
+put_all ps all i old new h l = sym (append-nil new) ∙ ap (λ os. new ++ filter_map (rule_in ps) os) (sym (drop_all all i h)) ∙ l.same

@@ -12,8 +12,9 @@ use Rattle.ob_contracts.specs.Inherit.{Contracts, Words, sources, overridden, im
 use Rattle.ob_contracts.proofs.UpTo.{count_bare_row}
 use Rattle.ob_roles.proofs.Named.{taken_first}
 use Rattle.ob_site_rules.specs.Build.{Path}
-use Rattle.ob_site_rules.specs.State.{Plan, State, Log, is_among, at}
 use Rattle.ob_site_rules.specs.Shown.{derived, derived_at, lobby_children, write_point_op, history_part, subject_children, rule_of, with_status, with_status_at, with_status_by, with_roles, shown_root}
+use Rattle.ob_site_rules.specs.State.{Log, State, at, is_among}
+use Rattle.ob_site_rules.specs.declared.plan.Plan.{Plan}
 use Rattle.ob_site_file.specs.Sizes.{dressed_at, row_count, plain, stand_in}
 
 -- what is left of a limit

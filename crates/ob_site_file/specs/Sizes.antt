@@ -12,8 +12,9 @@ use Rattle.ob_object.specs.Paths.{node_path}
 use Rattle.ob_contracts.specs.Inherit.{Contracts, Words, row_results}
 use Rattle.ob_replies.specs.Plans.{plan as plan_of}
 use Rattle.ob_site_rules.specs.Build.{leaf}
-use Rattle.ob_site_rules.specs.State.{Plan, State, is_among, at}
 use Rattle.ob_site_rules.specs.Shown.{derived, with_status, with_roles}
+use Rattle.ob_site_rules.specs.State.{State, at, is_among}
+use Rattle.ob_site_rules.specs.declared.plan.Plan.{Plan}
 use Rattle.ob_site_file.specs.declared.derived.Counting.{Counting}
 use Rattle.ob_site_file.specs.declared.derived.Derived.{Derived}
 

@@ -13,8 +13,9 @@ use Rattle.ob_history.specs.declared.records.Record.{Record}
 use Rattle.ob_alarms.specs.declared.rule.Num.{Num}
 use Rattle.ob_alarms.specs.declared.rule.Num.TheVariants as num
 use Rattle.ob_site_rules.specs.Build.{Path}
-use Rattle.ob_site_rules.specs.State.{PointRule, is_among}
 use Rattle.ob_site_rules.specs.Loading.{Part, rule_in, is_bad_rule, after_rule}
+use Rattle.ob_site_rules.specs.State.{is_among}
+use Rattle.ob_site_rules.specs.declared.plan.PointRule.{PointRule}
 use Rattle.ob_site_file.specs.declared.rules.Limits.{Limits}
 
 -- the record of a time and a value

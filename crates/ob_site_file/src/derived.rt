@@ -1,15 +1,16 @@
 //! The children that the roles of a node derive, as far as their number of parts goes.
 ghost use Rattle.std.specs.Prelude.{◌≡◌, ◌++◌, ◌∷◌, [], ◌&&◌, true, false, is_some, bytes_eq, cond, codes, map, List, ℕ, IfOk};
 ghost use Rattle.ob_object.specs.Paths.{is_path, node_path};
-ghost use Rattle.ob_site_rules.specs.State.{Plan as SitePlan, State as SiteState, is_among, at};
 ghost use Rattle.ob_site_rules.specs.Shown.{derived, derived_at};
+ghost use Rattle.ob_site_rules.specs.State.{State as SiteState, at, is_among};
+ghost use Rattle.ob_site_rules.specs.declared.plan.Plan.{Plan as SitePlan};
 ghost use Rattle.ob_plain_state.specs.States.{entry_of};
 ghost use Rattle.ob_site_file.specs.Sizes.{has_text, IsCounting, stand_in, stood, plain};
 
 use ob_contracts::Library;
 use ob_object::Attributes;
 use ob_plain_state::Log;
-use ob_replies::Plan;
+use ob_site_rules::Plan;
 use ob_values::Text;
 use std::alloc::{AllocError, Global};
 use std::collections::BTreeSet;
@@ -126,7 +127,7 @@ impl<'a> Counting<'a> {
     ) -> Result<Counting<'a>, AllocError>
         ensures library { IfOk result (λ c. c.library.now ≡ library.now) }
         ensures plan { IfOk result (λ c. c.plan.now ≡ plan.now) }
-        ensures points { IfOk result (λ c. (t : List ℕ) → has_text c.points t ≡ is_among t plan.now.points.items) }
+        ensures points { IfOk result (λ c. (t : List ℕ) → has_text c.points t ≡ is_among t plan.now.points) }
         ensures histories { IfOk result (λ c. (t : List ℕ) → has_text c.histories t ≡ is_some (at t (map entry_of logs.now))) }
     {
         let points = texts_of(alloc, plan.points.as_slice())?;

@@ -1,9 +1,9 @@
 //! What is fixed when a site is opened, and the logs of its histories.
 ghost use Rattle.std.specs.Prelude.{◌≡◌, ◌++◌, ◌∷◌, [], false, map, filter, None, option_map, IfOk};
-ghost use Rattle.ob_replies.specs.Plans.{point_rule, plan as plan_of};
+ghost use Rattle.ob_opening.specs.Loading.{about_texts};
+ghost use Rattle.ob_replies.specs.Plans.{plan as plan_of};
 ghost use Rattle.ob_site_rules.specs.Loading.{path_of, histories_in, root_lobby};
 ghost use Rattle.ob_roles.specs.Told.{part as site_part};
-ghost use Rattle.ob_site_rules.specs.State.{Plan as SitePlan};
 ghost use Rattle.ob_plain_state.specs.States.{entry_of, AreCounted};
 ghost use Rattle.ob_site_file.specs.Opened.{history_entry, whole_log, rules_at, subject_of, plan_with};
 
@@ -16,8 +16,8 @@ use crate::rules::put_rules;
 use ob_href::Base;
 use ob_object::Obj;
 use ob_plain_state::Log;
-use ob_replies::{Plan, PointRule};
 use ob_roles::Part;
+use ob_site_rules::{Fixed, Plan, PointRule};
 use ob_times::Moment;
 use ob_values::Text;
 use std::alloc::{AllocError, Global};
@@ -53,6 +53,15 @@ fn put_points(points: &mut Vec<Text>, parts: &[Part]) -> Result<(), AllocError>
     Ok(())
 }
 
+// The paths of the writable points.
+fn points_of(alloc: Global, parts: &[Part]) -> Result<Fixed<Text>, AllocError>
+    ensures { IfOk result (λ points. points ≡ map path_of (filter (λ p. p.roles.point) (map site_part parts.now))) }
+{
+    let mut points = Vec::new(alloc);
+    put_points(&mut points, parts)?;
+    Ok(Fixed::of(points))
+}
+
 // Puts the path of a part last, with that of its source, if it is a history.
 fn put_history(histories: &mut Vec<(Text, Option<Text>)>, part: &Part) -> Result<(), AllocError>
     ensures { IfOk result (λ _. histories.new.items ≡ histories.old.items ++ map history_entry (histories_in (site_part part.now ∷ []))) }
@@ -78,6 +87,15 @@ fn put_histories(
     Ok(())
 }
 
+// The path of each history, with that of its source, if it has one.
+fn histories_of(alloc: Global, parts: &[Part]) -> Result<Fixed<(Text, Option<Text>)>, AllocError>
+    ensures { IfOk result (λ histories. histories ≡ map history_entry (histories_in (map site_part parts.now))) }
+{
+    let mut histories = Vec::new(alloc);
+    put_histories(&mut histories, parts)?;
+    Ok(Fixed::of(histories))
+}
+
 // What is fixed of a site of which only the root's path is known, whether it is a lobby, and when it is opened.
 fn bare_plan(alloc: Global, base: Base, lobby: bool, boot: Moment) -> Result<Plan, AllocError>
     ensures { IfOk result (λ plan. plan_of plan ≡ record { base = base; root = base.path; boot = boot; lobby = lobby; points = []; histories = []; subject = None; rules = []; about = [] }) }
@@ -88,11 +106,11 @@ fn bare_plan(alloc: Global, base: Base, lobby: bool, boot: Moment) -> Result<Pla
         root,
         boot,
         lobby,
-        points: Vec::new(alloc),
-        histories: Vec::new(alloc),
+        points: Fixed::of(Vec::new(alloc)),
+        histories: Fixed::of(Vec::new(alloc)),
         subject: None,
-        rules: Vec::new(alloc),
-        about: Vec::new(alloc),
+        rules: Fixed::of(Vec::new(alloc)),
+        about: Fixed::of(Vec::new(alloc)),
     })
 }
 
@@ -115,7 +133,7 @@ fn put_subject_rules(
     rules: &mut Vec<PointRule>,
     parts: &[Part],
 ) -> Result<(), AllocError>
-    ensures { IfOk result (λ _. map point_rule rules.new.items ≡ map point_rule rules.old.items ++ rules_at (map site_part parts.now) (subject_of (map site_part parts.now))) }
+    ensures { IfOk result (λ _. rules.new.items ≡ rules.old.items ++ rules_at (map site_part parts.now) (subject_of (map site_part parts.now))) }
 {
     let Some(subject) = subject_in(parts) else {
         return Ok(());
@@ -123,6 +141,15 @@ fn put_subject_rules(
     let nodes = nodes_of(alloc, parts)?;
     put_rules(rules, &nodes, items_of(subject, "rules").objects)?;
     Ok(())
+}
+
+// The rules of the alarm subject, if there is one.
+fn rules_of(alloc: Global, parts: &[Part]) -> Result<Fixed<PointRule>, AllocError>
+    ensures { IfOk result (λ rules. rules ≡ rules_at (map site_part parts.now) (subject_of (map site_part parts.now))) }
+{
+    let mut rules = Vec::new(alloc);
+    put_subject_rules(alloc, &mut rules, parts)?;
+    Ok(Fixed::of(rules))
 }
 
 // Whether the first part, which is the root, is a lobby.
@@ -133,6 +160,15 @@ fn is_lobby(parts: &[Part]) -> bool
         Some(root) => root.roles.lobby,
         None => false,
     }
+}
+
+// The texts of the About object that a site replaces, each behind its name.
+fn about_of(alloc: Global, root: &Obj) -> Result<Fixed<(Text, Text)>, AllocError>
+    ensures { IfOk result (λ about. about ≡ about_texts root.now) }
+{
+    let mut about = Vec::new(alloc);
+    put_about(&mut about, root)?;
+    Ok(Fixed::of(about))
 }
 
 /// What is fixed of a site whose root has these parts.
@@ -148,10 +184,10 @@ pub(crate) fn plan_of(
     let subject = subject_path(parts)?;
     let mut plan = bare_plan(alloc, base, is_lobby(parts), boot)?;
     plan.subject = subject;
-    put_points(&mut plan.points, parts)?;
-    put_histories(&mut plan.histories, parts)?;
-    put_subject_rules(alloc, &mut plan.rules, parts)?;
-    put_about(&mut plan.about, root)?;
+    plan.points = points_of(alloc, parts)?;
+    plan.histories = histories_of(alloc, parts)?;
+    plan.rules = rules_of(alloc, parts)?;
+    plan.about = about_of(alloc, root)?;
     Ok(plan)
 }
 

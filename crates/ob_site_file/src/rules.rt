@@ -1,9 +1,8 @@
 //! The rules of the alarm subject.
-ghost use Rattle.std.specs.Prelude.{◌≡◌, ◌+◌, ◌<◌, ◌^◌, ◌++◌, ◌∷◌, [], not, codes, map, List, Some, option_map, option_and_then, IfOk, IfSome, IsTrue};
+ghost use Rattle.std.specs.Prelude.{◌≡◌, ◌+◌, ◌<◌, ◌^◌, ◌++◌, ◌∷◌, [], not, codes, List, Some, option_map, option_and_then, IfOk, IfSome, IsTrue};
 ghost use Rattle.std.specs.List.{filter_map};
 ghost use Rattle.std.specs.Option.{option_copied};
 ghost use Rattle.ob_alarms.specs.Limits.{is_below};
-ghost use Rattle.ob_replies.specs.Plans.{point_rule};
 ghost use Rattle.ob_object.specs.Object.{in_row, count};
 ghost use Rattle.ob_object.specs.declared.kind.Kind.TheVariants as kinds;
 ghost use Rattle.ob_site_rules.specs.Build.{Path};
@@ -16,7 +15,7 @@ use crate::items::{Items, child_of};
 use crate::nodes::Nodes;
 use ob_alarms::Num;
 use ob_object::{Kind, Obj, Slot};
-use ob_replies::PointRule;
+use ob_site_rules::PointRule;
 use ob_values::{Text, Value};
 use std::alloc::{AllocError, Global};
 use std::collections::BTreeSet;
@@ -162,7 +161,7 @@ pub(crate) fn bad_rule(
 
 // Puts the rule that an item is last, if it is one.
 fn put_rule(rules: &mut Vec<PointRule>, nodes: &Nodes, item: &Obj) -> Result<(), AllocError>
-    ensures { IfOk result (λ _. (ps : List SitePart) → Sees nodes.now ps → map point_rule rules.new.items ≡ map point_rule rules.old.items ++ filter_map (rule_in ps) (item.now ∷ [])) }
+    ensures { IfOk result (λ _. (ps : List SitePart) → Sees nodes.now ps → rules.new.items ≡ rules.old.items ++ filter_map (rule_in ps) (item.now ∷ [])) }
 {
     if let Some((source, limits)) = rule_parts(nodes, item) {
         let source = source.copy()?;
@@ -182,7 +181,7 @@ pub(crate) fn put_rules(
     nodes: &Nodes,
     items: &[Obj],
 ) -> Result<(), AllocError>
-    ensures { IfOk result (λ _. (ps : List SitePart) → Sees nodes.now ps → map point_rule rules.new.items ≡ map point_rule rules.old.items ++ filter_map (rule_in ps) items.now) }
+    ensures { IfOk result (λ _. (ps : List SitePart) → Sees nodes.now ps → rules.new.items ≡ rules.old.items ++ filter_map (rule_in ps) items.now) }
 {
     for item in items {
         put_rule(rules, nodes, item)?;

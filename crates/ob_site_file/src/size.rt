@@ -7,8 +7,9 @@ ghost use Rattle.ob_object.specs.Paths.{node_path};
 ghost use Rattle.ob_contracts.specs.Found.{found, lent};
 ghost use Rattle.ob_contracts.specs.Inherit.{contract_of, present, sources, overridden, missing, is_new, or_else, words_in, result_of};
 ghost use Rattle.ob_contracts.specs.Telling.{TellTheSame};
-ghost use Rattle.ob_site_rules.specs.State.{Plan as SitePlan, State as SiteState};
 ghost use Rattle.ob_site_rules.specs.Shown.{derived, with_roles, shown_root};
+ghost use Rattle.ob_site_rules.specs.State.{State as SiteState};
+ghost use Rattle.ob_site_rules.specs.declared.plan.Plan.{Plan as SitePlan};
 ghost use Rattle.ob_site_file.specs.Sizes.{has_text, HasNames, is_fresh, IsCounting, dressed_at, stood, row_count};
 
 use crate::derived::{Counting, Derived, Texts, derived_children};

@@ -12,7 +12,7 @@ use Rattle.ob_watching.specs.Watches.{World, begun}
 use Rattle.ob_site_rules.specs.declared.request.Request.{Request}
 use Rattle.ob_site_rules.specs.Locating.{locate}
 use Rattle.ob_site_rules.specs.Build.{Path}
-use Rattle.ob_site_rules.specs.State.{Plan}
+use Rattle.ob_site_rules.specs.declared.plan.Plan.{Plan}
 use Rattle.ob_site_rules.specs.declared.watch_part.WatchPart.{WatchPart}
 use Rattle.ob_site_rules.specs.Paths.{make_path, watch_part}
 use Rattle.ob_site_rules.specs.Watched.{SiteTarget, target_part, target_at}

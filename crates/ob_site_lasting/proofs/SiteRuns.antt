@@ -12,7 +12,8 @@ use Rattle.ob_watching.specs.Watches.{World, act, IsSound}
 use Rattle.ob_watching.specs.Laws.{IsMake, WasMade}
 use Rattle.ob_site_rules.specs.declared.request.Request.{Request}
 use Rattle.ob_site_rules.specs.Locating.{locate}
-use Rattle.ob_site_rules.specs.State.{Plan, State, board}
+use Rattle.ob_site_rules.specs.declared.plan.Plan.{Plan}
+use Rattle.ob_site_rules.specs.State.{State, board}
 use Rattle.ob_site_rules.specs.Sites.{SiteState}
 use Rattle.ob_site_laws.specs.SiteLaws.{acts, of_plan, Call, TellsEvents, IsSoundSite}
 use Rattle.ob_site_laws.proofs.Lawful.{lawful}

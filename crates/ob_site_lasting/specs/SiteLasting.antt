@@ -9,7 +9,7 @@ use Rattle.ob_watching.specs.Tables.{lookup}
 use Rattle.ob_watching.specs.Watches.{World}
 use Rattle.ob_watching.specs.Laws.{WasMade, IsMake, IsOn, IsNotFound}
 use Rattle.ob_site_rules.specs.declared.request.Request.{Request}
-use Rattle.ob_site_rules.specs.State.{Plan}
+use Rattle.ob_site_rules.specs.declared.plan.Plan.{Plan}
 use Rattle.ob_site_rules.specs.Sites.{SiteState}
 use Rattle.ob_site_laws.specs.SiteLaws.{acts, of_plan, Call, IsSoundSite}
 use Rattle.ob_site_laws.specs.Seen.{KeepsWatches}

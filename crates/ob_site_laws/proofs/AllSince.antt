@@ -10,7 +10,8 @@ use Rattle.ob_site_rules.specs.declared.request.Request.{Request}
 use Rattle.ob_site_rules.specs.Build.{Text, Path}
 use Rattle.ob_site_rules.specs.Locating.{locate}
 use Rattle.ob_site_rules.specs.Places.{event_places}
-use Rattle.ob_site_rules.specs.State.{Plan, State, at, board}
+use Rattle.ob_site_rules.specs.declared.plan.Plan.{Plan}
+use Rattle.ob_site_rules.specs.State.{State, at, board}
 use Rattle.ob_site_laws.specs.SiteLaws.{of_plan, Call, TellsEvents, HoldsAllOf, EachHoldsAll}
 use Rattle.ob_site_laws.proofs.Growth.{act_grows}
 use Rattle.ob_site_laws.proofs.Lawful.{lawful}

@@ -4,7 +4,8 @@ use Rattle.std.specs.Prelude.{option_map}
 use Rattle.ob_history.specs.declared.records.Record.{Record}
 use Rattle.ob_site_rules.specs.declared.request.Request.{Request}
 use Rattle.ob_site_rules.specs.Locating.{locate}
-use Rattle.ob_site_rules.specs.State.{Plan, Log, State, at, rolled}
+use Rattle.ob_site_rules.specs.declared.plan.Plan.{Plan}
+use Rattle.ob_site_rules.specs.State.{Log, State, at, rolled}
 use Rattle.ob_site_rules.specs.Places.{Place, About, Batch, Service, Make, AlarmAt, AckOf, WritePointOf, QueryOf, FeedOf, AlarmQuery, AlarmFeed, Node}
 use Rattle.ob_site_rules.specs.Watched.{gone_in, gone_at}
 use Rattle.ob_watching.specs.Sites.{Site}

@@ -17,7 +17,8 @@ use Rattle.ob_alarms.proofs.Counting.{get_within, count-append, count-changed, c
 use Rattle.ob_alarms.proofs.Numbers.{known}
 use Rattle.ob_alarms.proofs.Told.{told_raised, told_ended, told_acked, newest_first, found, no_place, open_at}
 use Rattle.ob_alarms.proofs.Tracks.{other_open, and_false}
-use Rattle.ob_site_rules.specs.State.{Plan, State, board}
+use Rattle.ob_site_rules.specs.declared.plan.Plan.{Plan}
+use Rattle.ob_site_rules.specs.State.{State, board}
 use Rattle.ob_site_laws.specs.SiteLaws.{TellsEvents}
 use Rattle.ob_site_laws.proofs.Boards.{taken, given_false}
 

@@ -17,7 +17,8 @@ use Rattle.ob_site_rules.specs.Build.{Text, Path}
 use Rattle.ob_site_rules.specs.declared.fault.Fault.{Fault}
 use Rattle.ob_site_rules.specs.declared.fault.Fault.TheVariants.{NotInBatch}
 use Rattle.ob_site_rules.specs.Faults.{err}
-use Rattle.ob_site_rules.specs.State.{Plan, Log, State, at, board, with_board}
+use Rattle.ob_site_rules.specs.declared.plan.Plan.{Plan}
+use Rattle.ob_site_rules.specs.State.{Log, State, at, board, with_board}
 use Rattle.ob_site_rules.specs.Sameness.{same_slot}
 use Rattle.ob_site_rules.specs.Shown.{rule_of}
 use Rattle.ob_site_rules.specs.Entries.{record_object, event_objects}

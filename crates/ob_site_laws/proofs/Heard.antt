@@ -13,7 +13,7 @@ use Rattle.ob_site_rules.specs.Build.{Text, under_href, valued, number_slot}
 use Rattle.ob_site_rules.specs.Computed.{watch_out}
 use Rattle.ob_site_rules.specs.declared.fault.Fault.{Fault}
 use Rattle.ob_site_rules.specs.Faults.{err}
-use Rattle.ob_site_rules.specs.State.{Plan}
+use Rattle.ob_site_rules.specs.declared.plan.Plan.{Plan}
 use Rattle.ob_site_rules.specs.declared.watch_part.WatchPart.{WatchPart}
 use Rattle.ob_site_rules.specs.Replies.{Content, Reading, dropped_child, entry, sent, is_plain}
 use Rattle.ob_site_rules.specs.Watched.{feed_of}

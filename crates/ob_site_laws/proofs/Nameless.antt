@@ -10,7 +10,8 @@ use Rattle.ob_alarms.specs.declared.alarm.Alarm.{Alarm}
 use Rattle.ob_alarms.specs.declared.alarm.Event.{Event}
 use Rattle.ob_alarms.specs.declared.rule.Rule.{Rule}
 use Rattle.std.specs.Prelude.{unwrap_or}
-use Rattle.ob_site_rules.specs.State.{Plan, State, board}
+use Rattle.ob_site_rules.specs.declared.plan.Plan.{Plan}
+use Rattle.ob_site_rules.specs.State.{State, board}
 use Rattle.ob_site_rules.specs.Entries.{empty_object, record_object, event_object, first_events}
 use Rattle.ob_site_rules.specs.Posts.{records_of}
 use Rattle.ob_site_rules.specs.Places.{Place, About, Batch, Service, Make, AlarmAt, AckOf, WritePointOf, QueryOf, FeedOf, AlarmQuery, AlarmFeed, Node}

@@ -8,7 +8,8 @@ use Rattle.ob_object.specs.Object.{Object}
 use Rattle.ob_history.specs.declared.records.Record.{Record}
 use Rattle.ob_watching.specs.Sites.{Site, HasRolled}
 use Rattle.ob_site_rules.specs.Build.{Text, Path}
-use Rattle.ob_site_rules.specs.State.{Plan, Log, State, at, rolled, rolled_logs, roll}
+use Rattle.ob_site_rules.specs.declared.plan.Plan.{Plan}
+use Rattle.ob_site_rules.specs.State.{Log, State, at, rolled, rolled_logs, roll}
 use Rattle.ob_site_rules.specs.Entries.{record_object}
 use Rattle.ob_site_rules.specs.Posts.{kept_in}
 use Rattle.ob_site_rules.specs.Places.{Place, About, Batch, Service, Make, AlarmAt, AckOf, WritePointOf, QueryOf, FeedOf, AlarmQuery, AlarmFeed, Node, event_places}

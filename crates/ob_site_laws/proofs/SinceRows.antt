@@ -3,7 +3,7 @@ use Rattle.std.proofs.Common.{◌≡◌, ℕ, ◌+◌, List, [], length, refl, a
 use Rattle.ob_object.specs.Object.{Object}
 use Rattle.ob_watching.specs.Asked.{Lists}
 use Rattle.ob_watching.specs.Watches.{Content}
-use Rattle.ob_site_rules.specs.State.{Plan}
+use Rattle.ob_site_rules.specs.declared.plan.Plan.{Plan}
 use Rattle.ob_site_laws.specs.SiteLaws.{of_plan}
 use Rattle.ob_site_laws.specs.SinceRows.{with_subject, OneIsLacking, NoneWithoutItsAlarm, PassesNone}
 

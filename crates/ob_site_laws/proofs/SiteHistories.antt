@@ -14,7 +14,8 @@ use Rattle.ob_watching.specs.Laws as watches
 use Rattle.ob_watching.proofs.Laws.{watch_replays, watch_stays_gone, leaves_others, sound_after, keeps_after, keeps_whole}
 use Rattle.ob_site_rules.specs.Locating.{locate}
 use Rattle.ob_site_rules.specs.Build.{Text, Path}
-use Rattle.ob_site_rules.specs.State.{Plan, at, board}
+use Rattle.ob_site_rules.specs.declared.plan.Plan.{Plan}
+use Rattle.ob_site_rules.specs.State.{at, board}
 use Rattle.ob_site_rules.specs.Places.{Place, event_places}
 use Rattle.ob_site_rules.specs.Sites.{SiteState}
 use Rattle.ob_site_laws.specs.SiteLaws.{acts, of_plan, Call, TellsEvents, IsSoundSite, Stays, ClientsHold, KeepsAll, KeepsAllOf, ClientsHoldAll, EachAsWatched, ClientsHoldEach, EachHoldsAll, ClientsHoldAllSince, GoneForGood, OthersStay}

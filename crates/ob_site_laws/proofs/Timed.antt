@@ -24,7 +24,8 @@ use Rattle.ob_site_rules.specs.Build.{child}
 use Rattle.ob_site_rules.specs.Entries.{empty_object, record_object, event_object, event_objects, is_within}
 use Rattle.ob_site_rules.specs.Places.{Place, About, Batch, Service, Make, AlarmAt, AckOf, WritePointOf, QueryOf, FeedOf, AlarmQuery, AlarmFeed, Node}
 use Rattle.ob_site_rules.specs.Posts.{records_of}
-use Rattle.ob_site_rules.specs.State.{Plan, State, board}
+use Rattle.ob_site_rules.specs.declared.plan.Plan.{Plan}
+use Rattle.ob_site_rules.specs.State.{State, board}
 use Rattle.ob_site_rules.specs.Watched.{events_at, passes, time_in}
 use Rattle.ob_site_laws.specs.SiteLaws.{TellsEvents, HasNoBound}
 use Rattle.ob_site_laws.proofs.Boards.{IsNext, next_event}

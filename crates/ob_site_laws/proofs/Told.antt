@@ -9,7 +9,7 @@ use Rattle.ob_object.specs.Object.{Object}
 use Rattle.ob_watching.specs.Asked.{Told, Refused}
 use Rattle.ob_site_rules.specs.Build.{Text}
 use Rattle.ob_site_rules.specs.declared.fault.Fault.{Fault}
-use Rattle.ob_site_rules.specs.State.{Plan}
+use Rattle.ob_site_rules.specs.declared.plan.Plan.{Plan}
 use Rattle.ob_site_rules.specs.declared.watch_part.WatchPart.TheVariants.{Whole}
 use Rattle.ob_site_rules.specs.Paths.{watch_path}
 use Rattle.ob_site_rules.specs.Replies.{sent}

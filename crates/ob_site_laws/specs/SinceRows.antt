@@ -10,7 +10,8 @@ use Rattle.ob_alarms.specs.declared.rule.Num.TheVariants.{Int}
 use Rattle.ob_watching.specs.Asked.{Lists}
 use Rattle.ob_site_rules.specs.Build.{Path}
 use Rattle.ob_site_rules.specs.Entries.{event_object}
-use Rattle.ob_site_rules.specs.State.{Plan, State}
+use Rattle.ob_site_rules.specs.declared.plan.Plan.{Plan}
+use Rattle.ob_site_rules.specs.State.{State}
 use Rattle.ob_site_rules.specs.Watched.{feed_there, passes}
 use Rattle.ob_site_laws.specs.SiteLaws.{TellsEvents, HoldsAllSince}
 

@@ -17,7 +17,8 @@ use Rattle.ob_watching.specs.Laws as watches
 use Rattle.ob_site_rules.specs.declared.request.Request.{Request}
 use Rattle.ob_site_rules.specs.Locating.{locate}
 use Rattle.ob_site_rules.specs.Build.{Text, Path}
-use Rattle.ob_site_rules.specs.State.{Plan, Log, State, at, board}
+use Rattle.ob_site_rules.specs.declared.plan.Plan.{Plan}
+use Rattle.ob_site_rules.specs.State.{Log, State, at, board}
 use Rattle.ob_site_rules.specs.Places.{Place, FeedOf, event_places}
 use Rattle.ob_site_rules.specs.Sites.{SiteState, site, step}
 use Rattle.ob_site_rules.specs.Watched.{feed_there}

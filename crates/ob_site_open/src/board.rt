@@ -1,17 +1,17 @@
 //! The alarms that a site is opened with: none yet.
-ghost use Rattle.std.specs.Prelude.{◌≡◌, [], map, IfOk};
+ghost use Rattle.std.specs.Prelude.{◌≡◌, [], IfOk};
 ghost use Rattle.std.specs.List.{All};
 ghost use Rattle.ob_alarms.specs.Limits.{IsRule};
-ghost use Rattle.ob_replies.specs.Plans.{point_rule, plan as plan_of};
+ghost use Rattle.ob_replies.specs.Plans.{plan as plan_of};
 ghost use Rattle.ob_site_rules.specs.State.{numbered_from};
 
 use ob_alarms::{Alarms, Rule};
-use ob_replies::{Plan, PointRule};
+use ob_site_rules::{Plan, PointRule};
 use std::alloc::{AllocError, Global};
 
 // The rules, each with its place as the number of its source.
 fn rules_of(alloc: Global, rules: &[PointRule]) -> Result<Vec<Rule>, AllocError>
-    ensures { IfOk result (λ made. made.items ≡ numbered_from 0 (map point_rule rules.now)) }
+    ensures { IfOk result (λ made. made.items ≡ numbered_from 0 rules.now) }
 {
     let mut made = Vec::new(alloc);
     for place in 0..rules.len() {
@@ -33,7 +33,7 @@ pub(crate) fn board_of(alloc: Global, plan: &Plan) -> Result<Alarms, AllocError>
     requires { All IsRule (numbered_from 0 (plan_of plan.now).rules) }
     ensures { IfOk result (λ b. b ≡ record { root = plan.now.root; rules = numbered_from 0 (plan_of plan.now).rules; alarms = []; events = []; spare = 0 }) }
 {
-    let rules = rules_of(alloc, &plan.rules)?;
+    let rules = rules_of(alloc, plan.rules.as_slice())?;
     let root = plan.root.copy()?;
     let board = Alarms::new(alloc, root, rules)?;
     Ok(board)

@@ -17,7 +17,8 @@ use Rattle.ob_alarms.specs.declared.alarm.Alarm.{Alarm}
 use Rattle.ob_alarms.specs.declared.rule.Rule.{Rule}
 use Rattle.ob_contracts.specs.Inherit.{or_else}
 use Rattle.ob_site_rules.specs.Build.{Path}
-use Rattle.ob_site_rules.specs.State.{Plan, at}
+use Rattle.ob_site_rules.specs.declared.plan.Plan.{Plan}
+use Rattle.ob_site_rules.specs.State.{at}
 use Rattle.ob_site_rules.specs.Paths.{ack_path}
 use Rattle.ob_site_rules.specs.Places.{Place, AlarmAt, AckOf, alarm_places}
 use Rattle.ob_plain_state.specs.Parts.{alarm_parts, parts_of_alarm}

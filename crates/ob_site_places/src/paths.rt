@@ -3,7 +3,7 @@ ghost use Rattle.std.specs.Prelude.{◌≡◌, ◌<◌, ◌^◌, ◌++◌, ℕ, 
 ghost use Rattle.ob_alarms.specs.AlarmObjects.{alarm_path};
 ghost use Rattle.ob_replies.specs.Plans.{plan as plan_of};
 
-use ob_replies::Plan;
+use ob_site_rules::Plan;
 use ob_values::Text;
 
 /// Whether a path is another with this behind it.

@@ -17,7 +17,8 @@ use crate::paths::{alarm_number, is_followed};
 use ob_alarms::{Alarm, Alarms};
 use ob_contracts::Steps;
 use ob_plain_state::Place;
-use ob_replies::{Plan, PointRule, ack_path, alarm_path, below};
+use ob_replies::{ack_path, alarm_path, below};
+use ob_site_rules::{Plan, PointRule};
 use ob_site_shown::{begins_with, parent_path, shown_at};
 use ob_site_state::Contents;
 use ob_values::Text;
@@ -253,7 +254,7 @@ fn rule_at(rules: &[PointRule], place: u64) -> Option<&PointRule>
 fn needs_ack(plan: &Plan, alarm: &Alarm) -> bool
     ensures { result ≡ needs_ack (slice_get (numbered_from 0 (plan_of plan.now).rules) alarm.now.rule) }
 {
-    match rule_at(&plan.rules, alarm.rule) {
+    match rule_at(plan.rules.as_slice(), alarm.rule) {
         Some(rule) => rule.needs_ack,
         None => false,
     }

@@ -12,8 +12,8 @@ ghost use Rattle.ob_site_places.specs.Complete.{AreOfPlan, IsComplete};
 
 use ob_history::{Filter, Log, Record, read_filter};
 use ob_object::Obj;
-use ob_replies::{Plan, alarms_out, records_out, refusal};
-use ob_site_rules::Fault;
+use ob_replies::{alarms_out, records_out, refusal};
+use ob_site_rules::{Fault, Plan};
 use ob_site_shown::history_log;
 use ob_site_state::Contents;
 use ob_values::Text;

@@ -13,7 +13,8 @@ use Rattle.ob_history.specs.Records.{is_before, is_after, passes as passes_recor
 use Rattle.ob_watching.specs.Asked.{Lists}
 use Rattle.ob_watching.specs.Watches.{Feed, changes_of, lists_some}
 use Rattle.ob_site_rules.specs.Build.{Text, Path}
-use Rattle.ob_site_rules.specs.State.{Plan, Log, State, at, board}
+use Rattle.ob_site_rules.specs.declared.plan.Plan.{Plan}
+use Rattle.ob_site_rules.specs.State.{Log, State, at, board}
 use Rattle.ob_site_rules.specs.Locating.{locate}
 use Rattle.ob_site_rules.specs.Entries.{record_object, event_object, event_objects, first_events, is_within}
 use Rattle.ob_site_rules.specs.Places.{Place, About, Batch, Service, Make, AlarmAt, AckOf, WritePointOf, QueryOf, FeedOf, AlarmQuery, AlarmFeed, Node, event_places}

@@ -8,7 +8,7 @@ use Rattle.ob_site_rules.specs.Actions.{is_of_watch}
 use Rattle.ob_site_rules.specs.Build.{Path}
 use Rattle.ob_site_rules.specs.declared.fault.Fault.TheVariants.{NoSuchObject, NotWatchable}
 use Rattle.ob_site_rules.specs.Places.{Node, Place}
-use Rattle.ob_site_rules.specs.State.{Plan}
+use Rattle.ob_site_rules.specs.declared.plan.Plan.{Plan}
 use Rattle.ob_site_rules.specs.Watched.{SiteFound, found_at, found_place, is_call_kind}
 
 module _ (plan : Plan) (ns : List ℕ) (p : Path) where

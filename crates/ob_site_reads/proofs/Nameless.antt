@@ -7,7 +7,8 @@ use Rattle.ob_object.specs.Object.{Object}
 use Rattle.ob_alarms.specs.Changes.{State as Board}
 use Rattle.ob_alarms.specs.declared.rule.Rule.{Rule}
 use Rattle.ob_site_rules.specs.Build.{Path}
-use Rattle.ob_site_rules.specs.State.{Plan, State, board, numbered_from}
+use Rattle.ob_site_rules.specs.declared.plan.Plan.{Plan}
+use Rattle.ob_site_rules.specs.State.{State, board, numbered_from}
 use Rattle.ob_site_state.specs.declared.contents.Contents.{Contents}
 use Rattle.ob_site_state.specs.Contents.{state_in}
 use Rattle.ob_site_rules.specs.Places.{Place}

@@ -14,7 +14,8 @@ use Rattle.ob_site_rules.specs.Entries.{empty_object}
 use Rattle.ob_site_rules.specs.Replies.{is_plain}
 use Rattle.ob_site_rules.specs.Shown.{rule_of, with_status, with_status_at, with_status_by}
 use Rattle.ob_site_rules.specs.Sites.{plain_or_empty}
-use Rattle.ob_site_rules.specs.State.{Plan, State}
+use Rattle.ob_site_rules.specs.declared.plan.Plan.{Plan}
+use Rattle.ob_site_rules.specs.State.{State}
 use Rattle.ob_standing.specs.Contexts.{Context, comes_to, under}
 use Rattle.ob_shown_laws.specs.Changed.{is_watchable}
 use Rattle.ob_shown_laws.specs.Own.{dressed_own}

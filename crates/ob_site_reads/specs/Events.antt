@@ -4,7 +4,8 @@ use Rattle.ob_object.specs.Object.{Object}
 use Rattle.ob_alarms.specs.Changes.{State as Board}
 use Rattle.ob_watching.specs.Asked.{Lists}
 use Rattle.ob_site_rules.specs.Build.{Path}
-use Rattle.ob_site_rules.specs.State.{Plan, State}
+use Rattle.ob_site_rules.specs.declared.plan.Plan.{Plan}
+use Rattle.ob_site_rules.specs.State.{State}
 use Rattle.ob_site_rules.specs.Entries.{record_object, event_objects}
 use Rattle.ob_site_rules.specs.Places.{Place, FeedOf, AlarmFeed}
 use Rattle.ob_site_rules.specs.Posts.{records_of}

@@ -13,7 +13,7 @@ ghost use Rattle.ob_site_reads.specs.Watchable.{IsWatchableAt};
 
 use ob_contracts::Steps;
 use ob_object::{Kind, Obj};
-use ob_replies::Plan;
+use ob_site_rules::Plan;
 use ob_site_shown::shown_own;
 use ob_site_state::Contents;
 use ob_tree::NodeId;

@@ -1,5 +1,5 @@
 -- Places of elements in lists.
-use Rattle.std.proofs.Common.{◌≡◌, ℕ, zero, suc, ◌+◌, ◌-◌, ◌<◌, ◌≤◌, Bool, true, false, ◌||◌, cond, List, [], ◌∷◌, map, ◌++◌, length, take, drop, get_or, Option, Some, None, option_map, refl, sym, ap, ◌∙◌, arith, add-one}
+use Rattle.std.proofs.Common.{◌≡◌, ℕ, suc, ◌+◌, ◌-◌, ◌<◌, ◌≤◌, Bool, true, false, ◌||◌, cond, List, [], ◌∷◌, map, ◌++◌, length, take, drop, get_or, Option, Some, None, option_map, refl, sym, ap, ◌∙◌, arith, add-one}
 use Rattle.std.specs.Prelude.{is_some}
 use Rattle.std.specs.List.{list_any}
 use Rattle.std.proofs.Math.Seq.{drop-cons}
@@ -41,16 +41,6 @@ placed_next f xs len done place x key old new all at lt is same put so_far =
     ∙ ap (λ (o : Option ℕ). cond (f x) (Some place) o) (so_far ∙ ap (λ (n : ℕ). place_from f n xs) next)
     ∙ sym (from_here f xs place x here is)
     ∙ ap (λ (n : ℕ). place_from f n xs) this
-
--- what stands at a place, seen by contracts
-pub got_map : {A B : Type 0} (g : A → B) (xs : List A) (i : ℕ) (x : A) → i < length xs → x ≡ get_or xs i x → g x ≡ get_or (map g xs) i (g x)
-got_map g [] i x lt is = absurd (omega arith)
-got_map g (y ∷ xs) zero x lt is = ap g is
-got_map g (y ∷ xs) (suc i) x lt is = got_map g xs i x (omega arith) is
-
-pub length-mapped : {A B : Type 0} (g : A → B) (xs : List A) → length xs ≡ length (map g xs)
-length-mapped g [] = refl
-length-mapped g (x ∷ xs) = ap (λ n. suc n) (length-mapped g xs)
 
 -- something passes a test where there is a first that does
 pub some_first : {A : Type 0} (f : A → Bool) (xs : List A) → is_some (first_place f xs) ≡ list_any f xs

@@ -5,7 +5,8 @@ use Rattle.std.specs.BTreeMap.{BTreeMap, get_by_text}
 use Rattle.ob_alarms.specs.Lists.{first_place}
 use Rattle.ob_site_rules.specs.Build.{Path}
 use Rattle.ob_object.specs.Paths.{is_path}
-use Rattle.ob_site_rules.specs.State.{PointRule, Plan}
+use Rattle.ob_site_rules.specs.declared.plan.Plan.{Plan}
+use Rattle.ob_site_rules.specs.declared.plan.PointRule.{PointRule}
 use Rattle.ob_site_rules.specs.Shown.{rule_of}
 use Rattle.ob_site_roles.specs.declared.roles.Roles.{Roles}
 

@@ -1,13 +1,12 @@
 //! Where what has a path stands in a list.
-ghost use Rattle.std.specs.Prelude.{◌≡◌, cond, map, is_some, Some, OnOk, IfOk};
+ghost use Rattle.std.specs.Prelude.{◌≡◌, cond, is_some, Some, OnOk, IfOk};
 ghost use Rattle.std.specs.Str.{bytes_eq};
 ghost use Rattle.std.specs.BTreeMap.{get_by_text};
 ghost use Rattle.ob_alarms.specs.Lists.{first_place};
-ghost use Rattle.ob_replies.specs.Plans.{point_rule};
 ghost use Rattle.ob_site_rules.specs.Build.{Path};
 ghost use Rattle.ob_site_roles.specs.Roles.{has_source, is_at, stands_at};
 
-use ob_replies::PointRule;
+use ob_site_rules::PointRule;
 use ob_values::Text;
 use std::alloc::{AllocError, Global};
 use std::collections::BTreeMap;
@@ -38,7 +37,7 @@ pub(crate) fn rules_by_source(
     alloc: Global,
     rules: &[PointRule],
 ) -> Result<BTreeMap<String, usize>, AllocError>
-    ensures { IfOk result (λ places. (p : Path) → get_by_text places p ≡ first_place (has_source p) (map point_rule rules.now)) }
+    ensures { IfOk result (λ places. (p : Path) → get_by_text places p ≡ first_place (has_source p) rules.now) }
 {
     let mut places = BTreeMap::new(alloc);
     let count = rules.len();

@@ -2,13 +2,14 @@
 ghost use Rattle.std.specs.Prelude.{◌≡◌, IfOk};
 ghost use Rattle.ob_alarms.specs.Lists.{first_place};
 ghost use Rattle.ob_replies.specs.Plans.{plan as plan_of};
-ghost use Rattle.ob_site_rules.specs.State.{Plan as SitePlan, is_among};
+ghost use Rattle.ob_site_rules.specs.declared.plan.Plan.{Plan as SitePlan};
+ghost use Rattle.ob_site_rules.specs.State.{is_among};
 ghost use Rattle.ob_site_rules.specs.Shown.{rule_of};
 ghost use Rattle.ob_site_roles.specs.Roles.{is_at, stands_at, recorders_of, AreRoles};
 
 use crate::places::{histories_by_path, leads, paths_by_path, rules_by_source};
 use crate::recorders::{places_at, recorders_by_source};
-use ob_replies::Plan;
+use ob_site_rules::Plan;
 use ob_values::Text;
 use std::alloc::{AllocError, Global};
 use std::collections::BTreeMap;

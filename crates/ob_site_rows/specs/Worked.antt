@@ -17,7 +17,8 @@ use Rattle.ob_history.specs.declared.records.Record.{Record}
 use Rattle.ob_alarms.specs.declared.rule.Num.TheVariants as num
 use Rattle.ob_site_rules.specs.declared.request.Request.{Request}
 use Rattle.ob_site_rules.specs.Build.{Text, Path, whole, leaf, word, number_slot, ref_to}
-use Rattle.ob_site_rules.specs.State.{Plan, Log}
+use Rattle.ob_site_rules.specs.declared.plan.Plan.{Plan}
+use Rattle.ob_site_rules.specs.State.{Log}
 use Rattle.ob_site_rules.specs.Paths.{behind, behind_slash}
 use Rattle.ob_site_rules.specs.Writes.{site_contracts}
 use Rattle.ob_site_rules.specs.Sites.{SiteState, step}

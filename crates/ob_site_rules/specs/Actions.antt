@@ -17,7 +17,8 @@ use Rattle.ob_site_rules.specs.Build.{Text, Path, nameless, child}
 use Rattle.ob_site_rules.specs.declared.fault.Fault.{Fault}
 use Rattle.ob_site_rules.specs.declared.fault.Fault.TheVariants.{NoSuchObject, NotSupported, OtherShape, NotInBatch, TooManyBatchItems}
 use Rattle.ob_site_rules.specs.Faults.{err, first_fault}
-use Rattle.ob_site_rules.specs.State.{Plan, State, at}
+use Rattle.ob_site_rules.specs.declared.plan.Plan.{Plan}
+use Rattle.ob_site_rules.specs.State.{State, at}
 use Rattle.ob_site_rules.specs.Paths.{watch_part}
 use Rattle.ob_site_rules.specs.Computed.{batch_out}
 use Rattle.ob_site_rules.specs.Places.{Place, Batch, Make, Node, place_at, object_at}

@@ -9,7 +9,8 @@ use Rattle.ob_object.specs.declared.head.Slot.TheVariants.{Null, Is}
 use Rattle.ob_object.specs.Facets.{no_facets}
 use Rattle.ob_object.specs.Object.{Object, empty_head}
 use Rattle.ob_site_rules.specs.Build.{Text, whole, leaf, nameless, under_name, valued, word, text_slot, time_slot, op_at}
-use Rattle.ob_site_rules.specs.State.{Plan, at}
+use Rattle.ob_site_rules.specs.declared.plan.Plan.{Plan}
+use Rattle.ob_site_rules.specs.State.{at}
 use Rattle.ob_site_rules.specs.declared.watch_part.WatchPart.{WatchPart}
 use Rattle.ob_site_rules.specs.declared.watch_part.WatchPart.TheVariants.{Whole, Lease, Add, Remove, PollChanges, PollRefresh, Delete}
 use Rattle.ob_site_rules.specs.Paths.{about_path, batch_path, service_path, make_path, watch_path}

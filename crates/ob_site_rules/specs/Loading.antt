@@ -25,7 +25,8 @@ use Rattle.ob_alarms.specs.declared.rule.Num.{Num}
 use Rattle.ob_alarms.specs.declared.rule.Num.TheVariants as num
 use Rattle.ob_alarms.specs.Limits.{is_below}
 use Rattle.ob_site_rules.specs.Build.{Text, Path, child}
-use Rattle.ob_site_rules.specs.State.{PointRule, Log, is_among, rolled}
+use Rattle.ob_site_rules.specs.State.{Log, is_among, rolled}
+use Rattle.ob_site_rules.specs.declared.plan.PointRule.{PointRule}
 use Rattle.ob_site_rules.specs.Paths.{below, behind}
 use Rattle.ob_site_rules.specs.Shown.{shown_root}
 use Rattle.ob_site_rules.specs.Writes.{number_in, site_contracts, stored_in}

@@ -3,7 +3,8 @@ use Rattle.std.specs.Prelude.{ℕ, ◌+◌, ◌-◌, ◌*◌, ◌^◌, Bool, fal
 use Rattle.std.specs.Str.{bytes_eq}
 use Rattle.ob_alarms.specs.AlarmObjects.{alarm_path}
 use Rattle.ob_site_rules.specs.Build.{Text, Path}
-use Rattle.ob_site_rules.specs.State.{Plan, at}
+use Rattle.ob_site_rules.specs.declared.plan.Plan.{Plan}
+use Rattle.ob_site_rules.specs.State.{at}
 use Rattle.ob_site_rules.specs.declared.watch_part.WatchPart.{WatchPart}
 use Rattle.ob_site_rules.specs.declared.watch_part.WatchPart.TheVariants.{Whole, Lease, Add, Remove, PollChanges, PollRefresh, Delete}
 

@@ -10,7 +10,8 @@ use Rattle.ob_alarms.specs.declared.rule.Rule.{Rule}
 use Rattle.ob_site_rules.specs.Build.{Path, nameless}
 use Rattle.ob_site_rules.specs.declared.fault.Fault.TheVariants.{NoSuchObject}
 use Rattle.ob_site_rules.specs.Faults.{err}
-use Rattle.ob_site_rules.specs.State.{Plan, State, at, board}
+use Rattle.ob_site_rules.specs.declared.plan.Plan.{Plan}
+use Rattle.ob_site_rules.specs.State.{State, at, board}
 use Rattle.ob_site_rules.specs.Paths.{below, about_path, batch_path, service_path, make_path, ack_path}
 use Rattle.ob_site_rules.specs.Shown.{shown}
 use Rattle.ob_site_rules.specs.Entries.{alarm_object}

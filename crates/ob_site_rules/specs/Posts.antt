@@ -17,7 +17,8 @@ use Rattle.ob_site_rules.specs.Build.{Text, Path, child}
 use Rattle.ob_site_rules.specs.declared.fault.Fault.{Fault}
 use Rattle.ob_site_rules.specs.declared.fault.Fault.TheVariants.{NotSupported, OtherShape, TextTooLong, TooManyEntries}
 use Rattle.ob_site_rules.specs.Faults.{err, first_fault}
-use Rattle.ob_site_rules.specs.State.{Plan, Log, State, at, board, with_board}
+use Rattle.ob_site_rules.specs.declared.plan.Plan.{Plan}
+use Rattle.ob_site_rules.specs.State.{Log, State, at, board, with_board}
 use Rattle.ob_site_rules.specs.Entries.{records_out, alarms_out, alarm_object}
 use Rattle.ob_site_rules.specs.Computed.{nil_object, ack_out}
 use Rattle.ob_site_rules.specs.Shown.{shown}

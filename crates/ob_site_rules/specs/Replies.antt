@@ -8,7 +8,7 @@ use Rattle.ob_watching.specs.WatchOuts.{is_of_kind}
 use Rattle.ob_site_rules.specs.Build.{Text, under_href, valued, number_slot}
 use Rattle.ob_site_rules.specs.declared.fault.Fault.{Fault}
 use Rattle.ob_site_rules.specs.Faults.{err}
-use Rattle.ob_site_rules.specs.State.{Plan}
+use Rattle.ob_site_rules.specs.declared.plan.Plan.{Plan}
 use Rattle.ob_site_rules.specs.declared.watch_part.WatchPart.{WatchPart}
 use Rattle.ob_site_rules.specs.Computed.{nil_object, watch_part_object, watch_out}
 

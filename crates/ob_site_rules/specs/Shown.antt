@@ -15,7 +15,8 @@ use Rattle.ob_history.specs.declared.records.Record.{Record}
 use Rattle.ob_alarms.specs.Lists.{first_place}
 use Rattle.ob_alarms.specs.States.{status_of}
 use Rattle.ob_site_rules.specs.Build.{Path, leaf, valued, word, ref_to, op_at, feed_at, number_slot, time_slot}
-use Rattle.ob_site_rules.specs.State.{Plan, Log, State, at, is_among, board}
+use Rattle.ob_site_rules.specs.State.{Log, State, at, board, is_among}
+use Rattle.ob_site_rules.specs.declared.plan.Plan.{Plan}
 use Rattle.ob_site_rules.specs.Paths.{below, about_path, batch_path, service_path}
 
 -- what the root has as a lobby (chapter 5, Lobby)

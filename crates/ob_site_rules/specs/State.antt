@@ -1,39 +1,18 @@
--- The state of a site apart from its watches.
+-- The state of a site apart from its watches. What is fixed when it is opened is the `Plan` of src/plan.rt.
 use Rattle.std.specs.Prelude.{ℕ, ◌+◌, Bool, List, [], ◌∷◌, map, Option, find, option_map, option_and_then}
 use Rattle.std.specs.Str.{bytes_eq}
 use Rattle.std.specs.List.{list_any}
-use Rattle.url.specs.Parts.{Parts}
 use Rattle.ob_object.specs.Object.{Object}
 use Rattle.ob_contracts.specs.Inherit.{Contracts}
 use Rattle.ob_history.specs.declared.records.Record.{Record}
 use Rattle.ob_history.specs.Logs.{History, settled as settled_history}
 use Rattle.ob_alarms.specs.declared.rule.Rule.{Rule}
-use Rattle.ob_alarms.specs.declared.rule.Num.{Num}
 use Rattle.ob_alarms.specs.declared.alarm.Alarm.{Alarm}
 use Rattle.ob_alarms.specs.declared.alarm.Event.{Event}
 use Rattle.ob_alarms.specs.Changes.{State as Board}
-use Rattle.ob_site_rules.specs.Build.{Text, Path}
-
--- Values of the source outside these limits raise an alarm.
-pub record PointRule : Type 0 where
-  pub source : Path
-  pub low : Num
-  pub high : Num
-  pub needs_ack : Bool
-
--- What is fixed when the site is opened: the URL of the root and its path R; the moment of opening, in milliseconds;
--- whether the root is a lobby; the writable points; the histories, each with its source, if it has one; the alarm
--- subject; the rules; and the texts of the About object that the site file replaces.
-pub record Plan : Type 0 where
-  pub base : Parts
-  pub root : Path
-  pub boot : ℕ
-  pub lobby : Bool
-  pub points : List Path
-  pub histories : List (Path × Option Path)
-  pub subject : Option Path
-  pub rules : List PointRule
-  pub about : List (Text × Text)
+use Rattle.ob_site_rules.specs.Build.{Path}
+use Rattle.ob_site_rules.specs.declared.plan.Plan.{Plan}
+use Rattle.ob_site_rules.specs.declared.plan.PointRule.{PointRule}
 
 -- The records of a history: how many are kept at most, if not all; how many rolled off; and the kept ones, the oldest
 -- first.

@@ -23,6 +23,7 @@ use Rattle.ob_site_rules.specs.Paths.{below, make_path, watch_part}
 use Rattle.ob_site_rules.specs.State.{Plan, Log, State, at, board}
 use Rattle.ob_site_rules.specs.declared.fault.Fault.{Fault}
 use Rattle.ob_site_rules.specs.declared.fault.Fault.TheVariants.{LeaseOutOfRange, NoSuchObject, NotSupported, NotWatchable, OtherKind, OtherShape}
+use Rattle.ob_site_rules.specs.declared.plan.Plan.{Plan}
 use Rattle.ob_site_rules.specs.declared.watch_part.WatchPart.{WatchPart}
 use Rattle.ob_site_rules.specs.Entries.{record_object, event_objects, is_within}
 use Rattle.ob_site_rules.specs.Places.{Place, FeedOf, AlarmFeed, Node, place_at}

@@ -24,10 +24,11 @@ use Rattle.ob_alarms.specs.declared.rule.Num.TheVariants as num
 use Rattle.ob_alarms.specs.Changes.{State as Board, on_value}
 use Rattle.ob_site_rules.specs.Build.{Text, Path, child}
 use Rattle.ob_site_rules.specs.Faults.{err, first_fault}
-use Rattle.ob_site_rules.specs.State.{Plan, Log, State, source_of, board, with_board}
+use Rattle.ob_site_rules.specs.State.{Log, State, board, source_of, with_board}
 use Rattle.ob_site_rules.specs.declared.fault.Fault.{Fault}
 use Rattle.ob_site_rules.specs.declared.fault.Fault.TheVariants as faults
 use Rattle.ob_site_rules.specs.declared.fault.Fault.TheVariants.{AboveMax, BelowMin, NotSupported, NotWritable, OtherKind, OtherShape, TextTooLong, TooManyEntries}
+use Rattle.ob_site_rules.specs.declared.plan.Plan.{Plan}
 use Rattle.ob_site_rules.specs.Sameness.{same_slot}
 use Rattle.ob_site_rules.specs.Shown.{node_of, rule_of, shown}
 use Rattle.ob_site_rules.specs.Places.{reply_at}

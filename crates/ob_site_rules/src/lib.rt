@@ -2,11 +2,15 @@
 #![tactic(auto)]
 
 mod fault;
+mod fixed;
+mod plan;
 mod request;
 mod roles;
 mod watch_part;
 
 pub use fault::Fault;
+pub use fixed::Fixed;
+pub use plan::{Plan, PointRule};
 pub use request::Request;
 pub use roles::Roles;
 pub use watch_part::WatchPart;

@@ -20,7 +20,8 @@ use Rattle.ob_alarms.specs.declared.alarm.What.TheVariants as what
 use Rattle.ob_tree.specs.Laid.{heads_of, head_at, changed}
 use Rattle.ob_tree.proofs.Changing.{heads-changed, parts-changed}
 use Rattle.ob_site_rules.specs.Build.{Path}
-use Rattle.ob_site_rules.specs.State.{Plan, Log, State, numbered_from}
+use Rattle.ob_site_rules.specs.declared.plan.Plan.{Plan}
+use Rattle.ob_site_rules.specs.State.{Log, State, numbered_from}
 use Rattle.ob_site_state.specs.declared.change.Change.{Change}
 use Rattle.ob_site_state.specs.declared.change.Change.TheVariants as change
 use Rattle.ob_site_state.specs.Changes.{alarms_before, events_before, cut, with_log, undone, rewound, CanRewind, AreTold}

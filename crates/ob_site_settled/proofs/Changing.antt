@@ -11,7 +11,9 @@ use Rattle.ob_tree.specs.Paths.{place_of}
 use Rattle.ob_shown_laws.specs.Following.{AreNumbers}
 use Rattle.ob_consistent_laws.specs.Laws.{Apart}
 use Rattle.ob_site_rules.specs.Build.{Path}
-use Rattle.ob_site_rules.specs.State.{Plan, PointRule, State, is_among, roll}
+use Rattle.ob_site_rules.specs.declared.plan.Plan.{Plan}
+use Rattle.ob_site_rules.specs.declared.plan.PointRule.{PointRule}
+use Rattle.ob_site_rules.specs.State.{State, is_among, roll}
 use Rattle.ob_shown_laws.specs.Changed.{differs}
 use Rattle.ob_shown_laws.specs.Looked.{IsLeft}
 use Rattle.ob_site_state.specs.declared.change.Change.{Change}

@@ -19,7 +19,8 @@ use Rattle.ob_tree.proofs.Within.{place_within}
 use Rattle.ob_shown_laws.proofs.Owned.{own_trees_tell, own_trees_tell_changes}
 use Rattle.ob_consistent_laws.specs.Laws.{Apart}
 use Rattle.ob_site_rules.specs.Build.{Path, number_slot}
-use Rattle.ob_site_rules.specs.State.{Plan, Log, State, at, is_among, numbered_from, rolled, rolled_logs, roll}
+use Rattle.ob_site_rules.specs.State.{Log, State, at, is_among, numbered_from, roll, rolled, rolled_logs}
+use Rattle.ob_site_rules.specs.declared.plan.Plan.{Plan}
 use Rattle.ob_site_rules.specs.Sameness.{same_slot, same_option, same_status}
 use Rattle.ob_site_rules.specs.Shown.{rule_of, with_status, with_status_at, with_status_by}
 use Rattle.ob_site_laws.proofs.Same.{tells_slot, tells_option, tells_status}

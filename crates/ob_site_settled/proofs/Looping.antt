@@ -23,7 +23,8 @@ use Rattle.ob_tree.proofs.Within.{place_within}
 use Rattle.ob_shown_laws.specs.Following.{AreNumbers}
 use Rattle.ob_consistent_laws.specs.Laws.{Apart}
 use Rattle.ob_site_rules.specs.Build.{Path}
-use Rattle.ob_site_rules.specs.State.{Plan, Log, State, rolled, roll}
+use Rattle.ob_site_rules.specs.declared.plan.Plan.{Plan}
+use Rattle.ob_site_rules.specs.State.{Log, State, rolled, roll}
 use Rattle.ob_shown_laws.specs.Alike.{DifferInValues}
 use Rattle.ob_shown_laws.specs.Changed.{differs, head_in, same_values, same_log}
 use Rattle.ob_ground.specs.Grounds.{Taught, AreTold as WordsAreTold}

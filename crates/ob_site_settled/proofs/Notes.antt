@@ -10,8 +10,10 @@ use Rattle.ob_object.specs.Object.{Objects, none, node, Object, count}
 use Rattle.ob_object.specs.Paths.{is_path, node_path}
 use Rattle.ob_alarms.specs.Lists.{first_place}
 use Rattle.ob_site_rules.specs.Build.{Path}
-use Rattle.ob_site_rules.specs.State.{Plan, PointRule, Log, State, at, is_among, rolled, rolled_logs, roll}
 use Rattle.ob_site_rules.specs.Shown.{rule_of}
+use Rattle.ob_site_rules.specs.State.{Log, State, at, is_among, roll, rolled, rolled_logs}
+use Rattle.ob_site_rules.specs.declared.plan.Plan.{Plan}
+use Rattle.ob_site_rules.specs.declared.plan.PointRule.{PointRule}
 use Rattle.ob_shown_laws.specs.Alike.{row}
 use Rattle.ob_shown_laws.specs.Looked.{NodesAreSame, IsLeft}
 use Rattle.ob_shown_laws.proofs.Leaving.{steps_leave}

@@ -11,7 +11,8 @@ use Rattle.ob_tree.specs.Laid.{heads, heads_of, head_at, changed_in, changed, pa
 use Rattle.ob_tree.specs.Paths.{place_of}
 use Rattle.ob_tree.proofs.Changing.{got_left, got_right, length-heads}
 use Rattle.ob_site_rules.specs.Build.{Path}
-use Rattle.ob_site_rules.specs.State.{Plan, Log, State, rolled_logs}
+use Rattle.ob_site_rules.specs.State.{Log, State, rolled_logs}
+use Rattle.ob_site_rules.specs.declared.plan.Plan.{Plan}
 use Rattle.ob_shown_laws.specs.Alike.{row, DifferInSlots, paths_of}
 use Rattle.ob_site_state.specs.declared.change.Change.{Change}
 use Rattle.ob_site_state.specs.declared.change.Change.TheVariants as change

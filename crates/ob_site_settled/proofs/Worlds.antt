@@ -4,7 +4,8 @@ use Rattle.std.specs.List.{AllByRecursion}
 use Rattle.std.specs.Str.{bytes_eq}
 use Rattle.ob_times.specs.Times.{Instant}
 use Rattle.ob_history.specs.declared.records.Filter.{Filter}
-use Rattle.ob_site_rules.specs.State.{Plan, State, roll}
+use Rattle.ob_site_rules.specs.declared.plan.Plan.{Plan}
+use Rattle.ob_site_rules.specs.State.{State, roll}
 use Rattle.ob_tree.specs.Trees.{Stamped}
 use Rattle.ob_watching.specs.Tables.{map_values}
 use Rattle.ob_watching.specs.Watches.{ItemOf, WatchOf, TrackedOf, settled, with_items}

@@ -1,7 +1,8 @@
 -- What the notes of a step tell of the nodes that it may have changed.
 use Rattle.std.specs.Prelude.{◌≡◌, false, List, [], ◌∷◌, ◌++◌, option_map, option_and_then, option_to_list, slice_get}
 use Rattle.ob_site_rules.specs.Build.{Path}
-use Rattle.ob_site_rules.specs.State.{Plan, State, is_among, roll}
+use Rattle.ob_site_rules.specs.declared.plan.Plan.{Plan}
+use Rattle.ob_site_rules.specs.State.{State, is_among, roll}
 use Rattle.ob_shown_laws.specs.Looked.{IsLeft}
 use Rattle.ob_tree.specs.Laid.{paths}
 use Rattle.ob_site_state.specs.declared.change.Change.{Change}

@@ -16,7 +16,8 @@ use Rattle.ob_tree.specs.Laid.{head_at, paths}
 use Rattle.ob_tree.specs.Paths.{place_of}
 use Rattle.ob_tree.specs.Shown.{standing_at}
 use Rattle.ob_site_rules.specs.Build.{Path}
-use Rattle.ob_site_rules.specs.State.{Plan, Log, State, numbered_from, rolled, roll}
+use Rattle.ob_site_rules.specs.declared.plan.Plan.{Plan}
+use Rattle.ob_site_rules.specs.State.{Log, State, numbered_from, rolled, roll}
 use Rattle.ob_site_rules.specs.Sameness.{same_status}
 use Rattle.ob_site_rules.specs.Shown.{rule_of}
 use Rattle.ob_shown_laws.specs.Alike.{DifferInValues}

@@ -4,7 +4,8 @@ use Rattle.std.specs.Prelude.{is_some, option_and_then, slice_get}
 use Rattle.ob_object.specs.declared.head.Head.{Head}
 use Rattle.ob_object.specs.Object.{Object, in_row}
 use Rattle.ob_site_rules.specs.Build.{Path}
-use Rattle.ob_site_rules.specs.State.{Plan, State}
+use Rattle.ob_site_rules.specs.declared.plan.Plan.{Plan}
+use Rattle.ob_site_rules.specs.State.{State}
 use Rattle.ob_site_rules.specs.Shown.{dressed, derived_at, shown}
 use Rattle.ob_contracts.specs.Inherit.{Contracts}
 use Rattle.ob_ground.specs.Grounds.{inside_at}

@@ -8,9 +8,10 @@ use Rattle.ob_object.specs.Paths.{node_path}
 use Rattle.ob_contracts.specs.Inherit.{Contracts, Words, implied_by, inherited_head, missing, bare, overridden, result_of, row_results, sources, with_defaults}
 use Rattle.ob_contracts.proofs.Children.{listed-row_results, listed-row_with_defaults, named-append, named-map, named-missing}
 use Rattle.ob_site_rules.specs.Build.{Path, child}
-use Rattle.ob_site_rules.specs.State.{Plan, State}
-use Rattle.ob_site_rules.specs.Shown.{derived, rule_of, with_roles, with_status, with_status_at, with_status_by}
 use Rattle.ob_plain_state.proofs.Kept.{some_either}
+use Rattle.ob_site_rules.specs.Shown.{derived, rule_of, with_roles, with_status, with_status_at, with_status_by}
+use Rattle.ob_site_rules.specs.State.{State}
+use Rattle.ob_site_rules.specs.declared.plan.Plan.{Plan}
 use Rattle.ob_standing.specs.Contexts.{Context, comes_to, sources_in}
 use Rattle.ob_shown_laws.specs.Own.{dressed_own}
 use Rattle.ob_tree.specs.Children.{named_from, child_at}

@@ -4,7 +4,8 @@ use Rattle.std.specs.Prelude.{nat_lt}
 use Rattle.ob_values.proofs.Lists.{some_same}
 use Rattle.ob_object.specs.Object.{Object, Objects, none, node, count}
 use Rattle.ob_tree.specs.Shown.{part_in}
-use Rattle.ob_site_rules.specs.State.{Plan, State}
+use Rattle.ob_site_rules.specs.declared.plan.Plan.{Plan}
+use Rattle.ob_site_rules.specs.State.{State}
 use Rattle.ob_plain_state.specs.States.{NamesAreFree}
 
 pub free_part : (plan : Plan) (s : State) (n : ℕ) (r : Objects) (o : Object) → NamesAreFree plan s r → Some o ≡ part_in n r → NamesAreFree plan s (node o.head o.inner none)

@@ -8,7 +8,8 @@ use Rattle.ob_values.proofs.Bools.{neither, and_second, or_first, or_second}
 use Rattle.ob_object.specs.Object.{Object, Objects, none, node, in_row}
 use Rattle.ob_object.specs.Paths.{is_path, node_path}
 use Rattle.ob_site_rules.specs.Build.{Path}
-use Rattle.ob_site_rules.specs.State.{Plan, Log, State, at, is_among}
+use Rattle.ob_site_rules.specs.State.{Log, State, at, is_among}
+use Rattle.ob_site_rules.specs.declared.plan.Plan.{Plan}
 use Rattle.ob_site_rules.specs.Paths.{below, ends_with_slash}
 use Rattle.ob_site_rules.specs.Shown.{lobby_children, write_point_op, history_part, subject_children, derived_at, derived}
 use Rattle.ob_shown_laws.specs.Alike.{row}

@@ -1,6 +1,7 @@
 -- What is asked of a plan and of contents that are read.
 use Rattle.std.specs.Prelude.{◌≡◌, map}
-use Rattle.ob_site_rules.specs.State.{Plan, numbered_from}
+use Rattle.ob_site_rules.specs.declared.plan.Plan.{Plan}
+use Rattle.ob_site_rules.specs.State.{numbered_from}
 use Rattle.ob_site_rules.specs.Shown.{dressed}
 use Rattle.ob_plain_state.specs.States.{NamesAreFree}
 use Rattle.ob_shown_laws.specs.Alike.{row}

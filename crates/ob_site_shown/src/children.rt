@@ -11,7 +11,7 @@ ghost use Rattle.ob_shown_laws.specs.OwnTree.{own_shown_at};
 use crate::roles::derived;
 use ob_contracts::Steps;
 use ob_object::find_named;
-use ob_replies::Plan;
+use ob_site_rules::Plan;
 use ob_site_state::Contents;
 use ob_tree::NodeId;
 use ob_values::Text;

@@ -2,7 +2,8 @@
 ghost use Rattle.std.specs.Prelude.{◌≡◌, ◌++◌, map, IfOk};
 ghost use Rattle.ob_object.specs.Object.{node, none};
 ghost use Rattle.ob_replies.specs.Plans.{plan as plan_of};
-ghost use Rattle.ob_site_rules.specs.State.{Plan as SitePlan, numbered_from};
+ghost use Rattle.ob_site_rules.specs.declared.plan.Plan.{Plan as SitePlan};
+ghost use Rattle.ob_site_rules.specs.State.{numbered_from};
 ghost use Rattle.ob_site_rules.specs.Shown.{with_status};
 ghost use Rattle.ob_shown_laws.specs.Own.{dressed_own};
 ghost use Rattle.ob_plain_state.specs.States.{NamesAreFree};
@@ -12,7 +13,7 @@ ghost use Rattle.ob_site_state.specs.Kept.{keys};
 
 use crate::roles::derived;
 use ob_object::{Attributes, Obj};
-use ob_replies::Plan;
+use ob_site_rules::Plan;
 use ob_site_state::Contents;
 use std::alloc::{AllocError, Global};
 

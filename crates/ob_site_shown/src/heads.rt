@@ -12,7 +12,7 @@ ghost use Rattle.ob_values.specs.declared.value.Value.{Value};
 use crate::shown::shown_at;
 use ob_contracts::{Steps, View};
 use ob_object::{Attributes, Facet, FacetRef, Kind, Obj};
-use ob_replies::Plan;
+use ob_site_rules::Plan;
 use ob_site_state::Contents;
 use ob_values::{Text, Value};
 use std::alloc::{AllocError, Global};

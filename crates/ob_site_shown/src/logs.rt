@@ -2,8 +2,9 @@
 ghost use Rattle.std.specs.Prelude.{◌≡◌, ◌++◌, map, option_map, IfOk};
 ghost use Rattle.std.specs.Option.{option_copied};
 ghost use Rattle.ob_replies.specs.Histories.{span_children, query_child, feed_child};
-ghost use Rattle.ob_site_rules.specs.State.{Plan, at};
 ghost use Rattle.ob_site_rules.specs.Shown.{history_children};
+ghost use Rattle.ob_site_rules.specs.State.{at};
+ghost use Rattle.ob_site_rules.specs.declared.plan.Plan.{Plan};
 ghost use Rattle.ob_site_roles.specs.Roles.{AreRoles};
 ghost use Rattle.ob_site_state.specs.Contents.{state_in};
 ghost use Rattle.ob_site_state.specs.Kept.{keys, log_of};

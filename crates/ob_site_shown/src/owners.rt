@@ -18,7 +18,7 @@ use crate::roles::derived;
 use ob_contracts::Steps;
 use ob_object::Obj;
 use ob_plain_state::is_path;
-use ob_replies::Plan;
+use ob_site_rules::Plan;
 use ob_site_state::Contents;
 use ob_tree::NodeId;
 use ob_values::Text;

@@ -17,7 +17,7 @@ use crate::dressing::dress;
 use crate::owners::shown_derived;
 use ob_contracts::Steps;
 use ob_object::Obj;
-use ob_replies::Plan;
+use ob_site_rules::Plan;
 use ob_site_state::Contents;
 use ob_tree::NodeId;
 use ob_values::Text;

@@ -7,7 +7,8 @@ use Rattle.ob_values.proofs.Lists.{bytes_itself}
 use Rattle.ob_consistent_laws.specs.Laws.{Apart}
 use Rattle.ob_site_rules.specs.Build.{Path}
 use Rattle.ob_object.specs.Paths.{is_path}
-use Rattle.ob_site_rules.specs.State.{Plan, Log, at, is_among}
+use Rattle.ob_site_rules.specs.State.{Log, at, is_among}
+use Rattle.ob_site_rules.specs.declared.plan.Plan.{Plan}
 use Rattle.ob_site_rules.specs.Writes.{records_from}
 
 -- a path that is among others isn't one that isn't

@@ -21,8 +21,8 @@ use Rattle.ob_ground.specs.contracts.ground.Ground as ground
 use Rattle.ob_ground.specs.contracts.ground.Ground.TheInside as ground_inside
 use Rattle.ob_history.proofs.log.Log.TheSendSync as log
 use Rattle.ob_times.proofs.moment.Moment.TheSendSync as moment
-use Rattle.ob_replies.specs.contracts.plan.Plan as plan_type
-use Rattle.ob_replies.proofs.plan.Plan.TheSendSync as plan
+use Rattle.ob_site_rules.specs.contracts.plan.Plan as plan_type
+use Rattle.ob_site_rules.proofs.plan.Plan.TheSendSync as plan
 use Rattle.ob_site_state.specs.contracts.change.Change as change
 use Rattle.ob_site_state.specs.contracts.contents.Contents as contents
 use Rattle.ob_site_state.specs.contracts.state.State as state

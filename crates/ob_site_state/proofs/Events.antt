@@ -21,7 +21,8 @@ use Rattle.ob_alarms.specs.declared.board.AckResult.{AckResult}
 use Rattle.ob_alarms.specs.declared.board.AckResult.TheVariants as answer
 use Rattle.ob_alarms.proofs.Told.{open_at}
 use Rattle.ob_site_rules.specs.Build.{Path}
-use Rattle.ob_site_rules.specs.State.{Plan, State, numbered_from, board, with_board}
+use Rattle.ob_site_rules.specs.declared.plan.Plan.{Plan}
+use Rattle.ob_site_rules.specs.State.{State, numbered_from, board, with_board}
 use Rattle.ob_site_state.specs.Changes.{alarms_before, events_before, without_event, AddsEvent, HasEvents, is_turn, is_done}
 
 pub alarms_before-append : (es : List Event) (e : Event) (al : List Alarm) → alarms_before (es ++ e ∷ []) al ≡ before e al

@@ -12,8 +12,9 @@ use Rattle.ob_contracts.specs.Inherit.{or_else, only_if}
 use Rattle.ob_tree.specs.Paths.{place_of}
 use Rattle.ob_tree.specs.Laid.{heads, paths}
 use Rattle.ob_site_rules.specs.Build.{Path}
-use Rattle.ob_site_rules.specs.State.{Plan, State}
 use Rattle.ob_site_rules.specs.Shown.{node_in, node_of}
+use Rattle.ob_site_rules.specs.State.{State}
+use Rattle.ob_site_rules.specs.declared.plan.Plan.{Plan}
 use Rattle.ob_site_rules.specs.Writes.{with_slot_in, with_slot}
 use Rattle.ob_plain_state.proofs.Kept.{slot_path, slot_kind}
 use Rattle.ob_shown_laws.proofs.Places.{row_paths}

@@ -13,8 +13,10 @@ use Rattle.ob_alarms.specs.Limits.{TakenBy, Takes}
 use Rattle.ob_alarms.specs.Lists.{first_place, changed_at}
 use Rattle.ob_alarms.specs.States.{is_acked, needs_ack}
 use Rattle.ob_alarms.specs.Changes.{State as Board, alarm_of, changed_alarm, fresh, ended, acked, next_turn, with_event, is_open, current, turn, outside_of, on_value, acked_if_needed, answered, on_ack}
-use Rattle.ob_site_rules.specs.State.{PointRule, Plan, State, numbered_from, with_board}
 use Rattle.ob_shown_laws.proofs.Leaving.{no_place}
+use Rattle.ob_site_rules.specs.State.{State, numbered_from, with_board}
+use Rattle.ob_site_rules.specs.declared.plan.Plan.{Plan}
+use Rattle.ob_site_rules.specs.declared.plan.PointRule.{PointRule}
 use Rattle.ob_site_state.specs.Changes.{events_before, AddsEvent, IsNewest}
 
 place_below : (o : Option ℕ) (n : ℕ) → option_map (λ k. k + 1) o ≡ Some (suc n) → o ≡ Some n

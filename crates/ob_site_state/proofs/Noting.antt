@@ -16,7 +16,8 @@ use Rattle.ob_tree.proofs.Changing.{heads-changed, length-heads, parts-changed}
 use Rattle.ob_tree.proofs.Naming.{well-changed, head_fits_at, slot_fits}
 use Rattle.ob_tree.proofs.Placed.{paths-set}
 use Rattle.ob_site_rules.specs.Build.{Path}
-use Rattle.ob_site_rules.specs.State.{Plan, Log, State, with_board, roll}
+use Rattle.ob_site_rules.specs.declared.plan.Plan.{Plan}
+use Rattle.ob_site_rules.specs.State.{Log, State, with_board, roll}
 use Rattle.ob_site_rules.specs.Writes.{events_ever, with_record}
 use Rattle.ob_history.specs.declared.records.Record.{Record}
 use Rattle.ob_times.specs.Times.{moment_instant}

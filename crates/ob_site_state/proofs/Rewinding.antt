@@ -7,7 +7,8 @@ use Rattle.ob_object.specs.Object.{Objects, none, node, Object, count}
 use Rattle.ob_tree.specs.Laid.{changed_in, changed, head_at, heads}
 use Rattle.ob_tree.proofs.Changing.{count-changed_in, got_left, got_right, length-heads}
 use Rattle.std.proofs.lemmas.Bool.{ltb-true, ltb-false}
-use Rattle.ob_site_rules.specs.State.{Plan, State}
+use Rattle.ob_site_rules.specs.declared.plan.Plan.{Plan}
+use Rattle.ob_site_rules.specs.State.{State}
 use Rattle.ob_site_state.specs.declared.change.Change.{Change}
 use Rattle.ob_site_state.specs.Changes.{undone, rewound, CanUndo, CanRewind, IsTold, AreTold}
 

@@ -9,7 +9,8 @@ use Rattle.ob_tree.specs.Paths.{first_twice}
 use Rattle.ob_tree.specs.Laid.{paths}
 use Rattle.ob_alarms.specs.Changes.{State as Board}
 use Rattle.ob_site_rules.specs.Build.{Path}
-use Rattle.ob_site_rules.specs.State.{Plan, Log, State, history_of, rolled, rolled_logs, roll}
+use Rattle.ob_site_rules.specs.declared.plan.Plan.{Plan}
+use Rattle.ob_site_rules.specs.State.{Log, State, history_of, rolled, rolled_logs, roll}
 use Rattle.ob_history.specs.Logs.{History, settled, settled as settled_history}
 use Rattle.circular_buffer.specs.Buffer.{keep_last}
 use Rattle.ob_site_laws.proofs.Rolling.{rolls_once}

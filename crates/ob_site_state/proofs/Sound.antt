@@ -9,7 +9,8 @@ use Rattle.ob_alarms.specs.Changes.{State as Board}
 use Rattle.ob_tree.specs.Paths.{first_twice}
 use Rattle.ob_tree.specs.Laid.{changed, paths}
 use Rattle.ob_site_rules.specs.Build.{Path}
-use Rattle.ob_site_rules.specs.State.{Plan, Log, State, with_board, roll}
+use Rattle.ob_site_rules.specs.declared.plan.Plan.{Plan}
+use Rattle.ob_site_rules.specs.State.{Log, State, with_board, roll}
 use Rattle.ob_site_rules.specs.Writes.{events_ever, with_record}
 use Rattle.ob_plain_state.specs.States.{AreCounted}
 use Rattle.ob_shown_laws.proofs.Bridging.{slot_is_set}

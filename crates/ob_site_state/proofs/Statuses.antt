@@ -6,8 +6,9 @@ use Rattle.ob_alarms.specs.declared.rule.Num.{Num}
 use Rattle.ob_alarms.specs.Lists.{changed_at}
 use Rattle.ob_alarms.specs.States.{status_of}
 use Rattle.ob_alarms.specs.Changes.{State as Board, alarm_of, fresh, ended, acked, next_turn, current, turn, outside_of, on_value, acked_if_needed, answered, on_ack}
-use Rattle.ob_site_rules.specs.State.{PointRule, numbered_from}
 use Rattle.ob_shown_laws.proofs.Leaving.{not_source, of_source, status_same}
+use Rattle.ob_site_rules.specs.State.{numbered_from}
+use Rattle.ob_site_rules.specs.declared.plan.PointRule.{PointRule}
 use Rattle.ob_site_state.proofs.Newest.{current_there}
 
 -- alarms of which none of a source is added or changed

@@ -17,7 +17,8 @@ use Rattle.ob_alarms.specs.declared.board.Turned.TheVariants as turned
 use Rattle.ob_alarms.specs.declared.board.AckResult.{AckResult}
 use Rattle.ob_alarms.specs.declared.board.AckResult.TheVariants as answer
 use Rattle.ob_site_rules.specs.Build.{Path}
-use Rattle.ob_site_rules.specs.State.{Plan, Log, State, numbered_from, rolled}
+use Rattle.ob_site_rules.specs.declared.plan.Plan.{Plan}
+use Rattle.ob_site_rules.specs.State.{Log, State, numbered_from, rolled}
 use Rattle.ob_site_state.specs.declared.change.Change.{Change}
 use Rattle.ob_site_state.specs.declared.change.Change.TheVariants as change
 

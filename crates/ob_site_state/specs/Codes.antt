@@ -15,7 +15,9 @@ use Rattle.ob_alarms.specs.contracts.alarm.Alarm.{the_row as alarm_row}
 use Rattle.ob_alarms.specs.declared.alarm.Event.{Event}
 use Rattle.ob_alarms.specs.contracts.alarm.Event.{the_row as event_row}
 use Rattle.ob_site_rules.specs.Build.{Path, Text}
-use Rattle.ob_site_rules.specs.State.{PointRule, Plan, Log, State}
+use Rattle.ob_site_rules.specs.declared.plan.PointRule.{PointRule}
+use Rattle.ob_site_rules.specs.declared.plan.Plan.{Plan}
+use Rattle.ob_site_rules.specs.State.{Log, State}
 use Rattle.ob_site_state.specs.Kept.{Kept}
 
 abbrev pub text_code : Coded Text

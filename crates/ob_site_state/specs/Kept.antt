@@ -10,7 +10,8 @@ use Rattle.ob_alarms.specs.Changes.{State as Board}
 use Rattle.ob_tree.specs.Paths.{first_twice}
 use Rattle.ob_tree.specs.Laid.{paths}
 use Rattle.ob_site_rules.specs.Build.{Path}
-use Rattle.ob_site_rules.specs.State.{Plan, Log, State, numbered_from, roll}
+use Rattle.ob_site_rules.specs.declared.plan.Plan.{Plan}
+use Rattle.ob_site_rules.specs.State.{Log, State, numbered_from, roll}
 use Rattle.ob_site_rules.specs.Shown.{dressed}
 use Rattle.ob_consistent_laws.specs.Laws.{Apart}
 use Rattle.ob_consistent_laws.specs.Consistent.{IsConsistent}

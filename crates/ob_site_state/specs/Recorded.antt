@@ -4,7 +4,8 @@ use Rattle.ob_history.specs.declared.records.Record.{Record}
 use Rattle.ob_history.specs.Records.{IsRecord}
 use Rattle.ob_site_rules.specs.Build.{Path}
 use Rattle.ob_object.specs.Paths.{is_path}
-use Rattle.ob_site_rules.specs.State.{Plan, Log}
+use Rattle.ob_site_rules.specs.State.{Log}
+use Rattle.ob_site_rules.specs.declared.plan.Plan.{Plan}
 use Rattle.ob_site_rules.specs.Writes.{events_ever, records_from}
 
 -- the log of a place takes a record, where the history has this source: it is one, and its events can be counted

@@ -6,7 +6,8 @@ use Rattle.ob_object.specs.Kinds.{has_values}
 use Rattle.ob_tree.specs.Paths.{place_of}
 use Rattle.ob_tree.specs.Laid.{paths}
 use Rattle.ob_site_rules.specs.Build.{Path}
-use Rattle.ob_site_rules.specs.State.{Plan, State, source_of, is_among}
+use Rattle.ob_site_rules.specs.declared.plan.Plan.{Plan}
+use Rattle.ob_site_rules.specs.State.{State, source_of, is_among}
 use Rattle.ob_site_rules.specs.Shown.{node_of}
 
 -- The own node at the path of a history's source is of a kind that has values.

@@ -35,7 +35,7 @@ use ob_alarms::{Alarms, Num};
 use ob_contracts::Library;
 use ob_history::{Log, Record};
 use ob_object::{Kind, Slot};
-use ob_replies::Plan;
+use ob_site_rules::Plan;
 use ob_times::Moment;
 use ob_tree::{NodeId, Tree};
 use ob_values::Text;
@@ -382,7 +382,7 @@ impl State {
         requires { place < length self.now.now.logs }
         ensures { (l : Path × SiteLog) → slice_get self.now.now.logs place ≡ Some l → result ≡ records_from self.now.plan source.now l.0 }
     {
-        has_source(&self.plan.histories, place, source)
+        has_source(self.plan.histories.as_slice(), place, source)
     }
 
     /// Puts a record of a copy of a value last in the log of a place. Want of memory leaves all as it was.

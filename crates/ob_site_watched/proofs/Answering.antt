@@ -14,7 +14,8 @@ use Rattle.ob_site_rules.specs.Build.{Text}
 use Rattle.ob_site_rules.specs.declared.fault.Fault.{Fault}
 use Rattle.ob_site_rules.specs.declared.fault.Fault.TheVariants.{NoSuchObject}
 use Rattle.ob_site_rules.specs.Faults.{err}
-use Rattle.ob_site_rules.specs.State.{Plan, State}
+use Rattle.ob_site_rules.specs.declared.plan.Plan.{Plan}
+use Rattle.ob_site_rules.specs.State.{State}
 use Rattle.ob_requests.specs.Calls.{lease_in}
 use Rattle.ob_watch.proofs.TableLemmas.{elsewhere}
 use Rattle.ob_site_watched.proofs.Leased.{asked_fits}

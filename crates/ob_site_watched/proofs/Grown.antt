@@ -21,7 +21,7 @@ use Rattle.ob_watch.specs.Undo.{Undo, Undoes}
 use Rattle.ob_watch.proofs.LawLemmas.{lapses_commute, Numbered}
 use Rattle.ob_site_watched.specs.declared.offering.Offer.{Offer}
 use Rattle.ob_site_watched.specs.declared.offering.Offer.TheVariants as offer
-use Rattle.ob_site_rules.specs.State.{Plan}
+use Rattle.ob_site_rules.specs.declared.plan.Plan.{Plan}
 use Rattle.ob_site_rules.specs.Watched.{Asked}
 use Rattle.ob_site_state.specs.declared.contents.Contents.{Contents}
 use Rattle.ob_site_watched.specs.Entries.{reading_entry}

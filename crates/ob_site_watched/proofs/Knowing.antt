@@ -7,7 +7,7 @@ use Rattle.ob_watching.specs.Asked.{Look, Renew, Add, Remove, PollChanges, PollR
 use Rattle.ob_watching.specs.Tables.{lookup, replace}
 use Rattle.ob_site_rules.specs.Build.{Path}
 use Rattle.ob_site_rules.specs.declared.fault.Fault.{Fault}
-use Rattle.ob_site_rules.specs.State.{Plan}
+use Rattle.ob_site_rules.specs.declared.plan.Plan.{Plan}
 use Rattle.ob_site_rules.specs.Watched.{WatchOperation, lease_asked}
 use Rattle.ob_site_state.specs.declared.contents.Contents.{Contents}
 use Rattle.ob_site_state.specs.Contents.{state_in}

@@ -10,7 +10,8 @@ use Rattle.ob_watching.specs.Asked.{ObjectAt, FeedAt, NotFound, Refuses}
 use Rattle.ob_watching.specs.Sites.{Site}
 use Rattle.ob_watching.specs.Watches.{Item, TrackedOf, Object, Feed, max_items, count, since, content_now, reading, changes, changes_of, lists_some, has_text, put_item, added, add_found, readings_added}
 use Rattle.ob_site_rules.specs.Build.{Text, Path, nameless as without_name, under_href}
-use Rattle.ob_site_rules.specs.State.{Plan, State}
+use Rattle.ob_site_rules.specs.declared.plan.Plan.{Plan}
+use Rattle.ob_site_rules.specs.State.{State}
 use Rattle.ob_site_rules.specs.Shown.{shown}
 use Rattle.ob_site_rules.specs.Entries.{empty_object}
 use Rattle.ob_site_rules.specs.Watched.{Asked, SiteFound}

@@ -8,7 +8,8 @@ use Rattle.ob_watching.specs.Asked.{NewWatch}
 use Rattle.ob_site_rules.specs.declared.request.Request.{Request}
 use Rattle.ob_site_rules.specs.Computed.{watch_part_object}
 use Rattle.ob_site_rules.specs.declared.watch_part.WatchPart.TheVariants.{Whole}
-use Rattle.ob_site_rules.specs.State.{Plan, State}
+use Rattle.ob_site_rules.specs.declared.plan.Plan.{Plan}
+use Rattle.ob_site_rules.specs.State.{State}
 use Rattle.ob_tree.specs.Trees.{Stamped}
 use Rattle.ob_site_rules.specs.Watched.{WatchOperation}
 use Rattle.ob_site_rules.specs.Replies.{sent}

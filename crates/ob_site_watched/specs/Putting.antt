@@ -7,7 +7,7 @@ use Rattle.ob_watching.specs.Watches.{items_added, readings_added}
 use Rattle.ob_site_rules.specs.Computed.{watch_out}
 use Rattle.ob_site_rules.specs.declared.fault.Fault.TheVariants.{TooManyItems}
 use Rattle.ob_site_rules.specs.Replies.{entry}
-use Rattle.ob_site_rules.specs.State.{Plan}
+use Rattle.ob_site_rules.specs.declared.plan.Plan.{Plan}
 use Rattle.ob_site_rules.specs.Watched.{Asked}
 use Rattle.ob_site_state.specs.declared.contents.Contents.{Contents}
 use Rattle.ob_site_state.specs.Contents.{state_in}

@@ -13,8 +13,9 @@ ghost use Rattle.ob_site_watched.specs.Polls.{item_steps, poll_steps, reading_st
 
 use ob_contracts::Steps;
 use ob_object::Obj;
-use ob_replies::{Plan, entry};
+use ob_replies::entry;
 use ob_site_reads::{Since, feed_since, watched_node, whole_feed};
+use ob_site_rules::Plan;
 use ob_site_state::Contents;
 use ob_watch::{Item, Tracked, Watch};
 use std::alloc::{AllocError, Global};

@@ -6,8 +6,8 @@ ghost use Rattle.ob_site_watched.specs.Answers.{AllKnown, IsMade, IsOneMore};
 ghost use Rattle.ob_watch.specs.Tables.{has_no_place, lapsed_at};
 
 use ob_object::Obj;
-use ob_replies::{Plan, refusal, watch_part};
-use ob_site_rules::{Fault, WatchPart};
+use ob_replies::{refusal, watch_part};
+use ob_site_rules::{Fault, Plan, WatchPart};
 use ob_times::Moment;
 use ob_watch::{FIRST_LEASE, Watches};
 use std::alloc::{AllocError, Global};

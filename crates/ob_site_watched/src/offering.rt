@@ -11,10 +11,10 @@ ghost use Rattle.ob_site_watched.specs.Offered.{IsFor, IsOffered, refused_entry}
 use ob_contracts::Steps;
 use ob_marks_laws::watched_are_own;
 use ob_object::Obj;
-use ob_replies::{Plan, entry, refusal};
+use ob_replies::{entry, refusal};
 use ob_requests::{Asked, Found};
 use ob_site_reads::{count_at, found};
-use ob_site_rules::Fault;
+use ob_site_rules::{Fault, Plan};
 use ob_site_state::Contents;
 use ob_values::Text;
 use ob_watch::Item;

@@ -19,8 +19,10 @@ use Rattle.ob_alarms.specs.Limits.{TakenBy}
 use Rattle.ob_alarms.specs.Lists.{first_place}
 use Rattle.ob_history.specs.Records.{holds_value, IsRecord}
 use Rattle.ob_site_rules.specs.Build.{Path}
-use Rattle.ob_site_rules.specs.State.{Plan, State, numbered_from}
 use Rattle.ob_site_rules.specs.Shown.{rule_of, shown}
+use Rattle.ob_site_rules.specs.State.{State, numbered_from}
+use Rattle.ob_site_rules.specs.declared.plan.Plan.{Plan}
+use Rattle.ob_site_rules.specs.declared.plan.PointRule.{PointRule}
 use Rattle.ob_site_rules.specs.Writes.{number_in, records_from}
 use Rattle.ob_plain_state.specs.States.{limits_fit, rule_in}
 use Rattle.ob_plain_state.specs.Fitting.{TakesIfRule}

@@ -4,7 +4,7 @@ use Rattle.ob_object.specs.Object.{Object}
 use Rattle.ob_site_written.proofs.Refused.{by_table}
 use Rattle.ob_site_rules.specs.Build.{Path}
 use Rattle.ob_site_rules.specs.declared.fault.Fault.{Fault}
-use Rattle.ob_site_rules.specs.State.{Plan, State}
+use Rattle.ob_site_rules.specs.State.{State}
 use Rattle.ob_site_rules.specs.Places.{reply_at}
 use Rattle.ob_site_rules.specs.Writes.{showing}
 use Rattle.ob_site_state.specs.Kept.{Kept}

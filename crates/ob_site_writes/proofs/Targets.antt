@@ -16,7 +16,8 @@ use Rattle.ob_site_rules.specs.declared.fault.Fault.{Fault}
 use Rattle.ob_site_rules.specs.declared.fault.Fault.TheVariants.{OtherKind, OtherShape, TooManyEntries}
 use Rattle.ob_site_rules.specs.Faults.{err, first_fault}
 use Rattle.ob_site_rules.specs.Shown.{shown}
-use Rattle.ob_site_rules.specs.State.{Plan, State}
+use Rattle.ob_site_rules.specs.declared.plan.Plan.{Plan}
+use Rattle.ob_site_rules.specs.State.{State}
 use Rattle.ob_site_rules.specs.Writes.{given_by, is_listed, overfills, put, showing, slot_fault, target_fault, unless, value_fault, verdict_fault, write_by, written}
 use Rattle.ob_site_shown.specs.Targets.{target, target_head}
 use Rattle.ob_site_writes.specs.Targets.{IsRefused, IsTarget}

@@ -12,7 +12,8 @@ use Rattle.ob_object.specs.declared.head.Slot.{Slot}
 use Rattle.ob_history.specs.declared.records.Record.{Record}
 use Rattle.ob_alarms.specs.Changes.{State as Board}
 use Rattle.ob_site_rules.specs.Build.{Path}
-use Rattle.ob_site_rules.specs.State.{Plan, Log, State, board}
+use Rattle.ob_site_rules.specs.declared.plan.Plan.{Plan}
+use Rattle.ob_site_rules.specs.State.{Log, State, board}
 use Rattle.ob_site_rules.specs.Sameness.{same_slot}
 use Rattle.ob_site_rules.specs.Writes.{events_ever, records_from, with_record, recorded, board_after, stored_in, stored_logs, stored, is_over, overfills}
 use Rattle.ob_plain_state.specs.States.{AreCounted}

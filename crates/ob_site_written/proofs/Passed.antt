@@ -8,7 +8,8 @@ use Rattle.ob_object.specs.declared.write.WriteFault.{WriteFault}
 use Rattle.ob_object.specs.declared.write.WriteFault.TheVariants.{WrongKind}
 use Rattle.ob_object.specs.Fits.{fits_slot, fits_value, fits_head, fits_if_there, fits_facets, fits_name, fits_lists}
 use Rattle.ob_values.specs.declared.value.Value.{Value}
-use Rattle.ob_site_rules.specs.State.{Plan, State}
+use Rattle.ob_site_rules.specs.declared.plan.Plan.{Plan}
+use Rattle.ob_site_rules.specs.State.{State}
 use Rattle.ob_site_rules.specs.Writes.{verdict_fault, slot_fault}
 
 of_kind : (b : Bool) (rest : Result (Unit {0}) WriteFault) → verdict_fault (cond (not b) (Err WrongKind) rest) ≡ None → b ≡ true

@@ -6,7 +6,8 @@ use Rattle.ob_object.specs.declared.head.Slot.{Slot}
 use Rattle.ob_object.specs.Object.{none, node}
 use Rattle.ob_history.specs.Records.{IsRecord}
 use Rattle.ob_site_rules.specs.Build.{Path}
-use Rattle.ob_site_rules.specs.State.{Plan, State, numbered_from}
+use Rattle.ob_site_rules.specs.declared.plan.Plan.{Plan}
+use Rattle.ob_site_rules.specs.State.{State, numbered_from}
 use Rattle.ob_site_rules.specs.Shown.{rule_of}
 use Rattle.ob_site_rules.specs.Writes.{records_from}
 use Rattle.ob_plain_state.specs.Fitting.{NodesTake, TakesIfRule}

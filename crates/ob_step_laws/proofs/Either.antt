@@ -12,8 +12,9 @@ use Rattle.ob_object.specs.Object.{Objects, none, node, Object, listed, in_row, 
 use Rattle.ob_object.specs.Paths.{is_path, node_path}
 use Rattle.ob_contracts.specs.Inherit.{Contracts, Words, or_else, only_if, first_given, sources, overridden, implied_by, inherited_head, bare, missing, result_of, head_with_default, row_with_defaults}
 use Rattle.ob_site_rules.specs.Build.{Text, Path, time_slot}
-use Rattle.ob_site_rules.specs.State.{Plan, State, Log, at, is_among}
 use Rattle.ob_site_rules.specs.Shown.{first_record, rule_of, lobby_children, write_point_op, history_part, subject_children, derived, with_status_by, with_status_at, with_status, with_roles, dressed}
+use Rattle.ob_site_rules.specs.State.{Log, State, at, is_among}
+use Rattle.ob_site_rules.specs.declared.plan.Plan.{Plan}
 use Rattle.ob_site_rules.specs.Entries.{empty_object}
 use Rattle.ob_site_rules.specs.Sameness.{same_object}
 use Rattle.ob_site_rules.specs.Sites.{plain_or_empty, watched_object}

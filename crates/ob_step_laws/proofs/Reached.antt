@@ -9,8 +9,9 @@ use Rattle.ob_object.specs.Object.{Objects, none, node, Object, listed, in_row}
 use Rattle.ob_object.specs.Paths.{is_path, node_path}
 use Rattle.ob_contracts.specs.Inherit.{Contracts, or_else, only_if, bare, missing, result_of, row_with_defaults}
 use Rattle.ob_site_rules.specs.Build.{Path}
-use Rattle.ob_site_rules.specs.State.{Plan, State}
 use Rattle.ob_site_rules.specs.Shown.{dressed}
+use Rattle.ob_site_rules.specs.State.{State}
+use Rattle.ob_site_rules.specs.declared.plan.Plan.{Plan}
 use Rattle.ob_site_rules.specs.Sites.{watched_object}
 use Rattle.ob_site_laws.proofs.Same.{object_decides}
 use Rattle.ob_standing.specs.Contexts.{Context, HandedDown, handed_down, under}

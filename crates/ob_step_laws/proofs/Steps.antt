@@ -18,9 +18,10 @@ use Rattle.ob_contracts.proofs.Fitting.{one_kind}
 use Rattle.ob_site_rules.specs.declared.request.Request.{Request}
 use Rattle.ob_site_rules.specs.Build.{Text, Path}
 use Rattle.ob_site_rules.specs.Faults.{err, first_fault}
-use Rattle.ob_site_rules.specs.State.{Plan, State, is_among}
+use Rattle.ob_site_rules.specs.State.{State, is_among}
 use Rattle.ob_site_rules.specs.declared.fault.Fault.{Fault}
 use Rattle.ob_site_rules.specs.declared.fault.Fault.TheVariants.{NotInBatch, NotSupported, NotWritable, OtherKind}
+use Rattle.ob_site_rules.specs.declared.plan.Plan.{Plan}
 use Rattle.ob_site_rules.specs.Sameness.{same_slot}
 use Rattle.ob_site_rules.specs.Shown.{rule_of, node_in, node_of, with_status_at, with_status_by, dressed, shown}
 use Rattle.ob_site_rules.specs.Places.{Place, About, Batch, Service, Make, AlarmAt, AckOf, WritePointOf, QueryOf, FeedOf, AlarmQuery, AlarmFeed, Node, place_at}

@@ -5,7 +5,8 @@ use Rattle.ob_object.specs.Object.{Objects, none, node, Object}
 use Rattle.ob_contracts.specs.Inherit.{Contracts}
 use Rattle.ob_contracts.specs.Standard.{standard, with_added}
 use Rattle.ob_site_rules.specs.Build.{Path}
-use Rattle.ob_site_rules.specs.State.{Plan, State, is_among}
+use Rattle.ob_site_rules.specs.declared.plan.Plan.{Plan}
+use Rattle.ob_site_rules.specs.State.{State, is_among}
 use Rattle.ob_site_rules.specs.Sameness.{same_object}
 use Rattle.ob_site_rules.specs.Shown.{dressed}
 use Rattle.ob_site_rules.specs.Sites.{watched_object}

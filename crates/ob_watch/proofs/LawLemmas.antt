@@ -17,7 +17,8 @@ use Rattle.ob_watching.specs.Tables.{lookup, replace, numbers_of}
 use Rattle.ob_watching.specs.Watches.{TrackedOf, ItemOf, WatchOf, Reading, count, settled, settled_at, reported, reported_now, changes_of, lists_some, Distinct, since}
 use Rattle.ob_watching.specs.Watches as rules
 use Rattle.ob_site_rules.specs.Entries.{is_within}
-use Rattle.ob_site_rules.specs.State.{Plan, State}
+use Rattle.ob_site_rules.specs.declared.plan.Plan.{Plan}
+use Rattle.ob_site_rules.specs.State.{State}
 use Rattle.ob_watch.specs.declared.item.Tracked.{Tracked}
 use Rattle.ob_watch.specs.declared.item.Tracked.TheVariants.{Object, Feed}
 use Rattle.ob_watch.specs.declared.item.Item.{Item}

@@ -11,7 +11,8 @@ use Rattle.ob_watching.specs.Tables.{lookup, replace, numbers_of}
 use Rattle.ob_watching.specs.Watches.{World, Reading, count, settled, reported, changes_of, has_lapsed, begun, made, is_full, Distinct, max_items}
 use Rattle.ob_watching.specs.Watches as rules
 use Rattle.ob_site_rules.specs.Entries.{is_within}
-use Rattle.ob_site_rules.specs.State.{Plan, State}
+use Rattle.ob_site_rules.specs.declared.plan.Plan.{Plan}
+use Rattle.ob_site_rules.specs.State.{State}
 use Rattle.ob_watch.specs.declared.item.Item.{Item}
 use Rattle.ob_watch.specs.Counted.{of_plan, IsCounted}
 use Rattle.ob_watch.specs.Flags.{flags, flag_of, flagged, flags_of, anew}

@@ -1,6 +1,6 @@
 use Rattle.std.proofs.Common.{inr, subst, sym}
 use Rattle.ob_replies.specs.Plans.{plan as plan_of}
-use Rattle.ob_site_rules.specs.State.{Plan}
+use Rattle.ob_site_rules.specs.declared.plan.Plan.{Plan}
 use Rattle.ob_site_watched.specs.Answers.{AllKnown}
 use Rattle.ob_watch.specs.Tables.{Table}
 use Rattle.ob_site.proofs.Keeping.{left_out_so, made_in, made_next}

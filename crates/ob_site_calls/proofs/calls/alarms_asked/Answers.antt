@@ -3,7 +3,8 @@ use Rattle.std.specs.Option.{option_copied}
 use Rattle.std.proofs.lemmas.Result.{IfOk-weaker}
 use Rattle.ob_object.specs.Object.{Object}
 use Rattle.ob_replies.specs.Plans.{plan as plan_of}
-use Rattle.ob_site_rules.specs.State.{Plan, State, board}
+use Rattle.ob_site_rules.specs.declared.plan.Plan.{Plan}
+use Rattle.ob_site_rules.specs.State.{State, board}
 use Rattle.ob_site_rules.specs.Entries.{alarms_out}
 use Rattle.ob_site_rules.specs.Posts.{query}
 use Rattle.ob_site_state.specs.Contents.{state_in}

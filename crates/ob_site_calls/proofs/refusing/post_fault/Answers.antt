@@ -2,7 +2,8 @@ use Rattle.std.proofs.Common.{option_map, sym, ap₂, ◌∙◌}
 use Rattle.std.specs.Option.{option_copied}
 use Rattle.ob_object.specs.Object.{Object}
 use Rattle.ob_site_rules.specs.Shown.{shown}
-use Rattle.ob_site_rules.specs.State.{Plan, State}
+use Rattle.ob_site_rules.specs.declared.plan.Plan.{Plan}
+use Rattle.ob_site_rules.specs.State.{State}
 use Rattle.ob_site_calls.proofs.ByHead.{never_called}
 use Rattle.ob_site_calls.proofs.refusing.post_fault.Goals as goal
 

@@ -1,7 +1,8 @@
 use Rattle.std.proofs.Common.{◌≡◌, ◌+◌}
 use Rattle.ob_object.specs.Object.{count, parts}
 use Rattle.ob_contracts.specs.Inherit.{Contracts}
-use Rattle.ob_site_rules.specs.State.{Plan, State}
+use Rattle.ob_site_rules.specs.declared.plan.Plan.{Plan}
+use Rattle.ob_site_rules.specs.State.{State}
 use Rattle.ob_tree.proofs.Growing.{first}
 use Rattle.ob_step_laws.specs.Defaults.{with_library}
 use Rattle.ob_site_defaults.specs.Otherwise.{AreOtherwiseBelow, AreShown}

@@ -1,7 +1,7 @@
 use Rattle.std.proofs.Common.{◌&&◌, ◌++◌, cond, [], map, ap, ◌∙◌}
 use Rattle.std.specs.Prelude.{bytes_eq}
 use Rattle.ob_object.specs.Paths.{is_path}
-use Rattle.ob_site_rules.specs.State.{Plan}
+use Rattle.ob_site_rules.specs.declared.plan.Plan.{Plan}
 use Rattle.ob_site_file.specs.Sizes.{stood}
 use Rattle.ob_site_file.proofs.Sizes.{four_more, derived_plain, LobbyShapes, PointShapes, HistoryShapes, SubjectShapes}
 use Rattle.ob_site_file.proofs.derived.put_derived.Goals as goal

@@ -11,8 +11,9 @@ use Rattle.ob_contracts.specs.Telling.{TellTheSame}
 use Rattle.ob_contracts.proofs.At.{fewer_parts}
 use Rattle.ob_contracts.proofs.Bare.{child_here}
 use Rattle.ob_hrefs.proofs.Rows.{row_more, row_past, inner_row}
-use Rattle.ob_site_rules.specs.State.{Plan, State}
 use Rattle.ob_site_rules.specs.Shown.{derived, with_roles}
+use Rattle.ob_site_rules.specs.State.{State}
+use Rattle.ob_site_rules.specs.declared.plan.Plan.{Plan}
 use Rattle.ob_site_file.specs.Sizes.{row_count, dressed_at}
 use Rattle.ob_site_file.proofs.Sizes.{left_one, left_next, none_left, all_left, dressed_one, dressed_parts}
 use Rattle.ob_site_file.proofs.size.+left_after_shown.Goals as goal

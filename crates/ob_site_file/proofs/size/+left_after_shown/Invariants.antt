@@ -2,7 +2,8 @@ use Rattle.std.proofs.Common.{◌≡◌, ◌-◌, ◌+◌, drop}
 use Rattle.std.specs.Option.{option_copied}
 use Rattle.ob_object.specs.Object.{parts, in_row}
 use Rattle.ob_contracts.specs.Inherit.{sources, inherited_head, implied_by}
-use Rattle.ob_site_rules.specs.State.{Plan, State}
+use Rattle.ob_site_rules.specs.declared.plan.Plan.{Plan}
+use Rattle.ob_site_rules.specs.State.{State}
 use Rattle.ob_site_rules.specs.Shown.{with_roles}
 use Rattle.ob_site_file.specs.Sizes.{IsCounting, row_count}
 use Rattle.ob_site_file.proofs.size.+left_after_shown.Given as goal

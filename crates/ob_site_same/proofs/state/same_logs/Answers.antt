@@ -2,7 +2,8 @@ use Rattle.std.proofs.Common.{◌<◌, ◌≤◌, map, length, refl, sym, ap, �
 use Rattle.std.proofs.lemmas.List.{length-map}
 use Rattle.std.proofs.lemmas.Option.{slice_get-map}
 use Rattle.ob_site_rules.specs.Build.{Path}
-use Rattle.ob_site_rules.specs.State.{Log, Plan}
+use Rattle.ob_site_rules.specs.declared.plan.Plan.{Plan}
+use Rattle.ob_site_rules.specs.State.{Log}
 use Rattle.ob_site_same.proofs.Alike.{alike_all, alike_more, alike_pairs}
 use Rattle.ob_site_same.proofs.state.same_logs.Goals as goal
 

@@ -7,5 +7,5 @@ use Rattle.ob_site_state.proofs.state.State.new.Goals as goal
 
 pub new-requires-clause-beside : goal.new-requires-clause-beside
 new-requires-clause-beside c =
-    ap (λ (hs : List (Path × Option Path)). length hs) c.as_slice.ensures.value
+    ap (λ (hs : List (Path × Option Path)). length hs) c.as_slice.ensures
     ∙ beside_capacities (plan_of c.args.plan).histories (state_in c.args.contents).logs c.args.capacities.items c.requires.histories c.requires.capacities

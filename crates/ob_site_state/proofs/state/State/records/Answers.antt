@@ -16,4 +16,4 @@ returns c =
     let has = c.has_source.result in
     subst (λ (k : Kept). (l : Path × Log) → slice_get k.now.logs c.args.place ≡ Some l → has ≡ records_from k.plan c.args.source.now l.0) c.self.view_is
     (told_by_place (plan_of a.plan) (state_in a.contents).logs c.args.source.now has c.args.place c.self.invariant.kept.apart c.self.invariant.kept.histories
-    (subst (λ (hs : List (Path × Option Path)). HasSource hs c.args.place c.args.source.now has) c.deref.ensures.value c.has_source.ensures))
+    (subst (λ (hs : List (Path × Option Path)). HasSource hs c.args.place c.args.source.now has) c.as_slice.ensures c.has_source.ensures))

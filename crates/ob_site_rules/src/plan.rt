@@ -1,4 +1,5 @@
 //! What is fixed when a site is opened.
+use crate::fixed::Fixed;
 use ob_alarms::Num;
 use ob_href::Base;
 use ob_times::Moment;
@@ -20,19 +21,19 @@ pub struct Plan {
     pub base: Base,
     /// The path of the root.
     pub root: Text,
-    /// The moment of opening.
+    /// The moment of opening, in definitions its milliseconds.
     pub boot: Moment,
     /// Whether the root is a lobby.
     pub lobby: bool,
     /// The paths of the writable points.
-    pub points: Vec<Text>,
+    pub points: Fixed<Text>,
     /// The path of each history, with that of its source, if it has one.
-    pub histories: Vec<(Text, Option<Text>)>,
+    pub histories: Fixed<(Text, Option<Text>)>,
     /// The path of the alarm subject.
     pub subject: Option<Text>,
-    pub rules: Vec<PointRule>,
+    pub rules: Fixed<PointRule>,
     /// The texts of the About object that the site replaces, each behind its name.
-    pub about: Vec<(Text, Text)>,
+    pub about: Fixed<(Text, Text)>,
 }
 
 impl Drop for Plan {
