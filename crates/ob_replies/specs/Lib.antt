@@ -1,6 +1,5 @@
 pub mod Told
 pub mod Names
-pub mod Plans
 pub mod Abouts
 pub mod WatchChildren
 pub mod Histories

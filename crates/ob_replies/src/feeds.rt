@@ -4,7 +4,6 @@ ghost use Rattle.std.specs.List.{list_all};
 ghost use Rattle.ob_watching.specs.Asked.{Lists};
 ghost use Rattle.ob_site_rules.specs.Watched.{is_alarm_feed, feed_there};
 ghost use Rattle.ob_site_rules.specs.Replies.{content_object, dropped_child};
-ghost use Rattle.ob_replies.specs.Plans.{plan as plan_of};
 
 use crate::build::{put, valued, whole};
 use crate::contract::Contract;
@@ -16,7 +15,7 @@ use std::alloc::{AllocError, Global};
 
 /// Whether a path is that of the alarm subject's feed.
 fn is_alarm_feed(alloc: Global, plan: &Plan, path: &Text) -> Result<bool, AllocError>
-    ensures { IfOk result (λ is. is ≡ is_alarm_feed (plan_of plan.now) path.now) }
+    ensures { IfOk result (λ is. is ≡ is_alarm_feed plan.now path.now) }
 {
     match &plan.subject {
         Some(subject) => {
@@ -31,7 +30,7 @@ fn is_alarm_feed(alloc: Global, plan: &Plan, path: &Text) -> Result<bool, AllocE
 ///
 /// Source: oBIX 1.1, chapters 14 (History) and 15 (AlarmSubject).
 pub fn feed_there(alloc: Global, plan: &Plan, path: &Text) -> Result<Obj, AllocError>
-    ensures { IfOk result (λ o. o ≡ feed_there (plan_of plan.now) path.now) }
+    ensures { IfOk result (λ o. o ≡ feed_there plan.now path.now) }
 {
     let contract = if is_alarm_feed(alloc, plan, path)? {
         Contract::Alarm

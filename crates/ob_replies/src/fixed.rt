@@ -7,7 +7,6 @@ ghost use Rattle.ob_site_rules.specs.Computed.{nil_object, about_text, about_str
 ghost use Rattle.ob_object.specs.declared.kind.Kind.TheVariants as kind;
 ghost use Rattle.ob_site_rules.specs.Build.{valued, text_slot, time_slot};
 ghost use Rattle.ob_times.specs.Times.{moment_instant};
-ghost use Rattle.ob_replies.specs.Plans.{plan as plan_of};
 ghost use Rattle.ob_replies.specs.Names.{is_name};
 ghost use Rattle.ob_replies.specs.Abouts.{server_children, vendor_children, product_children};
 
@@ -44,7 +43,7 @@ fn own_text<'a>(plan: &'a Plan, name: &str) -> Option<&'a (Text, Text)>
 /// A text of About: the site's own, or else the default.
 fn about_text(alloc: Global, plan: &Plan, name: &str, default: &str) -> Result<Text, AllocError>
     requires { IsTrue (is_printable default.now) }
-    ensures { IfOk result (λ text. text ≡ about_text (plan_of plan.now) name.now default.now) }
+    ensures { IfOk result (λ text. text ≡ about_text plan.now name.now default.now) }
 {
     match own_text(plan, name) {
         Some(entry) => entry.1.copy(),
@@ -62,7 +61,7 @@ fn put_str(
 ) -> Result<(), AllocError>
     requires name { IsTrue (is_name name.now) }
     requires default { IsTrue (is_printable default.now) }
-    ensures { IfOk result (λ _. objects.new.items ≡ objects.old.items ++ about_str (plan_of plan.now) name.now default.now ∷ []) }
+    ensures { IfOk result (λ _. objects.new.items ≡ objects.old.items ++ about_str plan.now name.now default.now ∷ []) }
 {
     let text = about_text(alloc, plan, name, default)?;
     put(
@@ -81,7 +80,7 @@ fn put_uri(
 ) -> Result<(), AllocError>
     requires name { IsTrue (is_name name.now) }
     requires default { IsTrue (is_printable default.now) }
-    ensures { IfOk result (λ _. objects.new.items ≡ objects.old.items ++ about_uri (plan_of plan.now) name.now default.now ∷ []) }
+    ensures { IfOk result (λ _. objects.new.items ≡ objects.old.items ++ about_uri plan.now name.now default.now ∷ []) }
 {
     let text = about_text(alloc, plan, name, default)?;
     put(
@@ -120,7 +119,7 @@ fn put_server(
     now: Moment,
 ) -> Result<(), AllocError>
     requires { objects.old.items ≡ [] }
-    ensures { IfOk result (λ _. objects.new.items ≡ server_children (plan_of plan.now) now) }
+    ensures { IfOk result (λ _. objects.new.items ≡ server_children plan.now now) }
 {
     put_version(alloc, objects)?;
     put_str(alloc, objects, plan, "serverName", "obix")?;
@@ -135,8 +134,8 @@ fn put_vendor(
     plan: &Plan,
     now: Moment,
 ) -> Result<(), AllocError>
-    requires { objects.old.items ≡ server_children (plan_of plan.now) now }
-    ensures { IfOk result (λ _. objects.new.items ≡ server_children (plan_of plan.now) now ++ vendor_children (plan_of plan.now)) }
+    requires { objects.old.items ≡ server_children plan.now now }
+    ensures { IfOk result (λ _. objects.new.items ≡ server_children plan.now now ++ vendor_children plan.now) }
 {
     put_str(alloc, objects, plan, "vendorName", "none")?;
     put_uri(alloc, objects, plan, "vendorUrl", "")
@@ -149,8 +148,8 @@ fn put_product(
     plan: &Plan,
     now: Moment,
 ) -> Result<(), AllocError>
-    requires { objects.old.items ≡ server_children (plan_of plan.now) now ++ vendor_children (plan_of plan.now) }
-    ensures { IfOk result (λ _. objects.new.items ≡ server_children (plan_of plan.now) now ++ vendor_children (plan_of plan.now) ++ product_children (plan_of plan.now)) }
+    requires { objects.old.items ≡ server_children plan.now now ++ vendor_children plan.now }
+    ensures { IfOk result (λ _. objects.new.items ≡ server_children plan.now now ++ vendor_children plan.now ++ product_children plan.now) }
 {
     put_str(alloc, objects, plan, "productName", "obix")?;
     put_str(alloc, objects, plan, "productVersion", "1.0")?;
@@ -162,7 +161,7 @@ fn put_product(
 ///
 /// Source: oBIX 1.1, chapter 5 (About). The defaults are this profile's own.
 pub fn about(alloc: Global, plan: &Plan, now: Moment) -> Result<Obj, AllocError>
-    ensures { IfOk result (λ o. o ≡ about_object (plan_of plan.now) now) }
+    ensures { IfOk result (λ o. o ≡ about_object plan.now now) }
 {
     let mut children = Vec::new(alloc);
     put_server(alloc, &mut children, plan, now)?;
@@ -177,7 +176,7 @@ pub fn about(alloc: Global, plan: &Plan, now: Moment) -> Result<Obj, AllocError>
 ///
 /// Source: oBIX 1.1, chapter 5 (Batch).
 pub fn batch_op(alloc: Global, plan: &Plan) -> Result<Obj, AllocError>
-    ensures { IfOk result (λ o. o ≡ batch_op (plan_of plan.now)) }
+    ensures { IfOk result (λ o. o ≡ batch_op plan.now) }
 {
     let path = plan.root.followed_by(alloc, "batch")?;
     op_at(alloc, "batch", path, Contract::BatchIn, Contract::BatchOut)
@@ -187,7 +186,7 @@ pub fn batch_op(alloc: Global, plan: &Plan) -> Result<Obj, AllocError>
 ///
 /// Source: oBIX 1.1, chapter 12 (WatchService).
 pub fn make_op(alloc: Global, plan: &Plan) -> Result<Obj, AllocError>
-    ensures { IfOk result (λ o. o ≡ make_op (plan_of plan.now)) }
+    ensures { IfOk result (λ o. o ≡ make_op plan.now) }
 {
     let path = plan.root.followed_by(alloc, "watchService/make")?;
     op_at(alloc, "make", path, Contract::Nil, Contract::Watch)
@@ -197,7 +196,7 @@ pub fn make_op(alloc: Global, plan: &Plan) -> Result<Obj, AllocError>
 ///
 /// Source: oBIX 1.1, chapter 12 (WatchService).
 pub fn service(alloc: Global, plan: &Plan) -> Result<Obj, AllocError>
-    ensures { IfOk result (λ o. o ≡ service_object (plan_of plan.now)) }
+    ensures { IfOk result (λ o. o ≡ service_object plan.now) }
 {
     let path = plan.root.followed_by(alloc, "watchService")?;
     let head = obj_head(alloc, Some(path), Contract::WatchService)?;
@@ -209,7 +208,7 @@ pub fn service(alloc: Global, plan: &Plan) -> Result<Obj, AllocError>
 ///
 /// Source: oBIX 1.1, chapter 15 (AckAlarm).
 pub fn ack_op(alloc: Global, plan: &Plan, number: u64) -> Result<Obj, AllocError>
-    ensures { IfOk result (λ o. o ≡ ack_child (alarm_path (plan_of plan.now).root number)) }
+    ensures { IfOk result (λ o. o ≡ ack_child (alarm_path plan.now.root number)) }
 {
     let path = ack_path(alloc, plan, number)?;
     op_at(

@@ -3,7 +3,6 @@ ghost use Rattle.std.specs.Prelude.{◌≡◌, ◌++◌, ◌∷◌, [], codes, d
 ghost use Rattle.ob_values.specs.XmlText.{is_printable};
 ghost use Rattle.ob_alarms.specs.AlarmObjects.{alarm_path};
 ghost use Rattle.ob_site_rules.specs.Paths.{below, ends_with_slash, ack_path};
-ghost use Rattle.ob_replies.specs.Plans.{plan as plan_of};
 
 use ob_site_rules::Plan;
 use ob_values::Text;
@@ -46,7 +45,7 @@ pub(crate) fn watch_path(alloc: Global, root: &Text, number: u64) -> Result<Text
 /// The path of an alarm.
 #[tactic(auto, using(ob_alarms::proofs::Paths::tail_printable))]
 pub fn alarm_path(alloc: Global, plan: &Plan, number: u64) -> Result<Text, AllocError>
-    ensures { IfOk result (λ path. path ≡ alarm_path (plan_of plan.now).root number) }
+    ensures { IfOk result (λ path. path ≡ alarm_path plan.now.root number) }
 {
     let tail = format!(in alloc; "alarm/{number}/")?;
     plan.root.followed_by(alloc, tail.as_str())
@@ -54,7 +53,7 @@ pub fn alarm_path(alloc: Global, plan: &Plan, number: u64) -> Result<Text, Alloc
 
 /// The path of the op that acknowledges an alarm.
 pub fn ack_path(alloc: Global, plan: &Plan, number: u64) -> Result<Text, AllocError>
-    ensures { IfOk result (λ path. path ≡ ack_path (plan_of plan.now) number) }
+    ensures { IfOk result (λ path. path ≡ ack_path plan.now number) }
 {
     let alarm = alarm_path(alloc, plan, number)?;
     alarm.followed_by(alloc, "ack")

@@ -2,7 +2,6 @@
 ghost use Rattle.std.specs.Prelude.{◌≡◌, ◌<◌, ◌^◌, ◌∷◌, [], Some, codes, IsTrue, IfOk, option_map};
 ghost use Rattle.ob_site_rules.specs.Build.{time_slot};
 ghost use Rattle.ob_site_rules.specs.Shown.{lobby_children, write_point_op, count_child, subject_children};
-ghost use Rattle.ob_replies.specs.Plans.{plan as plan_of};
 
 use crate::build::{feed_at, op_at, put, ref_to};
 use crate::contract::Contract;
@@ -17,7 +16,7 @@ use std::alloc::{AllocError, Global};
 ///
 /// Source: oBIX 1.1, chapter 5 (Lobby).
 pub fn lobby_children(alloc: Global, plan: &Plan) -> Result<Vec<Obj>, AllocError>
-    ensures { IfOk result (λ os. os.items ≡ lobby_children (plan_of plan.now)) }
+    ensures { IfOk result (λ os. os.items ≡ lobby_children plan.now) }
 {
     let mut children = Vec::new(alloc);
     let about = plan.root.followed_by(alloc, "about")?;

@@ -5,7 +5,6 @@ ghost use Rattle.ob_site_rules.specs.Build.{op_at, under_href};
 ghost use Rattle.ob_site_rules.specs.Computed.{watch_object, watch_part_object, watch_out};
 ghost use Rattle.ob_replies.specs.WatchChildren.{span_value, lease_at, child_at, children_at};
 ghost use Rattle.ob_replies.specs.Names.{is_name};
-ghost use Rattle.ob_replies.specs.Plans.{plan as plan_of};
 ghost use Rattle.ob_replies.specs.Told as told;
 
 use crate::build::{nameless, obj_head, one_child, op_at, put, whole};
@@ -122,7 +121,7 @@ fn put_children(
 /// Source: oBIX 1.1, chapter 12 (Watch).
 pub fn watch(alloc: Global, plan: &Plan, number: u64, lease: u64) -> Result<Obj, AllocError>
     requires { lease < 2 ^ 63 }
-    ensures { IfOk result (λ o. o ≡ watch_object (plan_of plan.now) number lease) }
+    ensures { IfOk result (λ o. o ≡ watch_object plan.now number lease) }
 {
     let path = watch_path(alloc, &plan.root, number)?;
     let mut children = Vec::new(alloc);
@@ -142,7 +141,7 @@ pub fn watch_part(
     part: WatchPart,
 ) -> Result<Obj, AllocError>
     requires { lease < 2 ^ 63 }
-    ensures { IfOk result (λ o. o ≡ watch_part_object (plan_of plan.now) number lease part) }
+    ensures { IfOk result (λ o. o ≡ watch_part_object plan.now number lease part) }
 {
     if part == WatchPart::Whole {
         return watch(alloc, plan, number, lease);

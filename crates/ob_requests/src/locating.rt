@@ -1,6 +1,5 @@
 //! The path that a text leads to.
 ghost use Rattle.std.specs.Prelude.{◌≡◌, IfOk};
-ghost use Rattle.ob_replies.specs.Plans.{plan as plan_of};
 ghost use Rattle.ob_site_rules.specs.Locating.{locate};
 
 use ob_href::{HrefFault, locate};
@@ -13,7 +12,7 @@ use std::alloc::{AllocError, Global};
 /// Source: oBIX 1.1, chapter 6 (Naming).
 #[tactic(auto, using(crate::proofs::Leading::leads, crate::proofs::Leading::no_url, crate::proofs::Leading::elsewhere, crate::proofs::Leading::part_of))]
 pub fn located(alloc: Global, plan: &Plan, text: &Text) -> Result<Option<Text>, AllocError>
-    ensures { IfOk result (λ path. path ≡ locate (plan_of plan.now).base text.now) }
+    ensures { IfOk result (λ path. path ≡ locate plan.now.base text.now) }
 {
     if plan.base.keeps(text.as_str()) {
         return Ok(Some(text.copy()?));

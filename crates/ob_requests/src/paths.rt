@@ -6,7 +6,6 @@ ghost use Rattle.std.specs.Str.{bytes_eq};
 ghost use Rattle.ob_site_rules.specs.Paths.{behind, before_slash, behind_slash, digits_number, number_spelled, part_named, watch_part};
 ghost use Rattle.ob_site_rules.specs.State.{at};
 ghost use Rattle.ob_site_rules.specs.Actions.{is_of_watch};
-ghost use Rattle.ob_replies.specs.Plans.{plan as plan_of};
 ghost use Rattle.ob_requests.specs.Numbers.{is_number, is_slash};
 ghost use Rattle.ob_requests.specs.Parts.{IsSpelled, IsOfWatch, late_parts, watch_behind};
 
@@ -159,7 +158,7 @@ fn part_behind(text: &[u8]) -> OfWatch
 
 /// The number of a watch and its part, if a path is of that form.
 pub fn watch_part(plan: &Plan, path: &str) -> OfWatch
-    ensures { IsOfWatch result (watch_part (plan_of plan.now) path.now) }
+    ensures { IsOfWatch result (watch_part plan.now path.now) }
 {
     let root = plan.root.as_str().as_bytes();
     let Some(below) = behind(root, path.as_bytes()) else {
@@ -173,7 +172,7 @@ pub fn watch_part(plan: &Plan, path: &str) -> OfWatch
 
 /// Whether a path is one of a watch of these numbers.
 pub fn is_of_watch(plan: &Plan, numbers: &[u64], path: &str) -> bool
-    ensures { result ≡ is_of_watch (plan_of plan.now) numbers.now path.now }
+    ensures { result ≡ is_of_watch plan.now numbers.now path.now }
 {
     match watch_part(plan, path) {
         OfWatch::Part(number, _) => numbers.contains(&number),

@@ -3,7 +3,6 @@ ghost use Rattle.std.specs.Prelude.{◌≡◌, IfOk};
 ghost use Rattle.std.specs.Str.{bytes_eq};
 ghost use Rattle.ob_site_rules.specs.Paths.{make_path, watch_part};
 ghost use Rattle.ob_site_rules.specs.Watched.{call_of_watch, operation, put_to_watch, target_at, target_part};
-ghost use Rattle.ob_replies.specs.Plans.{plan as plan_of};
 ghost use Rattle.ob_requests.specs.Targets.{IsTarget, operation_of};
 
 use crate::asked::{Asked, asked_by, texts_of};
@@ -125,7 +124,7 @@ fn asks_of(
 
 // Whether a path is that of the op that makes watches.
 fn is_make(alloc: Global, plan: &Plan, path: &Text) -> Result<bool, AllocError>
-    ensures { IfOk result (λ is. is ≡ bytes_eq path.now (make_path (plan_of plan.now))) }
+    ensures { IfOk result (λ is. is ≡ bytes_eq path.now (make_path plan.now)) }
 {
     let make = plan.root.followed_by(alloc, "watchService/make")?;
     Ok(path.as_str() == make.as_str())
@@ -138,7 +137,7 @@ fn target_part(
     request: &Request,
     path: &Text,
 ) -> Result<Target, AllocError>
-    ensures { IfOk result (λ target. IsTarget target (target_part request.now (watch_part (plan_of plan.now) path.now))) }
+    ensures { IfOk result (λ target. IsTarget target (target_part request.now (watch_part plan.now path.now))) }
 {
     match watch_part(plan, path.as_str()) {
         OfWatch::No => Ok(Target::Itself),
@@ -159,7 +158,7 @@ pub fn target_at(
     request: &Request,
     path: &Option<Text>,
 ) -> Result<Target, AllocError>
-    ensures { IfOk result (λ target. IsTarget target (target_at (plan_of plan.now) request.now path.now)) }
+    ensures { IfOk result (λ target. IsTarget target (target_at plan.now request.now path.now)) }
 {
     let Some(path) = path else {
         return Ok(Target::Nowhere);

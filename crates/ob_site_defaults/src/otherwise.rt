@@ -8,8 +8,7 @@ ghost use Rattle.ob_tree.specs.Shown.{standing_at};
 ghost use Rattle.ob_shown_laws.specs.OwnTree.{own_shown_at};
 ghost use Rattle.ob_standing.specs.Contexts.{comes_to};
 ghost use Rattle.ob_standing.specs.Standings.{context};
-ghost use Rattle.ob_replies.specs.Plans.{plan as plan_of};
-ghost use Rattle.ob_site_rules.specs.declared.plan.Plan.{Plan as SitePlan};
+ghost use Rattle.ob_site_rules.specs.declared.plan.Plan.{Plan};
 ghost use Rattle.ob_site_rules.specs.State.{State as SiteState};
 ghost use Rattle.ob_step_laws.specs.Defaults.{with_library};
 ghost use Rattle.ob_site_state.specs.Contents.{state_in};
@@ -44,8 +43,8 @@ fn put_otherwise(
     nodes: &mut Vec<NodeId>,
 ) -> Result<(), AllocError>
     requires few { number + parts own.now < 2 ^ 64 }
-    requires shown { (plan : SitePlan) × (s : SiteState) × (old : Contracts) × AreShown plan s old number own.now before.now after.now }
-    ensures { OnOk result ((plan : SitePlan) (s : SiteState) (old : Contracts) → AreShown plan s old number own.now before.now after.now
+    requires shown { (plan : Plan) × (s : SiteState) × (old : Contracts) × AreShown plan s old number own.now before.now after.now }
+    ensures { OnOk result ((plan : Plan) (s : SiteState) (old : Contracts) → AreShown plan s old number own.now before.now after.now
         → AreOtherwiseBelow plan (with_library old s) s.library number (map (λ node. node.number) nodes.old.items)
         → AreOtherwiseBelow plan (with_library old s) s.library (number + parts own.now) (map (λ node. node.number) nodes.new.items)) }
 {
@@ -74,10 +73,10 @@ fn both_shown<L: Ledger>(
     root: NodeId,
     steps: &mut Steps<L>,
 ) -> Result<(Obj, Obj), AllocError>
-    requires readable { IsReadable (plan_of plan.now) contents.now }
+    requires readable { IsReadable plan.now contents.now }
     requires within { root.number < parts contents.now.ground.tree.root }
-    ensures before { IfOk result (λ both. Some both.0 ≡ own_shown_at (plan_of plan.now) (with_library old.now (state_in contents.now)) root.number) }
-    ensures after { IfOk result (λ both. Some both.1 ≡ own_shown_at (plan_of plan.now) (state_in contents.now) root.number) }
+    ensures before { IfOk result (λ both. Some both.0 ≡ own_shown_at plan.now (with_library old.now (state_in contents.now)) root.number) }
+    ensures after { IfOk result (λ both. Some both.1 ≡ own_shown_at plan.now (state_in contents.now) root.number) }
 {
     let dressed = dressed_part(alloc, plan, contents, root)?;
     let before = contents.ground.tree().standing(old, root, steps);
@@ -103,9 +102,9 @@ fn nodes_otherwise<L: Ledger>(
     old: &Library,
     steps: &mut Steps<L>,
 ) -> Result<Vec<NodeId>, AllocError>
-    requires readable { IsReadable (plan_of plan.now) contents.now }
+    requires readable { IsReadable plan.now contents.now }
     requires differ { first_twice [] (paths contents.now.ground.tree.root) ≡ None }
-    ensures others { IfOk result (λ nodes. AreOtherwise (plan_of plan.now) (with_library old.now (state_in contents.now)) contents.now.ground.library (map (λ node. node.number) nodes.items)) }
+    ensures others { IfOk result (λ nodes. AreOtherwise plan.now (with_library old.now (state_in contents.now)) contents.now.ground.library (map (λ node. node.number) nodes.items)) }
     ensures within { IfOk result (λ nodes. All (λ node. node.number < parts contents.now.ground.tree.root) nodes.items) }
 {
     let tree = contents.ground.tree();

@@ -5,7 +5,6 @@ use Rattle.url.specs.Parts.{Parts}
 use Rattle.ob_object.specs.Object.{Object}
 use Rattle.ob_contracts.specs.Inherit.{Contracts}
 use Rattle.ob_contracts.specs.Standard.{standard}
-use Rattle.ob_replies.specs.Plans.{plan as plan_of}
 use Rattle.ob_site_rules.specs.Build.{Path}
 use Rattle.ob_site_rules.specs.declared.plan.PointRule.{PointRule}
 use Rattle.ob_site_rules.specs.declared.plan.Plan.{Plan}
@@ -62,12 +61,12 @@ site_with plan s = record {
 
 -- the site that stands opened
 abbrev pub site_of : Opened → SiteState
-site_of o = site_with (plan_of o.plan) (state_with o.library o.tree (map entry_of o.logs.items))
+site_of o = site_with o.plan (state_with o.library o.tree (map entry_of o.logs.items))
 
 -- what stands opened of a root with this library, as far as it is planned
 pub record Plans (base : Parts) (boot : ℕ) (root : Object) (lib : Contracts) (o : Opened) : Type 0 where
   pub library : o.library ≡ lib
-  pub plan : plan_of o.plan ≡ plan_with base boot root (site_parts root)
+  pub plan : o.plan ≡ plan_with base boot root (site_parts root)
   pub tree : o.tree ≡ kept_root (site_roles root) root
   pub logs : map entry_of o.logs.items ≡ map whole_log (histories_in (site_parts root))
   pub counted : AreCounted (map entry_of o.logs.items)

@@ -10,7 +10,6 @@ use Rattle.ob_object.specs.Object.{Object, Objects, empty_head, listed, in_row, 
 use Rattle.ob_object.specs.WellFormed.{is_taken}
 use Rattle.ob_object.specs.Paths.{node_path}
 use Rattle.ob_contracts.specs.Inherit.{Contracts, Words, row_results}
-use Rattle.ob_replies.specs.Plans.{plan as plan_of}
 use Rattle.ob_site_rules.specs.Build.{leaf}
 use Rattle.ob_site_rules.specs.Shown.{derived, with_status, with_roles}
 use Rattle.ob_site_rules.specs.State.{State, at, is_among}
@@ -37,7 +36,7 @@ is_fresh set (Some n) = not (has_text set n)
 -- what the parts of the site of a plan and a state are counted by
 pub record IsCounting (c : Counting) (plan : Plan) (s : State) : Type 0 where
   pub library : c.library.now ≡ s.library
-  pub fixed : plan_of c.plan.now ≡ plan
+  pub fixed : c.plan.now ≡ plan
   pub points : (t : List ℕ) → has_text c.points t ≡ is_among t plan.points
   pub histories : (t : List ℕ) → has_text c.histories t ≡ is_some (at t s.logs)
 

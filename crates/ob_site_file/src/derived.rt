@@ -3,7 +3,7 @@ ghost use Rattle.std.specs.Prelude.{◌≡◌, ◌++◌, ◌∷◌, [], ◌&&◌
 ghost use Rattle.ob_object.specs.Paths.{is_path, node_path};
 ghost use Rattle.ob_site_rules.specs.Shown.{derived, derived_at};
 ghost use Rattle.ob_site_rules.specs.State.{State as SiteState, at, is_among};
-ghost use Rattle.ob_site_rules.specs.declared.plan.Plan.{Plan as SitePlan};
+ghost use Rattle.ob_site_rules.specs.declared.plan.Plan.{Plan};
 ghost use Rattle.ob_plain_state.specs.States.{entry_of};
 ghost use Rattle.ob_site_file.specs.Sizes.{has_text, IsCounting, stand_in, stood, plain};
 
@@ -170,7 +170,7 @@ impl<'a> Counting<'a> {
 
 // Puts the children last that the roles of the node at a path derive.
 fn put_derived(list: &mut Vec<Derived>, counting: &Counting, path: &Text) -> Result<(), AllocError>
-    ensures { IfOk result (λ _. (plan : SitePlan) (s : SiteState) → IsCounting counting.now plan s → map stood list.new.items ≡ map stood list.old.items ++ map plain (derived_at plan s path.now)) }
+    ensures { IfOk result (λ _. (plan : Plan) (s : SiteState) → IsCounting counting.now plan s → map stood list.new.items ≡ map stood list.old.items ++ map plain (derived_at plan s path.now)) }
 {
     put_lobby(list, counting.is_lobby(path))?;
     put_point(list, counting.is_point(path))?;
@@ -185,7 +185,7 @@ pub(crate) fn derived_children(
     counting: &Counting,
     head: &Attributes,
 ) -> Result<Vec<Derived>, AllocError>
-    ensures { IfOk result (λ ds. (plan : SitePlan) (s : SiteState) → IsCounting counting.now plan s → map stood ds.items ≡ map plain (derived plan s (node_path head.now))) }
+    ensures { IfOk result (λ ds. (plan : Plan) (s : SiteState) → IsCounting counting.now plan s → map stood ds.items ≡ map plain (derived plan s (node_path head.now))) }
 {
     let mut list = Vec::new(alloc);
     match head.node_path() {

@@ -1,7 +1,6 @@
 //! What is fixed when a site is opened, and the logs of its histories.
 ghost use Rattle.std.specs.Prelude.{◌≡◌, ◌++◌, ◌∷◌, [], false, map, filter, None, option_map, IfOk};
 ghost use Rattle.ob_opening.specs.Loading.{about_texts};
-ghost use Rattle.ob_replies.specs.Plans.{plan as plan_of};
 ghost use Rattle.ob_site_rules.specs.Loading.{path_of, histories_in, root_lobby};
 ghost use Rattle.ob_roles.specs.Told.{part as site_part};
 ghost use Rattle.ob_plain_state.specs.States.{entry_of, AreCounted};
@@ -98,7 +97,7 @@ fn histories_of(alloc: Global, parts: &[Part]) -> Result<Fixed<(Text, Option<Tex
 
 // What is fixed of a site of which only the root's path is known, whether it is a lobby, and when it is opened.
 fn bare_plan(alloc: Global, base: Base, lobby: bool, boot: Moment) -> Result<Plan, AllocError>
-    ensures { IfOk result (λ plan. plan_of plan ≡ record { base = base; root = base.path; boot = boot; lobby = lobby; points = []; histories = []; subject = None; rules = []; about = [] }) }
+    ensures { IfOk result (λ plan. plan ≡ record { base = base; root = base.path; boot = boot; lobby = lobby; points = []; histories = []; subject = None; rules = []; about = [] }) }
 {
     let root = base.path(alloc)?;
     Ok(Plan {
@@ -179,7 +178,7 @@ pub(crate) fn plan_of(
     parts: &[Part],
     boot: Moment,
 ) -> Result<Plan, AllocError>
-    ensures { IfOk result (λ plan. plan_of plan ≡ plan_with base boot root.now (map site_part parts.now)) }
+    ensures { IfOk result (λ plan. plan ≡ plan_with base boot root.now (map site_part parts.now)) }
 {
     let subject = subject_path(parts)?;
     let mut plan = bare_plan(alloc, base, is_lobby(parts), boot)?;

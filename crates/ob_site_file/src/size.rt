@@ -8,6 +8,7 @@ ghost use Rattle.ob_contracts.specs.Found.{found, lent};
 ghost use Rattle.ob_contracts.specs.Inherit.{contract_of, present, sources, overridden, missing, is_new, or_else, words_in, result_of};
 ghost use Rattle.ob_contracts.specs.Telling.{TellTheSame};
 ghost use Rattle.ob_site_rules.specs.Shown.{derived, with_roles, shown_root};
+ghost use Rattle.ob_site_rules.specs.declared.plan.Plan.{Plan};
 ghost use Rattle.ob_site_rules.specs.State.{State as SiteState};
 ghost use Rattle.ob_site_rules.specs.declared.plan.Plan.{Plan as SitePlan};
 ghost use Rattle.ob_site_file.specs.Sizes.{has_text, HasNames, is_fresh, IsCounting, dressed_at, stood, row_count};
@@ -257,7 +258,7 @@ fn left_after_added<'a>(
     from: &[&'a Obj],
     most: u64,
 ) -> Result<u64, AllocError>
-    ensures { IfOk result (λ n. (plan : SitePlan) (s : SiteState) (ss : List Object) → IsCounting counting.now plan s → ((k : List ℕ) → found above.now.names.now k ≡ overridden (Some k) ss)
+    ensures { IfOk result (λ n. (plan : Plan) (s : SiteState) (ss : List Object) → IsCounting counting.now plan s → ((k : List ℕ) → found above.now.names.now k ≡ overridden (Some k) ss)
         → n ≡ most - (row_count above.now.library.now (option_copied above.now.gives) ss (in_row (derived plan s (node_path object.now.head)))
         + count (in_row (missing (listed (with_roles plan s object.now.inner) ++ derived plan s (node_path object.now.head)) (lent from.now))))) }
 {
@@ -292,7 +293,7 @@ fn left_after_shown<'a>(
     over: Option<&'a Obj>,
     most: u64,
 ) -> Result<u64, AllocError>
-    ensures { IfOk result (λ n. (plan : SitePlan) (s : SiteState) → IsCounting counting.now plan s
+    ensures { IfOk result (λ n. (plan : Plan) (s : SiteState) → IsCounting counting.now plan s
         → n ≡ most - parts (result_of s.library (dressed_at plan s object.now) (option_copied implied.entry) (option_copied over.entry))) }
 {
     let head = object.head();
@@ -325,7 +326,7 @@ fn parts_up_to<'a>(
     root: &'a Obj,
     limit: u64,
 ) -> Result<u64, AllocError>
-    ensures { IfOk result (λ n. (plan : SitePlan) (s : SiteState) → IsCounting counting.now plan s → s.tree ≡ root.now → n ≡ min limit (parts (shown_root plan s))) }
+    ensures { IfOk result (λ n. (plan : Plan) (s : SiteState) → IsCounting counting.now plan s → s.tree ≡ root.now → n ≡ min limit (parts (shown_root plan s))) }
 {
     let left = left_after_shown(alloc, counting, root, None, None, limit)?;
     Ok(limit.saturating_sub(left))
@@ -337,7 +338,7 @@ pub(crate) fn is_too_large<'a>(
     counting: &Counting<'a>,
     root: &'a Obj,
 ) -> Result<bool, AllocError>
-    ensures { IfOk result (λ large. (plan : SitePlan) (s : SiteState) → IsCounting counting.now plan s → s.tree ≡ root.now → large ≡ nat_lt 200_000 (parts (shown_root plan s))) }
+    ensures { IfOk result (λ large. (plan : Plan) (s : SiteState) → IsCounting counting.now plan s → s.tree ≡ root.now → large ≡ nat_lt 200_000 (parts (shown_root plan s))) }
 {
     let parts = parts_up_to(alloc, counting, root, MOST + 1)?;
     Ok(parts > MOST)

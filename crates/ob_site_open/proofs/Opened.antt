@@ -8,7 +8,6 @@ use Rattle.ob_alarms.specs.Changes.{State as Board}
 use Rattle.ob_tree.specs.Trees.{Stamped}
 use Rattle.ob_object.specs.WellFormed.{IsWellFormed}
 use Rattle.ob_alarms.specs.Limits.{IsRule}
-use Rattle.ob_replies.specs.Plans.{plan as plan_of}
 use Rattle.ob_tree.specs.Laid.{paths}
 use Rattle.ob_tree.specs.Paths.{first_twice}
 use Rattle.ob_site_rules.specs.Build.{Path}
@@ -54,7 +53,7 @@ pub record Fills (o : Opened) (c : Contents) : Type 0 where
   pub tree : c.ground.tree ≡ record { root = o.tree; stamps = replicate (parts o.tree) 0; steps = 0 }
   pub logs : map entry_in c.logs.items ≡ rolled_logs (map entry_of o.logs.items)
   pub nanos : EachLog HaveNanos (map entry_in c.logs.items)
-  pub board : c.board ≡ none_yet (plan_of o.plan)
+  pub board : c.board ≡ none_yet o.plan
 
 -- the state that they make
 filled : (o : Opened) (c : Contents) → Fills o c → state_in c ≡ (site_of o).world.site
@@ -74,7 +73,7 @@ module _ (root : Object) (boot : ℕ) (o : Opened) (formed : IsWellFormed root) 
   pub consistent : IsConsistent st.plan st.world.site
   consistent = is_opened.consistent
 
-  pub rules_fit : All IsRule (numbered_from 0 (plan_of o.plan).rules)
+  pub rules_fit : All IsRule (numbered_from 0 o.plan.rules)
   rules_fit = is_opened.rules
 
   ordered : IsOrdered st
@@ -89,7 +88,7 @@ module _ (root : Object) (boot : ℕ) (o : Opened) (formed : IsWellFormed root) 
   pub stand : EachLog CanStand (rolled_logs (map entry_of o.logs.items))
   stand = logs_stand boot st (opens_records root boot st formed h)
 
-  pub apart : Apart (map (λ h. h.0) (plan_of o.plan).histories)
+  pub apart : Apart (map (λ h. h.0) o.plan.histories)
   apart = ordered.histories
 
   roles : RolesStand st.plan st.world.site
@@ -105,7 +104,7 @@ module _ (root : Object) (boot : ℕ) (o : Opened) (formed : IsWellFormed root) 
     state_is : state_in c ≡ st.world.site
     state_is = filled o c f
 
-    pub histories : keys (state_in c).logs ≡ map (λ h. h.0) (plan_of o.plan).histories
+    pub histories : keys (state_in c).logs ≡ map (λ h. h.0) o.plan.histories
     histories = ap (λ (s : State). keys s.logs) state_is ∙ ordered.logs
 
     pub differ : first_twice [] (paths c.ground.tree.root) ≡ None
@@ -119,8 +118,8 @@ module _ (root : Object) (boot : ℕ) (o : Opened) (formed : IsWellFormed root) 
     pub rolled : roll (state_in c) ≡ state_in c
     rolled = ap roll state_is ∙ rolls_once (state_with o.library o.tree (map entry_of o.logs.items)) ∙ sym state_is
 
-    pub sound : IsSoundFor (plan_of o.plan) (state_in c)
-    sound = subst (IsSoundFor (plan_of o.plan)) (sym state_is) (record { consistent = consistent; paths_differ = shown_differ; roles = roles })
+    pub sound : IsSoundFor o.plan (state_in c)
+    sound = subst (IsSoundFor o.plan) (sym state_is) (record { consistent = consistent; paths_differ = shown_differ; roles = roles })
 
     pub capacities : capacities_of (state_in c).logs ≡ capacities_of st.world.site.logs
     capacities = ap (λ (s : State). capacities_of s.logs) state_is

@@ -2,7 +2,6 @@
 ghost use Rattle.std.specs.Prelude.{◌≡◌, [], IfOk};
 ghost use Rattle.std.specs.List.{All};
 ghost use Rattle.ob_alarms.specs.Limits.{IsRule};
-ghost use Rattle.ob_replies.specs.Plans.{plan as plan_of};
 ghost use Rattle.ob_site_rules.specs.State.{numbered_from};
 
 use ob_alarms::{Alarms, Rule};
@@ -30,8 +29,8 @@ fn rules_of(alloc: Global, rules: &[PointRule]) -> Result<Vec<Rule>, AllocError>
 
 /// No alarms yet, with the rules of the plan. An error only for want of memory.
 pub(crate) fn board_of(alloc: Global, plan: &Plan) -> Result<Alarms, AllocError>
-    requires { All IsRule (numbered_from 0 (plan_of plan.now).rules) }
-    ensures { IfOk result (λ b. b ≡ record { root = plan.now.root; rules = numbered_from 0 (plan_of plan.now).rules; alarms = []; events = []; spare = 0 }) }
+    requires { All IsRule (numbered_from 0 plan.now.rules) }
+    ensures { IfOk result (λ b. b ≡ record { root = plan.now.root; rules = numbered_from 0 plan.now.rules; alarms = []; events = []; spare = 0 }) }
 {
     let rules = rules_of(alloc, plan.rules.as_slice())?;
     let root = plan.root.copy()?;

@@ -1,6 +1,5 @@
 //! The answer to a Get.
 ghost use Rattle.std.specs.Prelude.{◌≡◌, IfOk};
-ghost use Rattle.ob_replies.specs.Plans.{plan as plan_of};
 ghost use Rattle.ob_site_rules.specs.Places.{object_at, reply_at};
 ghost use Rattle.ob_site_state.specs.Contents.{state_in};
 ghost use Rattle.ob_site_shown.specs.Readable.{IsReadable};
@@ -29,8 +28,8 @@ pub fn reply_at<L: Ledger>(
     default: Obj,
     steps: &mut Steps<L>,
 ) -> Result<Obj, AllocError>
-    requires { IsReadable (plan_of plan.now) contents.now }
-    ensures { IfOk result (λ o. o ≡ reply_at (plan_of plan.now) (state_in contents.now) path.now default) }
+    requires { IsReadable plan.now contents.now }
+    ensures { IfOk result (λ o. o ≡ reply_at plan.now (state_in contents.now) path.now default) }
 {
     match shown_at(alloc, plan, contents, path, steps)? {
         Some(node) => Ok(nameless(node)),
@@ -51,8 +50,8 @@ pub fn object_at<L: Ledger>(
     place: Place,
     steps: &mut Steps<L>,
 ) -> Result<Obj, AllocError>
-    requires { IsComplete (plan_of plan.now) contents.now }
-    ensures { IfOk result (λ o. o ≡ object_at (plan_of plan.now) (state_in contents.now) now path.now (place_of place)) }
+    requires { IsComplete plan.now contents.now }
+    ensures { IfOk result (λ o. o ≡ object_at plan.now (state_in contents.now) now path.now (place_of place)) }
 {
     match place {
         Place::About => about(alloc, plan, now),

@@ -1,7 +1,6 @@
 //! Paths compared with others without making any.
 ghost use Rattle.std.specs.Prelude.{◌≡◌, ◌<◌, ◌^◌, ◌++◌, ℕ, List, Some, bytes_eq};
 ghost use Rattle.ob_alarms.specs.AlarmObjects.{alarm_path};
-ghost use Rattle.ob_replies.specs.Plans.{plan as plan_of};
 
 use ob_site_rules::Plan;
 use ob_values::Text;
@@ -18,7 +17,7 @@ pub(crate) fn is_followed(front: &Text, tail: &str, path: &Text) -> bool
 
 /// The number that stands in a path where the path of an alarm has its own.
 pub(crate) fn alarm_number(plan: &Plan, path: &Text) -> Option<u64>
-    ensures { (n : ℕ) (t : List ℕ) → n < 2 ^ 64 → path.now ≡ alarm_path (plan_of plan.now).root n ++ t → result ≡ Some n }
+    ensures { (n : ℕ) (t : List ℕ) → n < 2 ^ 64 → path.now ≡ alarm_path plan.now.root n ++ t → result ≡ Some n }
 {
     let Some(below) = path.as_str().strip_prefix(plan.root.as_str()) else {
         return None;

@@ -3,7 +3,6 @@ ghost use Rattle.std.specs.Prelude.{◌≡◌, ◌++◌, Some, option_map, optio
 ghost use Rattle.ob_alarms.specs.States.{needs_ack};
 ghost use Rattle.ob_alarms.specs.Changes.{alarm_of};
 ghost use Rattle.ob_contracts.specs.Inherit.{or_else};
-ghost use Rattle.ob_replies.specs.Plans.{plan as plan_of};
 ghost use Rattle.ob_site_rules.specs.State.{at, numbered_from};
 ghost use Rattle.ob_site_rules.specs.Places.{fixed_places, point_places, history_places, subject_places, event_places, alarm_places, computed_places, place_at};
 ghost use Rattle.ob_site_roles.specs.Roles.{AreRoles};
@@ -27,7 +26,7 @@ use std::sync::ledger::Ledger;
 
 /// The place of those whose paths the root's alone computes.
 fn fixed_place(plan: &Plan, path: &Text) -> Option<Place>
-    ensures { option_map place_of result ≡ at path.now (fixed_places (plan_of plan.now)) }
+    ensures { option_map place_of result ≡ at path.now (fixed_places plan.now) }
 {
     if is_followed(&plan.root, "about", path) {
         return Some(Place::About);
@@ -84,9 +83,9 @@ fn point_in(
     parent: &Text,
     path: &Text,
 ) -> Result<Option<Place>, AllocError>
-    requires roles { AreRoles contents.now.roles (plan_of plan.now) }
+    requires roles { AreRoles contents.now.roles plan.now }
     requires parent { IsParent path.now (Some parent.now) }
-    ensures { IfOk result (λ place. option_map place_of place ≡ at path.now (point_places (plan_of plan.now))) }
+    ensures { IfOk result (λ place. option_map place_of place ≡ at path.now (point_places plan.now)) }
 {
     let slashed = parent.followed_by(alloc, "/")?;
     let plain_at = contents.roles.point_at(parent);
@@ -112,8 +111,8 @@ fn point_place(
     contents: &Contents,
     path: &Text,
 ) -> Result<Option<Place>, AllocError>
-    requires { AreRoles contents.now.roles (plan_of plan.now) }
-    ensures { IfOk result (λ place. option_map place_of place ≡ at path.now (point_places (plan_of plan.now))) }
+    requires { AreRoles contents.now.roles plan.now }
+    ensures { IfOk result (λ place. option_map place_of place ≡ at path.now (point_places plan.now)) }
 {
     match parent_path(alloc, path)? {
         Some(parent) => point_in(alloc, plan, contents, &parent, path),
@@ -166,9 +165,9 @@ fn history_in(
     parent: &Text,
     path: &Text,
 ) -> Result<Option<Place>, AllocError>
-    requires roles { AreRoles contents.now.roles (plan_of plan.now) }
+    requires roles { AreRoles contents.now.roles plan.now }
     requires parent { IsParent path.now (Some parent.now) }
-    ensures { IfOk result (λ place. option_map place_of place ≡ at path.now (history_places (plan_of plan.now))) }
+    ensures { IfOk result (λ place. option_map place_of place ≡ at path.now (history_places plan.now)) }
 {
     let slashed = parent.followed_by(alloc, "/")?;
     let plain_at = contents.roles.history_at(parent);
@@ -194,8 +193,8 @@ fn history_place(
     contents: &Contents,
     path: &Text,
 ) -> Result<Option<Place>, AllocError>
-    requires { AreRoles contents.now.roles (plan_of plan.now) }
-    ensures { IfOk result (λ place. option_map place_of place ≡ at path.now (history_places (plan_of plan.now))) }
+    requires { AreRoles contents.now.roles plan.now }
+    ensures { IfOk result (λ place. option_map place_of place ≡ at path.now (history_places plan.now)) }
 {
     match parent_path(alloc, path)? {
         Some(parent) => history_in(alloc, plan, contents, &parent, path),
@@ -233,8 +232,8 @@ pub fn event_place(
     contents: &Contents,
     path: &Text,
 ) -> Result<Option<Place>, AllocError>
-    requires { AreRoles contents.now.roles (plan_of plan.now) }
-    ensures { IfOk result (λ place. option_map place_of place ≡ at path.now (event_places (plan_of plan.now))) }
+    requires { AreRoles contents.now.roles plan.now }
+    ensures { IfOk result (λ place. option_map place_of place ≡ at path.now (event_places plan.now)) }
 {
     let found = history_place(alloc, plan, contents, path)?;
     if found.is_some() {
@@ -252,7 +251,7 @@ fn rule_at(rules: &[PointRule], place: u64) -> Option<&PointRule>
 
 /// Whether an alarm needs an acknowledgement, by its rule.
 fn needs_ack(plan: &Plan, alarm: &Alarm) -> bool
-    ensures { result ≡ needs_ack (slice_get (numbered_from 0 (plan_of plan.now).rules) alarm.now.rule) }
+    ensures { result ≡ needs_ack (slice_get (numbered_from 0 plan.now.rules) alarm.now.rule) }
 {
     match rule_at(plan.rules.as_slice(), alarm.rule) {
         Some(rule) => rule.needs_ack,
@@ -268,7 +267,7 @@ fn one_alarm(
     alarm: &Alarm,
     path: &Text,
 ) -> Result<Option<Place>, AllocError>
-    ensures { IfOk result (λ place. option_map place_of place ≡ at path.now (alarm_parts (plan_of plan.now) (numbered_from 0 (plan_of plan.now).rules) number alarm.now)) }
+    ensures { IfOk result (λ place. option_map place_of place ≡ at path.now (alarm_parts plan.now (numbered_from 0 plan.now.rules) number alarm.now)) }
 {
     let own = alarm_path(alloc, plan, number)?;
     if own.is(path.as_str()) {
@@ -291,7 +290,7 @@ fn numbered_alarm(
     number: u64,
     path: &Text,
 ) -> Result<Option<Place>, AllocError>
-    ensures { IfOk result (λ place. option_map place_of place ≡ at path.now (parts_of_alarm (plan_of plan.now) (numbered_from 0 (plan_of plan.now).rules) number (alarm_of number alarms.now.alarms))) }
+    ensures { IfOk result (λ place. option_map place_of place ≡ at path.now (parts_of_alarm plan.now (numbered_from 0 plan.now.rules) number (alarm_of number alarms.now.alarms))) }
 {
     match alarms.alarm(number) {
         Some(alarm) => one_alarm(alloc, plan, number, alarm, path),
@@ -306,7 +305,7 @@ fn alarm_place(
     alarms: &Alarms,
     path: &Text,
 ) -> Result<Option<Place>, AllocError>
-    ensures { IfOk result (λ place. option_map place_of place ≡ at path.now (alarm_places (plan_of plan.now) (numbered_from 0 (plan_of plan.now).rules) 1 alarms.now.alarms)) }
+    ensures { IfOk result (λ place. option_map place_of place ≡ at path.now (alarm_places plan.now (numbered_from 0 plan.now.rules) 1 alarms.now.alarms)) }
 {
     let _count = alarms.len();
     match alarm_number(plan, path) {
@@ -322,8 +321,8 @@ fn event_or_alarm(
     contents: &Contents,
     path: &Text,
 ) -> Result<Option<Place>, AllocError>
-    requires { AreRoles contents.now.roles (plan_of plan.now) }
-    ensures { IfOk result (λ place. option_map place_of place ≡ at path.now (event_places (plan_of plan.now) ++ alarm_places (plan_of plan.now) (numbered_from 0 (plan_of plan.now).rules) 1 (state_in contents.now).alarms)) }
+    requires { AreRoles contents.now.roles plan.now }
+    ensures { IfOk result (λ place. option_map place_of place ≡ at path.now (event_places plan.now ++ alarm_places plan.now (numbered_from 0 plan.now.rules) 1 (state_in contents.now).alarms)) }
 {
     let found = event_place(alloc, plan, contents, path)?;
     if found.is_some() {
@@ -339,8 +338,8 @@ fn role_place(
     contents: &Contents,
     path: &Text,
 ) -> Result<Option<Place>, AllocError>
-    requires { AreRoles contents.now.roles (plan_of plan.now) }
-    ensures { IfOk result (λ place. option_map place_of place ≡ at path.now (point_places (plan_of plan.now) ++ (event_places (plan_of plan.now) ++ alarm_places (plan_of plan.now) (numbered_from 0 (plan_of plan.now).rules) 1 (state_in contents.now).alarms))) }
+    requires { AreRoles contents.now.roles plan.now }
+    ensures { IfOk result (λ place. option_map place_of place ≡ at path.now (point_places plan.now ++ (event_places plan.now ++ alarm_places plan.now (numbered_from 0 plan.now.rules) 1 (state_in contents.now).alarms))) }
 {
     let found = point_place(alloc, plan, contents, path)?;
     if found.is_some() {
@@ -356,8 +355,8 @@ pub fn computed_place(
     contents: &Contents,
     path: &Text,
 ) -> Result<Option<Place>, AllocError>
-    requires { AreRoles contents.now.roles (plan_of plan.now) }
-    ensures { IfOk result (λ place. option_map place_of place ≡ at path.now (computed_places (plan_of plan.now) (state_in contents.now))) }
+    requires { AreRoles contents.now.roles plan.now }
+    ensures { IfOk result (λ place. option_map place_of place ≡ at path.now (computed_places plan.now (state_in contents.now))) }
 {
     let found = fixed_place(plan, path);
     if found.is_some() {
@@ -374,8 +373,8 @@ pub fn place_at<L: Ledger>(
     path: &Text,
     steps: &mut Steps<L>,
 ) -> Result<Option<Place>, AllocError>
-    requires { IsReadable (plan_of plan.now) contents.now }
-    ensures { IfOk result (λ place. option_map place_of place ≡ place_at (plan_of plan.now) (state_in contents.now) path.now) }
+    requires { IsReadable plan.now contents.now }
+    ensures { IfOk result (λ place. option_map place_of place ≡ place_at plan.now (state_in contents.now) path.now) }
 {
     let found = computed_place(alloc, plan, contents, path)?;
     if found.is_some() {

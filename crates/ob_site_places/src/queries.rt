@@ -2,7 +2,6 @@
 ghost use Rattle.std.specs.Prelude.{◌≡◌, ◌++◌, All, option_map, IfOk};
 ghost use Rattle.std.specs.Option.{option_copied};
 ghost use Rattle.ob_history.specs.Records.{asked, IsRecord};
-ghost use Rattle.ob_replies.specs.Plans.{plan as plan_of};
 ghost use Rattle.ob_site_rules.specs.State.{at, board};
 ghost use Rattle.ob_site_rules.specs.Entries.{records_out, alarms_out};
 ghost use Rattle.ob_site_rules.specs.Posts.{query, records_of};
@@ -92,8 +91,8 @@ pub fn query_alarms(
     contents: &Contents,
     input: Option<&Obj>,
 ) -> Result<Obj, AllocError>
-    requires { IsComplete (plan_of plan.now) contents.now }
-    ensures { IfOk result (λ o. o ≡ query (alarms_out (board (plan_of plan.now) (state_in contents.now))) (option_copied input.entry)) }
+    requires { IsComplete plan.now contents.now }
+    ensures { IfOk result (λ o. o ≡ query (alarms_out (board plan.now (state_in contents.now))) (option_copied input.entry)) }
 {
     match read_filter(input) {
         Some(filter) => alarms_out(alloc, &filter, &contents.board),

@@ -7,7 +7,6 @@ ghost use Rattle.ob_site_rules.specs.Locating.{locate};
 ghost use Rattle.ob_site_rules.specs.Replies.{content_object};
 ghost use Rattle.ob_site_rules.specs.Sites.{site};
 ghost use Rattle.ob_site_rules.specs.Watched.{passes, gone_at};
-ghost use Rattle.ob_replies.specs.Plans.{plan as plan_of};
 ghost use Rattle.ob_site_state.specs.Contents.{state_in};
 ghost use Rattle.ob_site_places.specs.Complete.{AreOfPlan, IsComplete};
 ghost use Rattle.ob_site_reads.specs.Events.{events_of, feed_of_some};
@@ -109,8 +108,8 @@ pub fn count_at(
     contents: &Contents,
     path: &Text,
 ) -> Result<u64, AllocError>
-    requires { IsComplete (plan_of plan.now) contents.now }
-    ensures { IfOk result (λ n. n ≡ count (site locate (plan_of plan.now)) (state_in contents.now) path.now) }
+    requires { IsComplete plan.now contents.now }
+    ensures { IfOk result (λ n. n ≡ count (site locate plan.now) (state_in contents.now) path.now) }
 {
     let place = event_place(alloc, plan, contents, path)?;
     Ok(events_ever(contents, &place))
@@ -127,8 +126,8 @@ pub fn whole_feed(
     path: &Text,
     filter: &Filter,
 ) -> Result<Obj, AllocError>
-    requires { IsComplete (plan_of plan.now) contents.now }
-    ensures { IfOk result (λ o. (given : ℕ) → o ≡ content_object (content_now (site locate (plan_of plan.now)) (state_in contents.now) path.now (Feed filter.now given))) }
+    requires { IsComplete plan.now contents.now }
+    ensures { IfOk result (λ o. (given : ℕ) → o ≡ content_object (content_now (site locate plan.now) (state_in contents.now) path.now (Feed filter.now given))) }
 {
     let place = event_place(alloc, plan, contents, path)?;
     let all = Since {
@@ -150,7 +149,7 @@ fn feed_if_some(
 ) -> Result<Option<Obj>, AllocError>
     requires nameless { list_all (λ o. is_none o.head.name) events.items ≡ true }
     requires counted { dropped < 2 ^ 63 }
-    ensures { IfOk result (λ o. o ≡ feed_of_some (plan_of plan.now) path.now dropped events.items) }
+    ensures { IfOk result (λ o. o ≡ feed_of_some plan.now path.now dropped events.items) }
 {
     if dropped == 0 && events.is_empty() {
         return Ok(None);
@@ -171,8 +170,8 @@ pub fn feed_since(
     path: &Text,
     since: &Since,
 ) -> Result<Option<Obj>, AllocError>
-    requires { IsComplete (plan_of plan.now) contents.now }
-    ensures { IfOk result (λ o. (text : Href) → option_to_list o ≡ map (λ r. content_object r.content) (changes_of (site locate (plan_of plan.now)) (state_in contents.now) text path.now (Feed since.now.filter since.now.given))) }
+    requires { IsComplete plan.now contents.now }
+    ensures { IfOk result (λ o. (text : Href) → option_to_list o ≡ map (λ r. content_object r.content) (changes_of (site locate plan.now) (state_in contents.now) text path.now (Feed since.now.filter since.now.given))) }
 {
     let place = event_place(alloc, plan, contents, path)?;
     let dropped = gone_at(contents, &place).saturating_sub(since.given);

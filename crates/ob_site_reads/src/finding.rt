@@ -8,7 +8,6 @@ ghost use Rattle.ob_site_rules.specs.Shown.{shown};
 ghost use Rattle.ob_site_rules.specs.Locating.{locate};
 ghost use Rattle.ob_site_rules.specs.Sites.{found};
 ghost use Rattle.ob_site_rules.specs.Watched.{found_at, found_place, is_call_kind};
-ghost use Rattle.ob_replies.specs.Plans.{plan as plan_of};
 ghost use Rattle.ob_plain_state.specs.Named.{place as place_of};
 ghost use Rattle.ob_site_state.specs.Contents.{state_in};
 ghost use Rattle.ob_site_shown.specs.Readable.{IsReadable};
@@ -57,8 +56,8 @@ fn found_shown<L: Ledger>(
     path: Text,
     steps: &mut Steps<L>,
 ) -> Result<Found, AllocError>
-    requires readable { IsReadable (plan_of plan.now) contents.now }
-    ensures { IfOk result (λ f. (input : Option Object) → found_of f ≡ found_at (plan_of plan.now) numbers.now path input (option_map Node (shown (plan_of plan.now) (state_in contents.now) path))) }
+    requires readable { IsReadable plan.now contents.now }
+    ensures { IfOk result (λ f. (input : Option Object) → found_of f ≡ found_at plan.now numbers.now path input (option_map Node (shown plan.now (state_in contents.now) path))) }
 {
     match shown_kind(alloc, plan, contents, &path, steps)? {
         Some(kind) => Ok(found_node(path, kind)),
@@ -80,8 +79,8 @@ fn found_at<L: Ledger>(
     input: &Option<Obj>,
     steps: &mut Steps<L>,
 ) -> Result<Found, AllocError>
-    requires { IsReadable (plan_of plan.now) contents.now }
-    ensures { IfOk result (λ f. found_of f ≡ found_at (plan_of plan.now) numbers.now path input.now (place_at (plan_of plan.now) (state_in contents.now) path)) }
+    requires { IsReadable plan.now contents.now }
+    ensures { IfOk result (λ f. found_of f ≡ found_at plan.now numbers.now path input.now (place_at plan.now (state_in contents.now) path)) }
 {
     match computed_place(alloc, plan, contents, &path)? {
         Some(place) => Ok(found_place(path, input, &place)),
@@ -100,8 +99,8 @@ pub fn found<L: Ledger>(
     asked: &Asked,
     steps: &mut Steps<L>,
 ) -> Result<Found, AllocError>
-    requires { IsReadable (plan_of plan.now) contents.now }
-    ensures { IfOk result (λ f. found_of f ≡ found locate (plan_of plan.now) (state_in contents.now) numbers.now asked.now.0 asked.now.1) }
+    requires { IsReadable plan.now contents.now }
+    ensures { IfOk result (λ f. found_of f ≡ found locate plan.now (state_in contents.now) numbers.now asked.now.0 asked.now.1) }
 {
     if asked.0.as_str().len() > 1024 {
         return Ok(Found::Nothing(Fault::HrefTooLong));

@@ -4,7 +4,6 @@ ghost use Rattle.ob_object.specs.Object.{parts};
 ghost use Rattle.ob_tree.specs.Depths.{depth_at};
 ghost use Rattle.ob_tree.specs.Laid.{paths};
 ghost use Rattle.ob_tree.specs.Paths.{place_of};
-ghost use Rattle.ob_replies.specs.Plans.{plan as plan_of};
 ghost use Rattle.ob_site_rules.specs.Build.{Path, nameless, under_href};
 ghost use Rattle.ob_site_rules.specs.Sites.{plain_or_empty, watched_object};
 ghost use Rattle.ob_site_state.specs.Contents.{state_in};
@@ -48,9 +47,9 @@ pub fn watched_node<L: Ledger>(
     node: NodeId,
     steps: &mut Steps<L>,
 ) -> Result<Obj, AllocError>
-    requires readable { IsReadable (plan_of plan.now) contents.now }
+    requires readable { IsReadable plan.now contents.now }
     requires within { node.number < parts contents.now.ground.tree.root }
-    ensures object { IfOk result (λ o. (p : Path) → place_of p (paths contents.now.ground.tree.root) ≡ Some node.number → o ≡ watched_object (plan_of plan.now) (state_in contents.now) p) }
+    ensures object { IfOk result (λ o. (p : Path) → place_of p (paths contents.now.ground.tree.root) ≡ Some node.number → o ≡ watched_object plan.now (state_in contents.now) p) }
     ensures steps { IfOk result (λ o. IsWatchableAt node.number contents.now.ground.tree.root
         → steps.new ≡ steps.old + depth_at node.number contents.now.ground.tree.root + min (parts o) (2 ^ 64 - 1)) }
 {

@@ -1,8 +1,7 @@
 //! The roles of a plan.
 ghost use Rattle.std.specs.Prelude.{◌≡◌, IfOk};
 ghost use Rattle.ob_alarms.specs.Lists.{first_place};
-ghost use Rattle.ob_replies.specs.Plans.{plan as plan_of};
-ghost use Rattle.ob_site_rules.specs.declared.plan.Plan.{Plan as SitePlan};
+ghost use Rattle.ob_site_rules.specs.declared.plan.Plan.{Plan};
 ghost use Rattle.ob_site_rules.specs.State.{is_among};
 ghost use Rattle.ob_site_rules.specs.Shown.{rule_of};
 ghost use Rattle.ob_site_roles.specs.Roles.{is_at, stands_at, recorders_of, AreRoles};
@@ -42,7 +41,7 @@ impl Drop for Roles {
 impl Roles {
     /// The roles of a plan. An error only for want of memory.
     pub fn of(alloc: Global, plan: &Plan) -> Result<Roles, AllocError>
-        ensures { IfOk result (λ roles. AreRoles roles (plan_of plan.now)) }
+        ensures { IfOk result (λ roles. AreRoles roles plan.now) }
     {
         let rules = rules_by_source(alloc, plan.rules.as_slice())?;
         let points = paths_by_path(alloc, plan.points.as_slice())?;
@@ -58,35 +57,35 @@ impl Roles {
 
     /// The place of the rule of a node, if it has one.
     pub fn rule_of(&self, path: &Text) -> Option<usize>
-        ensures { (plan : SitePlan) → AreRoles self.now plan → result ≡ rule_of plan path.now }
+        ensures { (plan : Plan) → AreRoles self.now plan → result ≡ rule_of plan path.now }
     {
         self.rules.get(path.as_str()).copied()
     }
 
     /// The place of the writable point at a path, if there is one.
     pub fn point_at(&self, path: &Text) -> Option<usize>
-        ensures { (plan : SitePlan) → AreRoles self.now plan → result ≡ first_place (is_at path.now) plan.points }
+        ensures { (plan : Plan) → AreRoles self.now plan → result ≡ first_place (is_at path.now) plan.points }
     {
         self.points.get(path.as_str()).copied()
     }
 
     /// Whether there is a writable point at a path.
     pub fn is_point(&self, path: &Text) -> bool
-        ensures { (plan : SitePlan) → AreRoles self.now plan → result ≡ is_among path.now plan.points }
+        ensures { (plan : Plan) → AreRoles self.now plan → result ≡ is_among path.now plan.points }
     {
         leads(&self.points, path)
     }
 
     /// The place of the history at a path, if there is one.
     pub fn history_at(&self, path: &Text) -> Option<usize>
-        ensures { (plan : SitePlan) → AreRoles self.now plan → result ≡ first_place (stands_at path.now) plan.histories }
+        ensures { (plan : Plan) → AreRoles self.now plan → result ≡ first_place (stands_at path.now) plan.histories }
     {
         self.histories.get(path.as_str()).copied()
     }
 
     /// The places of the histories that record a node, in order.
     pub fn recorders(&self, source: &Text) -> &[usize]
-        ensures { (plan : SitePlan) → AreRoles self.now plan → result.now ≡ recorders_of plan source.now }
+        ensures { (plan : Plan) → AreRoles self.now plan → result.now ≡ recorders_of plan source.now }
     {
         places_at(&self.recorders, source)
     }

@@ -2,7 +2,6 @@
 ghost use Rattle.std.specs.Prelude.{◌≡◌, ◌<◌, Some, is_some, option_map, IfOk};
 ghost use Rattle.ob_object.specs.Object.{parts};
 ghost use Rattle.ob_object.specs.WellFormed.{named};
-ghost use Rattle.ob_replies.specs.Plans.{plan as plan_of};
 ghost use Rattle.ob_site_rules.specs.Build.{child};
 ghost use Rattle.ob_site_state.specs.Contents.{state_in};
 ghost use Rattle.ob_site_shown.specs.Readable.{IsReadable};
@@ -28,9 +27,9 @@ pub fn shows_child<L: Ledger>(
     name: &Text,
     steps: &mut Steps<L>,
 ) -> Result<bool, AllocError>
-    requires readable { IsReadable (plan_of plan.now) contents.now }
+    requires readable { IsReadable plan.now contents.now }
     requires within { node.number < parts contents.now.ground.tree.root }
-    ensures { IfOk result (λ has. option_map (λ o. is_some (child name.now o)) (own_shown_at (plan_of plan.now) (state_in contents.now) node.number) ≡ Some has) }
+    ensures { IfOk result (λ has. option_map (λ o. is_some (child name.now o)) (own_shown_at plan.now (state_in contents.now) node.number) ≡ Some has) }
 {
     let tree = contents.ground.tree();
     let own = tree.own(node);

@@ -1,8 +1,7 @@
 //! Own objects with the children that roles derive, and the status of each rule's source.
 ghost use Rattle.std.specs.Prelude.{◌≡◌, ◌++◌, map, IfOk};
 ghost use Rattle.ob_object.specs.Object.{node, none};
-ghost use Rattle.ob_replies.specs.Plans.{plan as plan_of};
-ghost use Rattle.ob_site_rules.specs.declared.plan.Plan.{Plan as SitePlan};
+ghost use Rattle.ob_site_rules.specs.declared.plan.Plan.{Plan};
 ghost use Rattle.ob_site_rules.specs.State.{numbered_from};
 ghost use Rattle.ob_site_rules.specs.Shown.{with_status};
 ghost use Rattle.ob_shown_laws.specs.Own.{dressed_own};
@@ -19,7 +18,7 @@ use std::alloc::{AllocError, Global};
 
 /// A copy of a head, with the status of the alarms of its rule if it has one.
 fn dressed_head(contents: &Contents, head: &Attributes) -> Result<Attributes, AllocError>
-    ensures { (plan : SitePlan) → AreRoles contents.now.roles plan → contents.now.board.rules ≡ numbered_from 0 plan.rules
+    ensures { (plan : Plan) → AreRoles contents.now.roles plan → contents.now.board.rules ≡ numbered_from 0 plan.rules
         → IfOk result (λ h. h ≡ with_status plan (state_in contents.now) head.now) }
 {
     let mut dressed = head.copy()?;
@@ -47,11 +46,11 @@ pub fn dress(
     contents: &Contents,
     object: &Obj,
 ) -> Result<Obj, AllocError>
-    requires rules { contents.now.board.rules ≡ numbered_from 0 (plan_of plan.now).rules }
-    requires roles { AreRoles contents.now.roles (plan_of plan.now) }
-    requires histories { keys (state_in contents.now).logs ≡ map (λ h. h.0) (plan_of plan.now).histories }
-    requires free { NamesAreFree (plan_of plan.now) (state_in contents.now) (node object.now.head object.now.inner none) }
-    ensures { IfOk result (λ o. o ≡ dressed_own (plan_of plan.now) (state_in contents.now) object.now) }
+    requires rules { contents.now.board.rules ≡ numbered_from 0 plan.now.rules }
+    requires roles { AreRoles contents.now.roles plan.now }
+    requires histories { keys (state_in contents.now).logs ≡ map (λ h. h.0) plan.now.histories }
+    requires free { NamesAreFree plan.now (state_in contents.now) (node object.now.head object.now.inner none) }
+    ensures { IfOk result (λ o. o ≡ dressed_own plan.now (state_in contents.now) object.now) }
 {
     let head = dressed_head(contents, object.head())?;
     let mut own = Vec::with_capacity(alloc, object.len())?;

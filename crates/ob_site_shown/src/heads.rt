@@ -2,7 +2,6 @@
 ghost use Rattle.std.specs.Prelude.{◌≡◌, ℕ, Bool, List, Option, Some, option_map, IfOk, IfSome};
 ghost use Rattle.ob_contracts.specs.Shown.{shown as shown_by};
 ghost use Rattle.ob_object.specs.Facets.{facet_value, limit, truth, words};
-ghost use Rattle.ob_replies.specs.Plans.{plan as plan_of};
 ghost use Rattle.ob_site_rules.specs.Shown.{shown};
 ghost use Rattle.ob_site_state.specs.Contents.{state_in};
 ghost use Rattle.ob_site_shown.specs.Readable.{IsReadable};
@@ -79,8 +78,8 @@ pub fn own_target<L: Ledger>(
     path: &Text,
     steps: &mut Steps<L>,
 ) -> Result<Option<Obj>, AllocError>
-    requires { IsReadable (plan_of plan.now) contents.now }
-    ensures { IfOk result (λ found. IfSome found (λ o. option_map target (shown (plan_of plan.now) (state_in contents.now) path.now) ≡ Some o)) }
+    requires { IsReadable plan.now contents.now }
+    ensures { IfOk result (λ found. IfSome found (λ o. option_map target (shown plan.now (state_in contents.now) path.now) ≡ Some o)) }
 {
     let tree = contents.ground.tree();
     let Some(node) = tree.get(path) else {
@@ -96,8 +95,8 @@ pub fn own_target<L: Ledger>(
 
 /// The kind of the own node of a path, which is that of what is shown there.
 pub fn own_kind(plan: &Plan, contents: &Contents, path: &Text) -> Option<Kind>
-    requires { IsReadable (plan_of plan.now) contents.now }
-    ensures { IfSome result (λ kind. option_map (λ o. o.head.kind) (shown (plan_of plan.now) (state_in contents.now) path.now) ≡ Some kind) }
+    requires { IsReadable plan.now contents.now }
+    ensures { IfSome result (λ kind. option_map (λ o. o.head.kind) (shown plan.now (state_in contents.now) path.now) ≡ Some kind) }
 {
     let tree = contents.ground.tree();
     match tree.get(path) {
@@ -115,8 +114,8 @@ pub fn shown_kind<L: Ledger>(
     path: &Text,
     steps: &mut Steps<L>,
 ) -> Result<Option<Kind>, AllocError>
-    requires { IsReadable (plan_of plan.now) contents.now }
-    ensures { IfOk result (λ kind. kind ≡ option_map (λ o. o.head.kind) (shown (plan_of plan.now) (state_in contents.now) path.now)) }
+    requires { IsReadable plan.now contents.now }
+    ensures { IfOk result (λ kind. kind ≡ option_map (λ o. o.head.kind) (shown plan.now (state_in contents.now) path.now)) }
 {
     let kind = own_kind(plan, contents, path);
     if kind.is_some() {

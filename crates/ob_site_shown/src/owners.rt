@@ -6,7 +6,6 @@ ghost use Rattle.ob_object.specs.Object.{parts};
 ghost use Rattle.ob_standing.specs.Contexts.{comes_to, handed_down, under};
 ghost use Rattle.ob_tree.specs.Shown.{standing_at};
 ghost use Rattle.ob_tree.specs.Laid.{AreLeaves, head_at};
-ghost use Rattle.ob_replies.specs.Plans.{plan as plan_of};
 ghost use Rattle.ob_shown_laws.specs.Alike.{row};
 ghost use Rattle.ob_shown_laws.specs.OwnShown.{IsNotDerived};
 ghost use Rattle.ob_site_state.specs.Contents.{state_in};
@@ -70,8 +69,8 @@ fn shown_by<L: Ledger>(
     path: &Text,
     steps: &mut Steps<L>,
 ) -> Result<Option<Obj>, AllocError>
-    requires { IsReadable (plan_of plan.now) contents.now }
-    ensures { IfOk result (ShownOr (plan_of plan.now) (state_in contents.now) path.now (IsOff (plan_of plan.now) (state_in contents.now) path.now owner.now)) }
+    requires { IsReadable plan.now contents.now }
+    ensures { IfOk result (ShownOr plan.now (state_in contents.now) path.now (IsOff plan.now (state_in contents.now) path.now owner.now)) }
 {
     if !begins_with(path, owner) {
         return Ok(None);
@@ -99,8 +98,8 @@ fn shown_by_parent<L: Ledger>(
     path: &Text,
     steps: &mut Steps<L>,
 ) -> Result<Option<Obj>, AllocError>
-    requires { IsReadable (plan_of plan.now) contents.now }
-    ensures { IfOk result (ShownOr (plan_of plan.now) (state_in contents.now) path.now (IsOff (plan_of plan.now) (state_in contents.now) path.now parent.now × IsOff (plan_of plan.now) (state_in contents.now) path.now (parent.now ++ 47 ∷ []))) }
+    requires { IsReadable plan.now contents.now }
+    ensures { IfOk result (ShownOr plan.now (state_in contents.now) path.now (IsOff plan.now (state_in contents.now) path.now parent.now × IsOff plan.now (state_in contents.now) path.now (parent.now ++ 47 ∷ []))) }
 {
     let shown = shown_by(alloc, plan, contents, parent, path, steps)?;
     if shown.is_some() {
@@ -118,8 +117,8 @@ fn shown_below<L: Ledger>(
     path: &Text,
     steps: &mut Steps<L>,
 ) -> Result<Option<Obj>, AllocError>
-    requires { IsReadable (plan_of plan.now) contents.now }
-    ensures { IfOk result (ShownOr (plan_of plan.now) (state_in contents.now) path.now (IsOffBelow (plan_of plan.now) (state_in contents.now) path.now)) }
+    requires { IsReadable plan.now contents.now }
+    ensures { IfOk result (ShownOr plan.now (state_in contents.now) path.now (IsOffBelow plan.now (state_in contents.now) path.now)) }
 {
     match parent_path(alloc, path)? {
         Some(parent) => shown_by_parent(alloc, plan, contents, &parent, path, steps),
@@ -138,8 +137,8 @@ pub fn shown_derived<L: Ledger>(
     path: &Text,
     steps: &mut Steps<L>,
 ) -> Result<Option<Obj>, AllocError>
-    requires { IsReadable (plan_of plan.now) contents.now }
-    ensures { IfOk result (ShownOr (plan_of plan.now) (state_in contents.now) path.now (IsNotDerived (plan_of plan.now) (state_in contents.now) path.now (row contents.now.ground.tree.root))) }
+    requires { IsReadable plan.now contents.now }
+    ensures { IfOk result (ShownOr plan.now (state_in contents.now) path.now (IsNotDerived plan.now (state_in contents.now) path.now (row contents.now.ground.tree.root))) }
 {
     let shown = shown_by(alloc, plan, contents, &plan.root, path, steps)?;
     if shown.is_some() {

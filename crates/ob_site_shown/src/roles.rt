@@ -2,7 +2,6 @@
 ghost use Rattle.std.specs.Prelude.{◌≡◌, cond, ◌&&◌, [], ◌∷◌, length, map, option_map, IfOk};
 ghost use Rattle.std.specs.Str.{bytes_eq};
 ghost use Rattle.std.specs.Option.{option_copied};
-ghost use Rattle.ob_replies.specs.Plans.{plan as plan_of};
 ghost use Rattle.ob_object.specs.Paths.{is_path};
 ghost use Rattle.ob_site_rules.specs.Shown.{lobby_children, write_point_op, subject_children, history_part, derived_at, derived};
 ghost use Rattle.ob_site_roles.specs.Roles.{AreRoles};
@@ -21,7 +20,7 @@ use std::alloc::{AllocError, Global};
 
 /// What the root has as a lobby.
 fn lobby_part(alloc: Global, plan: &Plan, path: &Text) -> Result<Vec<Obj>, AllocError>
-    ensures { IfOk result (λ os. os.items ≡ cond (plan.now.lobby && bytes_eq path.now plan.now.root) (lobby_children (plan_of plan.now)) []) }
+    ensures { IfOk result (λ os. os.items ≡ cond (plan.now.lobby && bytes_eq path.now plan.now.root) (lobby_children plan.now) []) }
 {
     if plan.lobby && path.as_str() == plan.root.as_str() {
         return lobby_children(alloc, plan);
@@ -72,9 +71,9 @@ fn derived_at(
     contents: &Contents,
     path: &Text,
 ) -> Result<Vec<Obj>, AllocError>
-    requires roles { AreRoles contents.now.roles (plan_of plan.now) }
-    requires histories { keys (state_in contents.now).logs ≡ map (λ h. h.0) (plan_of plan.now).histories }
-    ensures { IfOk result (λ os. os.items ≡ derived_at (plan_of plan.now) (state_in contents.now) path.now) }
+    requires roles { AreRoles contents.now.roles plan.now }
+    requires histories { keys (state_in contents.now).logs ≡ map (λ h. h.0) plan.now.histories }
+    ensures { IfOk result (λ os. os.items ≡ derived_at plan.now (state_in contents.now) path.now) }
 {
     let mut children = lobby_part(alloc, plan, path)?;
     let mut point = point_part(alloc, contents.roles.is_point(path), path)?;
@@ -94,9 +93,9 @@ pub fn derived(
     contents: &Contents,
     path: Option<&Text>,
 ) -> Result<Vec<Obj>, AllocError>
-    requires roles { AreRoles contents.now.roles (plan_of plan.now) }
-    requires histories { keys (state_in contents.now).logs ≡ map (λ h. h.0) (plan_of plan.now).histories }
-    ensures { IfOk result (λ os. os.items ≡ derived (plan_of plan.now) (state_in contents.now) (option_copied path.entry)) }
+    requires roles { AreRoles contents.now.roles plan.now }
+    requires histories { keys (state_in contents.now).logs ≡ map (λ h. h.0) plan.now.histories }
+    ensures { IfOk result (λ os. os.items ≡ derived plan.now (state_in contents.now) (option_copied path.entry)) }
 {
     match path {
         Some(path) => derived_at(alloc, plan, contents, path),

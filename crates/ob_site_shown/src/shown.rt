@@ -5,7 +5,6 @@ ghost use Rattle.ob_tree.specs.Depths.{depth_at};
 ghost use Rattle.ob_tree.specs.Shown.{part_at};
 ghost use Rattle.ob_tree.specs.Laid.{paths};
 ghost use Rattle.ob_tree.specs.Paths.{place_of};
-ghost use Rattle.ob_replies.specs.Plans.{plan as plan_of};
 ghost use Rattle.ob_site_rules.specs.Build.{Path};
 ghost use Rattle.ob_site_rules.specs.Shown.{shown};
 ghost use Rattle.ob_shown_laws.specs.Own.{dressed_own};
@@ -32,9 +31,9 @@ pub fn dressed_part(
     contents: &Contents,
     node: NodeId,
 ) -> Result<Obj, AllocError>
-    requires readable { IsReadable (plan_of plan.now) contents.now }
+    requires readable { IsReadable plan.now contents.now }
     requires within { node.number < parts contents.now.ground.tree.root }
-    ensures { IfOk result (λ o. Some o ≡ option_map (dressed_own (plan_of plan.now) (state_in contents.now)) (part_at node.number contents.now.ground.tree.root)) }
+    ensures { IfOk result (λ o. Some o ≡ option_map (dressed_own plan.now (state_in contents.now)) (part_at node.number contents.now.ground.tree.root)) }
 {
     let own = contents.ground.tree().copy(alloc, node)?;
     dress(alloc, plan, contents, &own)
@@ -52,10 +51,10 @@ pub fn shown_own<L: Ledger>(
     node: NodeId,
     steps: &mut Steps<L>,
 ) -> Result<Obj, AllocError>
-    requires readable { IsReadable (plan_of plan.now) contents.now }
+    requires readable { IsReadable plan.now contents.now }
     requires within { node.number < parts contents.now.ground.tree.root }
-    ensures stands { IfOk result (λ o. Some o ≡ own_shown_at (plan_of plan.now) (state_in contents.now) node.number) }
-    ensures shows { IfOk result (λ o. (p : Path) → place_of p (paths contents.now.ground.tree.root) ≡ Some node.number → shown (plan_of plan.now) (state_in contents.now) p ≡ Some o) }
+    ensures stands { IfOk result (λ o. Some o ≡ own_shown_at plan.now (state_in contents.now) node.number) }
+    ensures shows { IfOk result (λ o. (p : Path) → place_of p (paths contents.now.ground.tree.root) ≡ Some node.number → shown plan.now (state_in contents.now) p ≡ Some o) }
     ensures steps { IfOk result (λ o. steps.new ≡ steps.old + depth_at node.number contents.now.ground.tree.root + min (parts o) (2 ^ 64 - 1)) }
 {
     let dressed = dressed_part(alloc, plan, contents, node)?;
@@ -74,8 +73,8 @@ pub fn shown_at<L: Ledger>(
     path: &Text,
     steps: &mut Steps<L>,
 ) -> Result<Option<Obj>, AllocError>
-    requires { IsReadable (plan_of plan.now) contents.now }
-    ensures { IfOk result (λ o. o ≡ shown (plan_of plan.now) (state_in contents.now) path.now) }
+    requires { IsReadable plan.now contents.now }
+    ensures { IfOk result (λ o. o ≡ shown plan.now (state_in contents.now) path.now) }
 {
     match contents.ground.tree().get(path) {
         Some(node) => {

@@ -1,6 +1,5 @@
 -- A `State` as contracts see it.
 use Rattle.std.specs.Prelude.{◌≡◌}
-use Rattle.ob_replies.specs.Plans.{plan as plan_of}
 use Rattle.ob_site_rules.specs.Build.{Path}
 use Rattle.ob_site_roles.specs.Roles.{AreRoles}
 use Rattle.ob_site_state.specs.declared.state.State.TheInside.{Inside}
@@ -11,7 +10,7 @@ use Rattle.ob_site_state.specs.Tallies.{count_at, growing_in, IsTallied}
 
 abbrev pub kept : Inside → Kept
 kept a = record {
-  plan = plan_of a.plan;
+  plan = a.plan;
   time = a.time;
   now = state_in a.contents;
   since = a.since;
@@ -23,7 +22,7 @@ kept a = record {
 -- Its parts owe one another what `IsKept` says, its tally is that of its logs and counts the plan's histories that keep all
 -- their records, and its roles are those of its plan.
 pub record IsState (a : Inside) : Type 0 where
-  pub kept : IsKept (plan_of a.plan) a.time (state_in a.contents) a.contents.board a.since a.found.items
+  pub kept : IsKept a.plan a.time (state_in a.contents) a.contents.board a.since a.found.items
   pub tallied : IsTallied a.tally (state_in a.contents).logs (rewound a.found.items (state_in a.contents)).logs
-  pub growing : (p : Path) → count_at a.tally.growing p ≡ growing_in p (plan_of a.plan).histories a.tally.capacities.items
-  pub roles : AreRoles a.contents.roles (plan_of a.plan)
+  pub growing : (p : Path) → count_at a.tally.growing p ≡ growing_in p a.plan.histories a.tally.capacities.items
+  pub roles : AreRoles a.contents.roles a.plan

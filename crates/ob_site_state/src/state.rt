@@ -14,7 +14,6 @@ ghost use Rattle.ob_site_rules.specs.Writes.{stored, events_ever, records_from, 
 ghost use Rattle.ob_object.specs.WellFormed.{IsWellFormed};
 ghost use Rattle.ob_tree.specs.Laid.{paths};
 ghost use Rattle.ob_tree.specs.Paths.{first_twice};
-ghost use Rattle.ob_replies.specs.Plans.{plan as plan_of};
 ghost use Rattle.ob_consistent_laws.specs.Laws.{Apart};
 ghost use Rattle.ob_site_rules.specs.Shown.{rule_of};
 ghost use Rattle.ob_plain_state.specs.Fitting.{TakesIfRule};
@@ -133,17 +132,17 @@ impl State {
         capacities: Vec<Option<u64>>,
     ) -> Result<State, AllocError>
         requires root { contents.board.root ≡ plan.root }
-        requires rules { contents.board.rules ≡ numbered_from 0 (plan_of plan).rules }
-        requires histories { keys (state_in contents).logs ≡ map (λ h. h.0) (plan_of plan).histories }
-        requires apart { Apart (map (λ h. h.0) (plan_of plan).histories) }
+        requires rules { contents.board.rules ≡ numbered_from 0 plan.rules }
+        requires histories { keys (state_in contents).logs ≡ map (λ h. h.0) plan.histories }
+        requires apart { Apart (map (λ h. h.0) plan.histories) }
         requires well_formed { IsWellFormed contents.ground.tree.root }
         requires differ { first_twice [] (paths contents.ground.tree.root) ≡ None }
         requires in_time { LogsAreBy time (state_in contents).logs }
         requires rolled { roll (state_in contents) ≡ state_in contents }
-        requires sound { IsSoundFor (plan_of plan) (state_in contents) }
-        requires roles { AreRoles contents.roles (plan_of plan) }
+        requires sound { IsSoundFor plan (state_in contents) }
+        requires roles { AreRoles contents.roles plan }
         requires capacities { capacities_of (state_in contents).logs ≡ capacities.items }
-        ensures { IfOk result (λ state. state ≡ record { plan = plan_of plan; time = time; now = state_in contents; since = time; before = state_in contents; stamps = contents.ground.tree.stamps; steps = contents.ground.tree.steps }) }
+        ensures { IfOk result (λ state. state ≡ record { plan = plan; time = time; now = state_in contents; since = time; before = state_in contents; stamps = contents.ground.tree.stamps; steps = contents.ground.tree.steps }) }
     {
         let tally = Tally::new(alloc, plan.histories.as_slice(), capacities, &contents.logs)?;
         Ok(State {
@@ -159,7 +158,7 @@ impl State {
 
     /// What is fixed.
     pub fn plan(&self) -> &Plan
-        ensures { plan_of result.now ≡ self.now.plan }
+        ensures { result.now ≡ self.now.plan }
     {
         &self.plan
     }

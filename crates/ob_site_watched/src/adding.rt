@@ -1,6 +1,5 @@
 //! What is asked for is put into a watch, or taken back.
 ghost use Rattle.std.specs.Prelude.{◌≡◌, true, IfOk, OnErr, is_some};
-ghost use Rattle.ob_replies.specs.Plans.{plan as plan_of};
 ghost use Rattle.ob_site_places.specs.Complete.{IsComplete};
 ghost use Rattle.ob_site_rules.specs.Build.{under_href};
 ghost use Rattle.ob_site_rules.specs.declared.fault.Fault.TheVariants.{TooManyItems};
@@ -69,9 +68,9 @@ fn put_offer<L: Ledger>(
     undo: &mut Additions,
     steps: &mut Steps<L>,
 ) -> Result<Obj, AllocError>
-    requires complete { IsComplete (plan_of plan.now) contents.now }
+    requires complete { IsComplete plan.now contents.now }
     requires placed { IsPlaced contents.now offer }
-    ensures { OfHeld adding.now.number watches.old (IsPut (plan_of plan.now) contents.now adding.now.number offer watches.old watches.new undo.old undo.new result) }
+    ensures { OfHeld adding.now.number watches.old (IsPut plan.now contents.now adding.now.number offer watches.old watches.new undo.old undo.new result) }
 {
     let _numbers = watches.numbers();
     let item = match offer {
@@ -100,10 +99,10 @@ fn put_all<L: Ledger>(
     undo: &mut Additions,
     steps: &mut Steps<L>,
 ) -> Result<Obj, AllocError>
-    requires complete { IsComplete (plan_of plan.now) contents.now }
+    requires complete { IsComplete plan.now contents.now }
     requires past { AreStampsPast contents.now.ground.tree }
     requires held { is_some (lookup adding.now.number watches.old.watches) ≡ true }
-    ensures { OfHeld adding.now.number watches.old (ArePut (plan_of plan.now) contents.now (numbers_of (lapsed_at adding.now.moment watches.old).watches) (firsts_of adding.now.asked.now) adding.now.number watches.old watches.new undo.old undo.new result) }
+    ensures { OfHeld adding.now.number watches.old (ArePut plan.now contents.now (numbers_of (lapsed_at adding.now.moment watches.old).watches) (firsts_of adding.now.asked.now) adding.now.number watches.old watches.new undo.old undo.new result) }
 {
     let _numbers = watches.numbers();
     let numbers = watches.live_numbers(adding.moment)?;
@@ -127,11 +126,11 @@ fn put_or_leave<L: Ledger>(
     mut undo: Additions,
     steps: &mut Steps<L>,
 ) -> Result<Obj, AllocError>
-    requires complete { IsComplete (plan_of plan.now) contents.now }
+    requires complete { IsComplete plan.now contents.now }
     requires past { AreStampsPast contents.now.ground.tree }
     requires held { is_some (lookup adding.now.number watches.old.watches) ≡ true }
     requires nothing { OfHeld adding.now.number watches.old (λ w. Undoes undo w.items w.items) }
-    ensures put { IfOk result (λ out. OfHeld adding.now.number watches.old (HasPut (plan_of plan.now) contents.now (numbers_of (lapsed_at adding.now.moment watches.old).watches) (firsts_of adding.now.asked.now) adding.now.number watches.old watches.new out)) }
+    ensures put { IfOk result (λ out. OfHeld adding.now.number watches.old (HasPut plan.now contents.now (numbers_of (lapsed_at adding.now.moment watches.old).watches) (firsts_of adding.now.asked.now) adding.now.number watches.old watches.new out)) }
     ensures err { OnErr result (watches.new ≡ watches.old) }
 {
     let _numbers = watches.numbers();
@@ -156,12 +155,12 @@ pub(crate) fn add<L: Ledger>(
     adding: &Adding<'_>,
     steps: &mut Steps<L>,
 ) -> Result<Obj, AllocError>
-    requires complete { IsComplete (plan_of plan.now) contents.now }
+    requires complete { IsComplete plan.now contents.now }
     requires past { AreStampsPast contents.now.ground.tree }
-    requires known { AllKnown (plan_of plan.now) contents.now watches.old }
-    ensures done { IfOk result (IsDone (plan_of plan.now) contents.now adding.now.moment watches.old watches.new adding.now.number (Add adding.now.asked.now)) }
+    requires known { AllKnown plan.now contents.now watches.old }
+    ensures done { IfOk result (IsDone plan.now contents.now adding.now.moment watches.old watches.new adding.now.number (Add adding.now.asked.now)) }
     ensures err { OnErr result (watches.new ≡ watches.old) }
-    ensures known { AllKnown (plan_of plan.now) contents.now watches.new }
+    ensures known { AllKnown plan.now contents.now watches.new }
 {
     as_the_site_says();
     let _numbers = watches.numbers();

@@ -4,7 +4,6 @@ ghost use Rattle.ob_site_state.specs.Contents.{state_in};
 ghost use Rattle.ob_watch.specs.Flags.{flag_of, flags};
 ghost use Rattle.ob_watch.specs.Items.{is_due};
 ghost use Rattle.ob_watch.specs.Marks.{AreStampsPast};
-ghost use Rattle.ob_replies.specs.Plans.{plan as plan_of};
 ghost use Rattle.ob_site_rules.specs.Replies.{content_object, entry};
 ghost use Rattle.ob_site_places.specs.Complete.{IsComplete};
 ghost use Rattle.ob_site_watched.specs.Entries.{all_changes, all_readings, changes_in, object_now, reading_entry};
@@ -30,10 +29,10 @@ fn object_now<L: Ledger>(
     item: &Item,
     steps: &mut Steps<L>,
 ) -> Result<Obj, AllocError>
-    requires complete { IsComplete (plan_of plan.now) contents.now }
+    requires complete { IsComplete plan.now contents.now }
     requires placed { IsPlacedBy contents.now.ground.tree.root item.now.path item.now.tracked }
-    ensures object { IfOk result (λ o. o ≡ object_now (plan_of plan.now) contents.now item.now) }
-    ensures steps { IfOk result (λ _. steps.new ≡ steps.old + reading_steps (plan_of plan.now) (state_in contents.now) item.now.path (flag_of contents.now.ground.tree item.now.tracked)) }
+    ensures object { IfOk result (λ o. o ≡ object_now plan.now contents.now item.now) }
+    ensures steps { IfOk result (λ _. steps.new ≡ steps.old + reading_steps plan.now (state_in contents.now) item.now.path (flag_of contents.now.ground.tree item.now.tracked)) }
 {
     match item.tracked() {
         Tracked::Object { node, mark: _ } => watched_node(alloc, plan, contents, *node, steps),
@@ -57,10 +56,10 @@ pub fn reading<L: Ledger>(
     item: &Item,
     steps: &mut Steps<L>,
 ) -> Result<Obj, AllocError>
-    requires complete { IsComplete (plan_of plan.now) contents.now }
+    requires complete { IsComplete plan.now contents.now }
     requires placed { IsPlacedBy contents.now.ground.tree.root item.now.path item.now.tracked }
-    ensures entry { IfOk result (λ o. o ≡ reading_entry (plan_of plan.now) contents.now item.now) }
-    ensures steps { IfOk result (λ _. steps.new ≡ steps.old + reading_steps (plan_of plan.now) (state_in contents.now) item.now.path (flag_of contents.now.ground.tree item.now.tracked)) }
+    ensures entry { IfOk result (λ o. o ≡ reading_entry plan.now contents.now item.now) }
+    ensures steps { IfOk result (λ _. steps.new ≡ steps.old + reading_steps plan.now (state_in contents.now) item.now.path (flag_of contents.now.ground.tree item.now.tracked)) }
 {
     let object = object_now(alloc, plan, contents, item, steps)?;
     let text = item.text().copy()?;
@@ -78,10 +77,10 @@ pub fn readings<L: Ledger>(
     items: &[Item],
     steps: &mut Steps<L>,
 ) -> Result<Vec<Obj>, AllocError>
-    requires complete { IsComplete (plan_of plan.now) contents.now }
-    requires known { AreKnown (plan_of plan.now) contents.now items.now }
-    ensures entries { IfOk result (λ os. os.items ≡ all_readings (plan_of plan.now) contents.now items.now) }
-    ensures steps { IfOk result (λ _. steps.new ≡ steps.old + refresh_steps (plan_of plan.now) (state_in contents.now) (map (flags contents.now.ground.tree) items.now)) }
+    requires complete { IsComplete plan.now contents.now }
+    requires known { AreKnown plan.now contents.now items.now }
+    ensures entries { IfOk result (λ os. os.items ≡ all_readings plan.now contents.now items.now) }
+    ensures steps { IfOk result (λ _. steps.new ≡ steps.old + refresh_steps plan.now (state_in contents.now) (map (flags contents.now.ground.tree) items.now)) }
 {
     let mut entries = Vec::new(alloc);
     for item in items {
@@ -99,11 +98,11 @@ fn change_due<L: Ledger>(
     item: &Item,
     steps: &mut Steps<L>,
 ) -> Result<Option<Obj>, AllocError>
-    requires complete { IsComplete (plan_of plan.now) contents.now }
+    requires complete { IsComplete plan.now contents.now }
     requires placed { IsPlacedBy contents.now.ground.tree.root item.now.path item.now.tracked }
     requires due { is_due contents.now.ground.tree item.now ≡ true }
-    ensures content { IfOk result (λ o. option_to_list o ≡ map (λ r. content_object r.content) (changes_in (plan_of plan.now) contents.now item.now)) }
-    ensures steps { IfOk result (λ _. steps.new ≡ steps.old + item_steps (plan_of plan.now) (state_in contents.now) item.now.path (flag_of contents.now.ground.tree item.now.tracked)) }
+    ensures content { IfOk result (λ o. option_to_list o ≡ map (λ r. content_object r.content) (changes_in plan.now contents.now item.now)) }
+    ensures steps { IfOk result (λ _. steps.new ≡ steps.old + item_steps plan.now (state_in contents.now) item.now.path (flag_of contents.now.ground.tree item.now.tracked)) }
 {
     match item.tracked() {
         Tracked::Object { node, mark: _ } => {
@@ -135,10 +134,10 @@ fn push_change<L: Ledger>(
     entries: &mut Vec<Obj>,
     steps: &mut Steps<L>,
 ) -> Result<(), AllocError>
-    requires complete { IsComplete (plan_of plan.now) contents.now }
-    requires known { IsKnown (plan_of plan.now) contents.now item.now }
-    ensures entries { IfOk result (λ _. entries.new.items ≡ entries.old.items ++ map entry (changes_in (plan_of plan.now) contents.now item.now)) }
-    ensures steps { IfOk result (λ _. steps.new ≡ steps.old + item_steps (plan_of plan.now) (state_in contents.now) item.now.path (flag_of contents.now.ground.tree item.now.tracked)) }
+    requires complete { IsComplete plan.now contents.now }
+    requires known { IsKnown plan.now contents.now item.now }
+    ensures entries { IfOk result (λ _. entries.new.items ≡ entries.old.items ++ map entry (changes_in plan.now contents.now item.now)) }
+    ensures steps { IfOk result (λ _. steps.new ≡ steps.old + item_steps plan.now (state_in contents.now) item.now.path (flag_of contents.now.ground.tree item.now.tracked)) }
 {
     if !item.is_due(contents.ground.tree()) {
         return Ok(());
@@ -163,10 +162,10 @@ pub fn changes<L: Ledger>(
     items: &[Item],
     steps: &mut Steps<L>,
 ) -> Result<Vec<Obj>, AllocError>
-    requires complete { IsComplete (plan_of plan.now) contents.now }
-    requires known { AreKnown (plan_of plan.now) contents.now items.now }
-    ensures entries { IfOk result (λ os. os.items ≡ all_changes (plan_of plan.now) contents.now items.now) }
-    ensures steps { IfOk result (λ _. steps.new ≡ steps.old + poll_steps (plan_of plan.now) (state_in contents.now) (map (flags contents.now.ground.tree) items.now)) }
+    requires complete { IsComplete plan.now contents.now }
+    requires known { AreKnown plan.now contents.now items.now }
+    ensures entries { IfOk result (λ os. os.items ≡ all_changes plan.now contents.now items.now) }
+    ensures steps { IfOk result (λ _. steps.new ≡ steps.old + poll_steps plan.now (state_in contents.now) (map (flags contents.now.ground.tree) items.now)) }
 {
     let mut entries = Vec::new(alloc);
     for item in items {
@@ -187,11 +186,11 @@ pub fn watch_changes<L: Ledger>(
     watch: &Watch,
     steps: &mut Steps<L>,
 ) -> Result<Vec<Obj>, AllocError>
-    requires complete { IsComplete (plan_of plan.now) contents.now }
+    requires complete { IsComplete plan.now contents.now }
     requires past { AreStampsPast contents.now.ground.tree }
-    requires known { AreKnown (plan_of plan.now) contents.now watch.now.items }
-    ensures entries { IfOk result (λ os. os.items ≡ all_changes (plan_of plan.now) contents.now watch.now.items) }
-    ensures steps { IfOk result (λ _. steps.new ≡ steps.old + poll_steps (plan_of plan.now) (state_in contents.now) (map (flags contents.now.ground.tree) watch.now.items)) }
+    requires known { AreKnown plan.now contents.now watch.now.items }
+    ensures entries { IfOk result (λ os. os.items ≡ all_changes plan.now contents.now watch.now.items) }
+    ensures steps { IfOk result (λ _. steps.new ≡ steps.old + poll_steps plan.now (state_in contents.now) (map (flags contents.now.ground.tree) watch.now.items)) }
 {
     if !watch.has_due(contents.ground.tree()) {
         return Ok(Vec::new(alloc));

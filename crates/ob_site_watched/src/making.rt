@@ -1,6 +1,5 @@
 //! What is asked of the watch service.
 ghost use Rattle.std.specs.Prelude.{◌≡◌, IfOk, OnErr, false};
-ghost use Rattle.ob_replies.specs.Plans.{plan as plan_of};
 ghost use Rattle.ob_site_state.specs.declared.contents.Contents.{Contents};
 ghost use Rattle.ob_site_watched.specs.Answers.{AllKnown, IsMade, IsOneMore};
 ghost use Rattle.ob_watch.specs.Tables.{has_no_place, lapsed_at};
@@ -23,10 +22,10 @@ pub fn make(
     now: Moment,
     watches: &mut Watches,
 ) -> Result<Obj, AllocError>
-    ensures done { IfOk result (IsMade (plan_of plan.now) now watches.old watches.new) }
-    ensures one_more { IfOk result (λ o. has_no_place (lapsed_at now watches.old) ≡ false → IsOneMore (plan_of plan.now) now watches.old watches.new o) }
+    ensures done { IfOk result (IsMade plan.now now watches.old watches.new) }
+    ensures one_more { IfOk result (λ o. has_no_place (lapsed_at now watches.old) ≡ false → IsOneMore plan.now now watches.old watches.new o) }
     ensures err { OnErr result (watches.new ≡ watches.old) }
-    ensures known { (c : Contents) → AllKnown (plan_of plan.now) c watches.old → AllKnown (plan_of plan.now) c watches.new }
+    ensures known { (c : Contents) → AllKnown plan.now c watches.old → AllKnown plan.now c watches.new }
 {
     if watches.is_full(now) {
         return refusal(alloc, Fault::TooManyWatches);

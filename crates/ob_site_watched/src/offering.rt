@@ -1,6 +1,5 @@
 //! What is asked for of a watch, before it is added.
 ghost use Rattle.std.specs.Prelude.{◌≡◌, IfOk};
-ghost use Rattle.ob_replies.specs.Plans.{plan as plan_of};
 ghost use Rattle.ob_marks_laws.specs.Watched.{IsOwnFound};
 ghost use Rattle.ob_site_places.specs.Complete.{IsComplete};
 ghost use Rattle.ob_site_state.specs.Contents.{state_in};
@@ -37,10 +36,10 @@ fn item_for(
     text: Text,
     found: Found,
 ) -> Result<Result<Item, Fault>, AllocError>
-    requires complete { IsComplete (plan_of plan.now) contents.now }
+    requires complete { IsComplete plan.now contents.now }
     requires past { AreStampsPast contents.now.ground.tree }
     requires own { IsOwnFound contents.now.ground.tree.root (found_of found) }
-    ensures { IfOk result (IsFor (plan_of plan.now) contents.now text (found_of found)) }
+    ensures { IfOk result (IsFor plan.now contents.now text (found_of found)) }
 {
     match found {
         Found::Nothing(fault) => Ok(Err(fault)),
@@ -77,9 +76,9 @@ pub(crate) fn offered<L: Ledger>(
     asked: &Asked,
     steps: &mut Steps<L>,
 ) -> Result<Offer, AllocError>
-    requires complete { IsComplete (plan_of plan.now) contents.now }
+    requires complete { IsComplete plan.now contents.now }
     requires past { AreStampsPast contents.now.ground.tree }
-    ensures { IfOk result (IsOffered (plan_of plan.now) contents.now numbers.now asked.now) }
+    ensures { IfOk result (IsOffered plan.now contents.now numbers.now asked.now) }
 {
     watched_are_own();
     let found = found(alloc, plan, contents, numbers, asked, steps)?;

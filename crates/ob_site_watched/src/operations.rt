@@ -1,6 +1,5 @@
 //! What is asked of a watch.
 ghost use Rattle.std.specs.Prelude.{◌≡◌, ◌+◌, List, ℕ, map, Option, Some, false, IfOk, OnErr};
-ghost use Rattle.ob_replies.specs.Plans.{plan as plan_of};
 ghost use Rattle.ob_requests.specs.Targets.{operation_of};
 ghost use Rattle.ob_site_places.specs.Complete.{IsComplete};
 ghost use Rattle.ob_site_state.specs.Contents.{state_in};
@@ -51,7 +50,7 @@ fn lease_told<L: Ledger>(
     input: &Option<Obj>,
     steps: &mut Steps<L>,
 ) -> Result<Obj, AllocError>
-    ensures { IfOk result (λ o. o ≡ sent (plan_of plan.now) (told_lease (of_plan (plan_of plan.now)) number (lease_asked (state_in contents.now) input.now))) }
+    ensures { IfOk result (λ o. o ≡ sent plan.now (told_lease (of_plan plan.now) number (lease_asked (state_in contents.now) input.now))) }
 {
     match lease_asked(contents.ground.library(), input, steps) {
         Ok(lease) => watch_part(alloc, plan, number, lease, WatchPart::Lease),
@@ -67,11 +66,11 @@ fn poll<L: Ledger>(
     watch: &Watch,
     steps: &mut Steps<L>,
 ) -> Result<Obj, AllocError>
-    requires complete { IsComplete (plan_of plan.now) contents.now }
+    requires complete { IsComplete plan.now contents.now }
     requires past { AreStampsPast contents.now.ground.tree }
-    requires known { AreKnown (plan_of plan.now) contents.now watch.now.items }
-    ensures reply { IfOk result (λ o. o ≡ watch_out (all_changes (plan_of plan.now) contents.now watch.now.items)) }
-    ensures steps { IfOk result (λ _. steps.new ≡ steps.old + poll_steps (plan_of plan.now) (state_in contents.now) (map (flags contents.now.ground.tree) watch.now.items)) }
+    requires known { AreKnown plan.now contents.now watch.now.items }
+    ensures reply { IfOk result (λ o. o ≡ watch_out (all_changes plan.now contents.now watch.now.items)) }
+    ensures steps { IfOk result (λ _. steps.new ≡ steps.old + poll_steps plan.now (state_in contents.now) (map (flags contents.now.ground.tree) watch.now.items)) }
 {
     let entries = watch_changes(alloc, plan, contents, watch, steps)?;
     watch_out(alloc, entries)
@@ -85,10 +84,10 @@ fn refresh<L: Ledger>(
     items: &[Item],
     steps: &mut Steps<L>,
 ) -> Result<Obj, AllocError>
-    requires complete { IsComplete (plan_of plan.now) contents.now }
-    requires known { AreKnown (plan_of plan.now) contents.now items.now }
-    ensures reply { IfOk result (λ o. o ≡ watch_out (all_readings (plan_of plan.now) contents.now items.now)) }
-    ensures steps { IfOk result (λ _. steps.new ≡ steps.old + refresh_steps (plan_of plan.now) (state_in contents.now) (map (flags contents.now.ground.tree) items.now)) }
+    requires complete { IsComplete plan.now contents.now }
+    requires known { AreKnown plan.now contents.now items.now }
+    ensures reply { IfOk result (λ o. o ≡ watch_out (all_readings plan.now contents.now items.now)) }
+    ensures steps { IfOk result (λ _. steps.new ≡ steps.old + refresh_steps plan.now (state_in contents.now) (map (flags contents.now.ground.tree) items.now)) }
 {
     let entries = readings(alloc, plan, contents, items, steps)?;
     watch_out(alloc, entries)
@@ -103,12 +102,12 @@ fn reply<L: Ledger>(
     call: &Call,
     steps: &mut Steps<L>,
 ) -> Result<Obj, AllocError>
-    requires complete { IsComplete (plan_of plan.now) contents.now }
+    requires complete { IsComplete plan.now contents.now }
     requires past { AreStampsPast contents.now.ground.tree }
-    requires known { AreKnown (plan_of plan.now) contents.now watch.now.items }
+    requires known { AreKnown plan.now contents.now watch.now.items }
     requires other { is_add (operation_of call.now.asks) ≡ false }
-    ensures reply { IfOk result (λ o. (numbers : List ℕ) → IsReply (plan_of plan.now) contents.now call.now.moment numbers call.now.number watch.now (operation_of call.now.asks) o) }
-    ensures steps { IfOk result (λ _. WatchTakes (plan_of plan.now) (state_in contents.now) (Some (flagged contents.now.ground.tree watch.now)) (operation_of call.now.asks) steps.old steps.new) }
+    ensures reply { IfOk result (λ o. (numbers : List ℕ) → IsReply plan.now contents.now call.now.moment numbers call.now.number watch.now (operation_of call.now.asks) o) }
+    ensures steps { IfOk result (λ _. WatchTakes plan.now (state_in contents.now) (Some (flagged contents.now.ground.tree watch.now)) (operation_of call.now.asks) steps.old steps.new) }
 {
     match &call.asks {
         Operation::Look(part) => watch_part(alloc, plan, call.number, watch.lease(), *part),
@@ -176,14 +175,14 @@ fn on_other<L: Ledger>(
     call: &Call,
     steps: &mut Steps<L>,
 ) -> Result<Obj, AllocError>
-    requires complete { IsComplete (plan_of plan.now) contents.now }
+    requires complete { IsComplete plan.now contents.now }
     requires past { AreStampsPast contents.now.ground.tree }
-    requires known { AllKnown (plan_of plan.now) contents.now watches.old }
+    requires known { AllKnown plan.now contents.now watches.old }
     requires other { is_add (operation_of call.now.asks) ≡ false }
-    ensures done { IfOk result (IsDone (plan_of plan.now) contents.now call.now.moment watches.old watches.new call.now.number (operation_of call.now.asks)) }
+    ensures done { IfOk result (IsDone plan.now contents.now call.now.moment watches.old watches.new call.now.number (operation_of call.now.asks)) }
     ensures err { OnErr result (watches.new ≡ watches.old) }
-    ensures known { AllKnown (plan_of plan.now) contents.now watches.new }
-    ensures steps { IfOk result (λ _. WatchTakes (plan_of plan.now) (state_in contents.now) (lookup call.now.number (flags_of contents.now.ground.tree (live call.now.moment watches.old.watches))) (operation_of call.now.asks) steps.old steps.new) }
+    ensures known { AllKnown plan.now contents.now watches.new }
+    ensures steps { IfOk result (λ _. WatchTakes plan.now (state_in contents.now) (lookup call.now.number (flags_of contents.now.ground.tree (live call.now.moment watches.old.watches))) (operation_of call.now.asks) steps.old steps.new) }
 {
     let _numbers = watches.numbers();
     let Some(watch) = watches.get(call.number, call.moment) else {
@@ -208,13 +207,13 @@ pub fn on_watch<L: Ledger>(
     call: &Call,
     steps: &mut Steps<L>,
 ) -> Result<Obj, AllocError>
-    requires complete { IsComplete (plan_of plan.now) contents.now }
+    requires complete { IsComplete plan.now contents.now }
     requires past { AreStampsPast contents.now.ground.tree }
-    requires known { AllKnown (plan_of plan.now) contents.now watches.old }
-    ensures done { IfOk result (IsDone (plan_of plan.now) contents.now call.now.moment watches.old watches.new call.now.number (operation_of call.now.asks)) }
+    requires known { AllKnown plan.now contents.now watches.old }
+    ensures done { IfOk result (IsDone plan.now contents.now call.now.moment watches.old watches.new call.now.number (operation_of call.now.asks)) }
     ensures err { OnErr result (watches.new ≡ watches.old) }
-    ensures known { AllKnown (plan_of plan.now) contents.now watches.new }
-    ensures steps { IfOk result (λ _. WatchTakes (plan_of plan.now) (state_in contents.now) (lookup call.now.number (flags_of contents.now.ground.tree (live call.now.moment watches.old.watches))) (operation_of call.now.asks) steps.old steps.new) }
+    ensures known { AllKnown plan.now contents.now watches.new }
+    ensures steps { IfOk result (λ _. WatchTakes plan.now (state_in contents.now) (lookup call.now.number (flags_of contents.now.ground.tree (live call.now.moment watches.old.watches))) (operation_of call.now.asks) steps.old steps.new) }
 {
     match &call.asks {
         Operation::Add(asked) => {

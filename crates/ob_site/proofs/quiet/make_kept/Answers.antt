@@ -1,5 +1,4 @@
 use Rattle.std.proofs.Common.{inr, subst, sym}
-use Rattle.ob_replies.specs.Plans.{plan as plan_of}
 use Rattle.ob_site_rules.specs.declared.plan.Plan.{Plan}
 use Rattle.ob_site_watched.specs.Answers.{AllKnown}
 use Rattle.ob_watch.specs.Tables.{Table}
@@ -8,7 +7,7 @@ use Rattle.ob_site.proofs.quiet.make_kept.Goals as goal
 
 pub returns-then-left_out-clause-done : goal.returns-then-left_out-clause-done
 returns-then-left_out-clause-done g c =
-    made_in (plan_of c.plan.result.now) c.args.state.now.plan c.time-now.result c.args.state.now.time c.args.watches.now c.make.new.watches c.in_ok-reply.reply c.plan.ensures c.time-now.ensures c.in_ok-reply.ensures.done
+    made_in c.plan.result.now c.args.state.now.plan c.time-now.result c.args.state.now.time c.args.watches.now c.make.new.watches c.in_ok-reply.reply c.plan.ensures c.time-now.ensures c.in_ok-reply.ensures.done
 
 pub returns-then-left_out-clause-known : goal.returns-then-left_out-clause-known
 returns-then-left_out-clause-known g c = λ cs. subst (λ (p : Plan). AllKnown p cs c.args.watches.now → AllKnown p cs c.make.new.watches) c.plan.ensures (c.make.ensures.known cs)
@@ -20,7 +19,7 @@ returns-then-left_out-clause-keeps g c =
 
 pub returns-in-Ok-clause-done : goal.returns-in-Ok-clause-done
 returns-in-Ok-clause-done g c =
-    made_in (plan_of c.plan.result.now) c.args.state.now.plan c.time-now.result c.args.state.now.time c.args.watches.now c.make.new.watches c.in_ok-reply.reply c.plan.ensures c.time-now.ensures c.in_ok-reply.ensures.done
+    made_in c.plan.result.now c.args.state.now.plan c.time-now.result c.args.state.now.time c.args.watches.now c.make.new.watches c.in_ok-reply.reply c.plan.ensures c.time-now.ensures c.in_ok-reply.ensures.done
 
 pub returns-in-Ok-clause-known : goal.returns-in-Ok-clause-known
 returns-in-Ok-clause-known g c = λ cs. subst (λ (p : Plan). AllKnown p cs c.args.watches.now → AllKnown p cs c.make.new.watches) c.plan.ensures (c.make.ensures.known cs)
@@ -28,7 +27,7 @@ returns-in-Ok-clause-known g c = λ cs. subst (λ (p : Plan). AllKnown p cs c.ar
 pub returns-in-Ok-clause-keeps : goal.returns-in-Ok-clause-keeps
 returns-in-Ok-clause-keeps g c =
     let needed = rw c.if-left_out.false at c.is_left_out-left_out.ensures in
-    inr (made_next g.K.Keeper.below g.K.Keeper.keeps c.args.keeper.now c.keep.new.self (plan_of c.plan.result.now) c.args.state.now.plan c.time-now.result c.args.state.now.time
+    inr (made_next g.K.Keeper.below g.K.Keeper.keeps c.args.keeper.now c.keep.new.self c.plan.result.now c.args.state.now.plan c.time-now.result c.args.state.now.time
     c.args.watches.now c.make.new.watches c.args.request.now c.in_ok-reply.reply c.next_number.result c.plan.ensures c.time-now.ensures needed (c.in_ok-reply.ensures.one_more needed.0) c.next_number.ensures c.in-Ok.ensures.done)
 
 pub returns-in-Err-clause-same : goal.returns-in-Err-clause-same
@@ -39,7 +38,7 @@ returns-in-Err-clause-same g c =
 pub returns-in-Err-clause-may_keep : goal.returns-in-Err-clause-may_keep
 returns-in-Err-clause-may_keep g c =
     let needed = rw c.if-left_out.false at c.is_left_out-left_out.ensures in
-    inr (made_next g.K.Keeper.below g.K.Keeper.may_keep c.args.keeper.now c.keep.new.self (plan_of c.plan.result.now) c.args.state.now.plan c.time-now.result c.args.state.now.time
+    inr (made_next g.K.Keeper.below g.K.Keeper.may_keep c.args.keeper.now c.keep.new.self c.plan.result.now c.args.state.now.plan c.time-now.result c.args.state.now.time
     c.args.watches.now c.make.new.watches c.args.request.now c.in_ok-reply.reply c.next_number.result c.plan.ensures c.time-now.ensures needed (c.in_ok-reply.ensures.one_more needed.0) c.next_number.ensures c.in-Err.ensures.err)
 
 pub returns-in-Err-clause-known : goal.returns-in-Err-clause-known

@@ -5,7 +5,6 @@ use Rattle.ob_site_rules.specs.Locating.{locate}
 use Rattle.ob_site_rules.specs.Sites.{site}
 use Rattle.ob_site_rules.specs.declared.plan.Plan.{Plan}
 use Rattle.ob_site_rules.specs.Watched.{target_at}
-use Rattle.ob_replies.specs.Plans.{plan as plan_of}
 use Rattle.ob_requests.specs.Targets.{IsTarget}
 use Rattle.ob_site.proofs.step.target.Goals as goal
 
@@ -13,4 +12,4 @@ pub returns : goal.returns
 returns c =
     IfOk-weaker c.target_at.result _ _
     (λ t is. subst (λ (plan : Plan). IsTarget t ((site locate plan).target c.args.request.now)) c.plan-plan.ensures
-    (subst (λ (p : Option Path). IsTarget t (target_at (plan_of c.plan-plan.result.now) c.args.request.now p)) c.in_ok-path.ensures is)) c.target_at.ensures
+    (subst (λ (p : Option Path). IsTarget t (target_at c.plan-plan.result.now c.args.request.now p)) c.in_ok-path.ensures is)) c.target_at.ensures

@@ -1,5 +1,4 @@
 use Rattle.std.proofs.Common.{ap, ◌∙◌}
-use Rattle.ob_replies.specs.Plans.{plan as plan_of}
 use Rattle.ob_standing.specs.Standings.{context}
 use Rattle.ob_tree.specs.Shown.{standing_at}
 use Rattle.ob_tree.specs.Trees.{Stamped}
@@ -10,10 +9,10 @@ use Rattle.ob_site_defaults.proofs.otherwise.both_shown.Goals as goal
 
 pub returns-clause-before : goal.returns-clause-before
 returns-clause-before g c =
-    shown_before (plan_of c.args.plan.now) (state_in c.args.contents.now) c.args.old.now c.args.root.number (context c.standing-before.result) c.in_ok-dressed.dressed c.in_ok-old_root.old_root
+    shown_before c.args.plan.now (state_in c.args.contents.now) c.args.old.now c.args.root.number (context c.standing-before.result) c.in_ok-dressed.dressed c.in_ok-old_root.old_root
     (c.standing-before.ensures.stands ∙ ap (λ (t : Stamped). standing_at c.args.old.now c.args.root.number t.root) c.tree.ensures) c.in_ok-dressed.ensures c.in_ok-old_root.ensures.whole
 
 pub returns-clause-after : goal.returns-clause-after
 returns-clause-after g c =
-    stands (plan_of c.args.plan.now) (state_in c.args.contents.now) c.args.root.number (context c.standing-after.result) c.in_ok-dressed.dressed c.in_ok-new_root.new_root
+    stands c.args.plan.now (state_in c.args.contents.now) c.args.root.number (context c.standing-after.result) c.in_ok-dressed.dressed c.in_ok-new_root.new_root
     c.standing-after.ensures.stands c.in_ok-dressed.ensures c.in_ok-new_root.ensures.whole

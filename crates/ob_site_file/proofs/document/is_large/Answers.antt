@@ -1,6 +1,5 @@
 use Rattle.std.proofs.Common.{ℕ, List, map, refl, ap, ◌∙◌, is_some}
 use Rattle.std.proofs.lemmas.Result.{IfOk-weaker}
-use Rattle.ob_replies.specs.Plans.{plan as plan_of}
 use Rattle.ob_site_rules.specs.State.{at}
 use Rattle.ob_plain_state.specs.States.{entry_of}
 use Rattle.ob_plain_state.specs.declared.log.Log.{Log}
@@ -15,7 +14,7 @@ returns c =
     let st = site_of o in
     let counts : IsCounting c.in_ok-counting.counting st.plan st.world.site = record {
       library = c.in_ok-counting.ensures.library;
-      fixed = ap plan_of c.in_ok-counting.ensures.plan;
+      fixed = c.in_ok-counting.ensures.plan;
       points = c.in_ok-counting.ensures.points;
       histories = λ t. c.in_ok-counting.ensures.histories t ∙ ap (λ (ls : List (List ℕ × Log)). is_some (at t (map entry_of ls))) c.as_slice.ensures.value ∙ rolled_there t (map entry_of o.logs.items);
     } in

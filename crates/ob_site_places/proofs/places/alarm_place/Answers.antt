@@ -1,7 +1,6 @@
 use Rattle.std.proofs.Common.{◌≡◌, ◌≤◌, ◌+◌, ◌^◌, length, option_map, sym, ◌∙◌, arith}
 use Rattle.std.proofs.lemmas.Result.{IfOk-weaker}
 use Rattle.ob_alarms.specs.Changes.{alarm_of}
-use Rattle.ob_replies.specs.Plans.{plan as plan_of}
 use Rattle.ob_site_rules.specs.State.{at, numbered_from}
 use Rattle.ob_site_rules.specs.Places.{alarm_places}
 use Rattle.ob_plain_state.specs.Named.{place as place_of}
@@ -11,7 +10,7 @@ use Rattle.ob_site_places.proofs.places.alarm_place.Goals as goal
 
 pub returns-in-Some : goal.returns-in-Some
 returns-in-Some c =
-    let plan = plan_of c.args.plan.now in
+    let plan = c.args.plan.now in
     let rules = numbered_from 0 plan.rules in
     let p = c.args.path.now in
     let alarms = c.args.alarms.now.alarms in
@@ -22,7 +21,7 @@ returns-in-Some c =
 
 pub returns-in-None : goal.returns-in-None
 returns-in-None c =
-    let plan = plan_of c.args.plan.now in
+    let plan = c.args.plan.now in
     let alarms = c.args.alarms.now.alarms in
     let few : 1 + length alarms ≤ 2 ^ 64 = let n = c.len-count.ensures.len in let m = c.len-count.ensures.few in omega (arith, n, m) in
     sym (elsewhere plan (numbered_from 0 plan.rules) c.args.path.now 1 alarms c.in-None.ensures few)

@@ -2,7 +2,6 @@ use Rattle.std.proofs.Common.{◌≡◌, option_map, sym, ap, ◌∙◌, arith}
 use Rattle.std.specs.Prelude.{is_some}
 use Rattle.std.proofs.lemmas.Result.{IfOk-weaker}
 use Rattle.ob_contracts.specs.Inherit.{or_else}
-use Rattle.ob_replies.specs.Plans.{plan as plan_of}
 use Rattle.ob_site_rules.specs.State.{at}
 use Rattle.ob_site_rules.specs.Places.{point_places}
 use Rattle.ob_plain_state.specs.Named.{place as place_of}
@@ -12,7 +11,7 @@ use Rattle.ob_site_places.proofs.places.point_in.Goals as goal
 
 pub returns-then-is_some : goal.returns-then-is_some
 returns-then-is_some c =
-    let plan = plan_of c.args.plan.now in
+    let plan = c.args.plan.now in
     let p = c.args.path.now in
     let plain = has_point c.args.parent.now plan.points _ (ap is_some (sym (c.point_at-plain_at.ensures plan c.requires.roles)) ∙ sym c.is_some.ensures ∙ c.if-is_some.true) in
     let slashed = has_point c.in_ok-slashed.slashed plan.points _ (ap is_some (sym (c.point_at.ensures plan c.requires.roles) ∙ c.in_default.is)) in
@@ -21,14 +20,14 @@ returns-then-is_some c =
 
 pub returns-in_default : goal.returns-in_default
 returns-in_default c =
-    let plan = plan_of c.args.plan.now in
+    let plan = c.args.plan.now in
     let plain = has_point c.args.parent.now plan.points _ (ap is_some (sym (c.point_at-plain_at.ensures plan c.requires.roles)) ∙ sym c.is_some.ensures ∙ c.if-is_some.false) in
     let slashed = has_point c.in_ok-slashed.slashed plan.points _ (ap is_some (sym (c.point_at.ensures plan c.requires.roles) ∙ c.in_default.is)) in
     neither_point c.args.path.now c.args.parent.now c.in_ok-slashed.slashed plan.points c.requires.parent c.in_ok-slashed.ensures plain slashed
 
 pub returns-in_default-plain_at : goal.returns-in_default-plain_at
 returns-in_default-plain_at c =
-    let plan = plan_of c.args.plan.now in
+    let plan = c.args.plan.now in
     let p = c.args.path.now in
     let q = c.in_ok-slashed.slashed in
     let plain = has_point c.args.parent.now plan.points _ (ap is_some (sym (c.point_at-plain_at.ensures plan c.requires.roles) ∙ c.in_default-plain_at.is)) in
@@ -38,7 +37,7 @@ returns-in_default-plain_at c =
 
 pub returns-then-plain_at-slashed_at : goal.returns-then-plain_at-slashed_at
 returns-then-plain_at-slashed_at c =
-    let plan = plan_of c.args.plan.now in
+    let plan = c.args.plan.now in
     let p = c.args.path.now in
     let front = c.args.parent.now in
     let q = c.in_ok-slashed.slashed in
@@ -49,7 +48,7 @@ returns-then-plain_at-slashed_at c =
 
 pub returns : goal.returns
 returns c =
-    let plan = plan_of c.args.plan.now in
+    let plan = c.args.plan.now in
     let p = c.args.path.now in
     let front = c.args.parent.now in
     let q = c.in_ok-slashed.slashed in

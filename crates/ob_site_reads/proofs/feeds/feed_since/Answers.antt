@@ -1,5 +1,4 @@
 use Rattle.std.proofs.Common.{◌-◌, option_map}
-use Rattle.ob_replies.specs.Plans.{plan as plan_of}
 use Rattle.ob_site_rules.specs.Watched.{passes, gone_at}
 use Rattle.ob_site_state.specs.Contents.{state_in}
 use Rattle.ob_plain_state.specs.Named.{place as place_of}
@@ -7,14 +6,14 @@ use Rattle.ob_site_reads.proofs.Nameless.{board_is, some_nameless}
 use Rattle.ob_site_reads.proofs.feeds.feed_since.Goals as goal
 
 pub gone_at-requires : goal.gone_at-requires
-gone_at-requires c = (plan_of c.args.plan.now, c.requires.readable.roles, c.requires.readable.histories)
+gone_at-requires c = (c.args.plan.now, c.requires.readable.roles, c.requires.readable.histories)
 
 pub events_since-requires : goal.events_since-requires
-events_since-requires c = (plan_of c.args.plan.now, c.requires.readable.roles, c.requires.readable.histories)
+events_since-requires c = (c.args.plan.now, c.requires.readable.roles, c.requires.readable.histories)
 
 pub feed_if_some-requires-clause-nameless : goal.feed_if_some-requires-clause-nameless
 feed_if_some-requires-clause-nameless c =
-    let plan = plan_of c.args.plan.now in
+    let plan = c.args.plan.now in
     let s = state_in c.args.contents.now in
     let place = option_map place_of c.in_ok-place.place in
     some_nameless plan s c.args.contents.now.board place (passes c.args.since.now.filter) (c.args.since.now.given - gone_at s place) c.in_ok-events.events.items

@@ -1,5 +1,4 @@
 use Rattle.std.proofs.Common.{◌-◌, option_map}
-use Rattle.ob_replies.specs.Plans.{plan as plan_of}
 use Rattle.ob_site_rules.specs.Watched.{passes, gone_at}
 use Rattle.ob_site_state.specs.Contents.{state_in}
 use Rattle.ob_plain_state.specs.Named.{place as place_of}
@@ -7,11 +6,11 @@ use Rattle.ob_site_reads.proofs.Nameless.{board_is, some_nameless}
 use Rattle.ob_site_reads.proofs.feeds.whole_feed.Goals as goal
 
 pub events_since-requires : goal.events_since-requires
-events_since-requires c = (plan_of c.args.plan.now, c.requires.readable.roles, c.requires.readable.histories)
+events_since-requires c = (c.args.plan.now, c.requires.readable.roles, c.requires.readable.histories)
 
 pub feed_entry-requires-clause-nameless : goal.feed_entry-requires-clause-nameless
 feed_entry-requires-clause-nameless c =
-    let plan = plan_of c.args.plan.now in
+    let plan = c.args.plan.now in
     let s = state_in c.args.contents.now in
     let place = option_map place_of c.in_ok-place.place in
     some_nameless plan s c.args.contents.now.board place (passes c.args.filter.now) (0 - gone_at s place) c.in_ok-events.events.items

@@ -1,5 +1,4 @@
 use Rattle.std.proofs.Common.{sym, ◌∙◌}
-use Rattle.ob_replies.specs.Plans.{plan as plan_of}
 use Rattle.ob_requests.specs.Calls.{found as found_of}
 use Rattle.ob_site_rules.specs.Shown.{shown}
 use Rattle.ob_site_state.specs.Contents.{state_in}
@@ -8,5 +7,5 @@ use Rattle.ob_site_reads.proofs.finding.found_shown.Goals as goal
 
 pub returns-in-Some : goal.returns-in-Some
 returns-in-Some g c =
-    node_found (plan_of c.args.plan.now) c.args.numbers.now c.args.path c.in-Some.kind (shown (plan_of c.args.plan.now) (state_in c.args.contents.now) c.args.path)
+    node_found c.args.plan.now c.args.numbers.now c.args.path c.in-Some.kind (shown c.args.plan.now (state_in c.args.contents.now) c.args.path)
     (found_of c.found_node.result) (sym c.in-Some.is ∙ c.in_ok-kind.ensures) c.found_node.ensures

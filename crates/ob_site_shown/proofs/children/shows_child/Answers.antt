@@ -4,7 +4,6 @@ use Rattle.ob_contracts.specs.Shown.{shown as shown_by}
 use Rattle.ob_object.specs.Object.{Object, children}
 use Rattle.ob_object.specs.WellFormed.{named}
 use Rattle.ob_object.specs.Paths.{node_path}
-use Rattle.ob_replies.specs.Plans.{plan as plan_of}
 use Rattle.ob_site_rules.specs.Shown.{derived}
 use Rattle.ob_site_state.specs.Contents.{state_in}
 use Rattle.ob_standing.specs.Contexts.{comes_to}
@@ -18,7 +17,7 @@ use Rattle.ob_site_shown.proofs.children.shows_child.Goals as goal
 
 pub returns-then-is_some : goal.returns-then-is_some
 returns-then-is_some g c =
-    let plan = plan_of c.args.plan.now in
+    let plan = c.args.plan.now in
     let s = state_in c.args.contents.now in
     let k = c.args.node.number in
     let n = c.args.name.now in
@@ -33,7 +32,7 @@ returns-then-is_some g c =
 
 pub returns-then-is_some-2 : goal.returns-then-is_some-2
 returns-then-is_some-2 g c =
-    let plan = plan_of c.args.plan.now in
+    let plan = c.args.plan.now in
     let s = state_in c.args.contents.now in
     let k = c.args.node.number in
     let n = c.args.name.now in
@@ -48,7 +47,7 @@ returns-then-is_some-2 g c =
 
 pub returns : goal.returns
 returns g c =
-    let plan = plan_of c.args.plan.now in
+    let plan = c.args.plan.now in
     let s = state_in c.args.contents.now in
     let k = c.args.node.number in
     let n = c.args.name.now in

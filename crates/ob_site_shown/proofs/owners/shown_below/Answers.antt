@@ -1,6 +1,5 @@
 use Rattle.std.proofs.Common.{◌∷◌, [], ◌++◌, subst}
 use Rattle.std.proofs.lemmas.Result.{IfOk-weaker}
-use Rattle.ob_replies.specs.Plans.{plan as plan_of}
 use Rattle.ob_site_state.specs.Contents.{state_in}
 use Rattle.ob_site_shown.specs.Deriving.{IsOff, IsOffBelow, ShownOr}
 use Rattle.ob_site_shown.specs.Parents.{IsParent}
@@ -9,7 +8,7 @@ use Rattle.ob_site_shown.proofs.owners.shown_below.Goals as goal
 
 pub returns-in-Some : goal.returns-in-Some
 returns-in-Some g c =
-    let plan = plan_of c.args.plan.now in
+    let plan = c.args.plan.now in
     let s = state_in c.args.contents.now in
     let p = c.args.path.now in
     let q = c.in-Some.parent in
@@ -20,4 +19,4 @@ returns-in-Some g c =
 
 pub returns-in-None : goal.returns-in-None
 returns-in-None g c =
-    off_no_parent (plan_of c.args.plan.now) (state_in c.args.contents.now) c.args.path.now (subst (IsParent c.args.path.now) c.in-None.is c.in_ok-parent.ensures)
+    off_no_parent c.args.plan.now (state_in c.args.contents.now) c.args.path.now (subst (IsParent c.args.path.now) c.in-None.is c.in_ok-parent.ensures)

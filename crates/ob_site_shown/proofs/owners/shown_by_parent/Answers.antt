@@ -1,6 +1,5 @@
 use Rattle.std.proofs.Common.{◌∷◌, [], ◌++◌, sym, ◌∙◌, subst}
 use Rattle.std.proofs.lemmas.Result.{IfOk-weaker}
-use Rattle.ob_replies.specs.Plans.{plan as plan_of}
 use Rattle.ob_site_state.specs.Contents.{state_in}
 use Rattle.ob_site_shown.specs.Deriving.{IsOff, ShownOr}
 use Rattle.ob_site_shown.proofs.ByRole.{off_there, or_else_that}
@@ -8,7 +7,7 @@ use Rattle.ob_site_shown.proofs.owners.shown_by_parent.Goals as goal
 
 pub returns : goal.returns
 returns g c =
-    let plan = plan_of c.args.plan.now in
+    let plan = c.args.plan.now in
     let s = state_in c.args.contents.now in
     let p = c.args.path.now in
     let q = c.in_ok-parent.parent in

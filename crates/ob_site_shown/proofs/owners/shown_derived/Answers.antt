@@ -1,6 +1,5 @@
 use Rattle.std.proofs.Common.{sym, ◌∙◌}
 use Rattle.std.proofs.lemmas.Result.{IfOk-weaker}
-use Rattle.ob_replies.specs.Plans.{plan as plan_of}
 use Rattle.ob_shown_laws.specs.Alike.{row}
 use Rattle.ob_shown_laws.specs.OwnShown.{IsNotDerived}
 use Rattle.ob_site_state.specs.Contents.{state_in}
@@ -11,7 +10,7 @@ use Rattle.ob_site_shown.proofs.owners.shown_derived.Goals as goal
 
 pub returns : goal.returns
 returns g c =
-    let plan = plan_of c.args.plan.now in
+    let plan = c.args.plan.now in
     let s = state_in c.args.contents.now in
     let p = c.args.path.now in
     let root = off_there plan s p (IsOff plan s p plan.root) c.in_ok-shown.shown (sym c.is_some.ensures ∙ c.if-is_some.false) c.in_ok-shown.ensures in

@@ -1,5 +1,4 @@
 use Rattle.std.proofs.Common.{ap, ◌∙◌}
-use Rattle.ob_replies.specs.Plans.{plan as plan_of}
 use Rattle.ob_site_state.specs.Contents.{state_in}
 use Rattle.ob_shown_laws.specs.Alike.{row}
 use Rattle.ob_tree.specs.Shown.{part_at}
@@ -9,5 +8,5 @@ use Rattle.ob_site_shown.proofs.shown.dressed_part.Goals as goal
 
 pub dress-requires-clause-free : goal.dress-requires-clause-free
 dress-requires-clause-free c =
-    free_part (plan_of c.args.plan.now) (state_in c.args.contents.now) c.args.node.number (row c.args.contents.now.ground.tree.root) c.in_ok-own.own
+    free_part c.args.plan.now (state_in c.args.contents.now) c.args.node.number (row c.args.contents.now.ground.tree.root) c.in_ok-own.own
     c.requires.readable.names_free (c.in_ok-own.ensures ∙ ap (λ (t : Stamped). part_at c.args.node.number t.root) c.tree.ensures)

@@ -1,6 +1,5 @@
 use Rattle.std.proofs.Common.{◌≡◌, ap, ◌∙◌}
 use Rattle.std.proofs.lemmas.Result.{IfOk-weaker}
-use Rattle.ob_replies.specs.Plans.{plan as plan_of}
 use Rattle.ob_site_rules.specs.Shown.{shown}
 use Rattle.ob_shown_laws.specs.Alike.{row}
 use Rattle.ob_shown_laws.specs.OwnShown.{IsNotDerived}
@@ -14,7 +13,7 @@ use Rattle.ob_site_shown.proofs.shown.shown_at.Goals as goal
 
 pub returns-in-None : goal.returns-in-None
 returns-in-None g c =
-    let plan = plan_of c.args.plan.now in
+    let plan = c.args.plan.now in
     let s = state_in c.args.contents.now in
     let p = c.args.path.now in
     IfOk-weaker c.shown_derived.result (ShownOr plan s p (IsNotDerived plan s p (row s.tree))) (λ o. o ≡ shown plan s p)

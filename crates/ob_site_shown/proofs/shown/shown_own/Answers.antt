@@ -1,6 +1,5 @@
 use Rattle.std.proofs.Common.{◌≡◌, Some}
 use Rattle.std.proofs.lemmas.Result.{IfOk-weaker}
-use Rattle.ob_replies.specs.Plans.{plan as plan_of}
 use Rattle.ob_site_rules.specs.Build.{Path}
 use Rattle.ob_site_rules.specs.Shown.{shown}
 use Rattle.ob_site_state.specs.Contents.{state_in}
@@ -14,7 +13,7 @@ use Rattle.ob_site_shown.proofs.shown.shown_own.Goals as goal
 
 pub returns-clause-stands : goal.returns-clause-stands
 returns-clause-stands g c =
-    let plan = plan_of c.args.plan.now in
+    let plan = c.args.plan.now in
     let s = state_in c.args.contents.now in
     let n = c.args.node.number in
     let at = context c.standing-standing.result in
@@ -23,7 +22,7 @@ returns-clause-stands g c =
 
 pub returns-clause-shows : goal.returns-clause-shows
 returns-clause-shows g c =
-    let plan = plan_of c.args.plan.now in
+    let plan = c.args.plan.now in
     let s = state_in c.args.contents.now in
     let n = c.args.node.number in
     let at = context c.standing-standing.result in

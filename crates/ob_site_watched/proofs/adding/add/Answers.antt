@@ -1,6 +1,5 @@
 use Rattle.std.proofs.Common.{List, sym, ap, ◌∙◌, subst}
 use Rattle.std.proofs.lemmas.Result.{IfOk-weaker}
-use Rattle.ob_replies.specs.Plans.{plan as plan_of}
 use Rattle.ob_watching.specs.Asked.{Add}
 use Rattle.ob_watching.specs.Tables.{lookup, numbers_of}
 use Rattle.ob_watch.specs.declared.item.Item.{Item}
@@ -15,7 +14,7 @@ use Rattle.ob_site_watched.proofs.adding.add.Goals as goal
 pub returns-in_default-clause-done : goal.returns-in_default-clause-done
 returns-in_default-clause-done g c =
     IfOk-weaker c.refusal.result _ _
-    (λ o e. none_stands (plan_of c.args.plan.now) c.args.contents.now c.args.adding.now.moment c.args.adding.now.number c.args.watches.now (Add c.args.adding.now.asked.now) o (sym c.in_default.ensures) e) c.refusal.ensures
+    (λ o e. none_stands c.args.plan.now c.args.contents.now c.args.adding.now.moment c.args.adding.now.number c.args.watches.now (Add c.args.adding.now.asked.now) o (sym c.in_default.ensures) e) c.refusal.ensures
 
 pub put_or_leave-requires-clause-held : goal.put_or_leave-requires-clause-held
 put_or_leave-requires-clause-held g c =
@@ -34,7 +33,7 @@ put_or_leave-requires-clause-nothing g c =
 
 pub returns-clause-done : goal.returns-clause-done
 returns-clause-done g c =
-    let plan = plan_of c.args.plan.now in
+    let plan = c.args.plan.now in
     let now = c.args.adding.now.moment in
     let n = c.args.adding.now.number in
     let old = c.args.watches.now in
@@ -46,7 +45,7 @@ returns-clause-done g c =
 
 pub returns-clause-known : goal.returns-clause-known
 returns-clause-known g c =
-    let plan = plan_of c.args.plan.now in
+    let plan = c.args.plan.now in
     let contents = c.args.contents.now in
     let now = c.args.adding.now.moment in
     let n = c.args.adding.now.number in

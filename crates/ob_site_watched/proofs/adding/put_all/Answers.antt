@@ -1,7 +1,6 @@
 use Rattle.std.proofs.Common.{ℕ, ◌+◌, List, [], take, sym, ◌∙◌, subst}
 use Rattle.std.proofs.lemmas.List.{take_all}
 use Rattle.ob_object.specs.Object.{Object}
-use Rattle.ob_replies.specs.Plans.{plan as plan_of}
 use Rattle.ob_requests.specs.Calls.{firsts as firsts_of}
 use Rattle.ob_site_rules.specs.Watched.{Asked}
 use Rattle.ob_watch.specs.Tables.{live}
@@ -13,7 +12,7 @@ use Rattle.ob_site_watched.proofs.adding.put_all.Goals as goal
 
 pub returns-in_err-numbers : goal.returns-in_err-numbers
 returns-in_err-numbers g c =
-    let plan = plan_of c.args.plan.now in
+    let plan = c.args.plan.now in
     let site = c.args.contents.now in
     let n = c.args.adding.now.number in
     let old = c.args.watches.now in
@@ -24,7 +23,7 @@ returns-in_err-numbers g c =
 
 pub returns-in_err-firsts : goal.returns-in_err-firsts
 returns-in_err-firsts g c =
-    let plan = plan_of c.args.plan.now in
+    let plan = c.args.plan.now in
     let site = c.args.contents.now in
     let n = c.args.adding.now.number in
     let old = c.args.watches.now in
@@ -35,7 +34,7 @@ returns-in_err-firsts g c =
 
 pub loop-a-init : goal.loop-a-init
 loop-a-init g c =
-    let plan = plan_of c.args.plan.now in
+    let plan = c.args.plan.now in
     let site = c.args.contents.now in
     let n = c.args.adding.now.number in
     let old = c.args.watches.now in
@@ -47,7 +46,7 @@ loop-a-init g c =
 
 pub returns-in_err-offer : goal.returns-in_err-offer
 returns-in_err-offer g c =
-    let plan = plan_of c.args.plan.now in
+    let plan = c.args.plan.now in
     let site = c.args.contents.now in
     let n = c.args.adding.now.number in
     let old = c.args.watches.now in
@@ -63,11 +62,11 @@ returns-in_err-offer g c =
 
 pub put_offer-requires-clause-placed : goal.put_offer-requires-clause-placed
 put_offer-requires-clause-placed g c =
-    placed (plan_of c.args.plan.now) c.args.contents.now c.deref.result.now c.a-item.result c.in_ok-offer.offer c.in_ok-offer.ensures
+    placed c.args.plan.now c.args.contents.now c.deref.result.now c.a-item.result c.in_ok-offer.offer c.in_ok-offer.ensures
 
 pub returns-in_err-entry : goal.returns-in_err-entry
 returns-in_err-entry g c =
-    let plan = plan_of c.args.plan.now in
+    let plan = c.args.plan.now in
     let site = c.args.contents.now in
     let n = c.args.adding.now.number in
     let old = c.args.watches.now in
@@ -84,7 +83,7 @@ returns-in_err-entry g c =
 
 pub returns-in_err-push : goal.returns-in_err-push
 returns-in_err-push g c =
-    let plan = plan_of c.args.plan.now in
+    let plan = c.args.plan.now in
     let site = c.args.contents.now in
     let n = c.args.adding.now.number in
     let old = c.args.watches.now in
@@ -101,7 +100,7 @@ returns-in_err-push g c =
 
 pub loop-a-preserved : goal.loop-a-preserved
 loop-a-preserved g c =
-    let plan = plan_of c.args.plan.now in
+    let plan = c.args.plan.now in
     let site = c.args.contents.now in
     let n = c.args.adding.now.number in
     let old = c.args.watches.now in
@@ -120,7 +119,7 @@ loop-a-preserved g c =
 
 pub watch_out-requires : goal.watch_out-requires
 watch_out-requires g c =
-    let plan = plan_of c.args.plan.now in
+    let plan = c.args.plan.now in
     let site = c.args.contents.now in
     let n = c.args.adding.now.number in
     let old = c.args.watches.now in
@@ -136,7 +135,7 @@ watch_out-requires g c =
 
 pub returns : goal.returns
 returns g c =
-    let plan = plan_of c.args.plan.now in
+    let plan = c.args.plan.now in
     let site = c.args.contents.now in
     let n = c.args.adding.now.number in
     let old = c.args.watches.now in

@@ -1,5 +1,4 @@
 use Rattle.std.proofs.Common.{take}
-use Rattle.ob_replies.specs.Plans.{plan as plan_of}
 use Rattle.ob_watching.specs.Tables.{numbers_of}
 use Rattle.ob_watch.specs.Tables.{lapsed_at}
 use Rattle.ob_site_watched.specs.Putting.{OfHeld}
@@ -9,4 +8,4 @@ use Rattle.ob_site_watched.proofs.adding.put_all.Given as goal
 abbrev pub invariant-loop-a : goal.invariant-loop-a
 invariant-loop-a g l =
     OfHeld l.adding.number l.fn.watches
-    (IsOnTheWay (plan_of l.plan) l.contents (numbers_of (lapsed_at l.adding.moment l.fn.watches).watches) (take l.a-index l.a-items) l.adding.number l.fn.watches l.watches l.fn.undo l.undo l.entries.items)
+    (IsOnTheWay l.plan l.contents (numbers_of (lapsed_at l.adding.moment l.fn.watches).watches) (take l.a-index l.a-items) l.adding.number l.fn.watches l.watches l.fn.undo l.undo l.entries.items)

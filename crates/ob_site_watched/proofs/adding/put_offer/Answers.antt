@@ -1,6 +1,5 @@
 use Rattle.std.proofs.Common.{◌≡◌, true, Ok, Err, sym, ap, ◌∙◌, subst}
 use Rattle.std.specs.Prelude.{IfOk}
-use Rattle.ob_replies.specs.Plans.{plan as plan_of}
 use Rattle.ob_site_rules.specs.Build.{Text}
 use Rattle.ob_site_rules.specs.declared.fault.Fault.TheVariants.{TooManyItems}
 use Rattle.ob_watch.specs.declared.fault.WatchFault.{WatchFault}
@@ -14,7 +13,7 @@ use Rattle.ob_site_watched.proofs.adding.put_offer.Goals as goal
 
 pub returns-in-Refused : goal.returns-in-Refused
 returns-in-Refused g c =
-    let plan = plan_of c.args.plan.now in
+    let plan = c.args.plan.now in
     let site = c.args.contents.now in
     let n = c.args.adding.now.number in
     let old = c.args.watches.now in
@@ -24,7 +23,7 @@ returns-in-Refused g c =
 
 pub returns-then-is_refused : goal.returns-then-is_refused
 returns-then-is_refused g c =
-    let plan = plan_of c.args.plan.now in
+    let plan = c.args.plan.now in
     let site = c.args.contents.now in
     let n = c.args.adding.now.number in
     let old = c.args.watches.now in
@@ -36,7 +35,7 @@ returns-then-is_refused g c =
 
 pub returns-in_err-entry : goal.returns-in_err-entry
 returns-in_err-entry g c =
-    let plan = plan_of c.args.plan.now in
+    let plan = c.args.plan.now in
     let site = c.args.contents.now in
     let n = c.args.adding.now.number in
     let old = c.args.watches.now in
@@ -46,7 +45,7 @@ returns-in_err-entry g c =
 
 pub returns-in-Ok : goal.returns-in-Ok
 returns-in-Ok g c =
-    let plan = plan_of c.args.plan.now in
+    let plan = c.args.plan.now in
     let site = c.args.contents.now in
     let n = c.args.adding.now.number in
     let old = c.args.watches.now in
@@ -55,7 +54,7 @@ returns-in-Ok g c =
 
 pub returns-in-Err-ItemsFull : goal.returns-in-Err-ItemsFull
 returns-in-Err-ItemsFull g c =
-    let plan = plan_of c.args.plan.now in
+    let plan = c.args.plan.now in
     let site = c.args.contents.now in
     let n = c.args.adding.now.number in
     let old = c.args.watches.now in
@@ -65,7 +64,7 @@ returns-in-Err-ItemsFull g c =
 
 pub returns : goal.returns
 returns g c =
-    let plan = plan_of c.args.plan.now in
+    let plan = c.args.plan.now in
     let site = c.args.contents.now in
     let n = c.args.adding.now.number in
     let old = c.args.watches.now in

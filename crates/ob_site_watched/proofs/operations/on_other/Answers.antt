@@ -2,7 +2,6 @@ use Rattle.std.proofs.Common.{Option, Some, sym, ap, ◌∙◌, subst}
 use Rattle.std.specs.Prelude.{option_and_then}
 use Rattle.std.proofs.lemmas.Result.{IfOk-weaker}
 use Rattle.ob_watching.specs.Tables.{numbers_of, replace}
-use Rattle.ob_replies.specs.Plans.{plan as plan_of}
 use Rattle.ob_requests.specs.Targets.{operation_of}
 use Rattle.ob_site_state.specs.Contents.{state_in}
 use Rattle.ob_watch.specs.Flags.{flagged}
@@ -17,15 +16,15 @@ use Rattle.ob_site_watched.proofs.operations.on_other.Goals as goal
 pub returns-in_default-clause-done : goal.returns-in_default-clause-done
 returns-in_default-clause-done g c =
     IfOk-weaker c.refusal.result _ _
-    (λ o e. none_stands (plan_of c.args.plan.now) c.args.contents.now c.args.call.now.moment c.args.call.now.number c.args.watches.now (operation_of c.args.call.now.asks) o (sym c.in_default.ensures) e) c.refusal.ensures
+    (λ o e. none_stands c.args.plan.now c.args.contents.now c.args.call.now.moment c.args.call.now.number c.args.watches.now (operation_of c.args.call.now.asks) o (sym c.in_default.ensures) e) c.refusal.ensures
 
 pub reply-requires-clause-known : goal.reply-requires-clause-known
 reply-requires-clause-known g c =
-    known_there (plan_of c.args.plan.now) c.args.contents.now c.args.call.now.moment c.args.call.now.number c.args.watches.now c.in-Some.watch.now c.requires.known (sym c.in-Some.ensures)
+    known_there c.args.plan.now c.args.contents.now c.args.call.now.moment c.args.call.now.number c.args.watches.now c.in-Some.watch.now c.requires.known (sym c.in-Some.ensures)
 
 pub returns-clause-done : goal.returns-clause-done
 returns-clause-done g c =
-    let plan = plan_of c.args.plan.now in
+    let plan = c.args.plan.now in
     let contents = c.args.contents.now in
     let now = c.args.call.now.moment in
     let n = c.args.call.now.number in
@@ -42,17 +41,17 @@ returns-clause-done g c =
 
 pub returns-clause-known : goal.returns-clause-known
 returns-clause-known g c =
-    subst (AllKnown (plan_of c.args.plan.now) c.args.contents.now) (sym c.leave.ensures.left)
-    (left_known (plan_of c.args.plan.now) c.args.contents.now c.args.call.now.moment c.args.call.now.number (operation_of c.args.call.now.asks) c.args.watches.now c.requires.known)
+    subst (AllKnown c.args.plan.now c.args.contents.now) (sym c.leave.ensures.left)
+    (left_known c.args.plan.now c.args.contents.now c.args.call.now.moment c.args.call.now.number (operation_of c.args.call.now.asks) c.args.watches.now c.requires.known)
 
 pub returns-in_default-clause-steps : goal.returns-in_default-clause-steps
 returns-in_default-clause-steps g c =
     whatever c.refusal.result _
-    (none_asked (plan_of c.args.plan.now) (state_in c.args.contents.now) c.args.contents.now.ground.tree c.args.call.now.number (live c.args.call.now.moment c.args.watches.now.watches) (operation_of c.args.call.now.asks) c.args.steps.now (sym c.in_default.ensures))
+    (none_asked c.args.plan.now (state_in c.args.contents.now) c.args.contents.now.ground.tree c.args.call.now.number (live c.args.call.now.moment c.args.watches.now.watches) (operation_of c.args.call.now.asks) c.args.steps.now (sym c.in_default.ensures))
 
 pub returns-clause-steps : goal.returns-clause-steps
 returns-clause-steps g c =
-    let plan = plan_of c.args.plan.now in
+    let plan = c.args.plan.now in
     let s = state_in c.args.contents.now in
     let t = c.args.contents.now.ground.tree in
     asked_there plan s t c.args.call.now.number (live c.args.call.now.moment c.args.watches.now.watches) c.in-Some.watch.now (operation_of c.args.call.now.asks) c.args.steps.now c.leave.new.steps

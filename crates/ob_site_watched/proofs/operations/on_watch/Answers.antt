@@ -1,5 +1,4 @@
 use Rattle.std.proofs.Common.{sym, subst}
-use Rattle.ob_replies.specs.Plans.{plan as plan_of}
 use Rattle.ob_requests.specs.declared.target.Operation.{Operation}
 use Rattle.ob_requests.specs.Targets.{operation_of}
 use Rattle.ob_site_state.specs.Contents.{state_in}
@@ -14,4 +13,4 @@ pub returns-in-Add-clause-steps : goal.returns-in-Add-clause-steps
 returns-in-Add-clause-steps g c =
     let w = lookup c.args.call.now.number (flags_of c.args.contents.now.ground.tree (live c.args.call.now.moment c.args.watches.now.watches)) in
     whatever c.add.result _
-    (subst (λ (a : Operation). WatchTakes (plan_of c.args.plan.now) (state_in c.args.contents.now) w (operation_of a) c.args.steps.now c.add.new.steps) (sym c.in-Add.is) tt)
+    (subst (λ (a : Operation). WatchTakes c.args.plan.now (state_in c.args.contents.now) w (operation_of a) c.args.steps.now c.add.new.steps) (sym c.in-Add.is) tt)

@@ -1,7 +1,6 @@
 use Rattle.std.proofs.Common.{◌≡◌, Some, option_map}
 use Rattle.std.specs.Prelude.{IfSome}
 use Rattle.std.proofs.lemmas.Result.{IfOk-weaker}
-use Rattle.ob_replies.specs.Plans.{plan as plan_of}
 use Rattle.ob_site_rules.specs.Shown.{shown}
 use Rattle.ob_site_shown.specs.Targets.{target}
 use Rattle.ob_site_state.specs.Contents.{state_in}
@@ -13,7 +12,7 @@ pub returns : goal.returns
 returns g c =
     let k = c.args.state.now in
     let p = c.args.path.now in
-    let plan = plan_of c.plan.result.now in
+    let plan = c.plan.result.now in
     let s = state_in c.contents.result.now in
     IfOk-weaker c.own_target.result (λ found. IfSome found (λ o. option_map target (shown plan s p) ≡ Some o)) (λ found. IfSome found (λ o. IsTarget k.plan k.now p o))
     (λ found is. all_targets k.plan plan k.now s p found c.plan.ensures c.contents.ensures.value is) c.own_target.ensures

@@ -3,7 +3,6 @@ use Rattle.std.specs.Prelude.{is_some}
 use Rattle.std.proofs.lemmas.Result.{IfOk-weaker}
 use Rattle.ob_contracts.specs.Inherit.{contract_of}
 use Rattle.ob_object.specs.Object.{Object}
-use Rattle.ob_replies.specs.Plans.{plan as plan_of}
 use Rattle.ob_site_rules.specs.Build.{child}
 use Rattle.ob_site_rules.specs.Writes.{has_child, ranged}
 use Rattle.ob_site_state.specs.Contents.{state_in}
@@ -20,7 +19,7 @@ returns-in-Some g c =
     let r = c.args.range.now in
     let n = c.args.name.now in
     let number = c.in-Some.node.number in
-    let plan = plan_of c.plan.result.now in
+    let plan = c.plan.result.now in
     let s = state_in c.contents.result.now in
     let here : Some number ≡ place_of r (paths k.now.tree) = c.in-Some.ensures.place ∙ ap (λ (t : Stamped). place_of r (paths t.root)) c.tree.ensures.value in
     IfOk-weaker c.shows_child.result (λ has. option_map (λ (o : Object). is_some (child n o)) (own_shown_at plan s number) ≡ Some has)

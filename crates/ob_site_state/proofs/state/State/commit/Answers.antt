@@ -1,5 +1,4 @@
 use Rattle.std.proofs.Common.{◌≡◌, List, sym, ap, ◌∙◌, subst}
-use Rattle.ob_replies.specs.Plans.{plan as plan_of}
 use Rattle.ob_site_rules.specs.Build.{Path}
 use Rattle.ob_site_rules.specs.State.{Log, State, roll}
 use Rattle.ob_site_state.specs.declared.change.Change.{Change}
@@ -24,13 +23,13 @@ invariant_of-self c =
     ∙ ap (λ (l : List Change). let x : State = record s { logs = settled_all l s.logs } in x) c.deref.ensures.value
     ∙ ap (λ (ls : List (Path × Log)). let x : State = record s { logs = ls } in x) (settles a.found.items s c.self.invariant.kept.rolled_before) in record {
       kept =
-          subst (λ (l : List Change). IsKept (plan_of a.plan) a.time t c.settle.new.self.board a.time l) (sym c.clear.ensures.items)
-          (committed (plan_of a.plan) a.time s t a.contents.board c.settle.new.self.board a.since a.found.items c.self.invariant.kept rest.root rest.rules is);
+          subst (λ (l : List Change). IsKept a.plan a.time t c.settle.new.self.board a.time l) (sym c.clear.ensures.items)
+          (committed a.plan a.time s t a.contents.board c.settle.new.self.board a.since a.found.items c.self.invariant.kept rest.root rest.rules is);
       tallied =
           subst (λ (l : List Change). IsTallied (record a.tally { total_before = a.tally.total }) t.logs (rewound l t).logs) (sym c.clear.ensures.items)
           (tallied_on a.tally s.logs (rewound a.found.items s).logs t.logs (ap (λ (x : State). x.logs) is) c.self.invariant.tallied);
       growing = c.self.invariant.growing;
-      roles = roles_stay (plan_of a.plan) a.contents c.settle.new.self rest.roles c.self.invariant.roles;
+      roles = roles_stay a.plan a.contents c.settle.new.self rest.roles c.self.invariant.roles;
     }
 
 pub returns : goal.returns

@@ -1,7 +1,6 @@
 use Rattle.std.proofs.Common.{◌≡◌, ℕ, Option, arith, ◌+◌, ◌^◌, Some, ◌<◌, List, ◌++◌, ◌∷◌, [], length, sym, ap, ◌∙◌, subst}
 use Rattle.ob_times.specs.Times.{Instant, moment_instant}
 use Rattle.ob_history.specs.declared.records.Record.{Record}
-use Rattle.ob_replies.specs.Plans.{plan as plan_of}
 use Rattle.std.specs.Prelude.{slice_get}
 use Rattle.ob_site_rules.specs.Build.{Path}
 use Rattle.ob_site_rules.specs.State.{Log, State}
@@ -36,7 +35,7 @@ invariant_of-self-2 c =
     let t = state_in c.record.new.self in
     let there = got_there s.logs c.args.place (subst (λ (k : Kept). c.args.place < length k.now.logs) (sym c.self.view_is) c.requires.there) in record {
       kept =
-          record_noted (plan_of a.plan) a.time s (state_in c.record.new.self) a.contents.board c.record.new.self.board a.since a.found.items c.push_reserved.new.self.items r c.args.place c.in_ok-len.len c.self.invariant.kept rest.root rest.rules c.abstime-time.ensures
+          record_noted a.plan a.time s (state_in c.record.new.self) a.contents.board c.record.new.self.board a.since a.found.items c.push_reserved.new.self.items r c.args.place c.in_ok-len.len c.self.invariant.kept rest.root rest.rules c.abstime-time.ensures
           (subst (λ (k : Kept). (l : Path × Log) → slice_get k.now.logs c.args.place ≡ Some l → events_ever l.1 + 1 < 2 ^ 63) (sym c.self.view_is) c.requires.counted)
           (subst (λ (k : Kept). c.args.place < length k.now.logs) (sym c.self.view_is) c.requires.there)
           c.in_ok-len.ensures.len c.in_ok-len.ensures.ok
@@ -48,8 +47,8 @@ invariant_of-self-2 c =
           (before_as s t a.found.items items ch (record_back s t r c.args.place c.in_ok-len.len c.in_ok-len.ensures.len c.in_ok-len.ensures.ok)
           (c.push_reserved.ensures.items ∙ ap (λ (l : List Change). l ++ ch ∷ []) c.reserve.ensures.items)))
           c.self.invariant.tallied;
-      growing = subst (λ (x : Tally). (p : Path) → count_at x.growing p ≡ growing_in p (plan_of a.plan).histories x.capacities.items) (sym c.add.ensures) c.self.invariant.growing;
-      roles = roles_stay (plan_of a.plan) a.contents c.record.new.self rest.roles c.self.invariant.roles;
+      growing = subst (λ (x : Tally). (p : Path) → count_at x.growing p ≡ growing_in p a.plan.histories x.capacities.items) (sym c.add.ensures) c.self.invariant.growing;
+      roles = roles_stay a.plan a.contents c.record.new.self rest.roles c.self.invariant.roles;
     }
 
 pub add-requires : goal.add-requires

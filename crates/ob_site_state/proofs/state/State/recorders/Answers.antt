@@ -1,8 +1,7 @@
 use Rattle.std.proofs.Common.{ap, ◌∙◌}
-use Rattle.ob_replies.specs.Plans.{plan as plan_of}
 use Rattle.ob_site_roles.specs.Roles.{recorders_of}
 use Rattle.ob_site_state.specs.Kept.{Kept}
 use Rattle.ob_site_state.proofs.state.State.recorders.Goals as goal
 
 pub returns : goal.returns
-returns c = c.recorders.ensures (plan_of c.self.inside.plan) c.self.invariant.roles ∙ ap (λ (k : Kept). recorders_of k.plan c.args.source.now) c.self.view_is
+returns c = c.recorders.ensures c.self.inside.plan c.self.invariant.roles ∙ ap (λ (k : Kept). recorders_of k.plan c.args.source.now) c.self.view_is

@@ -2,7 +2,6 @@ use Rattle.std.proofs.Common.{◌≡◌, true, List, ◌++◌, ◌∷◌, [], re
 use Rattle.std.specs.List.{list_any}
 use Rattle.ob_contracts.specs.Inherit.{Contracts}
 use Rattle.ob_ground.specs.Grounds.{Grounded}
-use Rattle.ob_replies.specs.Plans.{plan as plan_of}
 use Rattle.ob_site_rules.specs.State.{State}
 use Rattle.ob_site_state.specs.declared.change.Change.{Change}
 use Rattle.ob_site_state.specs.declared.change.Change.TheVariants as change
@@ -25,7 +24,7 @@ invariant_of-self c =
     ∙ ap (λ (l : Contracts). let x : State = record s { library = l } in x) c.in_ok-told.ensures.library in
     let noted : list_any is_library a.found.items ≡ true =
     sym (ap (list_any is_library) c.deref.ensures.value) ∙ sym c.has_library.ensures ∙ c.if-has_library.true in record {
-      kept = library_again (plan_of a.plan) a.time s t a.contents.board a.since a.found.items c.args.library c.self.invariant.kept noted is;
+      kept = library_again a.plan a.time s t a.contents.board a.since a.found.items c.args.library c.self.invariant.kept noted is;
       tallied =
           tallied_as a.tally s.logs (rewound a.found.items s).logs t.logs (rewound a.found.items t).logs refl
           (ap (λ (x : State). (rewound a.found.items x).logs) is ∙ ap (λ (x : State). x.logs) (rewound_again a.found.items c.args.library s noted)) c.self.invariant.tallied;
@@ -60,7 +59,7 @@ invariant_of-self-2 c =
     ∙ ap (λ (l : Contracts). let x : State = record s { library = l } in x) c.in_ok-told.ensures.library in
     let all : items ≡ a.found.items ++ ch ∷ [] = c.push_reserved.ensures.items ∙ ap (λ (l : List Change). l ++ ch ∷ []) c.reserve.ensures.items in record {
       kept =
-          library_noted (plan_of a.plan) a.time s t a.contents.board a.since a.found.items items c.replace-told.result c.args.library c.self.invariant.kept
+          library_noted a.plan a.time s t a.contents.board a.since a.found.items items c.replace-told.result c.args.library c.self.invariant.kept
           c.replace-told.ensures.old c.replace-told.ensures.told is all;
       tallied =
           tallied_as a.tally s.logs (rewound a.found.items s).logs t.logs (rewound items t).logs refl

@@ -3,7 +3,6 @@ use Rattle.ob_object.specs.declared.head.Head.{Head}
 use Rattle.ob_object.specs.Fits.{fits_slot}
 use Rattle.ob_object.specs.Object.{parts}
 use Rattle.ob_tree.specs.Laid.{head_at, changed}
-use Rattle.ob_replies.specs.Plans.{plan as plan_of}
 use Rattle.ob_site_rules.specs.State.{State}
 use Rattle.ob_site_state.specs.declared.change.Change.{Change}
 use Rattle.ob_site_state.specs.declared.change.Change.TheVariants as change
@@ -27,7 +26,7 @@ invariant_of-self-2 c =
     let t = state_in c.set-old.new.self in
     let within : c.args.node.number < parts s.tree = subst (λ (k : Kept). c.args.node.number < parts k.now.tree) (sym c.self.view_is) c.requires.within in record {
       kept =
-          slot_noted (plan_of a.plan) a.time s (state_in c.set-old.new.self) a.contents.board c.set-old.new.self.board a.since a.found.items c.push_reserved.new.self.items c.args.node c.set-old.result c.args.slot c.self.invariant.kept rest.root rest.rules
+          slot_noted a.plan a.time s (state_in c.set-old.new.self) a.contents.board c.set-old.new.self.board a.since a.found.items c.push_reserved.new.self.items c.args.node c.set-old.result c.args.slot c.self.invariant.kept rest.root rest.rules
           (subst (λ (k : Kept). IsNode c.args.node.number k.now.tree) (sym c.self.view_is) c.requires.node)
           (subst (λ (k : Kept). c.args.node.number < parts k.now.tree) (sym c.self.view_is) c.requires.within)
           (subst (λ (k : Kept). (h : Head) → head_at c.args.node.number k.now.tree ≡ Some h → IsTrue (fits_slot h.kind c.args.slot)) (sym c.self.view_is) c.requires.fits)
@@ -41,7 +40,7 @@ invariant_of-self-2 c =
           (c.push_reserved.ensures.items ∙ ap (λ (l : List Change). l ++ ch ∷ []) c.reserve.ensures.items)))
           c.self.invariant.tallied;
       growing = c.self.invariant.growing;
-      roles = roles_stay (plan_of a.plan) a.contents c.set-old.new.self rest.roles c.self.invariant.roles;
+      roles = roles_stay a.plan a.contents c.set-old.new.self rest.roles c.self.invariant.roles;
     }
 
 pub returns-clause-ok : goal.returns-clause-ok

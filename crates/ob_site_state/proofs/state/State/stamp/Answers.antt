@@ -1,5 +1,4 @@
 use Rattle.std.proofs.Common.{map, sym, ap, subst}
-use Rattle.ob_replies.specs.Plans.{plan as plan_of}
 use Rattle.ob_site_rules.specs.State.{State}
 use Rattle.ob_site_state.specs.Changes.{rewound}
 use Rattle.ob_site_state.specs.Contents.{state_in}
@@ -16,10 +15,10 @@ invariant_of-self c =
     let s = state_in a.contents in
     let t = state_in c.stamp.new.self in
     let stays = c.stamp.ensures in record {
-      kept = kept_same (plan_of a.plan) a.time s t a.contents.board c.stamp.new.self.board a.since a.found.items c.self.invariant.kept stays.root stays.rules stays.same;
+      kept = kept_same a.plan a.time s t a.contents.board c.stamp.new.self.board a.since a.found.items c.self.invariant.kept stays.root stays.rules stays.same;
       tallied = subst (λ (x : State). IsTallied a.tally x.logs (rewound a.found.items x).logs) (sym stays.same) c.self.invariant.tallied;
       growing = c.self.invariant.growing;
-      roles = roles_stay (plan_of a.plan) a.contents c.stamp.new.self stays.roles c.self.invariant.roles;
+      roles = roles_stay a.plan a.contents c.stamp.new.self stays.roles c.self.invariant.roles;
     }
 
 pub returns : goal.returns

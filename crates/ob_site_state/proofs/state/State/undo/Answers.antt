@@ -1,5 +1,4 @@
 use Rattle.std.proofs.Common.{List, sym, ap, subst}
-use Rattle.ob_replies.specs.Plans.{plan as plan_of}
 use Rattle.ob_site_rules.specs.State.{State}
 use Rattle.ob_site_state.specs.declared.change.Change.{Change}
 use Rattle.ob_site_state.specs.Changes.{rewound}
@@ -19,14 +18,14 @@ invariant_of-self c =
     let t = state_in c.take_all_back.new.self in
     let rest = c.take_all_back.ensures.rest in record {
       kept =
-          subst (λ (l : List Change). IsKept (plan_of a.plan) a.since t c.take_all_back.new.self.board a.since l) (sym c.take_all_back.ensures.none)
-          (taken_back (plan_of a.plan) a.time (state_in a.contents) t a.contents.board c.take_all_back.new.self.board a.since a.found.items c.self.invariant.kept rest.root rest.rules c.take_all_back.ensures.new);
+          subst (λ (l : List Change). IsKept a.plan a.since t c.take_all_back.new.self.board a.since l) (sym c.take_all_back.ensures.none)
+          (taken_back a.plan a.time (state_in a.contents) t a.contents.board c.take_all_back.new.self.board a.since a.found.items c.self.invariant.kept rest.root rest.rules c.take_all_back.ensures.new);
       tallied =
           subst (λ (l : List Change). IsTallied (record a.tally { total = a.tally.total_before }) t.logs (rewound l t).logs) (sym c.take_all_back.ensures.none)
           (tallied_back a.tally (state_in a.contents).logs (rewound a.found.items (state_in a.contents)).logs t.logs
           (ap (λ (x : State). x.logs) c.take_all_back.ensures.new) (capacities-rewound a.found.items (state_in a.contents)) c.self.invariant.tallied);
       growing = c.self.invariant.growing;
-      roles = roles_stay (plan_of a.plan) a.contents c.take_all_back.new.self rest.roles c.self.invariant.roles;
+      roles = roles_stay a.plan a.contents c.take_all_back.new.self rest.roles c.self.invariant.roles;
     }
 
 pub returns : goal.returns
