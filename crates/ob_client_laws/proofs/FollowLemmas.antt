@@ -19,7 +19,9 @@ use Rattle.ob_watching.specs.Laws.{HoldsItem, HoldsAll}
 use Rattle.ob_watching.specs.WatchOuts.{Text, Held, without_name, without_href, is_of_kind, is_dropped, number_in, dropped_in, content_if, entry_read}
 use Rattle.ob_site_rules.specs.Build.{Path, valued, number_slot}
 use Rattle.ob_site_rules.specs.Entries.{record_object, event_object, first_events}
-use Rattle.ob_site_rules.specs.Places.{Place, About, Batch, Service, Make, AlarmAt, AckOf, WritePointOf, QueryOf, FeedOf, AlarmQuery, AlarmFeed, Node, event_places}
+use Rattle.ob_site_rules.specs.declared.resource.Resource.{Resource}
+use Rattle.ob_site_rules.specs.declared.resource.Resource.TheVariants.{About, Batch, Service, Make, AlarmAt, AckOf, WritePointOf, QueryOf, FeedOf, AlarmQuery, AlarmFeed, Node}
+use Rattle.ob_site_rules.specs.Places.{event_places}
 use Rattle.ob_site_rules.specs.Posts.{kept_in, records_of}
 use Rattle.ob_site_rules.specs.Replies.{dropped_child, entry}
 use Rattle.ob_site_rules.specs.Sites.{watched_object}
@@ -64,7 +66,7 @@ first_length : (b : Board) (n : ℕ) → length (first_events b n) ≡ n
 first_length b zero = refl
 first_length b (suc n) = length-last (first_events b n) (event_object b n) ∙ ap suc (first_length b n)
 
-place_few : (plan : Plan) (s : State) (place : Option Place) → AreCounted s → gone_at s place + length (events_at plan s place) ≤ most_missed
+place_few : (plan : Plan) (s : State) (place : Option Resource) → AreCounted s → gone_at s place + length (events_at plan s place) ≤ most_missed
 place_few plan s (Some (FeedOf h)) c =
     subst (λ n. gone_in (at h s.logs) + n ≤ most_missed) (sym (length-map (records_of s h) record_object)) (log_few h s.logs c.records)
 place_few plan s (Some AlarmFeed) c = subst (λ n. 0 + n ≤ most_missed) (sym (first_length (board plan s) (length s.events))) (none_more (length s.events) c.alarms)

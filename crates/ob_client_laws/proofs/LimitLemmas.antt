@@ -30,7 +30,9 @@ use Rattle.ob_site_rules.specs.declared.watch_part.WatchPart.TheVariants.{Whole}
 use Rattle.ob_site_rules.specs.declared.plan.Plan.{Plan}
 use Rattle.ob_site_rules.specs.State.{State, board, roll, with_board}
 use Rattle.ob_site_rules.specs.Sameness.{same_slot}
-use Rattle.ob_site_rules.specs.Places.{Place, About, Batch, Service, Make, AlarmAt, AckOf, WritePointOf, QueryOf, FeedOf, AlarmQuery, AlarmFeed, Node, place_at}
+use Rattle.ob_site_rules.specs.declared.resource.Resource.{Resource}
+use Rattle.ob_site_rules.specs.declared.resource.Resource.TheVariants.{About, Batch, Service, Make, AlarmAt, AckOf, WritePointOf, QueryOf, FeedOf, AlarmQuery, AlarmFeed, Node}
+use Rattle.ob_site_rules.specs.Places.{place_at}
 use Rattle.ob_site_rules.specs.Writes.{recorded, board_after, write, written, is_over, overfills, slot_fault, value_fault, target_fault, given_by, unless, write_by, put}
 use Rattle.ob_site_rules.specs.Posts.{is_obj, is_of_kind, is_long_text, user_in, or_nil, acked, is_unacked, ack_fault, acknowledge, call, write_point}
 use Rattle.ob_site_rules.specs.Actions.{is_post, put_at, act_at, is_left_out, item_at, item_on, item_request, act_item, act_all, batch_or, batch, act_on, act_located}
@@ -94,7 +96,7 @@ module _ (Good : Plan → State → Type 0)
   put_good plan s now p o None h = unless_good plan _ s _ h (λ none. h)
   put_good plan s now p o (Some body) h = write_by_good plan s now p o (target_fault o.head) body h
 
-  put_at_good : (plan : Plan) (s : State) (now : ℕ) (p : Path) (place : Place) (body : Option Object) → Good plan s → Good plan (put_at plan s now p place body).0
+  put_at_good : (plan : Plan) (s : State) (now : ℕ) (p : Path) (place : Resource) (body : Option Object) → Good plan s → Good plan (put_at plan s now p place body).0
   put_at_good plan s now p (Node o) body h = put_good plan s now p o body h
   put_at_good plan s now p About body h = h
   put_at_good plan s now p Batch body h = h
@@ -125,7 +127,7 @@ module _ (Good : Plan → State → Type 0)
   write_point_good plan s now p None h = h
   write_point_good plan s now p (Some new) h = write_by_good plan s now p _ None new h
 
-  call_good : (plan : Plan) (s : State) (now : ℕ) (place : Place) (input : Option Object) → Good plan s → Good plan (call plan s now place input).0
+  call_good : (plan : Plan) (s : State) (now : ℕ) (place : Resource) (input : Option Object) → Good plan s → Good plan (call plan s now place input).0
   call_good plan s now (AckOf n) input h = ack_good plan s now n (or_nil input) h
   call_good plan s now (WritePointOf p) input h = write_point_good plan s now p _ h
   call_good plan s now (Node o) input h = h
@@ -139,12 +141,12 @@ module _ (Good : Plan → State → Type 0)
   call_good plan s now AlarmQuery input h = h
   call_good plan s now AlarmFeed input h = h
 
-  act_at_good : (plan : Plan) (s : State) (now : ℕ) (p : Path) (verb : Verb) (place : Place) (body : Option Object) → Good plan s → Good plan (act_at plan s now p verb place body).0
+  act_at_good : (plan : Plan) (s : State) (now : ℕ) (p : Path) (verb : Verb) (place : Resource) (body : Option Object) → Good plan s → Good plan (act_at plan s now p verb place body).0
   act_at_good plan s now p Get place body h = h
   act_at_good plan s now p Put place body h = put_at_good plan s now p place body h
   act_at_good plan s now p Post place body h = call_good plan s now place body h
 
-  item_at_good : (plan : Plan) (s : State) (ns : List ℕ) (now : ℕ) (r : Request) (p : Path) (place : Option Place) → Good plan s → Good plan (item_at plan s ns now r p place).0
+  item_at_good : (plan : Plan) (s : State) (ns : List ℕ) (now : ℕ) (r : Request) (p : Path) (place : Option Resource) → Good plan s → Good plan (item_at plan s ns now r p place).0
   item_at_good plan s ns now r p None h = h
   item_at_good plan s ns now r p (Some place) h = go (is_left_out place)
     where
@@ -175,7 +177,7 @@ module _ (Good : Plan → State → Type 0)
   batch_good plan s ns now None h = h
   batch_good plan s ns now (Some body) h = batch_or_good _ plan s ns now body h
 
-  act_on_good : (plan : Plan) (s : State) (ns : List ℕ) (now : ℕ) (r : Request) (p : Path) (place : Option Place) → Good plan s → Good plan (act_on locate plan s ns now r p place).0
+  act_on_good : (plan : Plan) (s : State) (ns : List ℕ) (now : ℕ) (r : Request) (p : Path) (place : Option Resource) → Good plan s → Good plan (act_on locate plan s ns now r p place).0
   act_on_good plan s ns now r p None h = h
   act_on_good plan s ns now r p (Some Batch) h = go (is_post r.verb)
     where

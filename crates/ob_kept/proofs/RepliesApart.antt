@@ -12,7 +12,9 @@ use Rattle.ob_site_rules.specs.declared.fault.Fault.TheVariants.{OtherShape, Too
 use Rattle.ob_site_rules.specs.Faults.{first_fault}
 use Rattle.ob_site_rules.specs.declared.plan.Plan.{Plan}
 use Rattle.ob_site_rules.specs.State.{State}
-use Rattle.ob_site_rules.specs.Places.{Place, Batch, place_at}
+use Rattle.ob_site_rules.specs.declared.resource.Resource.{Resource}
+use Rattle.ob_site_rules.specs.declared.resource.Resource.TheVariants.{Batch}
+use Rattle.ob_site_rules.specs.Places.{place_at}
 use Rattle.ob_site_rules.specs.Actions.{is_post, batch_or, batch, act_on, act_located, act_itself, act_at}
 use Rattle.ob_kept.specs.Redone.{is_list, is_batch}
 
@@ -27,7 +29,7 @@ module _ (locate : Parts → Text → Option Path) (plan : Plan) (ns ks : List �
   reply_batch s None e = refl
   reply_batch s (Some body) e = refused_apart s body ((nat_lt 1000 (length (children body)), TooManyBatchItems) ∷ []) (same_kind body.head.kind kind.List) e
 
-  reply_on : (s : State) (r : Request) (p : Path) (place : Option Place) → is_batch r ≡ false → (act_on locate plan s ns now r p place).1 ≡ (act_on locate plan s ks now r p place).1
+  reply_on : (s : State) (r : Request) (p : Path) (place : Option Resource) → is_batch r ≡ false → (act_on locate plan s ns now r p place).1 ≡ (act_on locate plan s ks now r p place).1
   reply_on s r p None e = refl
   reply_on s r p (Some Batch) e = go (is_post r.verb) e
     where

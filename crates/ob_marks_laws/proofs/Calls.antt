@@ -14,7 +14,9 @@ use Rattle.ob_site_rules.specs.Paths.{below, ack_path}
 use Rattle.ob_site_rules.specs.Shown.{derived, lobby_children, write_point_op, history_part, subject_children}
 use Rattle.ob_site_rules.specs.State.{Log, State, at, board, is_among}
 use Rattle.ob_site_rules.specs.declared.plan.Plan.{Plan}
-use Rattle.ob_site_rules.specs.Places.{Place, AckOf, WritePointOf, QueryOf, FeedOf, Node, fixed_places, point_places, history_places, subject_places, event_places, alarm_places, computed_places}
+use Rattle.ob_site_rules.specs.Places.{alarm_places, computed_places, event_places, fixed_places, history_places, point_places, subject_places}
+use Rattle.ob_site_rules.specs.declared.resource.Resource.{Resource}
+use Rattle.ob_site_rules.specs.declared.resource.Resource.TheVariants.{AckOf, FeedOf, Node, QueryOf, WritePointOf}
 use Rattle.ob_site_rules.specs.Watched.{is_call_kind}
 use Rattle.ob_standing.specs.Contexts.{HandedDown, handed_down, under}
 use Rattle.ob_shown_laws.specs.Standing.{Standing, standing_in}
@@ -91,14 +93,14 @@ derived_calls plan s (Some p) =
     (calls_behind (history_part p (at p s.logs)) (cond (is_path p plan.subject) (subject_children p (length s.alarms)) []) (history_calls p (at p s.logs)) (subject_calls p (length s.alarms) (is_path p plan.subject))))
 
 -- a place that is that of a node
-abbrev pub is_node : Place → Bool
+abbrev pub is_node : Resource → Bool
 is_node (Node o) = true
 is_node _ = false
 
-abbrev is_free : List (Path × Place) → Bool
+abbrev is_free : List (Path × Resource) → Bool
 is_free es = list_any (λ e. is_node e.1) es
 
-free_behind : (es fs : List (Path × Place)) → is_free es ≡ false → is_free fs ≡ false → is_free (es ++ fs) ≡ false
+free_behind : (es fs : List (Path × Resource)) → is_free es ≡ false → is_free fs ≡ false → is_free (es ++ fs) ≡ false
 free_behind [] fs e f = f
 free_behind (x ∷ es) fs e f = go (is_node x.1) e (λ g. free_behind es fs g f)
   where
@@ -133,11 +135,11 @@ free_computed plan s =
     let more : is_free (event_places plan ++ alarms) ≡ false = free_behind (event_places plan) alarms events (free_alarms plan (board plan s).rules 1 s.alarms) in
     free_behind (fixed_places plan) (point_places plan ++ (event_places plan ++ alarms)) refl (free_behind (point_places plan) (event_places plan ++ alarms) (free_points plan.points) more)
 
-free_found : (p : Path) (es : List (Path × Place)) (place : Place) → is_free es ≡ false → at p es ≡ Some place → is_node place ≡ false
+free_found : (p : Path) (es : List (Path × Resource)) (place : Resource) → is_free es ≡ false → at p es ≡ Some place → is_node place ≡ false
 free_found p [] place free e = absurd cc
 free_found p (x ∷ es) place free e = go (bytes_eq x.0 p) (is_node x.1) refl free e (λ f g. free_found p es place f g)
   where
-    go : (b c : Bool) → is_node x.1 ≡ c → (c || is_free es) ≡ false → option_map (λ (y : Path × Place). y.1) (cond b (Some x) (find (λ (y : Path × Place). bytes_eq y.0 p) es)) ≡ Some place
+    go : (b c : Bool) → is_node x.1 ≡ c → (c || is_free es) ≡ false → option_map (λ (y : Path × Resource). y.1) (cond b (Some x) (find (λ (y : Path × Resource). bytes_eq y.0 p) es)) ≡ Some place
         → (is_free es ≡ false → at p es ≡ Some place → is_node place ≡ false) → is_node place ≡ false
     go b true own free e rest = absurd cc
     go true false own free e rest =
@@ -146,5 +148,5 @@ free_found p (x ∷ es) place free e = go (bytes_eq x.0 p) (is_node x.1) refl fr
     go false false own free e rest = rest free e
 
 -- no computed path is that of a node
-pub computed_free : (plan : Plan) (s : State) (p : Path) (place : Place) → at p (computed_places plan s) ≡ Some place → is_node place ≡ false
+pub computed_free : (plan : Plan) (s : State) (p : Path) (place : Resource) → at p (computed_places plan s) ≡ Some place → is_node place ≡ false
 computed_free plan s p place e = free_found p (computed_places plan s) place (free_computed plan s) e

@@ -14,9 +14,11 @@ use Rattle.ob_watching.specs.Asked.{ObjectAt, NotFound}
 use Rattle.ob_site_rules.specs.Build.{Path}
 use Rattle.ob_site_rules.specs.declared.fault.Fault.TheVariants.{HrefTooLong, NotWatchable}
 use Rattle.ob_site_rules.specs.Locating.{locate}
-use Rattle.ob_site_rules.specs.Places.{Place, About, Batch, Service, Make, AlarmAt, AckOf, WritePointOf, QueryOf, FeedOf, AlarmQuery, AlarmFeed, Node, computed_places}
+use Rattle.ob_site_rules.specs.Places.{computed_places}
 use Rattle.ob_site_rules.specs.Shown.{derived, rule_of, with_status, with_status_at, with_status_by, with_roles, shown}
 use Rattle.ob_site_rules.specs.State.{State, at}
+use Rattle.ob_site_rules.specs.declared.resource.Resource.{Resource}
+use Rattle.ob_site_rules.specs.declared.resource.Resource.TheVariants.{About, AckOf, AlarmAt, AlarmFeed, AlarmQuery, Batch, FeedOf, Make, Node, QueryOf, Service, WritePointOf}
 use Rattle.ob_site_rules.specs.declared.plan.Plan.{Plan}
 use Rattle.ob_site_rules.specs.Watched.{is_call_kind, feed_if, feed_with, sets_limit, found_place, found_at, found_located}
 use Rattle.ob_standing.specs.Contexts.{HandedDown, handed_down, under}
@@ -220,7 +222,7 @@ all_watched_are_own plan s numbers text input = by_length (nat_lt 1024 (length t
     by_feed : (p : Path) → IsOwnFound s.tree (feed_with p input)
     by_feed p = by_filter p (sets_limit input) (filter_of input)
 
-    by_computed : (p : Path) (place : Place) → is_node place ≡ false → IsOwnFound s.tree (found_place p input place)
+    by_computed : (p : Path) (place : Resource) → is_node place ≡ false → IsOwnFound s.tree (found_place p input place)
     by_computed p About free = tt
     by_computed p Batch free = tt
     by_computed p Service free = tt
@@ -234,7 +236,7 @@ all_watched_are_own plan s numbers text input = by_length (nat_lt 1024 (length t
     by_computed p AlarmFeed free = by_feed p
     by_computed p (Node o) free = absurd cc
 
-    by_place : (p : Path) (i : Option Place) (o : Option Object) → at p (computed_places plan s) ≡ i → shown plan s p ≡ o → IsOwnFound s.tree (found_at plan numbers p input (or_else i (option_map Node o)))
+    by_place : (p : Path) (i : Option Resource) (o : Option Object) → at p (computed_places plan s) ≡ i → shown plan s p ≡ o → IsOwnFound s.tree (found_at plan numbers p input (or_else i (option_map Node o)))
     by_place p (Some place) o computed is = by_computed p place (computed_free plan s p place computed)
     by_place p None None computed is = tt
     by_place p None (Some o) computed is = by_node p o is (is_call_kind o.head.kind) refl

@@ -13,15 +13,14 @@ use Rattle.ob_contracts.specs.Inherit.{or_else}
 use Rattle.ob_site_rules.specs.Build.{Path}
 use Rattle.ob_site_rules.specs.declared.plan.Plan.{Plan}
 use Rattle.ob_site_rules.specs.State.{at}
-use Rattle.ob_site_rules.specs.Places.{Place, alarm_places}
+use Rattle.ob_site_rules.specs.declared.resource.Resource.{Resource}
+use Rattle.ob_site_rules.specs.Places.{alarm_places}
 use Rattle.ob_plain_state.specs.Parts.{alarm_parts, parts_of_alarm}
-use Rattle.ob_plain_state.specs.Named.{place}
-use Rattle.ob_plain_state.specs.declared.place.Place.{Place as Named}
 
 abbrev pub Entries : Type 0
-Entries = List (Path × Place)
+Entries = List (Path × Resource)
 
-or_found : (b : Bool) (e : Path × Place) (r s : Option (Path × Place)) (t : Option Place)
+or_found : (b : Bool) (e : Path × Resource) (r s : Option (Path × Resource)) (t : Option Resource)
     → option_map (λ x. x.1) r ≡ or_else (option_map (λ x. x.1) s) t → option_map (λ x. x.1) (cond b (Some e) r) ≡ or_else (option_map (λ x. x.1) (cond b (Some e) s)) t
 or_found true e r s t h = refl
 or_found false e r s t h = h
@@ -69,16 +68,16 @@ alarm_last plan rules p (a ∷ alarms) n zero h = absurd (omega arith)
 alarm_last plan rules p (a ∷ alarms) n (suc i) h = alarm_last plan rules p alarms n i (omega arith)
 
 -- what is found in the first list, or what follows it
-pub ended : (found : Option Named) (a b all r : Option Place) → option_map place found ≡ a → is_some found ≡ true → all ≡ or_else a b → all ≡ r → option_map place found ≡ r
+pub ended : (found : Option Resource) (a b all r : Option Resource) → found ≡ a → is_some found ≡ true → all ≡ or_else a b → all ≡ r → found ≡ r
 ended None a b all r e h n i = absurd cc
 ended (Some x) a b all r e h n i = sym (ap (λ o. or_else o b) (sym e)) ∙ sym n ∙ i
 
-pub passed : (found : Option Named) (a b all r : Option Place) → option_map place found ≡ a → is_some found ≡ false → all ≡ or_else a b → all ≡ r → b ≡ r
+pub passed : (found : Option Resource) (a b all r : Option Resource) → found ≡ a → is_some found ≡ false → all ≡ or_else a b → all ≡ r → b ≡ r
 passed None a b all r e h n i = sym (ap (λ o. or_else o b) (sym e)) ∙ sym n ∙ i
 passed (Some x) a b all r e h n i = absurd cc
 
-pub first_of : (p : Path) (xs ys : Entries) (found : Option Named) → option_map place found ≡ at p xs → is_some found ≡ true → option_map place found ≡ at p (xs ++ ys)
+pub first_of : (p : Path) (xs ys : Entries) (found : Option Resource) → found ≡ at p xs → is_some found ≡ true → found ≡ at p (xs ++ ys)
 first_of p xs ys found e h = ended found (at p xs) (at p ys) (at p (xs ++ ys)) (at p (xs ++ ys)) e h (at-append p xs ys) refl
 
-pub later_of : (p : Path) (xs ys : Entries) (found other : Option Named) → option_map place found ≡ at p xs → is_some found ≡ false → option_map place other ≡ at p ys → option_map place other ≡ at p (xs ++ ys)
+pub later_of : (p : Path) (xs ys : Entries) (found other : Option Resource) → found ≡ at p xs → is_some found ≡ false → other ≡ at p ys → other ≡ at p (xs ++ ys)
 later_of p xs ys found other e h is = is ∙ passed found (at p xs) (at p ys) (at p (xs ++ ys)) (at p (xs ++ ys)) e h (at-append p xs ys) refl

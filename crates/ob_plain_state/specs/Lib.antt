@@ -1,5 +1,4 @@
 pub mod States
 pub mod Fitting
 pub mod Dressed
-pub mod Named
 pub mod Parts

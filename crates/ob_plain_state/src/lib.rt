@@ -9,11 +9,9 @@
 mod find;
 mod log;
 mod paths;
-mod place;
 mod state;
 
 pub use find::node_of;
 pub use log::Log;
 pub use paths::is_path;
-pub use place::Place;
 pub use state::State;

@@ -16,18 +16,17 @@ use Rattle.ob_site_rules.specs.declared.plan.Plan.{Plan}
 use Rattle.ob_site_rules.specs.State.{State, at, is_among, board}
 use Rattle.ob_site_rules.specs.Shown.{shown}
 use Rattle.ob_site_rules.specs.Paths.{below, ack_path}
-use Rattle.ob_plain_state.specs.Named.{place as place_of}
-use Rattle.ob_plain_state.specs.declared.place.Place.{Place as Named}
-use Rattle.ob_plain_state.specs.declared.place.Place.TheVariants as named
-use Rattle.ob_site_rules.specs.Places.{Place, AckOf, WritePointOf, QueryOf, FeedOf, Node, fixed_places, point_places, history_places, subject_places, alarm_places, event_places, computed_places, place_at}
+use Rattle.ob_site_rules.specs.declared.resource.Resource.{Resource}
+use Rattle.ob_site_rules.specs.declared.resource.Resource.TheVariants.{AckOf, WritePointOf, QueryOf, FeedOf, Node}
+use Rattle.ob_site_rules.specs.Places.{fixed_places, point_places, history_places, subject_places, alarm_places, event_places, computed_places, place_at}
 
 -- what a computed path may name
-abbrev good : Plan → Place → Bool
+abbrev good : Plan → Resource → Bool
 good plan (WritePointOf q) = is_among q plan.points
 good plan (Node o) = false
 good plan _ = true
 
-abbrev all_good : Plan → List (Path × Place) → Bool
+abbrev all_good : Plan → List (Path × Resource) → Bool
 all_good plan es = list_all (λ e. good plan e.1) es
 
 points_good : (plan : Plan) (ps : List Path) → ((q : Path) → is_among q ps ≡ true → is_among q plan.points ≡ true) → all_good plan (flat_map (λ q. (below q (codes "writePoint"), WritePointOf q) ∷ []) ps) ≡ true
@@ -45,7 +44,7 @@ subject_good : (plan : Plan) (subject : Option Path) → all_good plan (subject_
 subject_good plan None = refl
 subject_good plan (Some p) = refl
 
-behind_ack : (plan : Plan) (n : ℕ) (b : Bool) (es : List (Path × Place)) → all_good plan es ≡ true → all_good plan (cond b ((ack_path plan n, AckOf n) ∷ []) [] ++ es) ≡ true
+behind_ack : (plan : Plan) (n : ℕ) (b : Bool) (es : List (Path × Resource)) → all_good plan es ≡ true → all_good plan (cond b ((ack_path plan n, AckOf n) ∷ []) [] ++ es) ≡ true
 behind_ack plan n true es h = h
 behind_ack plan n false es h = h
 
@@ -54,8 +53,8 @@ alarms_good plan rules n [] = refl
 alarms_good plan rules n (a ∷ alarms) =
     behind_ack plan n (needs_ack (slice_get rules a.rule)) (alarm_places plan rules (n + 1) alarms) (alarms_good plan rules (n + 1) alarms)
 
-appended : (plan : Plan) (xs ys : List (Path × Place)) → all_good plan xs ≡ true → all_good plan ys ≡ true → all_good plan (xs ++ ys) ≡ true
-appended plan xs ys h k = list_all-append (λ (e : Path × Place). good plan e.1) xs ys ∙ and_true (all_good plan xs) (all_good plan ys) h k
+appended : (plan : Plan) (xs ys : List (Path × Resource)) → all_good plan xs ≡ true → all_good plan ys ≡ true → all_good plan (xs ++ ys) ≡ true
+appended plan xs ys h k = list_all-append (λ (e : Path × Resource). good plan e.1) xs ys ∙ and_true (all_good plan xs) (all_good plan ys) h k
 
 computed_good : (plan : Plan) (s : State) → all_good plan (computed_places plan s) ≡ true
 computed_good plan s =
@@ -71,16 +70,16 @@ computed_good plan s =
 mutual_none : {A : Type 0} (x : A) → None ≡ Some x → ⊥
 mutual_none x e = cc
 
-first_good : (plan : Plan) (b : Bool) (x : Path × Place) (rest : Option (Path × Place)) (place : Place) → good plan x.1 ≡ true → (option_map (λ (e : Path × Place). e.1) rest ≡ Some place → good plan place ≡ true) → option_map (λ (e : Path × Place). e.1) (cond b (Some x) rest) ≡ Some place → good plan place ≡ true
+first_good : (plan : Plan) (b : Bool) (x : Path × Resource) (rest : Option (Path × Resource)) (place : Resource) → good plan x.1 ≡ true → (option_map (λ (e : Path × Resource). e.1) rest ≡ Some place → good plan place ≡ true) → option_map (λ (e : Path × Resource). e.1) (cond b (Some x) rest) ≡ Some place → good plan place ≡ true
 first_good plan true x rest place h later i = let same : x.1 ≡ place = cc in ap (good plan) (sym same) ∙ h
 first_good plan false x rest place h later i = later i
 
-found_good : (plan : Plan) (p : Path) (es : List (Path × Place)) (place : Place) → all_good plan es ≡ true → at p es ≡ Some place → good plan place ≡ true
+found_good : (plan : Plan) (p : Path) (es : List (Path × Resource)) (place : Resource) → all_good plan es ≡ true → at p es ≡ Some place → good plan place ≡ true
 found_good plan p [] place h e = absurd (mutual_none place e)
 found_good plan p (x ∷ es) place h e =
-    first_good plan (bytes_eq x.0 p) x (find (λ (y : Path × Place). bytes_eq y.0 p) es) place (and_first (good plan x.1) (all_good plan es) h) (λ i. found_good plan p es place (and_second (good plan x.1) (all_good plan es) h) i) e
+    first_good plan (bytes_eq x.0 p) x (find (λ (y : Path × Resource). bytes_eq y.0 p) es) place (and_first (good plan x.1) (all_good plan es) h) (λ i. found_good plan p es place (and_second (good plan x.1) (all_good plan es) h) i) e
 
-node_by : (plan : Plan) (c : Option Place) (shows : Option Object) (o : Object) → ((q : Place) → c ≡ Some q → good plan q ≡ true) → or_else c (option_map Node shows) ≡ Some (Node o) → shows ≡ Some o
+node_by : (plan : Plan) (c : Option Resource) (shows : Option Object) (o : Object) → ((q : Resource) → c ≡ Some q → good plan q ≡ true) → or_else c (option_map Node shows) ≡ Some (Node o) → shows ≡ Some o
 node_by plan (Some q) shows o h e =
     let same : q ≡ Node o = cc in
     let bad : false ≡ true = ap (good plan) (sym same) ∙ h q refl in
@@ -93,10 +92,10 @@ node_shown plan s p o e =
     node_by plan (at p (computed_places plan s)) (shown plan s p) o (λ q i. found_good plan p (computed_places plan s) q (computed_good plan s) i) e
 
 -- a node is what is shown at its path
-pub node_there : (plan : Plan) (s : State) (p : Path) (place : Named) (o : Object) → place_at plan s p ≡ Some (place_of place) → place ≡ named.Node o → shown plan s p ≡ Some o
-node_there plan s p place o e is = node_shown plan s p o (e ∙ ap (λ (q : Named). let x : Option Place = Some (place_of q) in x) is)
+pub node_there : (plan : Plan) (s : State) (p : Path) (place : Resource) (o : Object) → place_at plan s p ≡ Some place → place ≡ Node o → shown plan s p ≡ Some o
+node_there plan s p place o e is = node_shown plan s p o (e ∙ ap (λ (q : Resource). let x : Option Resource = Some q in x) is)
 
-point_by : (plan : Plan) (c : Option Place) (shows : Option Object) (q : Path) → ((x : Place) → c ≡ Some x → good plan x ≡ true) → or_else c (option_map Node shows) ≡ Some (WritePointOf q) → is_among q plan.points ≡ true
+point_by : (plan : Plan) (c : Option Resource) (shows : Option Object) (q : Path) → ((x : Resource) → c ≡ Some x → good plan x ≡ true) → or_else c (option_map Node shows) ≡ Some (WritePointOf q) → is_among q plan.points ≡ true
 point_by plan (Some x) shows q h e = let same : x ≡ WritePointOf q = cc in ap (good plan) (sym same) ∙ h x refl
 point_by plan None None q h e = absurd (mutual_none (WritePointOf q) e)
 point_by plan None (Some x) q h e = absurd (let same : Node x ≡ WritePointOf q = cc in cc)
@@ -106,5 +105,5 @@ point_named plan s p q e =
     point_by plan (at p (computed_places plan s)) (shown plan s p) q (λ x i. found_good plan p (computed_places plan s) x (computed_good plan s) i) e
 
 -- the point of a writePoint is one of the plan's
-pub point_there : (plan : Plan) (s : State) (p : Path) (place : Named) (q : Path) → place_at plan s p ≡ Some (place_of place) → place ≡ named.WritePointOf q → is_among q plan.points ≡ true
-point_there plan s p place q e is = point_named plan s p q (e ∙ ap (λ (x : Named). let y : Option Place = Some (place_of x) in y) is)
+pub point_there : (plan : Plan) (s : State) (p : Path) (place : Resource) (q : Path) → place_at plan s p ≡ Some place → place ≡ WritePointOf q → is_among q plan.points ≡ true
+point_there plan s p place q e is = point_named plan s p q (e ∙ ap (λ (x : Resource). let y : Option Resource = Some x in y) is)

@@ -19,7 +19,9 @@ use Rattle.ob_site_rules.specs.State.{State, board, with_board}
 use Rattle.ob_site_rules.specs.Shown.{shown}
 use Rattle.ob_site_rules.specs.Computed.{ack_out}
 use Rattle.ob_site_rules.specs.Entries.{alarm_object, records_out, alarms_out}
-use Rattle.ob_site_rules.specs.Places.{Place, About, Batch, Service, Make, AlarmAt, AckOf, WritePointOf, QueryOf, FeedOf, AlarmQuery, AlarmFeed, Node, place_at, object_at}
+use Rattle.ob_site_rules.specs.Places.{object_at, place_at}
+use Rattle.ob_site_rules.specs.declared.resource.Resource.{Resource}
+use Rattle.ob_site_rules.specs.declared.resource.Resource.TheVariants.{About, AckOf, AlarmAt, AlarmFeed, AlarmQuery, Batch, FeedOf, Make, Node, QueryOf, Service, WritePointOf}
 use Rattle.ob_site_rules.specs.Writes.{target_fault, value_fault, given_by, showing, unless, written, put, write_by}
 use Rattle.ob_site_rules.specs.Posts.{ack_fault, acked, acknowledge, user_in, call, child_of_obj, or_nil, records_of, write_point}
 use Rattle.ob_site_rules.specs.Actions.{act_at, act_item, is_left_out, item_at, item_on, put_at}
@@ -58,7 +60,7 @@ put_plain plan s now p o None = faulty (target_fault o.head)
     faulty (Some f) = refl
 put_plain plan s now p o (Some body) = write_by_plain plan s now p o (target_fault o.head) body
 
-call_plain : (plan : Plan) (s : State) (now : ℕ) (place : Place) (input : Option Object) → IsPlain (call plan s now place input)
+call_plain : (plan : Plan) (s : State) (now : ℕ) (place : Resource) (input : Option Object) → IsPlain (call plan s now place input)
 call_plain plan s now (AckOf n) input = ack_plain plan s now n (or_nil input)
 call_plain plan s now (WritePointOf p) input = write_point_plain plan s now p (child_of_obj (codes "value") (or_nil input))
 call_plain plan s now (QueryOf h) input = query_plain s (λ f. records_out f (records_of s h)) (filter_of input) (λ g. refl)
@@ -72,7 +74,7 @@ call_plain plan s now (FeedOf h) input = refl
 call_plain plan s now AlarmFeed input = refl
 call_plain plan s now (Node o) input = refl
 
-get_plain : (plan : Plan) (s : State) (now : ℕ) (p : Path) (place : Place) → is_none (object_at plan s now p place).head.name ≡ true
+get_plain : (plan : Plan) (s : State) (now : ℕ) (p : Path) (place : Resource) → is_none (object_at plan s now p place).head.name ≡ true
 get_plain plan s now p About = refl
 get_plain plan s now p Batch = refl
 get_plain plan s now p Service = refl
@@ -86,7 +88,7 @@ get_plain plan s now p AlarmQuery = refl
 get_plain plan s now p AlarmFeed = refl
 get_plain plan s now p (Node o) = refl
 
-put_at_plain : (plan : Plan) (s : State) (now : ℕ) (p : Path) (place : Place) (body : Option Object) → IsPlain (put_at plan s now p place body)
+put_at_plain : (plan : Plan) (s : State) (now : ℕ) (p : Path) (place : Resource) (body : Option Object) → IsPlain (put_at plan s now p place body)
 put_at_plain plan s now p (Node o) body = put_plain plan s now p o body
 put_at_plain plan s now p About body = refl
 put_at_plain plan s now p Batch body = refl
@@ -100,7 +102,7 @@ put_at_plain plan s now p (FeedOf h) body = refl
 put_at_plain plan s now p AlarmQuery body = refl
 put_at_plain plan s now p AlarmFeed body = refl
 
-act_plain : (plan : Plan) (s : State) (now : ℕ) (p : Path) (verb : Verb) (place : Place) (body : Option Object) → IsPlain (act_at plan s now p verb place body)
+act_plain : (plan : Plan) (s : State) (now : ℕ) (p : Path) (verb : Verb) (place : Resource) (body : Option Object) → IsPlain (act_at plan s now p verb place body)
 act_plain plan s now p Get place body = get_plain plan s now p place
 act_plain plan s now p Put place body = put_at_plain plan s now p place body
 act_plain plan s now p Post place body = call_plain plan s now place body
@@ -109,7 +111,7 @@ in_batch : (b : Bool) (s : State) (done : State × Object) (f : Fault) → IsPla
 in_batch true s done f h = refl
 in_batch false s done f h = h
 
-by_place : (plan : Plan) (s : State) (ns : List ℕ) (now : ℕ) (r : Request) (p : Path) (place : Option Place) → IsPlain (item_at plan s ns now r p place)
+by_place : (plan : Plan) (s : State) (ns : List ℕ) (now : ℕ) (r : Request) (p : Path) (place : Option Resource) → IsPlain (item_at plan s ns now r p place)
 by_place plan s ns now r p None = refl
 by_place plan s ns now r p (Some place) = in_batch (is_left_out place) s (act_at plan s now p r.verb place r.body) NotInBatch (act_plain plan s now p r.verb place r.body)
 

@@ -4,7 +4,8 @@ use Rattle.ob_values.specs.declared.verb.Verb.{Verb}
 use Rattle.ob_object.specs.declared.kind.Kind.TheVariants as kind
 use Rattle.ob_object.specs.Object.{Object}
 use Rattle.ob_site_rules.specs.Build.{child}
-use Rattle.ob_site_rules.specs.Places.{Place, Batch}
+use Rattle.ob_site_rules.specs.declared.resource.Resource.{Resource}
+use Rattle.ob_site_rules.specs.declared.resource.Resource.TheVariants.{Batch}
 use Rattle.ob_site_rules.specs.Posts.{is_obj, is_of_kind}
 use Rattle.ob_site_rules.specs.Actions.{is_post}
 
@@ -13,6 +14,6 @@ abbrev pub is_ack_in : Object → Bool
 is_ack_in input = is_obj input && is_of_kind kind.Str (child (codes "ackUser") input)
 
 -- the call of the op that does batches
-abbrev pub is_batch_call : Place → Verb → Bool
+abbrev pub is_batch_call : Resource → Verb → Bool
 is_batch_call Batch verb = is_post verb
 is_batch_call _ verb = false

@@ -18,7 +18,9 @@ use Rattle.ob_site_rules.specs.declared.plan.Plan.{Plan}
 use Rattle.ob_site_rules.specs.State.{State, board, with_board}
 use Rattle.ob_site_rules.specs.Sameness.{same_slot}
 use Rattle.ob_site_rules.specs.Sites.{SiteState}
-use Rattle.ob_site_rules.specs.Places.{Place, About, Batch, Service, Make, AlarmAt, AckOf, WritePointOf, QueryOf, FeedOf, AlarmQuery, AlarmFeed, Node, place_at}
+use Rattle.ob_site_rules.specs.declared.resource.Resource.{Resource}
+use Rattle.ob_site_rules.specs.declared.resource.Resource.TheVariants.{About, Batch, Service, Make, AlarmAt, AckOf, WritePointOf, QueryOf, FeedOf, AlarmQuery, AlarmFeed, Node}
+use Rattle.ob_site_rules.specs.Places.{place_at}
 use Rattle.ob_site_rules.specs.Writes.{write, written, unless, write_by}
 use Rattle.ob_site_rules.specs.Posts.{or_nil, user_in, acked, ack_fault, call, write_point}
 use Rattle.ob_site_rules.specs.Actions.{is_post, put_at, act_at, is_left_out, item_at, item_on, item_request, act_item, act_all, batch_or, batch, act_on, act_located}
@@ -62,7 +64,7 @@ unless_follows plan (Some fault) s done h = itself plan s
 write_by_follows : (plan : Plan) (s : State) (now : ℕ) (p : Path) (o : Object) (fault : Option Fault) (body : Object) → Follows s (write_by plan s now p o fault body).0
 write_by_follows plan s now p o fault body = unless_follows plan _ s _ (written_follows plan now p o _ s)
 
-put_at_follows : (plan : Plan) (s : State) (now : ℕ) (p : Path) (place : Place) (body : Option Object) → Follows s (put_at plan s now p place body).0
+put_at_follows : (plan : Plan) (s : State) (now : ℕ) (p : Path) (place : Resource) (body : Option Object) → Follows s (put_at plan s now p place body).0
 put_at_follows plan s now p (Node o) None = unless_follows plan _ s _ (itself plan s)
 put_at_follows plan s now p (Node o) (Some body) = write_by_follows plan s now p o _ body
 put_at_follows plan s now p About body = itself plan s
@@ -81,7 +83,7 @@ write_point_follows : (plan : Plan) (s : State) (now : ℕ) (p : Path) (new : Op
 write_point_follows plan s now p None = itself plan s
 write_point_follows plan s now p (Some new) = write_by_follows plan s now p _ None new
 
-call_follows : (plan : Plan) (s : State) (now : ℕ) (place : Place) (input : Option Object) → Follows s (call plan s now place input).0
+call_follows : (plan : Plan) (s : State) (now : ℕ) (place : Resource) (input : Option Object) → Follows s (call plan s now place input).0
 call_follows plan s now (AckOf n) input =
     let b : Board = acked (board plan s) n (user_in (or_nil input)) now in
     unless_follows plan (ack_fault plan s now n (or_nil input)) s (with_board s b, ack_out (alarm_object b n)) (let same : Follows s s = itself plan s in record { slots = same.slots; histories = refl; made = same.made })
@@ -97,12 +99,12 @@ call_follows plan s now (FeedOf q) input = itself plan s
 call_follows plan s now AlarmQuery input = itself plan s
 call_follows plan s now AlarmFeed input = itself plan s
 
-act_at_follows : (plan : Plan) (s : State) (now : ℕ) (p : Path) (verb : Verb) (place : Place) (body : Option Object) → Follows s (act_at plan s now p verb place body).0
+act_at_follows : (plan : Plan) (s : State) (now : ℕ) (p : Path) (verb : Verb) (place : Resource) (body : Option Object) → Follows s (act_at plan s now p verb place body).0
 act_at_follows plan s now p Get place body = itself plan s
 act_at_follows plan s now p Put place body = put_at_follows plan s now p place body
 act_at_follows plan s now p Post place body = call_follows plan s now place body
 
-item_at_follows : (plan : Plan) (s : State) (ns : List ℕ) (now : ℕ) (r : Request) (p : Path) (place : Option Place) → Follows s (item_at plan s ns now r p place).0
+item_at_follows : (plan : Plan) (s : State) (ns : List ℕ) (now : ℕ) (r : Request) (p : Path) (place : Option Resource) → Follows s (item_at plan s ns now r p place).0
 item_at_follows plan s ns now r p None = itself plan s
 item_at_follows plan s ns now r p (Some place) = go (is_left_out place)
   where
@@ -132,7 +134,7 @@ batch_follows : (plan : Plan) (s : State) (ns : List ℕ) (now : ℕ) (body : Op
 batch_follows plan s ns now None = itself plan s
 batch_follows plan s ns now (Some body) = batch_or_follows _ plan s ns now body
 
-act_on_follows : (plan : Plan) (s : State) (ns : List ℕ) (now : ℕ) (r : Request) (p : Path) (place : Option Place) → Follows s (act_on locate plan s ns now r p place).0
+act_on_follows : (plan : Plan) (s : State) (ns : List ℕ) (now : ℕ) (r : Request) (p : Path) (place : Option Resource) → Follows s (act_on locate plan s ns now r p place).0
 act_on_follows plan s ns now r p None = itself plan s
 act_on_follows plan s ns now r p (Some Batch) = go (is_post r.verb)
   where

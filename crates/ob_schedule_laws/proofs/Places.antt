@@ -13,8 +13,10 @@ use Rattle.ob_site_rules.specs.Build.{Path}
 use Rattle.ob_site_rules.specs.State.{State, at, board, is_among}
 use Rattle.ob_site_rules.specs.declared.plan.Plan.{Plan}
 use Rattle.ob_site_rules.specs.Paths.{below, about_path, batch_path, service_path, make_path}
-use Rattle.ob_site_rules.specs.Places.{Place, About, Batch, Service, Make, WritePointOf, Node, point_places, event_places, alarm_places, place_at}
+use Rattle.ob_site_rules.specs.Places.{alarm_places, event_places, place_at, point_places}
 use Rattle.ob_site_rules.specs.Shown.{derived, derived_at, lobby_children, write_point_op, with_roles, with_status, dressed, shown}
+use Rattle.ob_site_rules.specs.declared.resource.Resource.{Resource}
+use Rattle.ob_site_rules.specs.declared.resource.Resource.TheVariants.{About, Batch, Make, Node, Service, WritePointOf}
 use Rattle.ob_shown_laws.specs.Alike.{row}
 use Rattle.ob_shown_laws.specs.Changed.{is_in, PathsDiffer}
 use Rattle.ob_shown_laws.proofs.Undressing.{in_behind, front_differs, not_behind}
@@ -114,17 +116,17 @@ module _ (plan : Plan) (s : State) (w : Path) where
           (λ g. not_both (is_in w (with_roles plan s rest)) (op_in y rest b g) (d.1 w (in_behind w (with_roles plan s inner) more ∙ or_second (is_in w (with_roles plan s inner)) _ (op_here x h c here))))
 
 -- what stands first under a path
-at_front : (p : Path) (es fs : List (Path × Place)) (x : Place) → at p es ≡ Some x → at p (es ++ fs) ≡ Some x
+at_front : (p : Path) (es fs : List (Path × Resource)) (x : Resource) → at p es ≡ Some x → at p (es ++ fs) ≡ Some x
 at_front p [] fs x e = absurd cc
 at_front p (y ∷ es) fs x e = go (bytes_eq y.0 p) e (at_front p es fs x)
   where
-    go : (b : Bool) → option_map (λ (z : Path × Place). z.1) (cond b (Some y) (find (λ z. bytes_eq z.0 p) es)) ≡ Some x → (at p es ≡ Some x → at p (es ++ fs) ≡ Some x)
-        → option_map (λ (z : Path × Place). z.1) (cond b (Some y) (find (λ z. bytes_eq z.0 p) (es ++ fs))) ≡ Some x
+    go : (b : Bool) → option_map (λ (z : Path × Resource). z.1) (cond b (Some y) (find (λ z. bytes_eq z.0 p) es)) ≡ Some x → (at p es ≡ Some x → at p (es ++ fs) ≡ Some x)
+        → option_map (λ (z : Path × Resource). z.1) (cond b (Some y) (find (λ z. bytes_eq z.0 p) (es ++ fs))) ≡ Some x
     go true f rest = f
     go false f rest = rest f
 
-past : (p q : Path) (x : Place) (es : List (Path × Place)) → bytes_eq q p ≡ false → at p ((q, x) ∷ es) ≡ at p es
-past p q x es e = ap (λ b. option_map (λ (z : Path × Place). z.1) (cond b (Some (q, x)) (find (λ z. bytes_eq z.0 p) es))) e
+past : (p q : Path) (x : Resource) (es : List (Path × Resource)) → bytes_eq q p ≡ false → at p ((q, x) ∷ es) ≡ at p es
+past p q x es e = ap (λ b. option_map (λ (z : Path × Resource). z.1) (cond b (Some (q, x)) (find (λ z. bytes_eq z.0 p) es))) e
 
 module _ (plan : Plan) (p : Path) where
   -- the first point whose op has the path is this one
@@ -133,12 +135,12 @@ module _ (plan : Plan) (p : Path) where
   point_first [] one e = absurd cc
   point_first (q ∷ ps) one e = go (bytes_eq (below q (codes "writePoint")) (below p (codes "writePoint"))) refl (λ later. point_first ps (λ r a. one r (or_second (bytes_eq q r) _ a)) later)
     where
-      rest : List (Path × Place)
+      rest : List (Path × Resource)
       rest = flat_map (λ r. (below r (codes "writePoint"), WritePointOf r) ∷ []) ps
 
       go : (b : Bool) → bytes_eq (below q (codes "writePoint")) (below p (codes "writePoint")) ≡ b
           → (is_among p ps ≡ true → at (below p (codes "writePoint")) rest ≡ Some (WritePointOf p))
-          → option_map (λ (z : Path × Place). z.1) (cond b (Some (below q (codes "writePoint"), WritePointOf q)) (find (λ z. bytes_eq z.0 (below p (codes "writePoint"))) rest)) ≡ Some (WritePointOf p)
+          → option_map (λ (z : Path × Resource). z.1) (cond b (Some (below q (codes "writePoint"), WritePointOf q)) (find (λ z. bytes_eq z.0 (below p (codes "writePoint"))) rest)) ≡ Some (WritePointOf p)
       go true is more = ap (λ (r : Path). Some (WritePointOf r)) (one q (or_first (bytes_eq q q) _ (tells_text.itself q)) (tells_text.equal (below q (codes "writePoint")) (below p (codes "writePoint")) is))
       go false is more =
           more (or_cases (bytes_eq q p) (is_among p ps) _ e
@@ -158,16 +160,16 @@ module _ (plan : Plan) (p : Path) where
       w : Path
       w = below p (codes "writePoint")
 
-      from_points : List (Path × Place)
+      from_points : List (Path × Resource)
       from_points = point_places plan ++ (event_places plan ++ alarm_places plan (board plan s).rules 1 s.alarms)
 
-      from_make : List (Path × Place)
+      from_make : List (Path × Resource)
       from_make = (make_path plan, Make) ∷ from_points
 
-      from_service : List (Path × Place)
+      from_service : List (Path × Resource)
       from_service = (service_path plan, Service) ∷ from_make
 
-      from_batch : List (Path × Place)
+      from_batch : List (Path × Resource)
       from_batch = (batch_path plan, Batch) ∷ from_service
 
       one : (q : Path) → is_among q plan.points ≡ true → below q (codes "writePoint") ≡ w → q ≡ p

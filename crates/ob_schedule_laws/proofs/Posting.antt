@@ -29,8 +29,9 @@ use Rattle.ob_site_rules.specs.declared.plan.Plan.{Plan}
 use Rattle.ob_site_rules.specs.State.{State, is_among, roll}
 use Rattle.ob_site_rules.specs.Sites.{SiteState}
 use Rattle.ob_site_rules.specs.Sameness.{same_slot}
+use Rattle.ob_site_rules.specs.Places.{place_at}
 use Rattle.ob_site_rules.specs.Shown.{node_of, dressed, shown}
-use Rattle.ob_site_rules.specs.Places.{WritePointOf, place_at}
+use Rattle.ob_site_rules.specs.declared.resource.Resource.TheVariants.{WritePointOf}
 use Rattle.ob_site_rules.specs.Writes.{with_slot, write, written, overfills, slot_fault, value_fault, given_by, write_by, unless, showing}
 use Rattle.ob_site_rules.specs.Posts.{write_point}
 use Rattle.ob_site_rules.specs.Actions.{act_itself, act_located, act_on}

@@ -15,7 +15,9 @@ use Rattle.ob_site_rules.specs.Computed.{watch_part_object}
 use Rattle.ob_site_rules.specs.declared.fault.Fault.TheVariants.{TooManyWatches}
 use Rattle.ob_site_rules.specs.Locating.{locate}
 use Rattle.ob_site_rules.specs.declared.watch_part.WatchPart.TheVariants.{Whole}
-use Rattle.ob_site_rules.specs.Places.{Place, Batch, place_at}
+use Rattle.ob_site_rules.specs.declared.resource.Resource.{Resource}
+use Rattle.ob_site_rules.specs.declared.resource.Resource.TheVariants.{Batch}
+use Rattle.ob_site_rules.specs.Places.{place_at}
 use Rattle.ob_site_rules.specs.Replies.{sent}
 use Rattle.ob_site_rules.specs.Sites.{SiteState}
 use Rattle.ob_site_rules.specs.declared.plan.Plan.{Plan}
@@ -42,7 +44,7 @@ module _ (plan : Plan) (s : State) (ns : List ℕ) (now : ℕ) (target : Text) (
   abbrev read : Request
   read = record { verb = Get; target = target; body = body }
 
-  read_on : (p : Path) (place : Option Place) → (act_on locate plan s ns now read p place).0 ≡ s
+  read_on : (p : Path) (place : Option Resource) → (act_on locate plan s ns now read p place).0 ≡ s
   read_on p None = refl
   read_on p (Some Batch) = refl
   read_on p (Some place) = refl

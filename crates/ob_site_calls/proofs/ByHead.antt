@@ -14,7 +14,9 @@ use Rattle.ob_site_rules.specs.declared.plan.Plan.{Plan}
 use Rattle.ob_site_rules.specs.State.{State, at}
 use Rattle.ob_site_rules.specs.Shown.{shown}
 use Rattle.ob_site_rules.specs.Locating.{locate}
-use Rattle.ob_site_rules.specs.Places.{Place, Node, computed_places}
+use Rattle.ob_site_rules.specs.declared.resource.Resource.{Resource}
+use Rattle.ob_site_rules.specs.declared.resource.Resource.TheVariants.{Node}
+use Rattle.ob_site_rules.specs.Places.{computed_places}
 use Rattle.ob_site_rules.specs.Posts.{write_point}
 use Rattle.ob_site_rules.specs.Writes.{write_by}
 use Rattle.ob_site_rules.specs.Actions.{act_at, act_located, item_on}
@@ -39,7 +41,7 @@ never_called plan s now p body kind is = go (shown plan s p) refl is
 pub refused_there : (plan : Plan) (s : State) (now : ℕ) (p : Path) (verb : Verb) (body : Option Object) (fault : Fault) → IsRefused plan s p (λ o. act_at plan s now p verb (Node o) body) fault
     → at p (computed_places plan s) ≡ None → IsRefusedThere plan s now p verb body fault
 refused_there plan s now p verb body fault is free =
-    (is.0, (ap₂ (λ (i : Option Place) (j : Option Object). or_else i (option_map Node j)) free is.1.0, is.1.1))
+    (is.0, (ap₂ (λ (i : Option Resource) (j : Option Object). or_else i (option_map Node j)) free is.1.0, is.1.1))
 
 pub item_refused : (plan : Plan) (s : State) (ns : List ℕ) (now : ℕ) (r : Request) (p : Path) (fault : Fault) → IsRefusedThere plan s now p r.verb r.body fault → item_on plan s ns now r (Some p) ≡ (s, err fault)
 item_refused plan s ns now r p fault there = item_done plan s ns now r p (Node there.0) there.1.0 refl ∙ there.1.1

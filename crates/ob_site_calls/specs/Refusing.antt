@@ -6,7 +6,8 @@ use Rattle.ob_site_rules.specs.Actions.{act_at}
 use Rattle.ob_site_rules.specs.Build.{Path}
 use Rattle.ob_site_rules.specs.declared.fault.Fault.{Fault}
 use Rattle.ob_site_rules.specs.Faults.{err}
-use Rattle.ob_site_rules.specs.Places.{Node, place_at}
+use Rattle.ob_site_rules.specs.declared.resource.Resource.TheVariants.{Node}
+use Rattle.ob_site_rules.specs.Places.{place_at}
 use Rattle.ob_site_rules.specs.declared.plan.Plan.{Plan}
 use Rattle.ob_site_rules.specs.State.{State}
 

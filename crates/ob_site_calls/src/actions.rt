@@ -3,15 +3,13 @@ ghost use Rattle.std.specs.Prelude.{◌≡◌, Some, IfOk, IfErr};
 ghost use Rattle.std.specs.Option.{option_copied};
 ghost use Rattle.ob_site_rules.specs.Places.{place_at, object_at};
 ghost use Rattle.ob_site_rules.specs.Actions.{put_at, act_at};
-ghost use Rattle.ob_plain_state.specs.Named.{place as place_of};
 ghost use Rattle.ob_site_writes.specs.Stops.{IsDone, Stops};
 
 use crate::calls::call;
 use ob_contracts::Steps;
 use ob_object::Obj;
-use ob_plain_state::Place;
 use ob_site_places::object_at;
-use ob_site_rules::Fault;
+use ob_site_rules::{Fault, Resource};
 use ob_site_state::State;
 use ob_site_writes::{Stop, put};
 use ob_values::{Text, Verb};
@@ -22,29 +20,29 @@ use std::sync::ledger::Ledger;
 fn put_at<L: Ledger>(
     state: &mut State,
     path: &Text,
-    place: &Place,
+    place: &Resource,
     body: Option<&Obj>,
     steps: &mut Steps<L>,
 ) -> Result<Obj, Stop>
-    requires { place_at state.old.plan state.old.now path.now ≡ Some (place_of place.now) }
+    requires { place_at state.old.plan state.old.now path.now ≡ Some place.now }
     ensures ok { IfOk result (IsDone state.old state.new
-        (put_at state.old.plan state.old.now state.old.time path.now (place_of place.now) (option_copied body.entry))) }
+        (put_at state.old.plan state.old.now state.old.time path.now place.now (option_copied body.entry))) }
     ensures stop { IfErr result (Stops state.old state.new
-        (put_at state.old.plan state.old.now state.old.time path.now (place_of place.now) (option_copied body.entry))) }
+        (put_at state.old.plan state.old.now state.old.time path.now place.now (option_copied body.entry))) }
 {
     match place {
-        Place::Node(object) => put(state, path, object, body, steps),
-        Place::About
-        | Place::Batch
-        | Place::Service
-        | Place::Make
-        | Place::AlarmAt(_)
-        | Place::AckOf(_)
-        | Place::WritePointOf(_)
-        | Place::QueryOf(_)
-        | Place::FeedOf(_)
-        | Place::AlarmQuery
-        | Place::AlarmFeed => Err(Stop::Refused(Fault::NotSupported)),
+        Resource::Node(object) => put(state, path, object, body, steps),
+        Resource::About
+        | Resource::Batch
+        | Resource::Service
+        | Resource::Make
+        | Resource::AlarmAt(_)
+        | Resource::AckOf(_)
+        | Resource::WritePointOf(_)
+        | Resource::QueryOf(_)
+        | Resource::FeedOf(_)
+        | Resource::AlarmQuery
+        | Resource::AlarmFeed => Err(Stop::Refused(Fault::NotSupported)),
     }
 }
 
@@ -52,10 +50,10 @@ fn put_at<L: Ledger>(
 fn read_at<L: Ledger>(
     state: &State,
     path: &Text,
-    place: Place,
+    place: Resource,
     steps: &mut Steps<L>,
 ) -> Result<Obj, AllocError>
-    ensures { IfOk result (λ o. o ≡ object_at state.now.plan state.now.now state.now.time path.now (place_of place)) }
+    ensures { IfOk result (λ o. o ≡ object_at state.now.plan state.now.now state.now.time path.now place) }
 {
     state.is_sound();
     object_at(
@@ -76,15 +74,15 @@ pub fn act_at<L: Ledger>(
     state: &mut State,
     path: &Text,
     verb: Verb,
-    place: Place,
+    place: Resource,
     body: Option<&Obj>,
     steps: &mut Steps<L>,
 ) -> Result<Obj, Stop>
-    requires { place_at state.old.plan state.old.now path.now ≡ Some (place_of place) }
+    requires { place_at state.old.plan state.old.now path.now ≡ Some place }
     ensures ok { IfOk result (IsDone state.old state.new
-        (act_at state.old.plan state.old.now state.old.time path.now verb (place_of place) (option_copied body.entry))) }
+        (act_at state.old.plan state.old.now state.old.time path.now verb place (option_copied body.entry))) }
     ensures stop { IfErr result (Stops state.old state.new
-        (act_at state.old.plan state.old.now state.old.time path.now verb (place_of place) (option_copied body.entry))) }
+        (act_at state.old.plan state.old.now state.old.time path.now verb place (option_copied body.entry))) }
 {
     match verb {
         Verb::Get => {

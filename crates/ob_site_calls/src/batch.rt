@@ -1,5 +1,5 @@
 //! Batches, and requests to the site itself.
-ghost use Rattle.std.specs.Prelude.{◌≡◌, Some, true, cond, is_none, option_map, IfOk, IfErr};
+ghost use Rattle.std.specs.Prelude.{◌≡◌, Some, true, cond, is_none, IfOk, IfErr};
 ghost use Rattle.std.specs.List.{list_all};
 ghost use Rattle.std.specs.Option.{option_copied};
 ghost use Rattle.ob_site_rules.specs.declared.fault.Fault.TheVariants.{NotInBatch, NoSuchObject};
@@ -8,7 +8,6 @@ ghost use Rattle.ob_site_rules.specs.Locating.{locate};
 ghost use Rattle.ob_site_rules.specs.Places.{place_at};
 ghost use Rattle.ob_site_rules.specs.Actions.{is_of_watch, is_post, is_left_out, item_on, act_item, act_all, item_request};
 ghost use Rattle.ob_site_rules.specs.Actions.{batch, batch_rows, act_located, act_itself};
-ghost use Rattle.ob_plain_state.specs.Named.{place as place_of};
 ghost use Rattle.ob_requests.specs.BatchCalls.{is_batch_call};
 ghost use Rattle.ob_site_writes.specs.Stops.{IsDone, Stops};
 
@@ -16,12 +15,11 @@ use crate::actions::act_at;
 use crate::refusing::refused;
 use ob_contracts::Steps;
 use ob_object::{Kind, Obj};
-use ob_plain_state::Place;
 use ob_replies::build::put;
 use ob_replies::{batch_out, refusal};
 use ob_requests::{is_of_watch, item_request, located};
 use ob_site_places::place_at;
-use ob_site_rules::{Fault, Request};
+use ob_site_rules::{Fault, Request, Resource};
 use ob_site_state::State;
 use ob_site_writes::Stop;
 use ob_values::{Text, Verb};
@@ -29,21 +27,21 @@ use std::alloc::AllocError;
 use std::sync::ledger::Ledger;
 
 /// Whether a batch leaves a place out.
-fn is_left_out(place: &Place) -> bool
-    ensures { result ≡ is_left_out (place_of place.now) }
+fn is_left_out(place: &Resource) -> bool
+    ensures { result ≡ is_left_out place.now }
 {
     match place {
-        Place::Batch | Place::Make => true,
-        Place::About
-        | Place::Service
-        | Place::AlarmAt(_)
-        | Place::AckOf(_)
-        | Place::WritePointOf(_)
-        | Place::QueryOf(_)
-        | Place::FeedOf(_)
-        | Place::AlarmQuery
-        | Place::AlarmFeed
-        | Place::Node(_) => false,
+        Resource::Batch | Resource::Make => true,
+        Resource::About
+        | Resource::Service
+        | Resource::AlarmAt(_)
+        | Resource::AckOf(_)
+        | Resource::WritePointOf(_)
+        | Resource::QueryOf(_)
+        | Resource::FeedOf(_)
+        | Resource::AlarmQuery
+        | Resource::AlarmFeed
+        | Resource::Node(_) => false,
     }
 }
 
@@ -52,8 +50,8 @@ fn named<L: Ledger>(
     state: &State,
     path: &Text,
     steps: &mut Steps<L>,
-) -> Result<Option<Place>, AllocError>
-    ensures { IfOk result (λ place. option_map place_of place ≡ place_at state.now.plan state.now.now path.now) }
+) -> Result<Option<Resource>, AllocError>
+    ensures { IfOk result (λ place. place ≡ place_at state.now.plan state.now.now path.now) }
 {
     state.is_sound();
     place_at(
@@ -251,22 +249,22 @@ fn is_post(verb: Verb) -> bool
 }
 
 /// Whether a verb at a place is the call of the op that does batches.
-fn is_batch_call(place: &Place, verb: Verb) -> bool
-    ensures { result ≡ is_batch_call (place_of place.now) verb }
+fn is_batch_call(place: &Resource, verb: Verb) -> bool
+    ensures { result ≡ is_batch_call place.now verb }
 {
     match place {
-        Place::Batch => is_post(verb),
-        Place::About
-        | Place::Service
-        | Place::Make
-        | Place::AlarmAt(_)
-        | Place::AckOf(_)
-        | Place::WritePointOf(_)
-        | Place::QueryOf(_)
-        | Place::FeedOf(_)
-        | Place::AlarmQuery
-        | Place::AlarmFeed
-        | Place::Node(_) => false,
+        Resource::Batch => is_post(verb),
+        Resource::About
+        | Resource::Service
+        | Resource::Make
+        | Resource::AlarmAt(_)
+        | Resource::AckOf(_)
+        | Resource::WritePointOf(_)
+        | Resource::QueryOf(_)
+        | Resource::FeedOf(_)
+        | Resource::AlarmQuery
+        | Resource::AlarmFeed
+        | Resource::Node(_) => false,
     }
 }
 

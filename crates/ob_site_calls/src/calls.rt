@@ -5,16 +5,14 @@ ghost use Rattle.ob_site_rules.specs.State.{board, is_among};
 ghost use Rattle.ob_site_rules.specs.Places.{place_at};
 ghost use Rattle.ob_site_rules.specs.Entries.{records_out, alarms_out};
 ghost use Rattle.ob_site_rules.specs.Posts.{child_of_obj, query, records_of, write_point, call, acknowledge, or_nil};
-ghost use Rattle.ob_plain_state.specs.Named.{place as place_of};
 ghost use Rattle.ob_site_writes.specs.Stops.{IsDone, Stops};
 
 use crate::acks::acknowledge;
 use ob_contracts::Steps;
 use ob_object::{Kind, Obj};
-use ob_plain_state::Place;
 use ob_replies::nil;
 use ob_site_places::{query_alarms, query_records};
-use ob_site_rules::Fault;
+use ob_site_rules::{Fault, Resource};
 use ob_site_state::State;
 use ob_site_writes::{Stop, shown, write_by, write_fault};
 use ob_values::Text;
@@ -117,37 +115,37 @@ fn ack_call(state: &mut State, number: u64, input: Option<&Obj>) -> Result<Obj, 
 pub fn call<L: Ledger>(
     state: &mut State,
     path: &Text,
-    place: &Place,
+    place: &Resource,
     input: Option<&Obj>,
     steps: &mut Steps<L>,
 ) -> Result<Obj, Stop>
-    requires { place_at state.old.plan state.old.now path.now ≡ Some (place_of place.now) }
+    requires { place_at state.old.plan state.old.now path.now ≡ Some place.now }
     ensures ok { IfOk result (IsDone state.old state.new
-        (call state.old.plan state.old.now state.old.time (place_of place.now) (option_copied input.entry))) }
+        (call state.old.plan state.old.now state.old.time place.now (option_copied input.entry))) }
     ensures stop { IfErr result (Stops state.old state.new
-        (call state.old.plan state.old.now state.old.time (place_of place.now) (option_copied input.entry))) }
+        (call state.old.plan state.old.now state.old.time place.now (option_copied input.entry))) }
 {
     match place {
-        Place::AckOf(number) => ack_call(state, *number, input),
-        Place::WritePointOf(point) => match input {
+        Resource::AckOf(number) => ack_call(state, *number, input),
+        Resource::WritePointOf(point) => match input {
             Some(input) => write_point(state, point, child_of_obj(input, "value"), steps),
             None => write_point(state, point, None, steps),
         },
-        Place::QueryOf(history) => {
+        Resource::QueryOf(history) => {
             let reply = records_asked(state, history, input)?;
             Ok(reply)
         }
-        Place::AlarmQuery => {
+        Resource::AlarmQuery => {
             let reply = alarms_asked(state, input)?;
             Ok(reply)
         }
-        Place::About
-        | Place::Batch
-        | Place::Service
-        | Place::Make
-        | Place::AlarmAt(_)
-        | Place::FeedOf(_)
-        | Place::AlarmFeed
-        | Place::Node(_) => Err(Stop::Refused(Fault::NotSupported)),
+        Resource::About
+        | Resource::Batch
+        | Resource::Service
+        | Resource::Make
+        | Resource::AlarmAt(_)
+        | Resource::FeedOf(_)
+        | Resource::AlarmFeed
+        | Resource::Node(_) => Err(Stop::Refused(Fault::NotSupported)),
     }
 }

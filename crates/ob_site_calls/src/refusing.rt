@@ -4,7 +4,8 @@ ghost use Rattle.std.specs.Option.{option_copied};
 ghost use Rattle.ob_values.specs.declared.verb.Verb.TheVariants.{Post};
 ghost use Rattle.ob_site_rules.specs.Actions.{act_at};
 ghost use Rattle.ob_site_rules.specs.State.{at};
-ghost use Rattle.ob_site_rules.specs.Places.{Node, computed_places};
+ghost use Rattle.ob_site_rules.specs.declared.resource.Resource.TheVariants.{Node};
+ghost use Rattle.ob_site_rules.specs.Places.{computed_places};
 ghost use Rattle.ob_site_writes.specs.Targets.{IsRefused};
 ghost use Rattle.ob_site_calls.specs.Refusing.{IsRefusedThere};
 

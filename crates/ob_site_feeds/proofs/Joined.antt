@@ -10,7 +10,9 @@ use Rattle.ob_history.specs.declared.records.Record.{Record}
 use Rattle.ob_alarms.specs.declared.alarm.Event.{Event}
 use Rattle.ob_site_rules.specs.Build.{Path}
 use Rattle.ob_site_rules.specs.Entries.{record_object}
-use Rattle.ob_site_rules.specs.Places.{Place, About, Batch, Service, Make, AlarmAt, AckOf, WritePointOf, QueryOf, FeedOf, AlarmQuery, AlarmFeed, Node, event_places}
+use Rattle.ob_site_rules.specs.declared.resource.Resource.{Resource}
+use Rattle.ob_site_rules.specs.declared.resource.Resource.TheVariants.{About, Batch, Service, Make, AlarmAt, AckOf, WritePointOf, QueryOf, FeedOf, AlarmQuery, AlarmFeed, Node}
+use Rattle.ob_site_rules.specs.Places.{event_places}
 use Rattle.ob_site_rules.specs.Posts.{kept_in, records_of}
 use Rattle.ob_site_rules.specs.declared.plan.Plan.{Plan}
 use Rattle.ob_site_rules.specs.State.{Log, State, at, is_among, board, roll}
@@ -76,7 +78,7 @@ log_few h (l ∷ ls) counted = go (bytes_eq l.0 h) (log_few h ls counted.1)
 none_few : 0 + 0 < 2 ^ 64
 none_few = omega arith
 
-place_few : (plan : Plan) (s : State) (o : Option Place) → AreCounted s.logs → length s.events < 2 ^ 63 → gone_at s o + length (events_at plan s o) < 2 ^ 64
+place_few : (plan : Plan) (s : State) (o : Option Resource) → AreCounted s.logs → length s.events < 2 ^ 63 → gone_at s o + length (events_at plan s o) < 2 ^ 64
 place_few plan s (Some (FeedOf h)) counted few =
     subst (λ n. gone_in (at h s.logs) + n < 2 ^ 64) (sym (length-map (records_of s h) record_object)) (log_few h s.logs counted)
 place_few plan s (Some AlarmFeed) counted few = subst (λ n. 0 + n < 2 ^ 64) (sym (first_length (board plan s) (length s.events))) (omega (arith, few))
@@ -95,7 +97,7 @@ place_few plan s (Some AlarmQuery) counted few = none_few
 -- ---- the events of one feed
 
 -- the same of what a path leads to
-record GainsAt (plan : Plan) (s u : State) (o : Option Place) (times : List Instant) : Type 0 where
+record GainsAt (plan : Plan) (s u : State) (o : Option Resource) (times : List Instant) : Type 0 where
   more : List Object
   events : events_at plan u o ≡ events_at plan s o ++ more
   stamps : map timestamp more ≡ map Some times
@@ -174,11 +176,11 @@ module _ (plan : Plan) (u : State) (known : AreLogs plan u) (found : List Change
       ∙ ap (λ (q : Path). times_of q (flat_map (alarm_event (feed_of is.0) u.alarms) a.new)) is.1.1 in
       record { more = a.more; events = a.objects; stamps = a.stamps (feed_of is.0) ∙ ap (map Some) (sym times); gone = refl }
 
-  of_none : (p : Path) (o : Option Place) → at p (event_places plan) ≡ o → ((h : Path) → o ≡ Some (FeedOf h) → ⊥) → (o ≡ Some AlarmFeed → ⊥) → times_of p (all_events plan u found) ≡ []
+  of_none : (p : Path) (o : Option Resource) → at p (event_places plan) ≡ o → ((h : Path) → o ≡ Some (FeedOf h) → ⊥) → (o ≡ Some AlarmFeed → ⊥) → times_of p (all_events plan u found) ≡ []
   of_none p o e no_feed no_alarm =
       both p ∙ ap₂ (λ (xs ys : List Instant). xs ++ ys) (off_records p (λ h _ f. no_feed h (sym e ∙ f))) (off_alarms p (λ f. no_alarm (sym e ∙ f)) (new_events u found))
 
-  at_place : (p : Path) (o : Option Place) → at p (event_places plan) ≡ o → GainsAt plan before u o (times_of p (all_events plan u found))
+  at_place : (p : Path) (o : Option Resource) → at p (event_places plan) ≡ o → GainsAt plan before u o (times_of p (all_events plan u found))
   at_place p (Some (FeedOf h)) e = of_history p h e
   at_place p (Some AlarmFeed) e = of_alarms p e
   at_place p None e = record { more = []; events = refl; stamps = ap (map Some) (sym (of_none p None e (λ h f. cc) (λ f. cc))); gone = refl }

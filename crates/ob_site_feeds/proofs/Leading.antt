@@ -8,9 +8,11 @@ use Rattle.ob_object.specs.Object.{Objects, none, node, Object, listed, in_row, 
 use Rattle.ob_object.specs.Paths.{node_path, is_path}
 use Rattle.ob_site_rules.specs.Build.{Path}
 use Rattle.ob_site_rules.specs.Paths.{below, ends_with_slash}
-use Rattle.ob_site_rules.specs.Places.{Place, QueryOf, FeedOf, AlarmQuery, AlarmFeed, subject_places, event_places}
+use Rattle.ob_site_rules.specs.Places.{event_places, subject_places}
 use Rattle.ob_site_rules.specs.Shown.{write_point_op, history_part, subject_children, lobby_children, derived, with_status, with_roles, dressed}
 use Rattle.ob_site_rules.specs.State.{Log, State, at, is_among}
+use Rattle.ob_site_rules.specs.declared.resource.Resource.{Resource}
+use Rattle.ob_site_rules.specs.declared.resource.Resource.TheVariants.{AlarmFeed, AlarmQuery, FeedOf, QueryOf}
 use Rattle.ob_site_rules.specs.declared.plan.Plan.{Plan}
 use Rattle.ob_shown_laws.specs.Alike.{row}
 use Rattle.ob_shown_laws.specs.Changed.{is_in, PathsDiffer}
@@ -199,16 +201,16 @@ module _ (plan : Plan) (s : State) where
       ∙ or_second (bytes_eq (query_of q) (feed_of q)) _ (or_first (bytes_eq (feed_of q) (feed_of q)) _ (bytes_itself (feed_of q)))
 
 -- what stands first under a path
-passed : (p : Path) (e : Path × Place) (es : List (Path × Place)) → bytes_eq e.0 p ≡ false → at p (e ∷ es) ≡ at p es
-passed p e es off = ap (λ b. option_map (λ (x : Path × Place). x.1) (cond b (Some e) (find (λ x. bytes_eq x.0 p) es))) off
+passed : (p : Path) (e : Path × Resource) (es : List (Path × Resource)) → bytes_eq e.0 p ≡ false → at p (e ∷ es) ≡ at p es
+passed p e es off = ap (λ b. option_map (λ (x : Path × Resource). x.1) (cond b (Some e) (find (λ x. bytes_eq x.0 p) es))) off
 
-met : (p : Path) (e : Path × Place) (es : List (Path × Place)) → bytes_eq e.0 p ≡ true → at p (e ∷ es) ≡ Some e.1
-met p e es on = ap (λ b. option_map (λ (x : Path × Place). x.1) (cond b (Some e) (find (λ x. bytes_eq x.0 p) es))) on
+met : (p : Path) (e : Path × Resource) (es : List (Path × Resource)) → bytes_eq e.0 p ≡ true → at p (e ∷ es) ≡ Some e.1
+met p e es on = ap (λ b. option_map (λ (x : Path × Resource). x.1) (cond b (Some e) (find (λ x. bytes_eq x.0 p) es))) on
 
 abbrev Histories : Type 0
 Histories = List (Path × Option Path)
 
-abbrev places_of : Histories → List (Path × Place)
+abbrev places_of : Histories → List (Path × Resource)
 places_of hs = flat_map (λ h. (query_of h.0, QueryOf h.0) ∷ (feed_of h.0, FeedOf h.0) ∷ []) hs
 
 -- Each history and the subject are own nodes, each history has a log, and no two nodes have one path.
@@ -257,7 +259,7 @@ module _ (plan : Plan) (s : State) (set : AreSet plan s) where
   tail_among : (g h : Path) (hs : List Path) → (bytes_eq g h || is_among h hs) ≡ true → bytes_eq g h ≡ false → is_among h hs ≡ true
   tail_among g h hs e off = sym (ap (λ b. b || is_among h hs) off) ∙ e
 
-  lead : (h : Path) → IsHistory h → (hs : Histories) (rest : List (Path × Place)) → ((g : Path) → is_among g (map (λ x. x.0) hs) ≡ true → IsHistory g)
+  lead : (h : Path) → IsHistory h → (hs : Histories) (rest : List (Path × Resource)) → ((g : Path) → is_among g (map (λ x. x.0) hs) ≡ true → IsHistory g)
       → is_among h (map (λ x. x.0) hs) ≡ true → at (feed_of h) (places_of hs ++ rest) ≡ Some (FeedOf h)
   lead h is [] rest all here = absurd (true≢false (sym here))
   lead h is (g ∷ hs) rest all here =
@@ -277,7 +279,7 @@ module _ (plan : Plan) (s : State) (set : AreSet plan s) where
           not_same g.0 h (λ same. true≢false (sym (ap (λ (x : Path). bytes_eq (feed_of x) (feed_of h)) same ∙ bytes_itself (feed_of h)) ∙ e)) in
           passed (feed_of h) (feed_of g.0, FeedOf g.0) (places_of hs ++ rest) e ∙ later (tail_among g.0 h (map (λ x. x.0) hs) here off)
 
-  past_histories : (p : Path) → plan.subject ≡ Some p → (hs : Histories) (rest : List (Path × Place)) → ((g : Path) → is_among g (map (λ x. x.0) hs) ≡ true → IsHistory g)
+  past_histories : (p : Path) → plan.subject ≡ Some p → (hs : Histories) (rest : List (Path × Resource)) → ((g : Path) → is_among g (map (λ x. x.0) hs) ≡ true → IsHistory g)
       → at (feed_of p) (places_of hs ++ rest) ≡ at (feed_of p) rest
   past_histories p is [] rest all = refl
   past_histories p is (g ∷ hs) rest all =
@@ -306,18 +308,18 @@ not_in_subject : (p h : Path) (o : Option Path) → at p (subject_places o) ≡ 
 not_in_subject p h None e = absurd cc
 not_in_subject p h (Some q) e = go (bytes_eq (query_of q) p) (bytes_eq (feed_of q) p) e
   where
-    go : (a b : Bool) → option_map (λ (x : Path × Place). x.1) (cond a (Some (query_of q, AlarmQuery)) (cond b (Some (feed_of q, AlarmFeed)) None)) ≡ Some (FeedOf h) → ⊥
+    go : (a b : Bool) → option_map (λ (x : Path × Resource). x.1) (cond a (Some (query_of q, AlarmQuery)) (cond b (Some (feed_of q, AlarmFeed)) None)) ≡ Some (FeedOf h) → ⊥
     go true b e = absurd cc
     go false true e = absurd cc
     go false false e = absurd cc
 
-among_places : (p h : Path) (hs : Histories) (rest : List (Path × Place)) → at p (places_of hs ++ rest) ≡ Some (FeedOf h)
+among_places : (p h : Path) (hs : Histories) (rest : List (Path × Resource)) → at p (places_of hs ++ rest) ≡ Some (FeedOf h)
     → ((p ≡ feed_of h) × (is_among h (map (λ x. x.0) hs) ≡ true)) ⊎ (at p rest ≡ Some (FeedOf h))
 among_places p h [] rest e = inr e
 among_places p h (g ∷ hs) rest e = go (bytes_eq (query_of g.0) p) (bytes_eq (feed_of g.0) p) refl e (λ f. among_places p h hs rest f)
   where
     go : (a b : Bool) → bytes_eq (feed_of g.0) p ≡ b
-        → option_map (λ (x : Path × Place). x.1) (cond a (Some (query_of g.0, QueryOf g.0)) (cond b (Some (feed_of g.0, FeedOf g.0)) (find (λ x. bytes_eq x.0 p) (places_of hs ++ rest)))) ≡ Some (FeedOf h)
+        → option_map (λ (x : Path × Resource). x.1) (cond a (Some (query_of g.0, QueryOf g.0)) (cond b (Some (feed_of g.0, FeedOf g.0)) (find (λ x. bytes_eq x.0 p) (places_of hs ++ rest)))) ≡ Some (FeedOf h)
         → (at p (places_of hs ++ rest) ≡ Some (FeedOf h) → ((p ≡ feed_of h) × (is_among h (map (λ x. x.0) hs) ≡ true)) ⊎ (at p rest ≡ Some (FeedOf h)))
         → ((p ≡ feed_of h) × ((bytes_eq g.0 h || is_among h (map (λ x. x.0) hs)) ≡ true)) ⊎ (at p rest ≡ Some (FeedOf h))
     go true b f e later = absurd cc
@@ -344,12 +346,12 @@ is_feed plan p h e = go (among_places p h plan.histories (subject_places plan.su
 abbrev pub IsAlarmFeed : Plan → Path → Type 0
 IsAlarmFeed plan p = (q : Path) × ((plan.subject ≡ Some q) × (p ≡ feed_of q))
 
-no_alarms : (p : Path) (hs : Histories) (rest : List (Path × Place)) → at p (places_of hs ++ rest) ≡ Some AlarmFeed → at p rest ≡ Some AlarmFeed
+no_alarms : (p : Path) (hs : Histories) (rest : List (Path × Resource)) → at p (places_of hs ++ rest) ≡ Some AlarmFeed → at p rest ≡ Some AlarmFeed
 no_alarms p [] rest e = e
 no_alarms p (g ∷ hs) rest e = go (bytes_eq (query_of g.0) p) (bytes_eq (feed_of g.0) p) e (λ f. no_alarms p hs rest f)
   where
     go : (a b : Bool)
-        → option_map (λ (x : Path × Place). x.1) (cond a (Some (query_of g.0, QueryOf g.0)) (cond b (Some (feed_of g.0, FeedOf g.0)) (find (λ x. bytes_eq x.0 p) (places_of hs ++ rest)))) ≡ Some AlarmFeed
+        → option_map (λ (x : Path × Resource). x.1) (cond a (Some (query_of g.0, QueryOf g.0)) (cond b (Some (feed_of g.0, FeedOf g.0)) (find (λ x. bytes_eq x.0 p) (places_of hs ++ rest)))) ≡ Some AlarmFeed
         → (at p (places_of hs ++ rest) ≡ Some AlarmFeed → at p rest ≡ Some AlarmFeed) → at p rest ≡ Some AlarmFeed
     go true b e later = absurd cc
     go false true e later = absurd cc
@@ -362,7 +364,7 @@ is_alarm_feed plan p e = go plan.subject refl (no_alarms p plan.histories (subje
     go None is e = absurd cc
     go (Some q) is e = by (bytes_eq (query_of q) p) (bytes_eq (feed_of q) p) refl e
       where
-        by : (a b : Bool) → bytes_eq (feed_of q) p ≡ b → option_map (λ (x : Path × Place). x.1) (cond a (Some (query_of q, AlarmQuery)) (cond b (Some (feed_of q, AlarmFeed)) None)) ≡ Some AlarmFeed → IsAlarmFeed plan p
+        by : (a b : Bool) → bytes_eq (feed_of q) p ≡ b → option_map (λ (x : Path × Resource). x.1) (cond a (Some (query_of q, AlarmQuery)) (cond b (Some (feed_of q, AlarmFeed)) None)) ≡ Some AlarmFeed → IsAlarmFeed plan p
         by true b f e = absurd cc
         by false true f e = (q, (is, sym (same_bytes (feed_of q) p f)))
         by false false f e = absurd cc

@@ -6,7 +6,8 @@ use Rattle.ob_times.specs.Times.{Instant}
 use Rattle.ob_values.proofs.Lists.{some_same, bytes_itself}
 use Rattle.ob_history.specs.declared.records.Record.{Record}
 use Rattle.ob_site_rules.specs.Build.{Path}
-use Rattle.ob_site_rules.specs.Places.{FeedOf, event_places}
+use Rattle.ob_site_rules.specs.declared.resource.Resource.TheVariants.{FeedOf}
+use Rattle.ob_site_rules.specs.Places.{event_places}
 use Rattle.ob_site_rules.specs.Posts.{kept_in, records_of}
 use Rattle.ob_site_rules.specs.declared.plan.Plan.{Plan}
 use Rattle.ob_site_rules.specs.State.{Log, State, at, is_among}

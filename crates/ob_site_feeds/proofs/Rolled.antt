@@ -8,7 +8,9 @@ use Rattle.ob_history.specs.declared.records.Record.{Record}
 use Rattle.ob_site_laws.proofs.Rolling.{rolled_at}
 use Rattle.ob_site_laws.proofs.Endless.{log}
 use Rattle.ob_site_rules.specs.Build.{Path}
-use Rattle.ob_site_rules.specs.Places.{Place, About, Batch, Service, Make, AlarmAt, AckOf, WritePointOf, QueryOf, FeedOf, AlarmQuery, AlarmFeed, Node, event_places}
+use Rattle.ob_site_rules.specs.declared.resource.Resource.{Resource}
+use Rattle.ob_site_rules.specs.declared.resource.Resource.TheVariants.{About, Batch, Service, Make, AlarmAt, AckOf, WritePointOf, QueryOf, FeedOf, AlarmQuery, AlarmFeed, Node}
+use Rattle.ob_site_rules.specs.Places.{event_places}
 use Rattle.ob_site_rules.specs.declared.plan.Plan.{Plan}
 use Rattle.ob_site_rules.specs.State.{Log, State, at, is_among, rolled, roll}
 use Rattle.ob_site_rules.specs.Watched.{gone_in, gone_at}
@@ -62,7 +64,7 @@ module _ (plan : Plan) (u : State) (known : AreLogs plan u) where
   -- how many have rolled off the feed of a log at the end
   gone_end : (place : ℕ) (l : Entry) → slice_get u.logs place ≡ Some l → (of_plan plan).gone (roll u) (feed_of l.0) ≡ (rolled l.1).gone
   gone_end place l e =
-      ap (λ (o : Option Place). gone_at (roll u) o) (known.leads.histories l.0 (is_history plan u known place l e))
+      ap (λ (o : Option Resource). gone_at (roll u) o) (known.leads.histories l.0 (is_history plan u known place l e))
       ∙ ap gone_in (rolled_at l.0 u.logs)
       ∙ ap (λ (o : Option Log). gone_in (option_map rolled o)) (at_place u.logs place l (subst Apart (sym known.keys) known.apart) e)
 
@@ -162,7 +164,7 @@ module _ (plan : Plan) (u : State) (known : AreLogs plan u) where
       → is_among path (rolled_feeds (flat_map (note_rolls u.logs) found)) ≡ false → (of_plan plan).gone (roll u) path ≡ (of_plan plan).gone u path
   others_stay found can told settled path off = go (at path (event_places plan)) refl
     where
-      go : (o : Option Place) → at path (event_places plan) ≡ o → gone_at (roll u) o ≡ gone_at u o
+      go : (o : Option Resource) → at path (event_places plan) ≡ o → gone_at (roll u) o ≡ gone_at u o
       go (Some (FeedOf h)) e =
           ap gone_in (rolled_at h u.logs)
           ∙ whole found h can told settled (subst (λ (p : Path). is_among p (rolled_feeds (flat_map (note_rolls u.logs) found)) ≡ false) (is_feed plan path h e).0 off)

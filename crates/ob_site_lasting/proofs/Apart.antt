@@ -9,11 +9,13 @@ use Rattle.ob_site_rules.specs.declared.fault.Fault.{Fault}
 use Rattle.ob_site_rules.specs.Faults.{first_fault}
 use Rattle.ob_site_rules.specs.declared.plan.Plan.{Plan}
 use Rattle.ob_site_rules.specs.State.{State}
-use Rattle.ob_site_rules.specs.Places.{Place, Batch, place_at}
+use Rattle.ob_site_rules.specs.declared.resource.Resource.{Resource}
+use Rattle.ob_site_rules.specs.declared.resource.Resource.TheVariants.{Batch}
+use Rattle.ob_site_rules.specs.Places.{place_at}
 use Rattle.ob_site_rules.specs.Actions.{is_post, item_at, item_on, item_request, act_item, act_all, batch_rows, batch_or, batch, act_on, act_located, act_itself, act_at}
 
 module _ (locate : Parts → Text → Option Path) (plan : Plan) (ns ks : List ℕ) (now : ℕ) where
-  item_at_apart : (s : State) (r : Request) (p : Path) (place : Option Place) → (item_at plan s ns now r p place).0 ≡ (item_at plan s ks now r p place).0
+  item_at_apart : (s : State) (r : Request) (p : Path) (place : Option Resource) → (item_at plan s ns now r p place).0 ≡ (item_at plan s ks now r p place).0
   item_at_apart s r p None = refl
   item_at_apart s r p (Some place) = refl
 
@@ -39,7 +41,7 @@ module _ (locate : Parts → Text → Option Path) (plan : Plan) (ns ks : List �
   batch_apart s None = refl
   batch_apart s (Some body) = batch_or_apart (first_fault (batch_rows locate body)) s body
 
-  on_apart : (s : State) (r : Request) (p : Path) (place : Option Place) → (act_on locate plan s ns now r p place).0 ≡ (act_on locate plan s ks now r p place).0
+  on_apart : (s : State) (r : Request) (p : Path) (place : Option Resource) → (act_on locate plan s ns now r p place).0 ≡ (act_on locate plan s ks now r p place).0
   on_apart s r p None = refl
   on_apart s r p (Some Batch) = go (is_post r.verb)
     where
@@ -57,7 +59,7 @@ module _ (locate : Parts → Text → Option Path) (plan : Plan) (ns ks : List �
   itself_apart s r = located_apart s r (locate plan.base r.target)
 
 module _ (locate : Parts → Text → Option Path) (plan : Plan) (ns : List ℕ) (now : ℕ) where
-  read_on : (s : State) (target : Text) (body : Option Object) (p : Path) (place : Option Place) → (act_on locate plan s ns now (record { verb = Get; target = target; body = body }) p place).0 ≡ s
+  read_on : (s : State) (target : Text) (body : Option Object) (p : Path) (place : Option Resource) → (act_on locate plan s ns now (record { verb = Get; target = target; body = body }) p place).0 ≡ s
   read_on s target body p None = refl
   read_on s target body p (Some Batch) = refl
   read_on s target body p (Some place) = refl

@@ -6,7 +6,8 @@ use Rattle.ob_site_rules.specs.declared.request.Request.{Request}
 use Rattle.ob_site_rules.specs.Locating.{locate}
 use Rattle.ob_site_rules.specs.declared.plan.Plan.{Plan}
 use Rattle.ob_site_rules.specs.State.{Log, State, at, rolled}
-use Rattle.ob_site_rules.specs.Places.{Place, About, Batch, Service, Make, AlarmAt, AckOf, WritePointOf, QueryOf, FeedOf, AlarmQuery, AlarmFeed, Node}
+use Rattle.ob_site_rules.specs.declared.resource.Resource.{Resource}
+use Rattle.ob_site_rules.specs.declared.resource.Resource.TheVariants.{About, Batch, Service, Make, AlarmAt, AckOf, WritePointOf, QueryOf, FeedOf, AlarmQuery, AlarmFeed, Node}
 use Rattle.ob_site_rules.specs.Watched.{gone_in, gone_at}
 use Rattle.ob_watching.specs.Sites.{Site}
 use Rattle.ob_site_laws.specs.SiteLaws.{of_plan, capacity_in, KeepsAll}
@@ -14,7 +15,7 @@ use Rattle.ob_site_laws.proofs.Growth.{act_grows}
 use Rattle.ob_site_laws.proofs.Rolling.{rolled_at}
 
 -- nothing of it has gone since
-abbrev pub Endless : State → Option Place → State → Type 0
+abbrev pub Endless : State → Option Resource → State → Type 0
 Endless start place s = KeepsAll s place × (gone_at s place ≡ gone_at start place)
 
 abbrev pub log : Option ℕ → ℕ → List Record → Log
@@ -27,7 +28,7 @@ some_rolled : (o : Option Log) → capacity_in o ≡ None → (capacity_in (opti
 some_rolled None none = (refl, refl)
 some_rolled (Some l) none = one_rolled l none
 
-pub stays_endless : (plan : Plan) (start : State) (place : Option Place) (s : State) (ns : List ℕ) (r : Request) (now : ℕ) → Endless start place s → let m : Site = of_plan plan in Endless start place (m.roll (m.act s ns r now).0)
+pub stays_endless : (plan : Plan) (start : State) (place : Option Resource) (s : State) (ns : List ℕ) (r : Request) (now : ℕ) → Endless start place s → let m : Site = of_plan plan in Endless start place (m.roll (m.act s ns r now).0)
 stays_endless plan start (Some (FeedOf h)) s ns r now e =
     let m : Site = of_plan plan in
     let u : State = (m.act s ns r now).0 in

@@ -22,7 +22,9 @@ use Rattle.ob_site_rules.specs.State.{Log, State, at, board, with_board}
 use Rattle.ob_site_rules.specs.Sameness.{same_slot}
 use Rattle.ob_site_rules.specs.Shown.{rule_of}
 use Rattle.ob_site_rules.specs.Entries.{record_object, event_objects}
-use Rattle.ob_site_rules.specs.Places.{Place, About, Batch, Service, Make, AlarmAt, AckOf, WritePointOf, QueryOf, FeedOf, AlarmQuery, AlarmFeed, Node, place_at, event_places}
+use Rattle.ob_site_rules.specs.declared.resource.Resource.{Resource}
+use Rattle.ob_site_rules.specs.declared.resource.Resource.TheVariants.{About, Batch, Service, Make, AlarmAt, AckOf, WritePointOf, QueryOf, FeedOf, AlarmQuery, AlarmFeed, Node}
+use Rattle.ob_site_rules.specs.Places.{place_at, event_places}
 use Rattle.ob_site_rules.specs.Writes.{records_from, with_record, number_in, board_by, write, written, unless, write_by, put, given_by, target_fault}
 use Rattle.ob_site_rules.specs.Posts.{kept_in, records_of, user_in, or_nil, acked, call, write_point}
 use Rattle.ob_site_rules.specs.Actions.{is_post, put_at, act_at, is_left_out, item_at, item_on, item_request, act_item, act_all, batch_or, batch, act_on, act_located}
@@ -151,7 +153,7 @@ put_grows : (plan : Plan) (s : State) (now : ℕ) (p : Path) (o : Object) (body 
 put_grows plan s now p o None = unless_grows plan _ s _ (same plan s)
 put_grows plan s now p o (Some body) = write_by_grows plan s now p o (target_fault o.head) body
 
-put_at_grows : (plan : Plan) (s : State) (now : ℕ) (p : Path) (place : Place) (body : Option Object) → IsGrown plan s (put_at plan s now p place body).0
+put_at_grows : (plan : Plan) (s : State) (now : ℕ) (p : Path) (place : Resource) (body : Option Object) → IsGrown plan s (put_at plan s now p place body).0
 put_at_grows plan s now p (Node o) body = put_grows plan s now p o body
 put_at_grows plan s now p About body = same plan s
 put_at_grows plan s now p Batch body = same plan s
@@ -169,7 +171,7 @@ write_point_grows : (plan : Plan) (s : State) (now : ℕ) (p : Path) (new : Opti
 write_point_grows plan s now p None = same plan s
 write_point_grows plan s now p (Some new) = write_by_grows plan s now p _ None new
 
-call_grows : (plan : Plan) (s : State) (now : ℕ) (place : Place) (input : Option Object) → IsGrown plan s (call plan s now place input).0
+call_grows : (plan : Plan) (s : State) (now : ℕ) (place : Resource) (input : Option Object) → IsGrown plan s (call plan s now place input).0
 call_grows plan s now (AckOf n) input = unless_grows plan _ s _ (ack_grows plan n (user_in (or_nil input)) now s)
 call_grows plan s now (WritePointOf p) input = write_point_grows plan s now p _
 call_grows plan s now (Node o) input = same plan s
@@ -183,12 +185,12 @@ call_grows plan s now (FeedOf h) input = same plan s
 call_grows plan s now AlarmQuery input = same plan s
 call_grows plan s now AlarmFeed input = same plan s
 
-act_at_grows : (plan : Plan) (s : State) (now : ℕ) (p : Path) (verb : Verb) (place : Place) (body : Option Object) → IsGrown plan s (act_at plan s now p verb place body).0
+act_at_grows : (plan : Plan) (s : State) (now : ℕ) (p : Path) (verb : Verb) (place : Resource) (body : Option Object) → IsGrown plan s (act_at plan s now p verb place body).0
 act_at_grows plan s now p Get place body = same plan s
 act_at_grows plan s now p Put place body = put_at_grows plan s now p place body
 act_at_grows plan s now p Post place body = call_grows plan s now place body
 
-item_at_grows : (plan : Plan) (s : State) (ns : List ℕ) (now : ℕ) (r : Request) (p : Path) (place : Option Place) → IsGrown plan s (item_at plan s ns now r p place).0
+item_at_grows : (plan : Plan) (s : State) (ns : List ℕ) (now : ℕ) (r : Request) (p : Path) (place : Option Resource) → IsGrown plan s (item_at plan s ns now r p place).0
 item_at_grows plan s ns now r p None = same plan s
 item_at_grows plan s ns now r p (Some place) = go (is_left_out place)
   where
@@ -219,7 +221,7 @@ module _ (locate : Parts → Text → Option Path) where
   batch_grows plan s ns now None = same plan s
   batch_grows plan s ns now (Some body) = batch_or_grows _ plan s ns now body
 
-  act_on_grows : (plan : Plan) (s : State) (ns : List ℕ) (now : ℕ) (r : Request) (p : Path) (place : Option Place) → IsGrown plan s (act_on locate plan s ns now r p place).0
+  act_on_grows : (plan : Plan) (s : State) (ns : List ℕ) (now : ℕ) (r : Request) (p : Path) (place : Option Resource) → IsGrown plan s (act_on locate plan s ns now r p place).0
   act_on_grows plan s ns now r p None = same plan s
   act_on_grows plan s ns now r p (Some Batch) = go (is_post r.verb)
     where
@@ -233,7 +235,7 @@ module _ (locate : Parts → Text → Option Path) where
   act_located_grows plan s ns now r (Some p) = act_on_grows plan s ns now r p (place_at plan s p)
 
   -- what is shown as the events of a feed only grows
-  events_grow : (plan : Plan) (s u : State) → IsGrown plan s u → (place : Option Place) → (more : List Object) × (events_at plan u place ≡ events_at plan s place ++ more)
+  events_grow : (plan : Plan) (s u : State) → IsGrown plan s u → (place : Option Resource) → (more : List Object) × (events_at plan u place ≡ events_at plan s place ++ more)
   events_grow plan s u g (Some (FeedOf h)) = (map record_object (g.logs h).0, ap (map record_object) (g.logs h).1 ∙ map-append record_object (records_of s h) (g.logs h).0)
   events_grow plan s u g (Some AlarmFeed) = g.events
   events_grow plan s u g None = ([], refl)
@@ -248,7 +250,7 @@ module _ (locate : Parts → Text → Option Path) where
   events_grow plan s u g (Some (QueryOf h)) = ([], refl)
   events_grow plan s u g (Some AlarmQuery) = ([], refl)
 
-  gone_same : (plan : Plan) (s u : State) → IsGrown plan s u → (place : Option Place) → gone_at u place ≡ gone_at s place
+  gone_same : (plan : Plan) (s u : State) → IsGrown plan s u → (place : Option Resource) → gone_at u place ≡ gone_at s place
   gone_same plan s u g (Some (FeedOf h)) = g.gone h
   gone_same plan s u g (Some AlarmFeed) = refl
   gone_same plan s u g None = refl

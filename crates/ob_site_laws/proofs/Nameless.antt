@@ -14,7 +14,8 @@ use Rattle.ob_site_rules.specs.declared.plan.Plan.{Plan}
 use Rattle.ob_site_rules.specs.State.{State, board}
 use Rattle.ob_site_rules.specs.Entries.{empty_object, record_object, event_object, first_events}
 use Rattle.ob_site_rules.specs.Posts.{records_of}
-use Rattle.ob_site_rules.specs.Places.{Place, About, Batch, Service, Make, AlarmAt, AckOf, WritePointOf, QueryOf, FeedOf, AlarmQuery, AlarmFeed, Node}
+use Rattle.ob_site_rules.specs.declared.resource.Resource.{Resource}
+use Rattle.ob_site_rules.specs.declared.resource.Resource.TheVariants.{About, Batch, Service, Make, AlarmAt, AckOf, WritePointOf, QueryOf, FeedOf, AlarmQuery, AlarmFeed, Node}
 use Rattle.ob_site_rules.specs.Watched.{events_at}
 
 abbrev pub IsNameless : Object → Type 0
@@ -47,7 +48,7 @@ firsts : (b : Board) (n : ℕ) → AllNameless (first_events b n)
 firsts b zero = tt
 firsts b (suc n) = with_last (first_events b n) (event_object b n) (firsts b n) (one_event b n (slice_get b.events n))
 
-pub all_nameless : (plan : Plan) (s : State) (place : Option Place) → AllNameless (events_at plan s place)
+pub all_nameless : (plan : Plan) (s : State) (place : Option Resource) → AllNameless (events_at plan s place)
 all_nameless plan s (Some (FeedOf h)) = records (records_of s h)
 all_nameless plan s (Some AlarmFeed) = firsts (board plan s) (length s.events)
 all_nameless plan s None = tt

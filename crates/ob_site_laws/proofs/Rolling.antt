@@ -12,7 +12,9 @@ use Rattle.ob_site_rules.specs.declared.plan.Plan.{Plan}
 use Rattle.ob_site_rules.specs.State.{Log, State, at, rolled, rolled_logs, roll}
 use Rattle.ob_site_rules.specs.Entries.{record_object}
 use Rattle.ob_site_rules.specs.Posts.{kept_in}
-use Rattle.ob_site_rules.specs.Places.{Place, About, Batch, Service, Make, AlarmAt, AckOf, WritePointOf, QueryOf, FeedOf, AlarmQuery, AlarmFeed, Node, event_places}
+use Rattle.ob_site_rules.specs.declared.resource.Resource.{Resource}
+use Rattle.ob_site_rules.specs.declared.resource.Resource.TheVariants.{About, Batch, Service, Make, AlarmAt, AckOf, WritePointOf, QueryOf, FeedOf, AlarmQuery, AlarmFeed, Node}
+use Rattle.ob_site_rules.specs.Places.{event_places}
 use Rattle.ob_site_rules.specs.Watched.{events_at, gone_in, gone_at}
 use Rattle.ob_site_rules.specs.Sites.{site}
 
@@ -64,7 +66,7 @@ nothing_rolls = record { lost = 0; were_there = omega arith; kept = refl; counte
 events_roll : (n : ℕ) (es : List Object) → HasRolled Object n n es es
 events_roll n es = record { lost = 0; were_there = omega arith; kept = refl; counted = omega arith }
 
-place_rolls : (plan : Plan) (s : State) (place : Option Place) → HasRolled Object (gone_at s place) (gone_at (roll s) place) (events_at plan s place) (events_at plan (roll s) place)
+place_rolls : (plan : Plan) (s : State) (place : Option Resource) → HasRolled Object (gone_at s place) (gone_at (roll s) place) (events_at plan s place) (events_at plan (roll s) place)
 place_rolls plan s (Some (FeedOf h)) = subst (λ (o : Option Log). Rolls (at h s.logs) o) (sym (rolled_at h s.logs)) (some_rolls (at h s.logs))
 place_rolls plan s (Some AlarmFeed) = events_roll 0 _
 place_rolls plan s None = nothing_rolls

@@ -16,7 +16,8 @@ use Rattle.ob_site_rules.specs.Locating.{locate}
 use Rattle.ob_site_rules.specs.Build.{Text, Path}
 use Rattle.ob_site_rules.specs.declared.plan.Plan.{Plan}
 use Rattle.ob_site_rules.specs.State.{at, board}
-use Rattle.ob_site_rules.specs.Places.{Place, event_places}
+use Rattle.ob_site_rules.specs.declared.resource.Resource.{Resource}
+use Rattle.ob_site_rules.specs.Places.{event_places}
 use Rattle.ob_site_rules.specs.Sites.{SiteState}
 use Rattle.ob_site_laws.specs.SiteLaws.{acts, of_plan, Call, TellsEvents, IsSoundSite, Stays, ClientsHold, KeepsAll, KeepsAllOf, ClientsHoldAll, EachAsWatched, ClientsHoldEach, EachHoldsAll, ClientsHoldAllSince, GoneForGood, OthersStay}
 use Rattle.ob_site_laws.proofs.Lawful.{lawful}
@@ -81,7 +82,7 @@ others_stay n st sound e on k differ =
 
 -- where the feeds keep all
 module _ (start : SiteState) (n : ℕ) (w : World (of_plan start.plan)) (sound_w : IsSound (of_plan start.plan) w) (part : List Call)
-    (from : (place : Option Place) → KeepsAll start.world.site place → Endless start.world.site place w.site) where
+    (from : (place : Option Resource) → KeepsAll start.world.site place → Endless start.world.site place w.site) where
   abbrev m : Site
   m = of_plan start.plan
 
@@ -120,7 +121,7 @@ module _ (n : ℕ) (small : n < 2 ^ 64) (start : SiteState) (sound : IsSoundSite
   sound_w : IsSound (of_plan start.plan) (after acts start before).world
   sound_w = subst (λ (s : SiteState). IsSound (of_plan start.plan) s.world) (sym (world_after start before)) (sound_after (of_plan start.plan) (lawful locate start.plan) start.world before sound.of_watches)
 
-  from : (place : Option Place) → KeepsAll start.world.site place → Endless start.world.site place (after acts start before).world.site
+  from : (place : Option Resource) → KeepsAll start.world.site place → Endless start.world.site place (after acts start before).world.site
   from place h =
       subst (λ (s : SiteState). Endless start.world.site place s.world.site) (sym (world_after start before))
       (keeps_after (of_plan start.plan) (lawful locate start.plan) (Endless start.world.site place) (stays_endless start.plan start.world.site place) start.world before sound.of_watches (h, refl))

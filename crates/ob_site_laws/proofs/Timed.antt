@@ -22,7 +22,8 @@ use Rattle.ob_alarms.proofs.Early.{get_last}
 use Rattle.ob_alarms.proofs.Tracks.{differ}
 use Rattle.ob_site_rules.specs.Build.{child}
 use Rattle.ob_site_rules.specs.Entries.{empty_object, record_object, event_object, event_objects, is_within}
-use Rattle.ob_site_rules.specs.Places.{Place, About, Batch, Service, Make, AlarmAt, AckOf, WritePointOf, QueryOf, FeedOf, AlarmQuery, AlarmFeed, Node}
+use Rattle.ob_site_rules.specs.declared.resource.Resource.{Resource}
+use Rattle.ob_site_rules.specs.declared.resource.Resource.TheVariants.{About, Batch, Service, Make, AlarmAt, AckOf, WritePointOf, QueryOf, FeedOf, AlarmQuery, AlarmFeed, Node}
 use Rattle.ob_site_rules.specs.Posts.{records_of}
 use Rattle.ob_site_rules.specs.declared.plan.Plan.{Plan}
 use Rattle.ob_site_rules.specs.State.{State, board}
@@ -132,7 +133,7 @@ alarms_timed b h =
     subst (λ (es : List Event). AllTimed (event_objects (record b { events = es }))) (reverse-reverse b.events)
     (told_timed b (reverse b.events) b.alarms h.of_rules h.told)
 
-pub all_timed : (plan : Plan) (s : State) → TellsEvents (board plan s) → (place : Option Place) → AllTimed (events_at plan s place)
+pub all_timed : (plan : Plan) (s : State) → TellsEvents (board plan s) → (place : Option Resource) → AllTimed (events_at plan s place)
 all_timed plan s h (Some (FeedOf p)) = records_timed (records_of s p)
 all_timed plan s h (Some AlarmFeed) = alarms_timed (board plan s) h
 all_timed plan s h None = tt

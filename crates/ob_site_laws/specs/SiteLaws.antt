@@ -19,7 +19,9 @@ use Rattle.ob_site_rules.specs.Locating.{locate}
 use Rattle.ob_site_rules.specs.Build.{Text, Path}
 use Rattle.ob_site_rules.specs.declared.plan.Plan.{Plan}
 use Rattle.ob_site_rules.specs.State.{Log, State, at, board}
-use Rattle.ob_site_rules.specs.Places.{Place, FeedOf, event_places}
+use Rattle.ob_site_rules.specs.declared.resource.Resource.{Resource}
+use Rattle.ob_site_rules.specs.declared.resource.Resource.TheVariants.{FeedOf}
+use Rattle.ob_site_rules.specs.Places.{event_places}
 use Rattle.ob_site_rules.specs.Sites.{SiteState, site, step}
 use Rattle.ob_site_rules.specs.Watched.{feed_there}
 
@@ -83,7 +85,7 @@ capacity_in None = None
 capacity_in (Some l) = l.capacity
 
 -- the feed keeps all its events: of a history, it has no capacity
-abbrev pub KeepsAll : State → Option Place → Type 0
+abbrev pub KeepsAll : State → Option Resource → Type 0
 KeepsAll s (Some (FeedOf h)) = capacity_in (at h s.logs) ≡ None
 KeepsAll s place = Unit {0}
 

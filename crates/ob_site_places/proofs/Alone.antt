@@ -12,7 +12,7 @@ use Rattle.ob_contracts.specs.Inherit.{or_else}
 use Rattle.ob_site_rules.specs.Build.{Path}
 use Rattle.ob_site_rules.specs.State.{at, is_among}
 use Rattle.ob_site_rules.specs.Paths.{below}
-use Rattle.ob_site_rules.specs.Places.{Place}
+use Rattle.ob_site_rules.specs.declared.resource.Resource.{Resource}
 use Rattle.ob_plain_state.specs.Parts.{point_parts, history_parts}
 use Rattle.ob_plain_state.proofs.Placed.{at-append, Entries}
 use Rattle.ob_site_roles.specs.Roles.{is_at, stands_at}
@@ -35,18 +35,18 @@ none_at : (f : Path → Entries) (p : Path) (qs : List Path) → ((q : Path) →
 none_at f p [] off = refl
 none_at f p (q ∷ qs) off =
     at-append p (f q) (flat_map f qs)
-    ∙ ap (λ (o : Option Place). or_else o (at p (flat_map f qs))) (off q (in_front q qs))
+    ∙ ap (λ (o : Option Resource). or_else o (at p (flat_map f qs))) (off q (in_front q qs))
     ∙ none_at f p qs (λ r e. off r (behind r q qs e))
 
 -- where one alone has
-found_at : (f : Path → Entries) (p a : Path) (x : Place) (qs : List Path) → is_among a qs ≡ true → at p (f a) ≡ Some x
+found_at : (f : Path → Entries) (p a : Path) (x : Resource) (qs : List Path) → is_among a qs ≡ true → at p (f a) ≡ Some x
     → ((q : Path) → is_among q qs ≡ true → bytes_eq q a ≡ false → at p (f q) ≡ None) → at p (flat_map f qs) ≡ Some x
 found_at f p a x [] there e off = absurd cc
 found_at f p a x (q ∷ qs) there e off = at-append p (f q) (flat_map f qs) ∙ go (bytes_eq q a) refl there (λ h. found_at f p a x qs h e (λ r i n. off r (behind r q qs i) n))
   where
     go : (b : Bool) → bytes_eq q a ≡ b → (b || is_among a qs) ≡ true → (is_among a qs ≡ true → at p (flat_map f qs) ≡ Some x) → or_else (at p (f q)) (at p (flat_map f qs)) ≡ Some x
-    go true g h later = ap (λ (o : Option Place). or_else o (at p (flat_map f qs))) (ap (λ (r : Path). at p (f r)) (is_same q a g) ∙ e)
-    go false g h later = ap (λ (o : Option Place). or_else o (at p (flat_map f qs))) (off q (in_front q qs) g) ∙ later h
+    go true g h later = ap (λ (o : Option Resource). or_else o (at p (flat_map f qs))) (ap (λ (r : Path). at p (f r)) (is_same q a g) ∙ e)
+    go false g h later = ap (λ (o : Option Resource). or_else o (at p (flat_map f qs))) (off q (in_front q qs) g) ∙ later h
 
 only_at : (f : Path → Entries) (p a : Path) (qs : List Path) → is_among a qs ≡ true → ((q : Path) → is_among q qs ≡ true → bytes_eq q a ≡ false → at p (f q) ≡ None)
     → at p (flat_map f qs) ≡ at p (f a)
@@ -56,7 +56,7 @@ only_at f p a qs there off = go (at p (f a)) refl
     by q true g i e = ap (λ (r : Path). at p (f r)) (is_same q a g) ∙ e
     by q false g i e = off q i g
 
-    go : (o : Option Place) → at p (f a) ≡ o → at p (flat_map f qs) ≡ o
+    go : (o : Option Resource) → at p (f a) ≡ o → at p (flat_map f qs) ≡ o
     go None e = none_at f p qs (λ q i. by q (bytes_eq q a) refl i e)
     go (Some x) e = found_at f p a x qs there e off
 
@@ -68,20 +68,20 @@ two_at f p a b (q ∷ qs) m n is_m is_n le apart off =
     at-append p (f q) (flat_map f qs)
     ∙ go (λ i k is_i is_k least. two_at f p a b qs i k is_i is_k least apart off) (bytes_eq q a) (bytes_eq q b) refl refl (first_place (is_at a) qs) (first_place (is_at b) qs) refl refl is_m is_n
   where
-    rest : Option Place
+    rest : Option Resource
     rest = at p (flat_map f qs)
 
-    both : Option Place
+    both : Option Resource
     both = or_else (at p (f a)) (at p (f b))
 
     one : (r : Path) (s : Bool) → bytes_eq r a ≡ s → bytes_eq r b ≡ false → at p (f a) ≡ None → at p (f r) ≡ None
     one r true s other e = ap (λ (u : Path). at p (f u)) (is_same r a s) ∙ e
     one r false s other e = off r s other
 
-    here : (o : Option Place) (k : ℕ) → at p (f a) ≡ o → first_place (is_at b) qs ≡ Some k → or_else (at p (f a)) rest ≡ both
-    here (Some x) k e later = ap (λ (o : Option Place). or_else o rest) e ∙ sym (ap (λ (o : Option Place). or_else o (at p (f b))) e)
+    here : (o : Option Resource) (k : ℕ) → at p (f a) ≡ o → first_place (is_at b) qs ≡ Some k → or_else (at p (f a)) rest ≡ both
+    here (Some x) k e later = ap (λ (o : Option Resource). or_else o rest) e ∙ sym (ap (λ (o : Option Resource). or_else o (at p (f b))) e)
     here None k e later =
-        ap (λ (o : Option Place). or_else (at p (f a)) o)
+        ap (λ (o : Option Resource). or_else (at p (f a)) o)
         (only_at f p b qs (sym (some_first (is_at b) qs) ∙ ap is_some later) (λ r i other. one r (bytes_eq r a) refl other e))
 
     found_here : (o : Option ℕ) → option_map (λ k. k + 1) o ≡ Some n → (k : ℕ) × (o ≡ Some k) × (k + 1 ≡ n)
@@ -107,7 +107,7 @@ two_at f p a b (q ∷ qs) m n is_m is_n le apart off =
     go again false false s t None v is_u is_v e g = absurd cc
     go again false false s t (Some i) v is_u is_v e g =
         let (k, is_k, more) = found_here v g in
-        ap (λ (o : Option Place). or_else o rest) (off q s t)
+        ap (λ (o : Option Resource). or_else o rest) (off q s t)
         ∙ again i k is_u (is_v ∙ is_k) (omega (arith, le, more, some_is e))
       where
         some_is : {x y : ℕ} → Some x ≡ Some y → x ≡ y
@@ -168,14 +168,14 @@ points_at p front is q a b = point_off p q (not_below p q (codes "writePoint") f
 pub has_point : (q : Path) (qs : List Path) (b : Bool) → is_some (first_place (is_at q) qs) ≡ b → is_among q qs ≡ b
 has_point q qs b e = sym (some_first (is_at q) qs) ∙ e
 
-pub slashed_point : (p front slashed : Path) (qs : List Path) (r : Option Place) → IsParent p (Some front) → slashed ≡ front ++ 47 ∷ [] → is_among front qs ≡ false → is_among slashed qs ≡ true
+pub slashed_point : (p front slashed : Path) (qs : List Path) (r : Option Resource) → IsParent p (Some front) → slashed ≡ front ++ 47 ∷ [] → is_among front qs ≡ false → is_among slashed qs ≡ true
     → r ≡ at p (point_parts slashed) → r ≡ at p (flat_map point_parts qs)
 slashed_point p front slashed qs r is e a b here =
     here
     ∙ ap (λ (q : Path). at p (point_parts q)) e
     ∙ sym (slashed_at point_parts p front qs (points_at p front is) a (ap (λ (q : Path). is_among q qs) (sym e) ∙ b))
 
-pub plain_point : (p front slashed : Path) (qs : List Path) (r : Option Place) → IsParent p (Some front) → slashed ≡ front ++ 47 ∷ [] → is_among front qs ≡ true → is_among slashed qs ≡ false
+pub plain_point : (p front slashed : Path) (qs : List Path) (r : Option Resource) → IsParent p (Some front) → slashed ≡ front ++ 47 ∷ [] → is_among front qs ≡ true → is_among slashed qs ≡ false
     → r ≡ at p (point_parts front) → r ≡ at p (flat_map point_parts qs)
 plain_point p front slashed qs r is e a b here = here ∙ sym (plain_at point_parts p front qs (points_at p front is) a (ap (λ (q : Path). is_among q qs) (sym e) ∙ b))
 
@@ -251,7 +251,7 @@ pub first_of_paths : (p : Path) (hs : List (Path × Option Path)) → first_plac
 first_of_paths p [] = refl
 first_of_paths p (h ∷ hs) = ap (λ (o : Option ℕ). cond (bytes_eq h.0 p) (Some 0) (option_map (λ n. n + 1) o)) (first_of_paths p hs)
 
-pub slashed_history : (p front slashed : Path) (hs : List (Path × Option Path)) (r : Option Place) → IsParent p (Some front) → slashed ≡ front ++ 47 ∷ []
+pub slashed_history : (p front slashed : Path) (hs : List (Path × Option Path)) (r : Option Resource) → IsParent p (Some front) → slashed ≡ front ++ 47 ∷ []
     → is_some (first_place (stands_at front) hs) ≡ false → is_some (first_place (stands_at slashed) hs) ≡ true → r ≡ at p (history_parts slashed) → r ≡ at p (flat_map (λ h. history_parts h.0) hs)
 slashed_history p front slashed hs r is e a b here =
     here
@@ -259,7 +259,7 @@ slashed_history p front slashed hs r is e a b here =
     ∙ sym (slashed_at history_parts p front (paths_of hs) (histories_at p front is) (is_there front hs false a) (ap (λ (q : Path). is_among q (paths_of hs)) (sym e) ∙ is_there slashed hs true b))
     ∙ ap (at p) (sym (by_paths hs))
 
-pub plain_history : (p front slashed : Path) (hs : List (Path × Option Path)) (r : Option Place) → IsParent p (Some front) → slashed ≡ front ++ 47 ∷ []
+pub plain_history : (p front slashed : Path) (hs : List (Path × Option Path)) (r : Option Resource) → IsParent p (Some front) → slashed ≡ front ++ 47 ∷ []
     → is_some (first_place (stands_at front) hs) ≡ true → is_some (first_place (stands_at slashed) hs) ≡ false → r ≡ at p (history_parts front) → r ≡ at p (flat_map (λ h. history_parts h.0) hs)
 plain_history p front slashed hs r is e a b here =
     here

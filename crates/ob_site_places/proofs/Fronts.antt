@@ -8,7 +8,9 @@ use Rattle.std.proofs.lemmas.Slice.Eq.{bytes_eq-Decides}
 use Rattle.ob_site_rules.specs.Build.{Path}
 use Rattle.ob_site_rules.specs.State.{at}
 use Rattle.ob_site_rules.specs.Paths.{below}
-use Rattle.ob_site_rules.specs.Places.{Place, WritePointOf, QueryOf, FeedOf, AlarmQuery, AlarmFeed, subject_places}
+use Rattle.ob_site_rules.specs.declared.resource.Resource.{Resource}
+use Rattle.ob_site_rules.specs.declared.resource.Resource.TheVariants.{WritePointOf, QueryOf, FeedOf, AlarmQuery, AlarmFeed}
+use Rattle.ob_site_rules.specs.Places.{subject_places}
 use Rattle.ob_plain_state.specs.Parts.{point_parts, history_parts}
 use Rattle.ob_site_shown.proofs.Nowhere.{below_off}
 
@@ -35,11 +37,11 @@ not_followed front tail path other = go (bytes_eq (front ++ tail) path) refl
     go false f = refl
 
 -- the places of a node's ops and feeds aren't at a path that doesn't begin with its own
-one_off : (p : Path) (q : Path) (x : Place) (b : Bool) → b ≡ false → option_map (λ (e : Path × Place). e.1) (cond b (Some (q, x)) None) ≡ None
+one_off : (p : Path) (q : Path) (x : Resource) (b : Bool) → b ≡ false → option_map (λ (e : Path × Resource). e.1) (cond b (Some (q, x)) None) ≡ None
 one_off p q x true e = absurd cc
 one_off p q x false e = refl
 
-two_off : (q r : Path) (x y : Place) (a b : Bool) → a ≡ false → b ≡ false → option_map (λ (e : Path × Place). e.1) (cond a (Some (q, x)) (cond b (Some (r, y)) None)) ≡ None
+two_off : (q r : Path) (x y : Resource) (a b : Bool) → a ≡ false → b ≡ false → option_map (λ (e : Path × Resource). e.1) (cond a (Some (q, x)) (cond b (Some (r, y)) None)) ≡ None
 two_off q r x y true b e f = absurd cc
 two_off q r x y false true e f = absurd cc
 two_off q r x y false false e f = refl

@@ -20,7 +20,9 @@ use Rattle.ob_site_rules.specs.Build.{Path}
 use Rattle.ob_site_rules.specs.declared.plan.Plan.{Plan}
 use Rattle.ob_site_rules.specs.State.{at}
 use Rattle.ob_site_rules.specs.Paths.{ack_path}
-use Rattle.ob_site_rules.specs.Places.{Place, AlarmAt, AckOf, alarm_places}
+use Rattle.ob_site_rules.specs.declared.resource.Resource.{Resource}
+use Rattle.ob_site_rules.specs.declared.resource.Resource.TheVariants.{AlarmAt, AckOf}
+use Rattle.ob_site_rules.specs.Places.{alarm_places}
 use Rattle.ob_plain_state.specs.Parts.{alarm_parts, parts_of_alarm}
 use Rattle.ob_plain_state.proofs.Placed.{at-append}
 
@@ -62,19 +64,19 @@ ack_off plan p m r reads small other = go (bytes_eq (ack_path plan m) p) refl
     go true e = absurd (other (reads m (codes "ack") small (sym ((bytes_eq-Decides (ack_path plan m) p).0 e))))
     go false e = refl
 
-abbrev ack_places : Plan → ℕ → Bool → List (Path × Place)
+abbrev ack_places : Plan → ℕ → Bool → List (Path × Resource)
 ack_places plan m c = cond c ((ack_path plan m, AckOf m) ∷ []) []
 
 parts_off : (plan : Plan) (rules : List Rule) (p : Path) (m : ℕ) (a : Alarm) (r : Option ℕ) → Reads plan.root p r → m < 2 ^ 64 → (r ≡ Some m → ⊥) → at p (alarm_parts plan rules m a) ≡ None
 parts_off plan rules p m a r reads small other =
-    ap (λ (b : Bool). option_map (λ (e : Path × Place). e.1) (cond b (Some (alarm_path plan.root m, AlarmAt m)) (find (λ e. bytes_eq e.0 p) (ack_places plan m needs)))) (own_off plan.root p m r reads small other)
+    ap (λ (b : Bool). option_map (λ (e : Path × Resource). e.1) (cond b (Some (alarm_path plan.root m, AlarmAt m)) (find (λ e. bytes_eq e.0 p) (ack_places plan m needs)))) (own_off plan.root p m r reads small other)
     ∙ in_ack needs (ack_off plan p m r reads small other)
   where
     needs : Bool
     needs = needs_ack (slice_get rules a.rule)
 
     in_ack : (c : Bool) → bytes_eq (ack_path plan m) p ≡ false → at p (ack_places plan m c) ≡ None
-    in_ack true e = ap (λ (b : Bool). option_map (λ (e : Path × Place). e.1) (cond b (Some (ack_path plan m, AckOf m)) None)) e
+    in_ack true e = ap (λ (b : Bool). option_map (λ (e : Path × Resource). e.1) (cond b (Some (ack_path plan m, AckOf m)) None)) e
     in_ack false e = refl
 
 -- where a path has no such number it is none of an alarm
@@ -103,7 +105,7 @@ parts_at plan rules p m k (a ∷ alarms) reads few =
     off : (m ≡ k → ⊥) → at p (alarm_parts plan rules m a) ≡ None
     off other = parts_off plan rules p m a (Some k) reads (omega arith) (λ e. other (sym (same_number m k e)))
 
-    or_none : (o : Option Place) → or_else o None ≡ o
+    or_none : (o : Option Resource) → or_else o None ≡ o
     or_none None = refl
     or_none (Some x) = refl
 
@@ -112,7 +114,7 @@ parts_at plan rules p m k (a ∷ alarms) reads few =
         ≡ at p (parts_of_alarm plan rules k (among k b (slice_get (a ∷ alarms) (k - m))))
     go true true e f =
         let lt : k < m = ltb-true k m e in
-        ap (λ (o : Option Place). or_else o None) (off (λ g. omega (arith, lt, g)))
+        ap (λ (o : Option Resource). or_else o None) (off (λ g. omega (arith, lt, g)))
     go true false e f =
         let lt : k < m = ltb-true k m e in
         let le : m + 1 ≤ k = ltb-false k (m + 1) f in
@@ -128,7 +130,7 @@ parts_at plan rules p m k (a ∷ alarms) reads few =
     go false false e f =
         let le : m + 1 ≤ k = ltb-false k (m + 1) f in
         let next : k - m ≡ suc (k - (m + 1)) = omega (arith, le) in
-        ap (λ (o : Option Place). or_else o (at p (parts_of_alarm plan rules k (slice_get alarms (k - (m + 1)))))) (off (λ g. omega (arith, le, g)))
+        ap (λ (o : Option Resource). or_else o (at p (parts_of_alarm plan rules k (slice_get alarms (k - (m + 1)))))) (off (λ g. omega (arith, le, g)))
         ∙ sym (ap (λ (n : ℕ). at p (parts_of_alarm plan rules k (slice_get (a ∷ alarms) n))) next)
 
 -- and where it has, it is that of this alarm, if of any

@@ -4,14 +4,12 @@ ghost use Rattle.ob_site_rules.specs.Places.{object_at, reply_at};
 ghost use Rattle.ob_site_state.specs.Contents.{state_in};
 ghost use Rattle.ob_site_shown.specs.Readable.{IsReadable};
 ghost use Rattle.ob_site_places.specs.Complete.{IsComplete};
-ghost use Rattle.ob_plain_state.specs.Named.{place as place_of};
 
 use ob_contracts::Steps;
 use ob_object::Obj;
-use ob_plain_state::Place;
 use ob_replies::build::nameless;
 use ob_replies::{about, ack_op, alarm_object, batch_op, make_op, refusal, service};
-use ob_site_rules::{Fault, Plan};
+use ob_site_rules::{Fault, Plan, Resource};
 use ob_site_shown::shown_at;
 use ob_site_state::Contents;
 use ob_times::Moment;
@@ -47,34 +45,34 @@ pub fn object_at<L: Ledger>(
     contents: &Contents,
     now: Moment,
     path: &Text,
-    place: Place,
+    place: Resource,
     steps: &mut Steps<L>,
 ) -> Result<Obj, AllocError>
     requires { IsComplete plan.now contents.now }
-    ensures { IfOk result (λ o. o ≡ object_at plan.now (state_in contents.now) now path.now (place_of place)) }
+    ensures { IfOk result (λ o. o ≡ object_at plan.now (state_in contents.now) now path.now place) }
 {
     match place {
-        Place::About => about(alloc, plan, now),
-        Place::Batch => {
+        Resource::About => about(alloc, plan, now),
+        Resource::Batch => {
             let op = batch_op(alloc, plan)?;
             reply_at(alloc, plan, contents, path, op, steps)
         }
-        Place::Service => service(alloc, plan),
-        Place::Make => {
+        Resource::Service => service(alloc, plan),
+        Resource::Make => {
             let op = make_op(alloc, plan)?;
             Ok(nameless(op))
         }
-        Place::AlarmAt(number) => alarm_object(alloc, &contents.board, number),
-        Place::AckOf(number) => {
+        Resource::AlarmAt(number) => alarm_object(alloc, &contents.board, number),
+        Resource::AckOf(number) => {
             let op = ack_op(alloc, plan, number)?;
             Ok(nameless(op))
         }
-        Place::Node(node) => Ok(nameless(node)),
-        Place::WritePointOf(_)
-        | Place::QueryOf(_)
-        | Place::FeedOf(_)
-        | Place::AlarmQuery
-        | Place::AlarmFeed => {
+        Resource::Node(node) => Ok(nameless(node)),
+        Resource::WritePointOf(_)
+        | Resource::QueryOf(_)
+        | Resource::FeedOf(_)
+        | Resource::AlarmQuery
+        | Resource::AlarmFeed => {
             let missing = refusal(alloc, Fault::NoSuchObject)?;
             reply_at(alloc, plan, contents, path, missing, steps)
         }

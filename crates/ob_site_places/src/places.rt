@@ -1,5 +1,5 @@
 //! What a path names: the computed paths first, then the nodes.
-ghost use Rattle.std.specs.Prelude.{◌≡◌, ◌++◌, Some, option_map, option_copied, slice_get, IfOk};
+ghost use Rattle.std.specs.Prelude.{◌≡◌, ◌++◌, Some, option_copied, slice_get, IfOk};
 ghost use Rattle.ob_alarms.specs.States.{needs_ack};
 ghost use Rattle.ob_alarms.specs.Changes.{alarm_of};
 ghost use Rattle.ob_contracts.specs.Inherit.{or_else};
@@ -10,14 +10,12 @@ ghost use Rattle.ob_site_state.specs.Contents.{state_in};
 ghost use Rattle.ob_site_shown.specs.Parents.{IsParent};
 ghost use Rattle.ob_site_shown.specs.Readable.{IsReadable};
 ghost use Rattle.ob_plain_state.specs.Parts.{point_parts, history_parts, alarm_parts, parts_of_alarm};
-ghost use Rattle.ob_plain_state.specs.Named.{place as place_of};
 
 use crate::paths::{alarm_number, is_followed};
 use ob_alarms::{Alarm, Alarms};
 use ob_contracts::Steps;
-use ob_plain_state::Place;
 use ob_replies::{ack_path, alarm_path, below};
-use ob_site_rules::{Plan, PointRule};
+use ob_site_rules::{Plan, PointRule, Resource};
 use ob_site_shown::{begins_with, parent_path, shown_at};
 use ob_site_state::Contents;
 use ob_values::Text;
@@ -25,28 +23,28 @@ use std::alloc::{AllocError, Global};
 use std::sync::ledger::Ledger;
 
 /// The place of those whose paths the root's alone computes.
-fn fixed_place(plan: &Plan, path: &Text) -> Option<Place>
-    ensures { option_map place_of result ≡ at path.now (fixed_places plan.now) }
+fn fixed_place(plan: &Plan, path: &Text) -> Option<Resource>
+    ensures { result ≡ at path.now (fixed_places plan.now) }
 {
     if is_followed(&plan.root, "about", path) {
-        return Some(Place::About);
+        return Some(Resource::About);
     }
     if is_followed(&plan.root, "batch", path) {
-        return Some(Place::Batch);
+        return Some(Resource::Batch);
     }
     if is_followed(&plan.root, "watchService", path) {
-        return Some(Place::Service);
+        return Some(Resource::Service);
     }
     if is_followed(&plan.root, "watchService/make", path) {
-        return Some(Place::Make);
+        return Some(Resource::Make);
     }
     None
 }
 
 /// The op of a point, if the path is its.
 #[tactic(auto, using(crate::proofs::Fronts::no_point))]
-fn one_point(alloc: Global, point: &Text, path: &Text) -> Result<Option<Place>, AllocError>
-    ensures { IfOk result (λ place. option_map place_of place ≡ at path.now (point_parts point.now)) }
+fn one_point(alloc: Global, point: &Text, path: &Text) -> Result<Option<Resource>, AllocError>
+    ensures { IfOk result (λ place. place ≡ at path.now (point_parts point.now)) }
 {
     if !begins_with(path, point) {
         return Ok(None);
@@ -54,7 +52,7 @@ fn one_point(alloc: Global, point: &Text, path: &Text) -> Result<Option<Place>, 
     let op = below(alloc, point, "writePoint")?;
     if op.is(path.as_str()) {
         let point = point.copy()?;
-        return Ok(Some(Place::WritePointOf(point)));
+        return Ok(Some(Resource::WritePointOf(point)));
     }
     Ok(None)
 }
@@ -65,8 +63,8 @@ fn point_of_two(
     first: &Text,
     second: &Text,
     path: &Text,
-) -> Result<Option<Place>, AllocError>
-    ensures { IfOk result (λ place. option_map place_of place ≡ or_else (at path.now (point_parts first.now)) (at path.now (point_parts second.now))) }
+) -> Result<Option<Resource>, AllocError>
+    ensures { IfOk result (λ place. place ≡ or_else (at path.now (point_parts first.now)) (at path.now (point_parts second.now))) }
 {
     match one_point(alloc, first, path)? {
         Some(place) => Ok(Some(place)),
@@ -82,10 +80,10 @@ fn point_in(
     contents: &Contents,
     parent: &Text,
     path: &Text,
-) -> Result<Option<Place>, AllocError>
+) -> Result<Option<Resource>, AllocError>
     requires roles { AreRoles contents.now.roles plan.now }
     requires parent { IsParent path.now (Some parent.now) }
-    ensures { IfOk result (λ place. option_map place_of place ≡ at path.now (point_places plan.now)) }
+    ensures { IfOk result (λ place. place ≡ at path.now (point_places plan.now)) }
 {
     let slashed = parent.followed_by(alloc, "/")?;
     let plain_at = contents.roles.point_at(parent);
@@ -110,9 +108,9 @@ fn point_place(
     plan: &Plan,
     contents: &Contents,
     path: &Text,
-) -> Result<Option<Place>, AllocError>
+) -> Result<Option<Resource>, AllocError>
     requires { AreRoles contents.now.roles plan.now }
-    ensures { IfOk result (λ place. option_map place_of place ≡ at path.now (point_places plan.now)) }
+    ensures { IfOk result (λ place. place ≡ at path.now (point_places plan.now)) }
 {
     match parent_path(alloc, path)? {
         Some(parent) => point_in(alloc, plan, contents, &parent, path),
@@ -122,8 +120,8 @@ fn point_place(
 
 /// The op or the feed of a history, if the path is one of theirs.
 #[tactic(auto, using(crate::proofs::Fronts::no_history))]
-fn one_history(alloc: Global, history: &Text, path: &Text) -> Result<Option<Place>, AllocError>
-    ensures { IfOk result (λ place. option_map place_of place ≡ at path.now (history_parts history.now)) }
+fn one_history(alloc: Global, history: &Text, path: &Text) -> Result<Option<Resource>, AllocError>
+    ensures { IfOk result (λ place. place ≡ at path.now (history_parts history.now)) }
 {
     if !begins_with(path, history) {
         return Ok(None);
@@ -131,12 +129,12 @@ fn one_history(alloc: Global, history: &Text, path: &Text) -> Result<Option<Plac
     let query = below(alloc, history, "query")?;
     if query.is(path.as_str()) {
         let history = history.copy()?;
-        return Ok(Some(Place::QueryOf(history)));
+        return Ok(Some(Resource::QueryOf(history)));
     }
     let feed = below(alloc, history, "feed")?;
     if feed.is(path.as_str()) {
         let history = history.copy()?;
-        return Ok(Some(Place::FeedOf(history)));
+        return Ok(Some(Resource::FeedOf(history)));
     }
     Ok(None)
 }
@@ -147,8 +145,8 @@ fn history_of_two(
     first: &Text,
     second: &Text,
     path: &Text,
-) -> Result<Option<Place>, AllocError>
-    ensures { IfOk result (λ place. option_map place_of place ≡ or_else (at path.now (history_parts first.now)) (at path.now (history_parts second.now))) }
+) -> Result<Option<Resource>, AllocError>
+    ensures { IfOk result (λ place. place ≡ or_else (at path.now (history_parts first.now)) (at path.now (history_parts second.now))) }
 {
     match one_history(alloc, first, path)? {
         Some(place) => Ok(Some(place)),
@@ -164,10 +162,10 @@ fn history_in(
     contents: &Contents,
     parent: &Text,
     path: &Text,
-) -> Result<Option<Place>, AllocError>
+) -> Result<Option<Resource>, AllocError>
     requires roles { AreRoles contents.now.roles plan.now }
     requires parent { IsParent path.now (Some parent.now) }
-    ensures { IfOk result (λ place. option_map place_of place ≡ at path.now (history_places plan.now)) }
+    ensures { IfOk result (λ place. place ≡ at path.now (history_places plan.now)) }
 {
     let slashed = parent.followed_by(alloc, "/")?;
     let plain_at = contents.roles.history_at(parent);
@@ -192,9 +190,9 @@ fn history_place(
     plan: &Plan,
     contents: &Contents,
     path: &Text,
-) -> Result<Option<Place>, AllocError>
+) -> Result<Option<Resource>, AllocError>
     requires { AreRoles contents.now.roles plan.now }
-    ensures { IfOk result (λ place. option_map place_of place ≡ at path.now (history_places plan.now)) }
+    ensures { IfOk result (λ place. place ≡ at path.now (history_places plan.now)) }
 {
     match parent_path(alloc, path)? {
         Some(parent) => history_in(alloc, plan, contents, &parent, path),
@@ -204,8 +202,8 @@ fn history_place(
 
 /// The op or the feed of the alarm subject.
 #[tactic(auto, using(crate::proofs::Fronts::no_subject))]
-fn subject_place(alloc: Global, plan: &Plan, path: &Text) -> Result<Option<Place>, AllocError>
-    ensures { IfOk result (λ place. option_map place_of place ≡ at path.now (subject_places plan.now.subject)) }
+fn subject_place(alloc: Global, plan: &Plan, path: &Text) -> Result<Option<Resource>, AllocError>
+    ensures { IfOk result (λ place. place ≡ at path.now (subject_places plan.now.subject)) }
 {
     let Some(subject) = &plan.subject else {
         return Ok(None);
@@ -215,11 +213,11 @@ fn subject_place(alloc: Global, plan: &Plan, path: &Text) -> Result<Option<Place
     }
     let query = below(alloc, subject, "query")?;
     if query.is(path.as_str()) {
-        return Ok(Some(Place::AlarmQuery));
+        return Ok(Some(Resource::AlarmQuery));
     }
     let feed = below(alloc, subject, "feed")?;
     if feed.is(path.as_str()) {
-        return Ok(Some(Place::AlarmFeed));
+        return Ok(Some(Resource::AlarmFeed));
     }
     Ok(None)
 }
@@ -231,9 +229,9 @@ pub fn event_place(
     plan: &Plan,
     contents: &Contents,
     path: &Text,
-) -> Result<Option<Place>, AllocError>
+) -> Result<Option<Resource>, AllocError>
     requires { AreRoles contents.now.roles plan.now }
-    ensures { IfOk result (λ place. option_map place_of place ≡ at path.now (event_places plan.now)) }
+    ensures { IfOk result (λ place. place ≡ at path.now (event_places plan.now)) }
 {
     let found = history_place(alloc, plan, contents, path)?;
     if found.is_some() {
@@ -266,17 +264,17 @@ fn one_alarm(
     number: u64,
     alarm: &Alarm,
     path: &Text,
-) -> Result<Option<Place>, AllocError>
-    ensures { IfOk result (λ place. option_map place_of place ≡ at path.now (alarm_parts plan.now (numbered_from 0 plan.now.rules) number alarm.now)) }
+) -> Result<Option<Resource>, AllocError>
+    ensures { IfOk result (λ place. place ≡ at path.now (alarm_parts plan.now (numbered_from 0 plan.now.rules) number alarm.now)) }
 {
     let own = alarm_path(alloc, plan, number)?;
     if own.is(path.as_str()) {
-        return Ok(Some(Place::AlarmAt(number)));
+        return Ok(Some(Resource::AlarmAt(number)));
     }
     if needs_ack(plan, alarm) {
         let ack = ack_path(alloc, plan, number)?;
         if ack.is(path.as_str()) {
-            return Ok(Some(Place::AckOf(number)));
+            return Ok(Some(Resource::AckOf(number)));
         }
     }
     Ok(None)
@@ -289,8 +287,8 @@ fn numbered_alarm(
     alarms: &Alarms,
     number: u64,
     path: &Text,
-) -> Result<Option<Place>, AllocError>
-    ensures { IfOk result (λ place. option_map place_of place ≡ at path.now (parts_of_alarm plan.now (numbered_from 0 plan.now.rules) number (alarm_of number alarms.now.alarms))) }
+) -> Result<Option<Resource>, AllocError>
+    ensures { IfOk result (λ place. place ≡ at path.now (parts_of_alarm plan.now (numbered_from 0 plan.now.rules) number (alarm_of number alarms.now.alarms))) }
 {
     match alarms.alarm(number) {
         Some(alarm) => one_alarm(alloc, plan, number, alarm, path),
@@ -304,8 +302,8 @@ fn alarm_place(
     plan: &Plan,
     alarms: &Alarms,
     path: &Text,
-) -> Result<Option<Place>, AllocError>
-    ensures { IfOk result (λ place. option_map place_of place ≡ at path.now (alarm_places plan.now (numbered_from 0 plan.now.rules) 1 alarms.now.alarms)) }
+) -> Result<Option<Resource>, AllocError>
+    ensures { IfOk result (λ place. place ≡ at path.now (alarm_places plan.now (numbered_from 0 plan.now.rules) 1 alarms.now.alarms)) }
 {
     let _count = alarms.len();
     match alarm_number(plan, path) {
@@ -320,9 +318,9 @@ fn event_or_alarm(
     plan: &Plan,
     contents: &Contents,
     path: &Text,
-) -> Result<Option<Place>, AllocError>
+) -> Result<Option<Resource>, AllocError>
     requires { AreRoles contents.now.roles plan.now }
-    ensures { IfOk result (λ place. option_map place_of place ≡ at path.now (event_places plan.now ++ alarm_places plan.now (numbered_from 0 plan.now.rules) 1 (state_in contents.now).alarms)) }
+    ensures { IfOk result (λ place. place ≡ at path.now (event_places plan.now ++ alarm_places plan.now (numbered_from 0 plan.now.rules) 1 (state_in contents.now).alarms)) }
 {
     let found = event_place(alloc, plan, contents, path)?;
     if found.is_some() {
@@ -337,9 +335,9 @@ fn role_place(
     plan: &Plan,
     contents: &Contents,
     path: &Text,
-) -> Result<Option<Place>, AllocError>
+) -> Result<Option<Resource>, AllocError>
     requires { AreRoles contents.now.roles plan.now }
-    ensures { IfOk result (λ place. option_map place_of place ≡ at path.now (point_places plan.now ++ (event_places plan.now ++ alarm_places plan.now (numbered_from 0 plan.now.rules) 1 (state_in contents.now).alarms))) }
+    ensures { IfOk result (λ place. place ≡ at path.now (point_places plan.now ++ (event_places plan.now ++ alarm_places plan.now (numbered_from 0 plan.now.rules) 1 (state_in contents.now).alarms))) }
 {
     let found = point_place(alloc, plan, contents, path)?;
     if found.is_some() {
@@ -354,9 +352,9 @@ pub fn computed_place(
     plan: &Plan,
     contents: &Contents,
     path: &Text,
-) -> Result<Option<Place>, AllocError>
+) -> Result<Option<Resource>, AllocError>
     requires { AreRoles contents.now.roles plan.now }
-    ensures { IfOk result (λ place. option_map place_of place ≡ at path.now (computed_places plan.now (state_in contents.now))) }
+    ensures { IfOk result (λ place. place ≡ at path.now (computed_places plan.now (state_in contents.now))) }
 {
     let found = fixed_place(plan, path);
     if found.is_some() {
@@ -372,16 +370,16 @@ pub fn place_at<L: Ledger>(
     contents: &Contents,
     path: &Text,
     steps: &mut Steps<L>,
-) -> Result<Option<Place>, AllocError>
+) -> Result<Option<Resource>, AllocError>
     requires { IsReadable plan.now contents.now }
-    ensures { IfOk result (λ place. option_map place_of place ≡ place_at plan.now (state_in contents.now) path.now) }
+    ensures { IfOk result (λ place. place ≡ place_at plan.now (state_in contents.now) path.now) }
 {
     let found = computed_place(alloc, plan, contents, path)?;
     if found.is_some() {
         return Ok(found);
     }
     match shown_at(alloc, plan, contents, path, steps)? {
-        Some(node) => Ok(Some(Place::Node(node))),
+        Some(node) => Ok(Some(Resource::Node(node))),
         None => Ok(None),
     }
 }

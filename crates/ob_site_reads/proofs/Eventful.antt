@@ -17,7 +17,9 @@ use Rattle.ob_site_rules.specs.declared.plan.Plan.{Plan}
 use Rattle.ob_site_rules.specs.State.{Log, State, at, board}
 use Rattle.ob_site_rules.specs.Locating.{locate}
 use Rattle.ob_site_rules.specs.Entries.{record_object, event_object, event_objects, first_events, is_within}
-use Rattle.ob_site_rules.specs.Places.{Place, About, Batch, Service, Make, AlarmAt, AckOf, WritePointOf, QueryOf, FeedOf, AlarmQuery, AlarmFeed, Node, event_places}
+use Rattle.ob_site_rules.specs.declared.resource.Resource.{Resource}
+use Rattle.ob_site_rules.specs.declared.resource.Resource.TheVariants.{About, Batch, Service, Make, AlarmAt, AckOf, WritePointOf, QueryOf, FeedOf, AlarmQuery, AlarmFeed, Node}
+use Rattle.ob_site_rules.specs.Places.{event_places}
 use Rattle.ob_site_rules.specs.Posts.{kept_in}
 use Rattle.ob_site_rules.specs.Replies.{content_object}
 use Rattle.ob_site_rules.specs.Sites.{site}
@@ -25,7 +27,7 @@ use Rattle.ob_site_rules.specs.Watched.{passes, events_at, gone_in, gone_at, fee
 use Rattle.ob_site_reads.specs.Events.{events_of, feed_of_some}
 
 -- what the definitions call the events of a feed
-pub events_are : (plan : Plan) (s : State) (b : Board) (place : Option Place) → (let c : Board = record b { spare = 0 } in c) ≡ board plan s → events_of s b place ≡ events_at plan s place
+pub events_are : (plan : Plan) (s : State) (b : Board) (place : Option Resource) → (let c : Board = record b { spare = 0 } in c) ≡ board plan s → events_of s b place ≡ events_at plan s place
 events_are plan s b None e = refl
 events_are plan s b (Some (FeedOf h)) e = refl
 events_are plan s b (Some AlarmFeed) e = ap (λ (c : Board). event_objects c) e
@@ -156,20 +158,20 @@ length-map_records : (rs : List Record) → length rs ≡ length (map record_obj
 length-map_records [] = refl
 length-map_records (r ∷ rs) = ap suc (length-map_records rs)
 
-pub log_ever : (s : State) (b : Board) (h : Path) (l : Log) (place : Option Place) (n : ℕ) → place ≡ Some (FeedOf h) → Some l ≡ at h s.logs → n ≡ l.gone + length l.kept
+pub log_ever : (s : State) (b : Board) (h : Path) (l : Log) (place : Option Resource) (n : ℕ) → place ≡ Some (FeedOf h) → Some l ≡ at h s.logs → n ≡ l.gone + length l.kept
     → n ≡ gone_at s place + length (events_of s b place)
 log_ever s b h l place n here found is =
     is
     ∙ ap (λ (k : ℕ). l.gone + k) (length-map_records l.kept)
     ∙ ap (λ (o : Option Log). gone_in o + length (map record_object (kept_in o))) found
-    ∙ sym (ap (λ (o : Option Place). gone_at s o + length (events_of s b o)) here)
+    ∙ sym (ap (λ (o : Option Resource). gone_at s o + length (events_of s b o)) here)
 
-pub alarms_ever : (s : State) (b : Board) (place : Option Place) (n : ℕ) → place ≡ Some AlarmFeed → n ≡ length b.events → n ≡ gone_at s place + length (events_of s b place)
+pub alarms_ever : (s : State) (b : Board) (place : Option Resource) (n : ℕ) → place ≡ Some AlarmFeed → n ≡ length b.events → n ≡ gone_at s place + length (events_of s b place)
 alarms_ever s b place n here is =
     is
     ∙ sym (length-first_events b (length b.events))
     ∙ from_none (length (event_objects b))
-    ∙ sym (ap (λ (o : Option Place). gone_at s o + length (events_of s b o)) here)
+    ∙ sym (ap (λ (o : Option Resource). gone_at s o + length (events_of s b o)) here)
   where
     from_none : (k : ℕ) → k ≡ 0 + k
     from_none k = omega arith
@@ -180,14 +182,14 @@ lists_are plan text path zero [] = refl
 lists_are plan text path zero (e ∷ es) = refl
 lists_are plan text path (suc n) es = refl
 
-pub changes_are : (plan : Plan) (s : State) (text : Text) (path : Path) (f : Filter) (given dropped : ℕ) (es : List Object) (o : Option Object) (place : Option Place) → o ≡ feed_of_some plan path dropped es
+pub changes_are : (plan : Plan) (s : State) (text : Text) (path : Path) (f : Filter) (given dropped : ℕ) (es : List Object) (o : Option Object) (place : Option Resource) → o ≡ feed_of_some plan path dropped es
     → place ≡ at path (event_places plan) → dropped ≡ gone_at s place - given → es ≡ filter (passes f) (drop (given - gone_at s place) (events_at plan s place))
     → option_to_list o ≡ map (λ r. content_object r.content) (changes_of (site locate plan) s text path (Feed f given))
 changes_are plan s text path f given dropped es o place is here gone some =
     ap option_to_list is
     ∙ lists_are plan text path dropped es
     ∙ ap₂ (λ (n : ℕ) (l : List Object). map (λ r. content_object r.content) (lists_some (site locate plan) text path n l)) gone some
-    ∙ ap (λ (p : Option Place). map (λ r. content_object r.content) (lists_some (site locate plan) text path (gone_at s p - given) (filter (passes f) (drop (given - gone_at s p) (events_at plan s p))))) here
+    ∙ ap (λ (p : Option Resource). map (λ r. content_object r.content) (lists_some (site locate plan) text path (gone_at s p - given) (filter (passes f) (drop (given - gone_at s p) (events_at plan s p))))) here
 
 pub some_nothing : (plan : Plan) (path : Path) (es : List Object) → length es ≡ 0 → feed_of_some plan path 0 es ≡ None
 some_nothing plan path [] h = refl

@@ -7,7 +7,8 @@ use Rattle.ob_watching.specs.Asked.{NotFound, ObjectAt}
 use Rattle.ob_site_rules.specs.Actions.{is_of_watch}
 use Rattle.ob_site_rules.specs.Build.{Path}
 use Rattle.ob_site_rules.specs.declared.fault.Fault.TheVariants.{NoSuchObject, NotWatchable}
-use Rattle.ob_site_rules.specs.Places.{Node, Place}
+use Rattle.ob_site_rules.specs.declared.resource.Resource.TheVariants.{Node}
+use Rattle.ob_site_rules.specs.declared.resource.Resource.{Resource}
 use Rattle.ob_site_rules.specs.declared.plan.Plan.{Plan}
 use Rattle.ob_site_rules.specs.Watched.{SiteFound, found_at, found_place, is_call_kind}
 
@@ -34,8 +35,8 @@ module _ (plan : Plan) (ns : List ℕ) (p : Path) where
       some_same e = cc
 
   -- a computed place counts first
-  pub place_found : (input : Option Object) (place : Place) (q r : Option Place) (f : SiteFound) → Some place ≡ q → f ≡ found_place p input place → f ≡ found_at plan ns p input (or_else q r)
-  place_found input place q r f here is = is ∙ ap (λ (x : Option Place). found_at plan ns p input (or_else x r)) here
+  pub place_found : (input : Option Object) (place : Resource) (q r : Option Resource) (f : SiteFound) → Some place ≡ q → f ≡ found_place p input place → f ≡ found_at plan ns p input (or_else q r)
+  place_found input place q r f here is = is ∙ ap (λ (x : Option Resource). found_at plan ns p input (or_else x r)) here
 
-  pub shown_found : (input : Option Object) (q r : Option Place) (f : SiteFound) → None ≡ q → f ≡ found_at plan ns p input r → f ≡ found_at plan ns p input (or_else q r)
-  shown_found input q r f here is = is ∙ ap (λ (x : Option Place). found_at plan ns p input (or_else x r)) here
+  pub shown_found : (input : Option Object) (q r : Option Resource) (f : SiteFound) → None ≡ q → f ≡ found_at plan ns p input r → f ≡ found_at plan ns p input (or_else q r)
+  shown_found input q r f here is = is ∙ ap (λ (x : Option Resource). found_at plan ns p input (or_else x r)) here

@@ -11,7 +11,7 @@ use Rattle.ob_site_rules.specs.declared.plan.Plan.{Plan}
 use Rattle.ob_site_rules.specs.State.{State, board, numbered_from}
 use Rattle.ob_site_state.specs.declared.contents.Contents.{Contents}
 use Rattle.ob_site_state.specs.Contents.{state_in}
-use Rattle.ob_site_rules.specs.Places.{Place}
+use Rattle.ob_site_rules.specs.declared.resource.Resource.{Resource}
 use Rattle.ob_site_rules.specs.Watched.{events_at}
 use Rattle.ob_site_laws.proofs.Nameless.{all_nameless}
 use Rattle.ob_site_reads.specs.Events.{events_of}
@@ -42,7 +42,7 @@ pub board_is : (plan : Plan) (c : Contents) → c.board.root ≡ plan.root → c
 board_is plan c root rules =
     ap₂ (λ (r : Path) (q : List Rule). let b : Board = record { root = r; rules = q; alarms = c.board.alarms; events = c.board.events; spare = 0 } in b) root rules
 
-pub some_nameless : (plan : Plan) (s : State) (b : Board) (place : Option Place) (p : Object → Bool) (n : ℕ) (es : List Object) → (let c : Board = record b { spare = 0 } in c) ≡ board plan s
+pub some_nameless : (plan : Plan) (s : State) (b : Board) (place : Option Resource) (p : Object → Bool) (n : ℕ) (es : List Object) → (let c : Board = record b { spare = 0 } in c) ≡ board plan s
     → es ≡ filter p (drop n (events_of s b place)) → list_all nameless es ≡ true
 some_nameless plan s b place p n es e is =
     ap (list_all nameless) (is ∙ ap (λ (l : List Object). filter p (drop n l)) (events_are plan s b place e))

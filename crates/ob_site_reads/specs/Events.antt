@@ -7,13 +7,14 @@ use Rattle.ob_site_rules.specs.Build.{Path}
 use Rattle.ob_site_rules.specs.declared.plan.Plan.{Plan}
 use Rattle.ob_site_rules.specs.State.{State}
 use Rattle.ob_site_rules.specs.Entries.{record_object, event_objects}
-use Rattle.ob_site_rules.specs.Places.{Place, FeedOf, AlarmFeed}
+use Rattle.ob_site_rules.specs.declared.resource.Resource.{Resource}
+use Rattle.ob_site_rules.specs.declared.resource.Resource.TheVariants.{FeedOf, AlarmFeed}
 use Rattle.ob_site_rules.specs.Posts.{records_of}
 use Rattle.ob_site_rules.specs.Replies.{content_object}
 use Rattle.ob_site_rules.specs.Watched.{feed_there}
 
 -- the kept records of a history, or the alarm events, as objects
-abbrev pub events_of : State → Board → Option Place → List Object
+abbrev pub events_of : State → Board → Option Resource → List Object
 events_of s b (Some (FeedOf h)) = map record_object (records_of s h)
 events_of s b (Some AlarmFeed) = event_objects b
 events_of s b _ = []

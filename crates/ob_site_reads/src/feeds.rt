@@ -1,5 +1,5 @@
 //! Feeds as watches report them.
-ghost use Rattle.std.specs.Prelude.{◌≡◌, ◌<◌, ◌^◌, ◌-◌, ◌+◌, ℕ, drop, length, map, true, is_none, Some, option_map, option_to_list, IfOk};
+ghost use Rattle.std.specs.Prelude.{◌≡◌, ◌<◌, ◌^◌, ◌-◌, ◌+◌, ℕ, drop, length, map, true, is_none, Some, option_to_list, IfOk};
 ghost use Rattle.std.specs.List.{filter, list_all};
 ghost use Rattle.ob_watching.specs.Watches.{content_now, changes_of, count, Feed};
 ghost use Rattle.ob_site_rules.specs.Build.{Text as Href};
@@ -10,15 +10,13 @@ ghost use Rattle.ob_site_rules.specs.Watched.{passes, gone_at};
 ghost use Rattle.ob_site_state.specs.Contents.{state_in};
 ghost use Rattle.ob_site_places.specs.Complete.{AreOfPlan, IsComplete};
 ghost use Rattle.ob_site_reads.specs.Events.{events_of, feed_of_some};
-ghost use Rattle.ob_plain_state.specs.Named.{place as place_of};
 
 use crate::events::{alarm_events, log_events};
 use ob_history::{Filter, Log};
 use ob_object::Obj;
-use ob_plain_state::Place;
 use ob_replies::{feed_entry, feed_there};
 use ob_site_places::{event_place, kept_log};
-use ob_site_rules::Plan;
+use ob_site_rules::{Plan, Resource};
 use ob_site_state::Contents;
 use ob_values::Text;
 use std::alloc::{AllocError, Global};
@@ -34,30 +32,35 @@ pub struct Since {
 fn events_since(
     alloc: Global,
     contents: &Contents,
-    place: &Option<Place>,
+    place: &Option<Resource>,
     since: &Since,
 ) -> Result<Vec<Obj>, AllocError>
     requires { AreOfPlan contents.now }
-    ensures { IfOk result (λ events. events.items ≡ filter (passes since.now.filter) (drop (since.now.given - gone_at (state_in contents.now) (option_map place_of place.now)) (events_of (state_in contents.now) contents.now.board (option_map place_of place.now)))) }
+    ensures { IfOk result (λ events. events.items ≡ filter (passes since.now.filter) (drop (since.now.given - gone_at (state_in contents.now) (place.now)) (events_of (state_in contents.now) contents.now.board (place.now)))) }
 {
     match place {
-        Some(Place::FeedOf(history)) => match kept_log(contents, history) {
+        Some(Resource::FeedOf(history)) => match kept_log(contents, history) {
             Some(log) => log_events(alloc, log, &since.filter, since.given),
             None => Ok(Vec::new(alloc)),
         },
-        Some(Place::AlarmFeed) => alarm_events(alloc, &contents.board, &since.filter, since.given),
+        Some(Resource::AlarmFeed) => alarm_events(
+            alloc,
+            &contents.board,
+            &since.filter,
+            since.given,
+        ),
         _ => Ok(Vec::new(alloc)),
     }
 }
 
 /// How many events of a feed rolled off; alarm events don't.
-fn gone_at(contents: &Contents, place: &Option<Place>) -> u64
+fn gone_at(contents: &Contents, place: &Option<Resource>) -> u64
     requires { AreOfPlan contents.now }
-    ensures value { result ≡ gone_at (state_in contents.now) (option_map place_of place.now) }
+    ensures value { result ≡ gone_at (state_in contents.now) (place.now) }
     ensures bounded { result < 2 ^ 63 }
 {
     match place {
-        Some(Place::FeedOf(history)) => match kept_log(contents, history) {
+        Some(Resource::FeedOf(history)) => match kept_log(contents, history) {
             Some(log) => {
                 let _counted = log.len();
                 log.gone()
@@ -76,24 +79,24 @@ fn records_ever(log: &Log) -> u64
 }
 
 /// How many events the feed of a place has had; another place has none.
-fn place_events_ever(contents: &Contents, place: &Place) -> u64
+fn place_events_ever(contents: &Contents, place: &Resource) -> u64
     requires { AreOfPlan contents.now }
-    ensures { result ≡ gone_at (state_in contents.now) (Some (place_of place.now)) + length (events_of (state_in contents.now) contents.now.board (Some (place_of place.now))) }
+    ensures { result ≡ gone_at (state_in contents.now) (Some place.now) + length (events_of (state_in contents.now) contents.now.board (Some place.now)) }
 {
     match place {
-        Place::FeedOf(history) => match kept_log(contents, history) {
+        Resource::FeedOf(history) => match kept_log(contents, history) {
             Some(log) => records_ever(log),
             None => 0,
         },
-        Place::AlarmFeed => contents.board.events(0).len() as u64,
+        Resource::AlarmFeed => contents.board.events(0).len() as u64,
         _ => 0,
     }
 }
 
 /// How many events a feed has had.
-fn events_ever(contents: &Contents, place: &Option<Place>) -> u64
+fn events_ever(contents: &Contents, place: &Option<Resource>) -> u64
     requires { AreOfPlan contents.now }
-    ensures { result ≡ gone_at (state_in contents.now) (option_map place_of place.now) + length (events_of (state_in contents.now) contents.now.board (option_map place_of place.now)) }
+    ensures { result ≡ gone_at (state_in contents.now) (place.now) + length (events_of (state_in contents.now) contents.now.board (place.now)) }
 {
     match place {
         Some(place) => place_events_ever(contents, place),

@@ -3,22 +3,21 @@ ghost use Rattle.std.specs.Prelude.{◌≡◌, cond, Option, option_map, IfOk};
 ghost use Rattle.ob_object.specs.Object.{Object};
 ghost use Rattle.ob_watching.specs.Asked.{NotFound, ObjectAt};
 ghost use Rattle.ob_site_rules.specs.declared.fault.Fault.TheVariants.{NotWatchable};
-ghost use Rattle.ob_site_rules.specs.Places.{Node, place_at};
+ghost use Rattle.ob_site_rules.specs.declared.resource.Resource.TheVariants.{Node};
+ghost use Rattle.ob_site_rules.specs.Places.{place_at};
 ghost use Rattle.ob_site_rules.specs.Shown.{shown};
 ghost use Rattle.ob_site_rules.specs.Locating.{locate};
 ghost use Rattle.ob_site_rules.specs.Sites.{found};
 ghost use Rattle.ob_site_rules.specs.Watched.{found_at, found_place, is_call_kind};
-ghost use Rattle.ob_plain_state.specs.Named.{place as place_of};
 ghost use Rattle.ob_site_state.specs.Contents.{state_in};
 ghost use Rattle.ob_site_shown.specs.Readable.{IsReadable};
 ghost use Rattle.ob_requests.specs.Calls.{found as found_of};
 
 use ob_contracts::Steps;
 use ob_object::{Kind, Obj};
-use ob_plain_state::Place;
 use ob_requests::{Asked, Found, feed_with, is_of_watch, located};
 use ob_site_places::computed_place;
-use ob_site_rules::{Fault, Plan};
+use ob_site_rules::{Fault, Plan, Resource};
 use ob_site_shown::shown_kind;
 use ob_site_state::Contents;
 use ob_values::Text;
@@ -36,12 +35,12 @@ fn found_node(path: Text, kind: Kind) -> Found
 }
 
 /// What a place is to watches: nodes, and the feeds of histories and of the alarm subject.
-fn found_place(path: Text, input: &Option<Obj>, place: &Place) -> Found
-    ensures { found_of result ≡ found_place path input.now (place_of place.now) }
+fn found_place(path: Text, input: &Option<Obj>, place: &Resource) -> Found
+    ensures { found_of result ≡ found_place path input.now place.now }
 {
     match place {
-        Place::Node(node) => found_node(path, node.kind()),
-        Place::FeedOf(_) | Place::AlarmFeed => feed_with(path, input),
+        Resource::Node(node) => found_node(path, node.kind()),
+        Resource::FeedOf(_) | Resource::AlarmFeed => feed_with(path, input),
         _ => Found::Nothing(Fault::NotWatchable),
     }
 }

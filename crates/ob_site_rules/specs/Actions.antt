@@ -21,7 +21,9 @@ use Rattle.ob_site_rules.specs.declared.plan.Plan.{Plan}
 use Rattle.ob_site_rules.specs.State.{State, at}
 use Rattle.ob_site_rules.specs.Paths.{watch_part}
 use Rattle.ob_site_rules.specs.Computed.{batch_out}
-use Rattle.ob_site_rules.specs.Places.{Place, Batch, Make, Node, place_at, object_at}
+use Rattle.ob_site_rules.specs.declared.resource.Resource.{Resource}
+use Rattle.ob_site_rules.specs.declared.resource.Resource.TheVariants.{Batch, Make, Node}
+use Rattle.ob_site_rules.specs.Places.{place_at, object_at}
 use Rattle.ob_site_rules.specs.Writes.{put}
 use Rattle.ob_site_rules.specs.Posts.{call}
 
@@ -31,12 +33,12 @@ is_post Post = true
 is_post _ = false
 
 -- only a node is put to
-abbrev pub put_at : Plan → State → ℕ → Path → Place → Option Object → State × Object
+abbrev pub put_at : Plan → State → ℕ → Path → Resource → Option Object → State × Object
 put_at plan s now p (Node o) body = put plan s now p o body
 put_at plan s now p _ body = (s, err NotSupported)
 
 -- one action at a place
-abbrev pub act_at : Plan → State → ℕ → Path → Verb → Place → Option Object → State × Object
+abbrev pub act_at : Plan → State → ℕ → Path → Verb → Resource → Option Object → State × Object
 act_at plan s now p Get place body = (s, object_at plan s now p place)
 act_at plan s now p Put place body = put_at plan s now p place body
 act_at plan s now p Post place body = call plan s now place body
@@ -79,13 +81,13 @@ abbrev pub is_of_watch : Plan → List ℕ → Path → Bool
 is_of_watch plan numbers p = is_number_in numbers (option_map (λ w. w.0) (watch_part plan p))
 
 -- what a batch doesn't do
-abbrev pub is_left_out : Place → Bool
+abbrev pub is_left_out : Resource → Bool
 is_left_out Batch = true
 is_left_out Make = true
 is_left_out _ = false
 
 -- an item of a batch at its place
-abbrev pub item_at : Plan → State → List ℕ → ℕ → Request → Path → Option Place → State × Object
+abbrev pub item_at : Plan → State → List ℕ → ℕ → Request → Path → Option Resource → State × Object
 item_at plan s numbers now r p None = (s, err (cond (is_of_watch plan numbers p) NotInBatch NoSuchObject))
 item_at plan s numbers now r p (Some place) = cond (is_left_out place) (s, err NotInBatch) (act_at plan s now p r.verb place r.body)
 
@@ -129,7 +131,7 @@ module _ (locate : Parts → Text → Option Path) where
   batch plan s numbers now (Some body) = batch_or (first_fault (batch_rows body)) plan s numbers now body
 
   -- a batch is done as a whole, and every other request is one action
-  abbrev pub act_on : Plan → State → List ℕ → ℕ → Request → Path → Option Place → State × Object
+  abbrev pub act_on : Plan → State → List ℕ → ℕ → Request → Path → Option Resource → State × Object
   act_on plan s numbers now r p None = (s, err NoSuchObject)
   act_on plan s numbers now r p (Some Batch) =
       cond (is_post r.verb) (batch plan s numbers now r.body) (act_at plan s now p r.verb Batch r.body)

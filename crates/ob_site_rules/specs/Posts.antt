@@ -22,7 +22,8 @@ use Rattle.ob_site_rules.specs.State.{Log, State, at, board, with_board}
 use Rattle.ob_site_rules.specs.Entries.{records_out, alarms_out, alarm_object}
 use Rattle.ob_site_rules.specs.Computed.{nil_object, ack_out}
 use Rattle.ob_site_rules.specs.Shown.{shown}
-use Rattle.ob_site_rules.specs.Places.{Place, AckOf, WritePointOf, QueryOf, AlarmQuery}
+use Rattle.ob_site_rules.specs.declared.resource.Resource.{Resource}
+use Rattle.ob_site_rules.specs.declared.resource.Resource.TheVariants.{AckOf, WritePointOf, QueryOf, AlarmQuery}
 use Rattle.ob_site_rules.specs.Writes.{is_over, write_by, unless}
 
 -- an input that is left out is Nil
@@ -100,7 +101,7 @@ acknowledge plan s now number input =
     unless (ack_fault plan s now number input) s (with_board s b, ack_out (alarm_object b number))
 
 -- A call of an op other than batch, make and those of watches.
-abbrev pub call : Plan → State → ℕ → Place → Option Object → State × Object
+abbrev pub call : Plan → State → ℕ → Resource → Option Object → State × Object
 call plan s now (AckOf n) input = acknowledge plan s now n (or_nil input)
 call plan s now (WritePointOf p) input = write_point plan s now p (child_of_obj (codes "value") (or_nil input))
 call plan s now (QueryOf h) input = (s, query (λ f. records_out f (records_of s h)) input)

@@ -26,7 +26,9 @@ use Rattle.ob_site_rules.specs.declared.fault.Fault.TheVariants.{LeaseOutOfRange
 use Rattle.ob_site_rules.specs.declared.plan.Plan.{Plan}
 use Rattle.ob_site_rules.specs.declared.watch_part.WatchPart.{WatchPart}
 use Rattle.ob_site_rules.specs.Entries.{record_object, event_objects, is_within}
-use Rattle.ob_site_rules.specs.Places.{Place, FeedOf, AlarmFeed, Node, place_at}
+use Rattle.ob_site_rules.specs.declared.resource.Resource.{Resource}
+use Rattle.ob_site_rules.specs.declared.resource.Resource.TheVariants.{FeedOf, AlarmFeed, Node}
+use Rattle.ob_site_rules.specs.Places.{place_at}
 use Rattle.ob_site_rules.specs.Writes.{given_by}
 use Rattle.ob_site_rules.specs.Posts.{is_obj, records_of}
 use Rattle.ob_site_rules.specs.Actions.{is_post, uri_of, is_of_watch}
@@ -146,14 +148,14 @@ abbrev pub is_call_kind : Kind → Bool
 is_call_kind k = same_kind k kind.Op || same_kind k kind.Feed
 
 -- nodes but ops and feeds are watched, and the feeds of histories and of the alarm subject
-abbrev pub found_place : Path → Option Object → Place → SiteFound
+abbrev pub found_place : Path → Option Object → Resource → SiteFound
 found_place p input (Node o) = cond (is_call_kind o.head.kind) (NotFound NotWatchable) (ObjectAt p)
 found_place p input (FeedOf h) = feed_with p input
 found_place p input AlarmFeed = feed_with p input
 found_place p input _ = NotFound NotWatchable
 
 -- a watch that stands is there, but isn't watched
-abbrev pub found_at : Plan → List ℕ → Path → Option Object → Option Place → SiteFound
+abbrev pub found_at : Plan → List ℕ → Path → Option Object → Option Resource → SiteFound
 found_at plan numbers p input (Some place) = found_place p input place
 found_at plan numbers p input None = NotFound (cond (is_of_watch plan numbers p) NotWatchable NoSuchObject)
 
@@ -163,7 +165,7 @@ found_located plan s numbers input None = NotFound NoSuchObject
 found_located plan s numbers input (Some p) = found_at plan numbers p input (place_at plan s p)
 
 -- the kept records of a history, or the alarm events, as objects
-abbrev pub events_at : Plan → State → Option Place → List Object
+abbrev pub events_at : Plan → State → Option Resource → List Object
 events_at plan s (Some (FeedOf h)) = map record_object (records_of s h)
 events_at plan s (Some AlarmFeed) = event_objects (board plan s)
 events_at plan s _ = []
@@ -174,7 +176,7 @@ gone_in None = 0
 gone_in (Some l) = l.gone
 
 -- how many events of a feed rolled off; alarm events don't
-abbrev pub gone_at : State → Option Place → ℕ
+abbrev pub gone_at : State → Option Resource → ℕ
 gone_at s (Some (FeedOf h)) = gone_in (at h s.logs)
 gone_at s _ = 0
 

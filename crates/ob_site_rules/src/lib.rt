@@ -5,6 +5,7 @@ mod fault;
 mod fixed;
 mod plan;
 mod request;
+mod resource;
 mod roles;
 mod watch_part;
 
@@ -12,5 +13,6 @@ pub use fault::Fault;
 pub use fixed::Fixed;
 pub use plan::{Plan, PointRule};
 pub use request::Request;
+pub use resource::Resource;
 pub use roles::Roles;
 pub use watch_part::WatchPart;

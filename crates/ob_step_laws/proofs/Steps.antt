@@ -23,9 +23,11 @@ use Rattle.ob_site_rules.specs.declared.fault.Fault.{Fault}
 use Rattle.ob_site_rules.specs.declared.fault.Fault.TheVariants.{NotInBatch, NotSupported, NotWritable, OtherKind}
 use Rattle.ob_site_rules.specs.declared.plan.Plan.{Plan}
 use Rattle.ob_site_rules.specs.Sameness.{same_slot}
+use Rattle.ob_site_rules.specs.Places.{place_at}
 use Rattle.ob_site_rules.specs.Shown.{rule_of, node_in, node_of, with_status_at, with_status_by, dressed, shown}
-use Rattle.ob_site_rules.specs.Places.{Place, About, Batch, Service, Make, AlarmAt, AckOf, WritePointOf, QueryOf, FeedOf, AlarmQuery, AlarmFeed, Node, place_at}
 use Rattle.ob_site_rules.specs.Writes.{with_slot, site_contracts, is_in_contract, write, written, unless, value_fault, is_writable, write_by, put, given_by, target_fault}
+use Rattle.ob_site_rules.specs.declared.resource.Resource.{Resource}
+use Rattle.ob_site_rules.specs.declared.resource.Resource.TheVariants.{About, AckOf, AlarmAt, AlarmFeed, AlarmQuery, Batch, FeedOf, Make, Node, QueryOf, Service, WritePointOf}
 use Rattle.ob_site_rules.specs.Posts.{call, write_point}
 use Rattle.ob_site_rules.specs.Actions.{is_post, put_at, act_at, is_left_out, item_at, item_on, item_request, act_item, act_all, batch_or, batch, act_on, act_located}
 use Rattle.ob_shown_laws.specs.Alike.{row, without_values, AreAlike, DifferInSlots, paths_of}
@@ -42,7 +44,6 @@ use Rattle.ob_step_laws.specs.Defaults.{StayGiven, defaults_off}
 use Rattle.ob_step_laws.proofs.Unslotted.{defaults_differ}
 use Rattle.ob_step_laws.proofs.Either.{given_itself}
 use Rattle.ob_standing.specs.Contexts.{HandedDown, handed_down, under}
-use Rattle.ob_plain_state.specs.declared.place.Place.TheVariants as named
 use Rattle.ob_requests.proofs.Places.{point_there}
 use Rattle.ob_step_laws.specs.Given.{IsMade, PointsHaveValues, StepsTakeNoneAway}
 use Rattle.ob_step_laws.proofs.Slotted.{given_slotted, differ_slotted, unslotted_object, contracts_stay, value_given, kind_given}
@@ -142,7 +143,7 @@ put_follows plan s now p o None = unless_follows plan _ s _ (λ e. itself plan s
 put_follows plan s now p o (Some body) =
     write_by_follows plan s now p o (target_fault o.head) body (λ e. not_first (has_values o.head.kind) NotSupported ((not (is_writable o.head.facets.writable), NotWritable) ∷ []) e)
 
-put_at_follows : (plan : Plan) (s : State) (now : ℕ) (p : Path) (place : Place) (body : Option Object) → Follows s (put_at plan s now p place body).0
+put_at_follows : (plan : Plan) (s : State) (now : ℕ) (p : Path) (place : Resource) (body : Option Object) → Follows s (put_at plan s now p place body).0
 put_at_follows plan s now p (Node o) body = put_follows plan s now p o body
 put_at_follows plan s now p About body = itself plan s
 put_at_follows plan s now p Batch body = itself plan s
@@ -210,7 +211,7 @@ write_point_follows : (plan : Plan) (s : State) (now : ℕ) (p : Path) (new : Op
 write_point_follows plan s now p None h = itself plan s
 write_point_follows plan s now p (Some new) h = write_by_follows plan s now p (unwrap_or (shown plan s p) new) None new (λ e. point_value new (shown plan s p) h)
 
-call_follows : (plan : Plan) (s : State) (now : ℕ) (place : Place) (input : Option Object) → ((p : Path) → place ≡ WritePointOf p → HasValue (kinds_of (shown plan s p))) → Follows s (call plan s now place input).0
+call_follows : (plan : Plan) (s : State) (now : ℕ) (place : Resource) (input : Option Object) → ((p : Path) → place ≡ WritePointOf p → HasValue (kinds_of (shown plan s p))) → Follows s (call plan s now place input).0
 call_follows plan s now (AckOf n) input h = unless_follows plan _ s _ (λ e. (let same : Follows s s = itself plan s in record { given = same.given; slots = same.slots; histories = refl; made = same.made }))
 call_follows plan s now (WritePointOf p) input h = write_point_follows plan s now p _ (h p refl)
 call_follows plan s now (Node o) input h = itself plan s
@@ -224,17 +225,17 @@ call_follows plan s now (FeedOf q) input h = itself plan s
 call_follows plan s now AlarmQuery input h = itself plan s
 call_follows plan s now AlarmFeed input h = itself plan s
 
-act_at_follows : (plan : Plan) (s : State) (now : ℕ) (p : Path) (verb : Verb) (place : Place) (body : Option Object) → ((q : Path) → place ≡ WritePointOf q → HasValue (kinds_of (shown plan s q)))
+act_at_follows : (plan : Plan) (s : State) (now : ℕ) (p : Path) (verb : Verb) (place : Resource) (body : Option Object) → ((q : Path) → place ≡ WritePointOf q → HasValue (kinds_of (shown plan s q)))
     → Follows s (act_at plan s now p verb place body).0
 act_at_follows plan s now p Get place body h = itself plan s
 act_at_follows plan s now p Put place body h = put_at_follows plan s now p place body
 act_at_follows plan s now p Post place body h = call_follows plan s now place body h
 
 -- the point of a writePoint is one of the plan's
-at_point : (plan : Plan) (s : State) → PointsShowValues plan s → (p : Path) (place : Place) → place_at plan s p ≡ Some place → (q : Path) → place ≡ WritePointOf q → HasValue (kinds_of (shown plan s q))
-at_point plan s shows p place e q is = shows q (point_there plan s p (named.WritePointOf q) q (e ∙ ap (λ (x : Place). Some x) is) refl)
+at_point : (plan : Plan) (s : State) → PointsShowValues plan s → (p : Path) (place : Resource) → place_at plan s p ≡ Some place → (q : Path) → place ≡ WritePointOf q → HasValue (kinds_of (shown plan s q))
+at_point plan s shows p place e q is = shows q (point_there plan s p (WritePointOf q) q (e ∙ ap (λ (x : Resource). Some x) is) refl)
 
-item_at_follows : (plan : Plan) (s : State) (ns : List ℕ) (now : ℕ) (r : Request) (p : Path) (place : Option Place) → PointsShowValues plan s → place_at plan s p ≡ place → Follows s (item_at plan s ns now r p place).0
+item_at_follows : (plan : Plan) (s : State) (ns : List ℕ) (now : ℕ) (r : Request) (p : Path) (place : Option Resource) → PointsShowValues plan s → place_at plan s p ≡ place → Follows s (item_at plan s ns now r p place).0
 item_at_follows plan s ns now r p None shows e = itself plan s
 item_at_follows plan s ns now r p (Some place) shows e = go (is_left_out place)
   where
@@ -266,7 +267,7 @@ module _ (locate : Parts → Text → Option Path) where
   batch_follows plan s ns now None shows = itself plan s
   batch_follows plan s ns now (Some body) shows = batch_or_follows _ plan s ns now body shows
 
-  act_on_follows : (plan : Plan) (s : State) (ns : List ℕ) (now : ℕ) (r : Request) (p : Path) (place : Option Place) → PointsShowValues plan s → place_at plan s p ≡ place → Follows s (act_on locate plan s ns now r p place).0
+  act_on_follows : (plan : Plan) (s : State) (ns : List ℕ) (now : ℕ) (r : Request) (p : Path) (place : Option Resource) → PointsShowValues plan s → place_at plan s p ≡ place → Follows s (act_on locate plan s ns now r p place).0
   act_on_follows plan s ns now r p None shows e = itself plan s
   act_on_follows plan s ns now r p (Some Batch) shows e = go (is_post r.verb)
     where

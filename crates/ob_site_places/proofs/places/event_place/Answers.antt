@@ -1,8 +1,7 @@
-use Rattle.std.proofs.Common.{◌≡◌, ◌++◌, option_map, sym, ◌∙◌}
+use Rattle.std.proofs.Common.{◌≡◌, ◌++◌, sym, ◌∙◌}
 use Rattle.std.proofs.lemmas.Result.{IfOk-weaker}
 use Rattle.ob_site_rules.specs.State.{at}
 use Rattle.ob_site_rules.specs.Places.{history_places, subject_places}
-use Rattle.ob_plain_state.specs.Named.{place as place_of}
 use Rattle.ob_plain_state.proofs.Placed.{first_of, later_of}
 use Rattle.ob_site_places.proofs.places.event_place.Goals as goal
 
@@ -14,5 +13,5 @@ returns-then-is_some c =
 pub returns : goal.returns
 returns c =
     let plan = c.args.plan.now in
-    IfOk-weaker c.subject_place.result (λ place. option_map place_of place ≡ at c.args.path.now (subject_places plan.subject)) (λ place. option_map place_of place ≡ at c.args.path.now ((history_places plan) ++ (subject_places plan.subject)))
+    IfOk-weaker c.subject_place.result (λ place. place ≡ at c.args.path.now (subject_places plan.subject)) (λ place. place ≡ at c.args.path.now ((history_places plan) ++ (subject_places plan.subject)))
     (λ place is. later_of c.args.path.now (history_places plan) (subject_places plan.subject) c.in_ok-found.found place c.in_ok-found.ensures (sym c.is_some.ensures ∙ c.if-is_some.false) is) c.subject_place.ensures

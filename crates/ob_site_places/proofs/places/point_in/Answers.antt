@@ -1,10 +1,9 @@
-use Rattle.std.proofs.Common.{◌≡◌, option_map, sym, ap, ◌∙◌, arith}
+use Rattle.std.proofs.Common.{◌≡◌, sym, ap, ◌∙◌, arith}
 use Rattle.std.specs.Prelude.{is_some}
 use Rattle.std.proofs.lemmas.Result.{IfOk-weaker}
 use Rattle.ob_contracts.specs.Inherit.{or_else}
 use Rattle.ob_site_rules.specs.State.{at}
 use Rattle.ob_site_rules.specs.Places.{point_places}
-use Rattle.ob_plain_state.specs.Named.{place as place_of}
 use Rattle.ob_plain_state.specs.Parts.{point_parts}
 use Rattle.ob_site_places.proofs.Alone.{slashed_point, plain_point, neither_point, points_at, has_point, both_plain_first, both_slashed_first}
 use Rattle.ob_site_places.proofs.places.point_in.Goals as goal
@@ -15,8 +14,8 @@ returns-then-is_some c =
     let p = c.args.path.now in
     let plain = has_point c.args.parent.now plan.points _ (ap is_some (sym (c.point_at-plain_at.ensures plan c.requires.roles)) ∙ sym c.is_some.ensures ∙ c.if-is_some.true) in
     let slashed = has_point c.in_ok-slashed.slashed plan.points _ (ap is_some (sym (c.point_at.ensures plan c.requires.roles) ∙ c.in_default.is)) in
-    IfOk-weaker c.one_point.result (λ place. option_map place_of place ≡ at p (point_parts c.args.parent.now)) (λ place. option_map place_of place ≡ at p (point_places plan))
-    (λ place is. plain_point p c.args.parent.now c.in_ok-slashed.slashed plan.points (option_map place_of place) c.requires.parent c.in_ok-slashed.ensures plain slashed is) c.one_point.ensures
+    IfOk-weaker c.one_point.result (λ place. place ≡ at p (point_parts c.args.parent.now)) (λ place. place ≡ at p (point_places plan))
+    (λ place is. plain_point p c.args.parent.now c.in_ok-slashed.slashed plan.points place c.requires.parent c.in_ok-slashed.ensures plain slashed is) c.one_point.ensures
 
 pub returns-in_default : goal.returns-in_default
 returns-in_default c =
@@ -32,8 +31,8 @@ returns-in_default-plain_at c =
     let q = c.in_ok-slashed.slashed in
     let plain = has_point c.args.parent.now plan.points _ (ap is_some (sym (c.point_at-plain_at.ensures plan c.requires.roles) ∙ c.in_default-plain_at.is)) in
     let slashed = has_point q plan.points _ (ap is_some (sym (c.point_at.ensures plan c.requires.roles) ∙ c.in-Some.is)) in
-    IfOk-weaker c.one_point-in_default-plain_at.result (λ place. option_map place_of place ≡ at p (point_parts q)) (λ place. option_map place_of place ≡ at p (point_places plan))
-    (λ place is. slashed_point p c.args.parent.now q plan.points (option_map place_of place) c.requires.parent c.in_ok-slashed.ensures plain slashed is) c.one_point-in_default-plain_at.ensures
+    IfOk-weaker c.one_point-in_default-plain_at.result (λ place. place ≡ at p (point_parts q)) (λ place. place ≡ at p (point_places plan))
+    (λ place is. slashed_point p c.args.parent.now q plan.points place c.requires.parent c.in_ok-slashed.ensures plain slashed is) c.one_point-in_default-plain_at.ensures
 
 pub returns-then-plain_at-slashed_at : goal.returns-then-plain_at-slashed_at
 returns-then-plain_at-slashed_at c =
@@ -41,7 +40,7 @@ returns-then-plain_at-slashed_at c =
     let p = c.args.path.now in
     let front = c.args.parent.now in
     let q = c.in_ok-slashed.slashed in
-    IfOk-weaker c.point_of_two.result (λ place. option_map place_of place ≡ or_else (at p (point_parts front)) (at p (point_parts q))) (λ place. option_map place_of place ≡ at p (point_places plan))
+    IfOk-weaker c.point_of_two.result (λ place. place ≡ or_else (at p (point_parts front)) (at p (point_parts q))) (λ place. place ≡ at p (point_places plan))
     (λ place is. is ∙ both_plain_first point_parts p front q plan.points c.in-Some-plain_at.plain_at c.in-Some.slashed_at (points_at p front c.requires.parent) c.in_ok-slashed.ensures
     (sym c.in-Some-plain_at.is ∙ c.point_at-plain_at.ensures plan c.requires.roles) (sym c.in-Some.is ∙ c.point_at.ensures plan c.requires.roles)
     (omega (arith, c.if-plain_at-slashed_at.true))) c.point_of_two.ensures
@@ -52,7 +51,7 @@ returns c =
     let p = c.args.path.now in
     let front = c.args.parent.now in
     let q = c.in_ok-slashed.slashed in
-    IfOk-weaker c.point_of_two-2.result (λ place. option_map place_of place ≡ or_else (at p (point_parts q)) (at p (point_parts front))) (λ place. option_map place_of place ≡ at p (point_places plan))
+    IfOk-weaker c.point_of_two-2.result (λ place. place ≡ or_else (at p (point_parts q)) (at p (point_parts front))) (λ place. place ≡ at p (point_places plan))
     (λ place is. is ∙ both_slashed_first point_parts p front q plan.points c.in-Some-plain_at.plain_at c.in-Some.slashed_at (points_at p front c.requires.parent) c.in_ok-slashed.ensures
     (sym c.in-Some-plain_at.is ∙ c.point_at-plain_at.ensures plan c.requires.roles) (sym c.in-Some.is ∙ c.point_at.ensures plan c.requires.roles)
     (omega (arith, c.if-plain_at-slashed_at.false))) c.point_of_two-2.ensures

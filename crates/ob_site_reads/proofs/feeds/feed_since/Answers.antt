@@ -1,7 +1,6 @@
-use Rattle.std.proofs.Common.{◌-◌, option_map}
+use Rattle.std.proofs.Common.{◌-◌}
 use Rattle.ob_site_rules.specs.Watched.{passes, gone_at}
 use Rattle.ob_site_state.specs.Contents.{state_in}
-use Rattle.ob_plain_state.specs.Named.{place as place_of}
 use Rattle.ob_site_reads.proofs.Nameless.{board_is, some_nameless}
 use Rattle.ob_site_reads.proofs.feeds.feed_since.Goals as goal
 
@@ -15,6 +14,6 @@ pub feed_if_some-requires-clause-nameless : goal.feed_if_some-requires-clause-na
 feed_if_some-requires-clause-nameless c =
     let plan = c.args.plan.now in
     let s = state_in c.args.contents.now in
-    let place = option_map place_of c.in_ok-place.place in
+    let place = c.in_ok-place.place in
     some_nameless plan s c.args.contents.now.board place (passes c.args.since.now.filter) (c.args.since.now.given - gone_at s place) c.in_ok-events.events.items
     (board_is plan c.args.contents.now c.requires.root c.requires.readable.rules) c.in_ok-events.ensures

@@ -2,20 +2,19 @@ use Rattle.std.proofs.Common.{List, Some, length, ap}
 use Rattle.ob_alarms.specs.declared.alarm.Event.{Event}
 use Rattle.ob_site_state.specs.Kept.{log_of}
 use Rattle.ob_site_state.specs.Contents.{state_in}
-use Rattle.ob_plain_state.specs.declared.place.Place.{Place}
-use Rattle.ob_plain_state.specs.Named.{place as place_of}
+use Rattle.ob_site_rules.specs.declared.resource.Resource.{Resource}
 use Rattle.ob_site_reads.proofs.Eventful.{log_ever, alarms_ever}
 use Rattle.ob_site_reads.proofs.feeds.place_events_ever.Goals as goal
 
 pub returns-in-Some : goal.returns-in-Some
 returns-in-Some c =
-    log_ever (state_in c.args.contents.now) c.args.contents.now.board c.in-FeedOf.history (log_of c.in-Some.log.now) (Some (place_of c.args.place.now)) c.records_ever.result
-    (ap (λ (x : Place). Some (place_of x)) c.in-FeedOf.is)
+    log_ever (state_in c.args.contents.now) c.args.contents.now.board c.in-FeedOf.history (log_of c.in-Some.log.now) (Some c.args.place.now) c.records_ever.result
+    (ap (λ (x : Resource). Some x) c.in-FeedOf.is)
     c.in-Some.ensures
     c.records_ever.ensures
 
 pub returns-in-AlarmFeed : goal.returns-in-AlarmFeed
 returns-in-AlarmFeed c =
-    alarms_ever (state_in c.args.contents.now) c.args.contents.now.board (Some (place_of c.args.place.now)) (length c.events.result.now)
-    (ap (λ (x : Place). Some (place_of x)) c.in-AlarmFeed.is)
+    alarms_ever (state_in c.args.contents.now) c.args.contents.now.board (Some c.args.place.now) (length c.events.result.now)
+    (ap (λ (x : Resource). Some x) c.in-AlarmFeed.is)
     (ap (λ (l : List Event). length l) c.events.ensures)

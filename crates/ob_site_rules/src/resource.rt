@@ -5,7 +5,7 @@ use ob_values::Text;
 /// What a path names: a computed object, an op or a feed that roles derive, or a node with what it shows.
 /// An alarm is told by its number.
 #[derive(Drop)]
-pub enum Place {
+pub enum Resource {
     About,
     Batch,
     Service,
