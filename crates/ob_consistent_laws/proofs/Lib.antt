@@ -18,7 +18,6 @@ pub mod Inverted
 pub mod Begins
 pub mod Opened
 pub mod Unrolled
-pub mod Owed
 pub mod Times
 pub mod Records
 pub mod Ordered

@@ -1,15 +1,14 @@
 -- What a state of a site owes its plan, over the definitions' own plans and states.
-use Rattle.std.specs.Prelude.{◌≡◌, ◌↔◌, true, IsTrue, Some, is_some}
+use Rattle.std.specs.Prelude.{◌≡◌, true, IsTrue, Some, is_some}
 use Rattle.ob_object.specs.declared.kind.Kind.{Kind}
 use Rattle.ob_object.specs.Object.{none, node}
 use Rattle.ob_contracts.specs.Standard.{standard}
 use Rattle.ob_site_rules.specs.Build.{Path}
 use Rattle.ob_site_rules.specs.declared.plan.Plan.{Plan}
-use Rattle.ob_site_rules.specs.State.{State, is_among, board}
+use Rattle.ob_site_rules.specs.State.{State, is_among}
 use Rattle.ob_site_rules.specs.Shown.{node_of}
 use Rattle.ob_site_rules.specs.Writes.{site_contracts}
-use Rattle.ob_plain_state.specs.States.{NamesAreFree, NodesAre, AreTaken, AreCounted, limits_fit, rule_at, state_of, unspared, IsOf}
-use Rattle.ob_plain_state.specs.declared.state.State as value
+use Rattle.ob_plain_state.specs.States.{NamesAreFree, NodesAre, AreTaken, AreCounted, limits_fit, rule_at}
 
 -- What the roles of a node derive finds its names free; nodes at one path are of one kind, and numbers of it are held against
 -- limits of it; each point is a node; the built-in library takes the site's contracts; and the events of each history can be
@@ -22,7 +21,3 @@ pub record IsConsistent (plan : Plan) (s : State) : Type 0 where
   pub points : (p : Path) → is_among p plan.points ≡ true → IsTrue (is_some (node_of p s.tree))
   pub taken : AreTaken standard (site_contracts s.tree)
   pub counted : AreCounted s.logs
-
--- A `State` whose alarms are those of the plan's rules and root owes its plan what it should exactly where it is consistent.
-abbrev pub ConsistentIsOwed : Type 0
-ConsistentIsOwed = (plan : Plan) (s : value.State) → unspared s.board ≡ board plan (state_of s) → IsOf plan s ↔ IsConsistent plan (state_of s)

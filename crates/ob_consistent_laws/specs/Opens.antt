@@ -4,12 +4,11 @@ use Rattle.ob_object.specs.Object.{Object, parts}
 use Rattle.ob_object.specs.WellFormed.{IsWellFormed}
 use Rattle.ob_contracts.specs.Standard.{standard, with_added}
 use Rattle.ob_alarms.specs.Limits.{IsRule}
-use Rattle.ob_site_rules.specs.State.{numbered_from, board, roll}
+use Rattle.ob_site_rules.specs.State.{numbered_from}
 use Rattle.ob_site_rules.specs.Writes.{site_contracts}
 use Rattle.ob_site_rules.specs.Sites.{SiteState}
+use Rattle.ob_plain_state.specs.States.{AreCounted}
 use Rattle.ob_site_rules.specs.Opening.{opening}
-use Rattle.ob_plain_state.specs.States.{AreCounted, state_of, unspared, IsOf}
-use Rattle.ob_plain_state.specs.declared.state.State as value
 use Rattle.ob_consistent_laws.specs.Consistent.{IsConsistent}
 
 -- The state is consistent; the limits of each rule are of one kind; the library is the built-in one with the contracts of the
@@ -28,9 +27,3 @@ OpensConsistent = (root : Object) (boot : ℕ) (st : SiteState) → IsWellFormed
 -- They can where the parts of the document can: a record is a part.
 abbrev pub OpensCounted : Type 0
 OpensCounted = (root : Object) (boot : ℕ) (st : SiteState) → parts root < 2 ^ 63 → opening root boot ≡ Ok st → AreCounted st.world.site.logs
-
--- So a `State` that is the opened one once its histories have rolled, with the alarms of the plan's rules and root, owes the plan
--- what it should, where the events of its histories can be counted.
-abbrev pub OpenedIsOwed : Type 0
-OpenedIsOwed = (root : Object) (boot : ℕ) (st : SiteState) (s : value.State) → IsWellFormed root → AreCounted (state_of s).logs → opening root boot ≡ Ok st →
-    unspared s.board ≡ board st.plan (state_of s) → roll (state_of s) ≡ st.world.site → IsOf st.plan s

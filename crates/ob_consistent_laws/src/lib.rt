@@ -5,8 +5,7 @@
 #![tactic(auto)]
 
 ghost use Rattle.ob_consistent_laws.specs.Laws.{AddedAreTaken, TakenOnce, ApartAreOfOneKind};
-ghost use Rattle.ob_consistent_laws.specs.Consistent.{ConsistentIsOwed};
-ghost use Rattle.ob_consistent_laws.specs.Opens.{OpensConsistent, OpensCounted, OpenedIsOwed};
+ghost use Rattle.ob_consistent_laws.specs.Opens.{OpensConsistent, OpensCounted};
 ghost use Rattle.ob_consistent_laws.specs.Ordered.{UnrolledIsConsistent, OpensOrdered, OpensInTime};
 ghost use Rattle.ob_consistent_laws.specs.Stays.{StepsKeepPaths, StepsStayConsistent};
 ghost use Rattle.ob_consistent_laws.specs.Apart.{OpensApart};
@@ -22,18 +21,6 @@ pub fn opens_consistent()
 /// The events of the histories can be counted where a document has fewer than 2^63 parts.
 pub fn opens_counted()
     ensures { OpensCounted }
-{}
-
-/// A `State` that is the opened one once its histories have rolled, with the alarms of the plan's rules and root, owes its
-/// plan what the step needs. So a site may be opened with it, with nothing left to test.
-pub fn opened_is_owed()
-    ensures { OpenedIsOwed }
-{}
-
-/// A `State` whose alarms are those of the plan's rules and root owes its plan what the step needs exactly where it is
-/// consistent as the definitions' state that it is.
-pub fn consistent_is_owed()
-    ensures { ConsistentIsOwed }
 {}
 
 /// A state that is consistent once its histories have rolled was so before.

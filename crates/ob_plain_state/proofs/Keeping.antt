@@ -1,5 +1,5 @@
 -- What a state owes its plan, kept.
-use Rattle.std.proofs.Common.{◌≡◌, ℕ, zero, suc, ◌-◌, ◌<◌, ◌^◌, Bool, true, false, ◌||◌, ◌&&◌, cond, List, [], ◌∷◌, ◌++◌, map, length, get_or, Option, Some, None, option_map, refl, sym, ap, ◌∙◌, subst, arith, IsTrue}
+use Rattle.std.proofs.Common.{◌≡◌, ℕ, zero, suc, ◌-◌, ◌<◌, ◌^◌, Bool, true, false, ◌||◌, ◌&&◌, cond, List, [], ◌∷◌, ◌++◌, map, length, get_or, Option, Some, None, option_map, refl, sym, ap, ◌∙◌, subst, arith}
 use Rattle.std.specs.Prelude.{is_some, find, codes}
 use Rattle.std.specs.Str.{bytes_eq}
 use Rattle.std.specs.List.{list_any}
@@ -7,38 +7,13 @@ use Rattle.std.proofs.lemmas.List.{map-append, length-drop}
 use Rattle.ob_object.specs.Object.{Object, Objects, none, node, listed}
 use Rattle.ob_object.specs.WellFormed.{has_name, named, is_taken, NamesDiffer}
 use Rattle.ob_object.specs.Paths.{is_path, node_path}
-use Rattle.ob_contracts.specs.Standard.{standard}
-use Rattle.ob_alarms.specs.Changes.{State as Board}
 use Rattle.ob_site_rules.specs.State.{Log as SiteLog, State as SiteState, at, board, is_among, rolled, rolled_logs}
 use Rattle.ob_site_rules.specs.declared.plan.Plan.{Plan}
 use Rattle.ob_site_rules.specs.Build.{Path}
-use Rattle.ob_site_rules.specs.Shown.{derived, derived_at, lobby_children, write_point_op, history_part, subject_children, node_of}
-use Rattle.ob_site_rules.specs.Writes.{events_ever, site_contracts}
-use Rattle.ob_plain_state.specs.States.{log_of, entry_of, state_of, unspared, NamesAreFree, NodesAre, AreTaken, AreCounted, IsOf}
+use Rattle.ob_plain_state.specs.States.{AreCounted, NamesAreFree, entry_of, log_of}
+use Rattle.ob_site_rules.specs.Shown.{derived, derived_at, history_part, lobby_children, subject_children, write_point_op}
+use Rattle.ob_site_rules.specs.Writes.{events_ever}
 use Rattle.ob_plain_state.specs.declared.log.Log.{Log}
-use Rattle.ob_plain_state.specs.declared.state.State.{State}
-
--- a state that is seen as another one, with the same rules and root, owes no more
-pub IsOf-same : (plan : Plan) (s t : State) → unspared t.board ≡ unspared s.board → state_of t ≡ state_of s → IsOf plan s → IsOf plan t
-IsOf-same plan s t b e o =
-    let free : NamesAreFree plan (state_of s) (node (state_of s).tree.head (state_of s).tree.inner none) = o.names_free in
-    let tree : t.tree ≡ s.tree = ap (λ (x : SiteState). x.tree) e in
-    record {
-      board = b ∙ o.board ∙ ap (board plan) (sym e);
-      names_free = subst (λ (x : SiteState). NamesAreFree plan x (node x.tree.head x.tree.inner none)) (sym e) free;
-      kind_at = o.kind_at;
-      kinds = subst (λ (x : Object). NodesAre o.kind_at (node x.head x.inner none)) (sym tree) o.kinds;
-      limits = o.limits;
-      points = λ p h. subst (λ (x : Object). IsTrue (is_some (node_of p x))) (sym tree) (o.points p h);
-      taken = subst (λ (x : Object). AreTaken standard (site_contracts x)) (sym tree) o.taken;
-      counted = subst (λ (x : SiteState). AreCounted x.logs) (sym e) o.counted;
-    }
-
--- a state of the same parts, with no room for more alarm events, is seen as the same
-pub copied : (s t : State) → t.library ≡ s.library → t.tree ≡ s.tree → map entry_of t.logs.items ≡ map entry_of s.logs.items → t.board ≡ unspared s.board → state_of t ≡ state_of s
-copied s t library tree logs board =
-    let alarms : t.board.alarms ≡ s.board.alarms = ap (λ (b : Board). b.alarms) board in
-    let events : t.board.events ≡ s.board.events = ap (λ (b : Board). b.events) board in cc
 
 abbrev pub names_of : List Object → List (Option Path)
 names_of os = map (λ o. o.head.name) os
@@ -155,18 +130,3 @@ rolled_counted (l ∷ ls) c = (rolled-counted l.1 l.1.capacity refl c.0, rolled_
 pub keys-rolled : (ls : List (Path × SiteLog)) → keys_of ls ≡ keys_of (rolled_logs ls)
 keys-rolled [] = refl
 keys-rolled (l ∷ ls) = ap (λ ks. l.0 ∷ ks) (keys-rolled ls)
-
--- a state whose logs have rolled owes no more
-pub IsOf-rolled : (plan : Plan) (s t : State) → t.tree ≡ s.tree → t.board ≡ s.board → map entry_of t.logs.items ≡ rolled_logs (map entry_of s.logs.items) → IsOf plan s → IsOf plan t
-IsOf-rolled plan s t tree same logs o =
-    let keys : keys_of (state_of s).logs ≡ keys_of (state_of t).logs = keys-rolled (map entry_of s.logs.items) ∙ ap (λ (ls : List (Path × SiteLog)). keys_of ls) (sym logs) in
-    record {
-      board = ap unspared same ∙ o.board ∙ ap (λ (b : Board). let x : Board = record { root = plan.root; rules = (board plan (state_of s)).rules; alarms = b.alarms; events = b.events; spare = 0 } in x) (sym same);
-      names_free = subst (λ (x : Object). NamesAreFree plan (state_of t) (node x.head x.inner none)) (sym tree) (NamesAreFree-same plan (state_of s) (state_of t) keys (node s.tree.head s.tree.inner none) o.names_free);
-      kind_at = o.kind_at;
-      kinds = subst (λ (x : Object). NodesAre o.kind_at (node x.head x.inner none)) (sym tree) o.kinds;
-      limits = o.limits;
-      points = λ p h. subst (λ (x : Object). IsTrue (is_some (node_of p x))) (sym tree) (o.points p h);
-      taken = subst (λ (x : Object). AreTaken standard (site_contracts x)) (sym tree) o.taken;
-      counted = subst AreCounted (sym logs) (rolled_counted (map entry_of s.logs.items) o.counted);
-    }

@@ -1,7 +1,6 @@
--- A write keeps what the state owes its plan.
-use Rattle.std.proofs.Common.{◌≡◌, ℕ, ◌+◌, Bool, true, false, not, ◌||◌, cond, List, [], ◌∷◌, ◌++◌, map, Option, Some, None, option_map, refl, sym, ap, ◌∙◌, subst, true≢false, IsTrue, add-one}
+-- A write changes slots alone, and a node stands where it stood.
+use Rattle.std.proofs.Common.{◌≡◌, ℕ, ◌+◌, Bool, true, false, not, ◌||◌, cond, List, [], ◌∷◌, ◌++◌, Option, Some, None, option_map, refl, sym, ap, ◌∙◌, subst, true≢false, IsTrue, add-one}
 use Rattle.std.specs.Prelude.{ℤ, slice_get, is_some}
-use Rattle.std.specs.Str.{bytes_eq}
 use Rattle.std.proofs.lemmas.List.{map-append}
 use Rattle.std.proofs.lemmas.Slice.Eq.{bytes_eq-Decides}
 use Rattle.ob_values.specs.declared.value.Value.{Value}
@@ -19,23 +18,19 @@ use Rattle.ob_contracts.specs.Inherit.{or_else, only_if}
 use Rattle.ob_alarms.specs.declared.rule.Num.{Num}
 use Rattle.ob_alarms.specs.declared.rule.Num.TheVariants as num
 use Rattle.ob_alarms.specs.declared.rule.Rule.{Rule}
-use Rattle.ob_alarms.specs.Limits.{TakenBy, IsOfKind, same_kind as same_kind_num}
+use Rattle.ob_alarms.specs.Limits.{IsOfKind, same_kind as same_kind_num}
 use Rattle.ob_alarms.specs.Lists.{first_place}
-use Rattle.ob_alarms.specs.Changes.{State as Board, turn, outside_of, current}
 use Rattle.ob_site_rules.specs.Build.{Path}
-use Rattle.ob_site_rules.specs.Shown.{node_in, node_of, rule_of, shown, derived}
-use Rattle.ob_site_rules.specs.State.{Log as SiteLog, State as SiteState, board, numbered_from}
+use Rattle.ob_site_rules.specs.Shown.{node_in, derived}
+use Rattle.ob_site_rules.specs.State.{State as SiteState, numbered_from}
 use Rattle.ob_site_rules.specs.declared.plan.Plan.{Plan}
 use Rattle.ob_site_rules.specs.declared.plan.PointRule.{PointRule}
-use Rattle.ob_site_rules.specs.Writes.{with_slot, with_slot_in, recorded, board_by, number_in}
-use Rattle.ob_plain_state.specs.States.{state_of, unspared, entry_of, NamesAreFree, NodesAre, IsOfKindAt, AreCounted, IsOf, limits_fit, rule_in, is_int}
-use Rattle.ob_plain_state.specs.declared.state.State.{State}
-use Rattle.ob_contracts.specs.Standard.{standard}
-use Rattle.ob_plain_state.proofs.Slots.{unslotted, unslotted_row, taken_whatever}
-use Rattle.ob_plain_state.proofs.Keeping.{names_of, NamesDiffer-same, NamesAreFree-same, keys_of}
-use Rattle.ob_plain_state.specs.Fitting.{NodesTake, TakesIfRule, CanTake, CanTakeKind}
+use Rattle.ob_site_rules.specs.Writes.{with_slot, with_slot_in, number_in}
+use Rattle.ob_plain_state.specs.States.{NamesAreFree, NodesAre, IsOfKindAt, limits_fit, is_int}
+use Rattle.ob_plain_state.proofs.Slots.{unslotted, unslotted_row}
+use Rattle.ob_plain_state.proofs.Keeping.{names_of, NamesDiffer-same}
+use Rattle.ob_plain_state.specs.Fitting.{NodesTake}
 use Rattle.ob_contracts.proofs.Fitting.{one_kind}
-use Rattle.ob_plain_state.proofs.ShownKinds.{shown_kind}
 
 -- the kind of a value is one that has values
 pub valued : (v : Value) → has_values (kind_of v) ≡ true
@@ -112,30 +107,6 @@ of_limits k r (Is (value.Abstime t)) h f = tt
 of_limits k r (Is (value.Reltime t)) h f = tt
 of_limits k r (Is (value.Date d)) h f = tt
 of_limits k r (Is (value.Time t)) h f = tt
-
-takes_at : (plan : Plan) (p : Path) (rules : List Rule) (k : Kind) (slot : Slot) (place : Option ℕ) → rules ≡ numbered_from 0 plan.rules → rule_of plan p ≡ place
-    → IsTrue (limits_fit k (rule_in plan place)) → IsTrue (fits_slot k slot) → TakesIfRule rules place slot
-takes_at plan p rules k slot None same is h f = tt
-takes_at plan p rules k slot (Some i) same is h f =
-    let there = some_rule (λ r. bytes_eq r.source p) plan.rules 0 i is in
-    let fit : IsTrue (limits_fit k (Some there.0)) = subst (λ (o : Option Rule). IsTrue (limits_fit k o)) there.1 h in
-    subst (λ (o : Option Rule). TakenBy o (number_in slot)) (sym (ap (λ (rs : List Rule). slice_get rs i) same ∙ there.1)) (of_limits k there.0 slot fit f)
-
--- the rules of the alarms are those of the plan
-rules_of : (plan : Plan) (s : State) → IsOf plan s → s.board.rules ≡ numbered_from 0 plan.rules
-rules_of plan s o = ap (λ (b : Board). b.rules) o.board
-
--- the node at a path and its rule take what fits the kind of the path
-take_kind : (plan : Plan) (s : State) (o : IsOf plan s) (p : Path) (slot : Slot) → IsTrue (fits_slot (o.kind_at p) slot) → CanTake plan s p slot
-take_kind plan s o p slot f = record {
-  nodes = nodes_take o.kind_at p slot f (node s.tree.head s.tree.inner none) o.kinds;
-  rule = takes_at plan p s.board.rules (o.kind_at p) slot (rule_of plan p) (rules_of plan s o) refl (o.limits p) f;
-}
-
--- the node at a path and its rule take what fits what is shown there
-pub shown_takes : (plan : Plan) (s : State) (p : Path) (o : Object) → IsOf plan s → shown plan (state_of s) p ≡ Some o → CanTakeKind plan s p o.head.kind
-shown_takes plan s p o of shows = λ slot f.
-    take_kind plan s of p slot (takes_too o.head.kind (of.kind_at p) slot (shown_kind of.kind_at plan (state_of s) p o of.kinds shows) f)
 
 pub slot_path : (b : Bool) (h : Head) (slot : Slot) → node_path (cond b (record h { slot = slot }) h) ≡ node_path h
 slot_path true h slot = refl
@@ -215,55 +186,3 @@ in_row_there q (node h inner rest) =
     ∙ ap (λ b. is_path q (node_path h) || b) (some_either (node_in q inner) (node_in q rest)
     ∙ ap (λ b. b || is_some (node_in q rest)) (in_row_there q inner)
     ∙ ap (λ b. is_in q inner || b) (in_row_there q rest))
-
-there_slotted : (q p : Path) (slot : Slot) (r : Objects) → is_in q (with_slot_in p slot r) ≡ is_in q r
-there_slotted q p slot none = refl
-there_slotted q p slot (node h inner rest) =
-    ap (λ (o : Option Path). is_path q o || (is_in q (with_slot_in p slot inner) || is_in q (with_slot_in p slot rest))) (slot_path (is_path p (node_path h)) h slot)
-    ∙ ap (λ b. is_path q (node_path h) || (b || is_in q (with_slot_in p slot rest))) (there_slotted q p slot inner)
-    ∙ ap (λ b. is_path q (node_path h) || (is_in q inner || b)) (there_slotted q p slot rest)
-
-point_slotted : (q p : Path) (slot : Slot) (o : Object) → is_some (node_of q (with_slot p slot o)) ≡ is_some (node_of q o)
-point_slotted q p slot o =
-    in_row_there q (with_slot_in p slot (node o.head o.inner none)) ∙ there_slotted q p slot (node o.head o.inner none) ∙ sym (in_row_there q (node o.head o.inner none))
-
-keys-recorded : (plan : Plan) (now : ℕ) (p : Path) (k : Kind) (slot : Slot) (ls : List (Path × SiteLog)) → keys_of ls ≡ keys_of (recorded plan now p k slot ls)
-keys-recorded plan now p k slot [] = refl
-keys-recorded plan now p k slot (l ∷ ls) = ap (λ ks. l.0 ∷ ks) (keys-recorded plan now p k slot ls)
-
-turn_keeps : (b : Board) (rule now : ℕ) (v : Option Num) (c : Option ℕ) → ((turn b rule now v c).0.root ≡ b.root) × ((turn b rule now v c).0.rules ≡ b.rules)
-turn_keeps b rule now (Some v) None = (refl, refl)
-turn_keeps b rule now None (Some n) = (refl, refl)
-turn_keeps b rule now (Some v) (Some n) = (refl, refl)
-turn_keeps b rule now None None = (refl, refl)
-
-board_keeps : (place : Option ℕ) (b : Board) (slot : Slot) (now : ℕ) → ((board_by place b slot now).root ≡ b.root) × ((board_by place b slot now).rules ≡ b.rules)
-board_keeps None b slot now = (refl, refl)
-board_keeps (Some rule) b slot now = turn_keeps b rule now (outside_of (slice_get b.rules rule) (number_in slot)) (current rule b.alarms)
-
--- What a write makes of a state that is one of a plan is one of it too, where its events can be counted.
-pub IsOf-written : (plan : Plan) (s t : State) (now : ℕ) (p : Path) (k : Kind) (slot : Slot) → IsOf plan s
-    → t.tree ≡ with_slot p slot s.tree → unspared t.board ≡ board_by (rule_of plan p) (board plan (state_of s)) slot now
-    → map entry_of t.logs.items ≡ recorded plan now p k slot (map entry_of s.logs.items) → AreCounted (state_of t).logs → IsOf plan t
-IsOf-written plan s t now p k slot o tree acted logs counted =
-    let keys : keys_of (state_of s).logs ≡ keys_of (state_of t).logs =
-    keys-recorded plan now p k slot (map entry_of s.logs.items) ∙ ap (λ (ls : List (Path × SiteLog)). keys_of ls) (sym logs) in
-    let kept = board_keeps (rule_of plan p) (board plan (state_of s)) slot now in
-    let root : t.board.root ≡ plan.root = ap (λ (b : Board). b.root) acted ∙ kept.0 in
-    let rules : t.board.rules ≡ numbered_from 0 plan.rules = ap (λ (b : Board). b.rules) acted ∙ kept.1 in
-    record {
-      board =
-          ap (λ (r : Path). let x : Board = record { root = r; rules = t.board.rules; alarms = t.board.alarms; events = t.board.events; spare = 0 } in x) root
-          ∙ ap (λ (rs : List Rule). let x : Board = record { root = plan.root; rules = rs; alarms = t.board.alarms; events = t.board.events; spare = 0 } in x) rules;
-      names_free =
-          subst (λ (x : Object). NamesAreFree plan (state_of t) (node x.head x.inner none)) (sym tree)
-          (NamesAreFree-same plan (state_of s) (state_of t) keys (with_slot_in p slot (node s.tree.head s.tree.inner none)) (free_slotted plan (state_of s) p slot (node s.tree.head s.tree.inner none) o.names_free));
-      kind_at = o.kind_at;
-      kinds =
-          subst (λ (x : Object). NodesAre o.kind_at (node x.head x.inner none)) (sym tree)
-          (kinds_slotted o.kind_at p slot (node s.tree.head s.tree.inner none) o.kinds);
-      limits = o.limits;
-      points = λ q h. subst (λ (x : Object). IsTrue (is_some (node_of q x))) (sym tree) (point_slotted q p slot s.tree ∙ o.points q h);
-      taken = taken_whatever standard s.tree t.tree (sym (ap unslotted tree ∙ unslotted-with_slot p slot s.tree)) o.taken;
-      counted = counted;
-    }

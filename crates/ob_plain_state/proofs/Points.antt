@@ -10,8 +10,6 @@ use Rattle.ob_site_rules.specs.Build.{Path}
 use Rattle.ob_site_rules.specs.Shown.{derived, with_status_by, with_status_at, with_status, with_roles, dressed, shown_root, node_of, shown, rule_of}
 use Rattle.ob_site_rules.specs.State.{State as SiteState, is_among}
 use Rattle.ob_site_rules.specs.declared.plan.Plan.{Plan}
-use Rattle.ob_plain_state.specs.States.{state_of, IsOf}
-use Rattle.ob_plain_state.specs.declared.state.State.{State}
 use Rattle.ob_plain_state.proofs.Kept.{is_in, in_row_there}
 
 or_both : (a b c d : Bool) → (a ≡ true → c ≡ true) → (b ≡ true → d ≡ true) → (a || b) ≡ true → (c || d) ≡ true
@@ -76,7 +74,3 @@ pub node_shown : (plan : Plan) (s : SiteState) (q : Path) → is_some (node_of q
 node_shown plan s q there =
     in_row_there q (row_of (shown_root plan s))
     ∙ in_effective q s.library (dressed plan s) (in_roles plan s q (row_of s.tree) (sym (in_row_there q (row_of s.tree)) ∙ there))
-
--- each point is shown
-pub point_shown : (plan : Plan) (s : State) (p : Path) → IsOf plan s → is_among p plan.points ≡ true → is_some (shown plan (state_of s) p) ≡ true
-point_shown plan s p of among = node_shown plan (state_of s) p (of.points p among)

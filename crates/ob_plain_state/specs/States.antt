@@ -1,24 +1,21 @@
--- What state of a site's definitions a `State` is, and what it owes its plan.
-use Rattle.std.specs.Prelude.{◌≡◌, ℕ, ◌<◌, ◌^◌, Bool, true, false, not, ◌++◌, IsTrue, map, List, [], ◌∷◌, Option, Some, None, is_some, slice_get, Ok}
+-- What log of a site's definitions a `Log` is, and what a state owes its plan, part by part.
+use Rattle.std.specs.Prelude.{◌≡◌, ℕ, ◌<◌, ◌^◌, Bool, true, false, not, ◌++◌, List, [], ◌∷◌, Option, Some, None, slice_get, Ok}
 use Rattle.ob_object.specs.declared.kind.Kind.{Kind}
 use Rattle.ob_object.specs.declared.kind.Kind.TheVariants as kind
 use Rattle.ob_object.specs.Object.{Objects, none, node, listed}
 use Rattle.ob_object.specs.WellFormed.{NamesDiffer}
 use Rattle.ob_object.specs.Paths.{node_path}
 use Rattle.ob_contracts.specs.Inherit.{Contracts, result_of}
-use Rattle.ob_contracts.specs.Standard.{standard}
 use Rattle.ob_contracts.specs.Adding.{added}
-use Rattle.ob_alarms.specs.Changes.{State as Board}
 use Rattle.ob_alarms.specs.declared.rule.Num.{Num}
 use Rattle.ob_alarms.specs.declared.rule.Num.TheVariants as num
 use Rattle.ob_alarms.specs.declared.rule.Rule.{Rule}
 use Rattle.ob_site_rules.specs.declared.plan.Plan.{Plan}
-use Rattle.ob_site_rules.specs.State.{State as SiteState, Log as SiteLog, board, numbered_from, is_among}
+use Rattle.ob_site_rules.specs.State.{State as SiteState, Log as SiteLog, numbered_from}
 use Rattle.ob_site_rules.specs.Build.{Path}
-use Rattle.ob_site_rules.specs.Shown.{derived, rule_of, node_of}
-use Rattle.ob_site_rules.specs.Writes.{events_ever, site_contracts}
+use Rattle.ob_site_rules.specs.Shown.{derived, rule_of}
+use Rattle.ob_site_rules.specs.Writes.{events_ever}
 use Rattle.ob_plain_state.specs.declared.log.Log.{Log}
-use Rattle.ob_plain_state.specs.declared.state.State.{State}
 
 -- a log as the definitions have it
 abbrev pub log_of : Log → SiteLog
@@ -27,20 +24,6 @@ log_of l = record { capacity = l.capacity; gone = l.gone; kept = l.kept.items }
 -- a log under its path
 abbrev pub entry_of : Path × Log → Path × SiteLog
 entry_of e = (e.0, log_of e.1)
-
--- a state as the definitions have it
-abbrev pub state_of : State → SiteState
-state_of s = record {
-  library = s.library;
-  tree = s.tree;
-  logs = map entry_of s.logs.items;
-  alarms = s.board.alarms;
-  events = s.board.events;
-}
-
--- alarms without the room that they have for more
-abbrev pub unspared : Board → Board
-unspared b = record b { spare = 0 }
 
 -- In each row the names of the own children differ, from one another and from those that the roles of their parent derive.
 abbrev pub NamesAreFree : Plan → SiteState → Objects → Type 0
@@ -91,16 +74,3 @@ abbrev pub AreTaken : Contracts → Contracts → Type 0
 AreTaken lib [] = Unit {0}
 AreTaken lib (c ∷ cs) =
     let more : Contracts = lib ++ (c.0, result_of lib c.1 None None) ∷ [] in (added lib c.0 c.1 ≡ Ok more) × AreTaken more cs
-
--- What the state of a site owes its plan: the alarms are those of its rules and its root; what its roles derive finds its
--- names free; nodes at one path are of one kind, and numbers of it are held against limits of it; each point is a node;
--- the standard library takes the site's contracts; and the events of each history can be counted.
-pub record IsOf (plan : Plan) (s : State) : Type 0 where
-  pub board : unspared s.board ≡ board plan (state_of s)
-  pub names_free : NamesAreFree plan (state_of s) (node s.tree.head s.tree.inner none)
-  pub kind_at : Path → Kind
-  pub kinds : NodesAre kind_at (node s.tree.head s.tree.inner none)
-  pub limits : (p : Path) → IsTrue (limits_fit (kind_at p) (rule_at plan (Some p)))
-  pub points : (p : Path) → is_among p plan.points ≡ true → IsTrue (is_some (node_of p s.tree))
-  pub taken : AreTaken standard (site_contracts s.tree)
-  pub counted : AreCounted (state_of s).logs

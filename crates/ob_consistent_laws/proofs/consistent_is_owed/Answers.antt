@@ -1,5 +1,0 @@
-use Rattle.ob_consistent_laws.proofs.Owed as lemma
-use Rattle.ob_consistent_laws.proofs.consistent_is_owed.Goals as goal
-
-pub returns : goal.returns
-returns c = lemma.consistent_is_owed
