@@ -3,7 +3,9 @@ use Rattle.std.specs.Prelude.{ℕ, List, Option}
 use Rattle.url.specs.Parts.{Parts}
 use Rattle.ob_watching.specs.WatchOuts.{Text}
 -- where its requests go
-pub use Rattle.ob_asking.specs.Places.{Place, Request, place_at, child_place, host_of, port_in, host_field}
+pub use Rattle.ob_asking.specs.declared.place.Place.{Place}
+pub use Rattle.ob_asking.specs.declared.request.Request.{Request}
+pub use Rattle.ob_asking.specs.Places.{place_at, child_place, host_of, port_in, host_field}
 
 -- these hrefs; or the feed of an alarm subject, and an alarm that is acknowledged as this user
 pub data Watched : Type 0 where

@@ -1,5 +1,5 @@
 -- What contracts see of a dialogue in hand.
-use Rattle.std.specs.Prelude.{◌≡◌, ℕ, ◌+◌, ◌<◌, ◌^◌, Bool, true, false, List, Vec, IsSome, Option, Some, None, option_map, unwrap_or, Result}
+use Rattle.std.specs.Prelude.{◌≡◌, ℕ, ◌+◌, ◌<◌, ◌^◌, Bool, true, false, List, Vec, IsSome, Option, Some, None, unwrap_or, Result}
 use Rattle.std.specs.declared.result.Result.TheVariants.{Ok, Err}
 use Rattle.std.specs.declared.alloc.AllocError.{AllocError}
 use Rattle.ob_values.specs.declared.verb.Verb.TheVariants.{Post}
@@ -23,8 +23,6 @@ use Rattle.ob_dialogue.specs.declared.plan.Plan.{Plan}
 use Rattle.ob_dialogue.specs.declared.plan.Topic.{Topic}
 use Rattle.ob_dialogue.specs.declared.plan.Topic.TheVariants as topics
 use Rattle.ob_asking.specs.declared.place.Place.{Place}
-pub use Rattle.ob_asking.specs.Told.{place}
-use Rattle.ob_dialogue.specs.declared.request.Request.{Request}
 use Rattle.ob_dialogue.specs.declared.stage.Ops.{Ops}
 use Rattle.ob_dialogue.specs.declared.stage.Watching.{Watching}
 use Rattle.ob_dialogue.specs.declared.stage.Stage.{Stage}
@@ -38,9 +36,6 @@ use Rattle.ob_dialogue.specs.declared.link.Pause.TheVariants as pauses
 use Rattle.ob_dialogue.specs.declared.link.Turned.{Turned}
 use Rattle.ob_dialogue.specs.declared.link.Turned.TheVariants as turns
 
-abbrev pub request : Request → plans.Request
-request r = record { verb = r.verb; target = r.target; body = r.body }
-
 abbrev pub post : Text → Option Object → plans.Request
 post target body = record { verb = Post; target = target; body = body }
 
@@ -52,24 +47,24 @@ abbrev pub program : Plan → plans.Program
 program p = record { url = p.url; watched = watched p.topic; polls = p.polls; retries = p.retries }
 
 abbrev pub ops : Ops → stages.Ops
-ops o = record { add = place o.add; changes = place o.changes; refresh = option_map place o.refresh; delete = place o.delete }
+ops o = record { add = o.add; changes = o.changes; refresh = o.refresh; delete = o.delete }
 
 abbrev pub ops_from : Option Place → Option Place → Option (Option Place) → Option Place → Option stages.Ops
 ops_from add changes refresh delete =
-    stages.ops_from (option_map place add) (option_map place changes) (option_map (option_map place) refresh) (option_map place delete)
+    stages.ops_from add changes refresh delete
 
 -- where a broken poll is mended
 abbrev pub mending : Ops → Text
-mending o = (unwrap_or (option_map place o.refresh) (place o.changes)).target
+mending o = (unwrap_or o.refresh o.changes).target
 
 abbrev pub watching : Watching → stages.Watching
 watching w = record { ops = ops w.ops; asked = w.asked.items; held = w.mirror.held; polled = w.polled }
 
 abbrev pub stage : Stage → stages.Stage
-stage (at.Lobby p) = stages.Lobby (place p)
-stage (at.Service p) = stages.Service (place p)
-stage (at.Make p) = stages.Make (place p)
-stage (at.Subject o p) = stages.Subject (ops o) (place p)
+stage (at.Lobby p) = stages.Lobby p
+stage (at.Service p) = stages.Service p
+stage (at.Make p) = stages.Make p
+stage (at.Subject o p) = stages.Subject (ops o) p
 stage (at.Add w) = stages.Adding (watching w)
 stage (at.Ack w target user) = stages.Acking (watching w) target user
 stage (at.Poll w) = stages.Polling (watching w)

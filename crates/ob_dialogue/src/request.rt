@@ -1,25 +1,17 @@
 //! What is asked at a stage.
-ghost use Rattle.std.specs.Prelude.{◌≡◌, Some, IfOk, option_map};
+ghost use Rattle.std.specs.Prelude.{◌≡◌, Some, IfOk};
 ghost use Rattle.ob_dialogue.specs.Stages.{get, request_at};
 ghost use Rattle.ob_dialogue.specs.Stages as stages;
 ghost use Rattle.ob_dialogue.specs.Told as told;
 
 use crate::stage::{Stage, Watching};
-use ob_asking::{Place, watch_in};
+use ob_asking::{Place, Request, watch_in};
 use ob_object::Obj;
 use ob_values::{Text, Verb};
 use std::alloc::{AllocError, Global};
 
-/// A request.
-#[derive(Drop)]
-pub(crate) struct Request {
-    pub(crate) verb: Verb,
-    pub(crate) target: Text,
-    pub(crate) body: Option<Obj>,
-}
-
 fn get(place: &Place) -> Result<Option<Request>, AllocError>
-    ensures { IfOk result (λ r. option_map told.request r ≡ Some (get (told.place place.now))) }
+    ensures { IfOk result (λ r. r ≡ Some (get place.now)) }
 {
     let target = place.target.copy()?;
     Ok(Some(Request {
@@ -30,7 +22,7 @@ fn get(place: &Place) -> Result<Option<Request>, AllocError>
 }
 
 fn post(target: &Text, body: Option<Obj>) -> Result<Option<Request>, AllocError>
-    ensures { IfOk result (λ r. option_map told.request r ≡ Some (told.post target.now body)) }
+    ensures { IfOk result (λ r. r ≡ Some (told.post target.now body)) }
 {
     let target = target.copy()?;
     Ok(Some(Request {
@@ -42,7 +34,7 @@ fn post(target: &Text, body: Option<Obj>) -> Result<Option<Request>, AllocError>
 
 // The hrefs are added.
 fn add(alloc: Global, watching: &Watching) -> Result<Option<Request>, AllocError>
-    ensures { IfOk result (λ r. option_map told.request r ≡ request_at (stages.Adding (told.watching watching.now))) }
+    ensures { IfOk result (λ r. r ≡ request_at (stages.Adding (told.watching watching.now))) }
 {
     let input = watch_in(alloc, &watching.asked)?;
     post(&watching.ops.add.target, Some(input))
@@ -51,7 +43,7 @@ fn add(alloc: Global, watching: &Watching) -> Result<Option<Request>, AllocError
 /// What is asked next by a call of the session; None at the end. An error only for want of memory.
 pub(crate) fn request_at(alloc: Global, stage: &Stage) -> Result<Option<Request>, AllocError>
     requires { told.IsCalled stage.now }
-    ensures { IfOk result (λ r. option_map told.request r ≡ request_at (told.stage stage.now)) }
+    ensures { IfOk result (λ r. r ≡ request_at (told.stage stage.now)) }
 {
     match stage {
         Stage::Lobby(place) => get(place),

@@ -105,7 +105,7 @@ fn refresh_in(
     base: &Base,
     watch: &Obj,
 ) -> Result<Option<Option<Place>>, AllocError>
-    ensures { IfOk result (λ r. option_map (option_map told.place) r ≡ refresh_in mends base.now watch.now) }
+    ensures { IfOk result (λ r. r ≡ refresh_in mends base.now watch.now) }
 {
     if !mends {
         return Ok(Some(None));

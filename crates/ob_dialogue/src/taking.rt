@@ -65,7 +65,7 @@ fn copies(alloc: Global, texts: &[Text]) -> Result<Vec<Text>, AllocError>
 
 // The service is asked for.
 fn to_service(place: Option<Place>) -> Option<Stage>
-    ensures value { option_map told.stage result ≡ option_map stages.Service (option_map told.place place) }
+    ensures value { option_map told.stage result ≡ option_map stages.Service place }
     ensures live { told.OptionIsLive result }
 {
     match place {
@@ -76,7 +76,7 @@ fn to_service(place: Option<Place>) -> Option<Stage>
 
 // A watch is made.
 fn to_make(place: Option<Place>) -> Option<Stage>
-    ensures value { option_map told.stage result ≡ option_map stages.Make (option_map told.place place) }
+    ensures value { option_map told.stage result ≡ option_map stages.Make place }
     ensures live { told.OptionIsLive result }
 {
     match place {
@@ -87,7 +87,7 @@ fn to_make(place: Option<Place>) -> Option<Stage>
 
 // The subject is asked for.
 fn to_subject(ops: Ops, place: Option<Place>) -> Option<Stage>
-    ensures value { option_map told.stage result ≡ option_map (stages.Subject (told.ops ops)) (option_map told.place place) }
+    ensures value { option_map told.stage result ≡ option_map (stages.Subject (told.ops ops)) place }
     ensures live { told.OptionIsLive result }
 {
     match place {
@@ -122,7 +122,7 @@ fn to_watch(alloc: Global, plan: &Plan, ops: Option<Ops>) -> Result<Option<Stage
 
 // The subject's feed is added.
 fn to_feed(alloc: Global, ops: Ops, feed: Option<Place>) -> Result<Option<Stage>, AllocError>
-    ensures value { IfOk result (λ s. option_map told.stage s ≡ to_feed (told.ops ops) (option_map told.place feed)) }
+    ensures value { IfOk result (λ s. option_map told.stage s ≡ to_feed (told.ops ops) feed) }
     ensures live { IfOk result (λ s. told.OptionIsLive s) }
 {
     let Some(feed) = feed else {
@@ -151,7 +151,7 @@ fn target_of(alloc: Global, watching: &Watching, href: &Text) -> Result<Option<T
     let Some(board) = board_in(alloc, watching)? else {
         return Ok(None);
     };
-    led(ack_target(alloc, &watching.ops.add.base, &board, href.as_str()))
+    led(ack_target(alloc, &watching.ops.add.url, &board, href.as_str()))
 }
 
 // The alarm is acknowledged there.
@@ -329,14 +329,14 @@ fn leads_on(
     reply: Obj,
     name: &str,
 ) -> Result<Option<Place>, AllocError>
-    ensures { IfOk result (λ p. option_map told.place p ≡ child_place place.base reply name.now) }
+    ensures { IfOk result (λ p. p ≡ child_place place.url reply name.now) }
 {
-    child_place(alloc, &place.base, &reply, name)
+    child_place(alloc, &place.url, &reply, name)
 }
 
 // The lobby came.
 fn on_lobby(alloc: Global, place: Place, reply: Obj) -> Result<Outcome, AllocError>
-    ensures value { IfOk result (λ t. told.taken t ≡ silent (option_map stages.Service (child_place place.base reply (codes "watchService")))) }
+    ensures value { IfOk result (λ t. told.taken t ≡ silent (option_map stages.Service (child_place place.url reply (codes "watchService")))) }
     ensures live { IfOk result (λ t. told.NextIsLive t.next) }
 {
     let service = leads_on(alloc, place, reply, "watchService")?;
@@ -345,7 +345,7 @@ fn on_lobby(alloc: Global, place: Place, reply: Obj) -> Result<Outcome, AllocErr
 
 // The watch service came.
 fn on_service(alloc: Global, place: Place, reply: Obj) -> Result<Outcome, AllocError>
-    ensures value { IfOk result (λ t. told.taken t ≡ silent (option_map stages.Make (child_place place.base reply (codes "make")))) }
+    ensures value { IfOk result (λ t. told.taken t ≡ silent (option_map stages.Make (child_place place.url reply (codes "make")))) }
     ensures live { IfOk result (λ t. told.NextIsLive t.next) }
 {
     let make = leads_on(alloc, place, reply, "make")?;
@@ -354,14 +354,14 @@ fn on_service(alloc: Global, place: Place, reply: Obj) -> Result<Outcome, AllocE
 
 // The ops of a watch that came from a place.
 fn ops_in(alloc: Global, mends: bool, place: Place, watch: Obj) -> Result<Option<Ops>, AllocError>
-    ensures { IfOk result (λ o. option_map told.ops o ≡ ops_of mends place.base watch) }
+    ensures { IfOk result (λ o. option_map told.ops o ≡ ops_of mends place.url watch) }
 {
-    ops_of(alloc, mends, &place.base, &watch)
+    ops_of(alloc, mends, &place.url, &watch)
 }
 
 // A watch was made.
 fn on_make(alloc: Global, plan: &Plan, place: Place, reply: Obj) -> Result<Outcome, AllocError>
-    ensures value { IfOk result (λ t. told.taken t ≡ taken_at (told.program plan.now) (stages.Make (told.place place)) reply) }
+    ensures value { IfOk result (λ t. told.taken t ≡ taken_at (told.program plan.now) (stages.Make place) reply) }
     ensures live { IfOk result (λ t. told.NextIsLive t.next) }
 {
     let ops = ops_in(alloc, plan.retries > 0, place, reply)?;
@@ -371,7 +371,7 @@ fn on_make(alloc: Global, plan: &Plan, place: Place, reply: Obj) -> Result<Outco
 
 // The alarm subject came.
 fn on_subject(alloc: Global, ops: Ops, place: Place, reply: Obj) -> Result<Outcome, AllocError>
-    ensures value { IfOk result (λ t. told.taken t ≡ silent (to_feed (told.ops ops) (child_place place.base reply (codes "feed")))) }
+    ensures value { IfOk result (λ t. told.taken t ≡ silent (to_feed (told.ops ops) (child_place place.url reply (codes "feed")))) }
     ensures live { IfOk result (λ t. told.NextIsLive t.next) }
 {
     let feed = leads_on(alloc, place, reply, "feed")?;

@@ -8,7 +8,9 @@ use Rattle.ob_values.specs.declared.verb.Verb.{Verb}
 use Rattle.ob_values.specs.declared.verb.Verb.TheVariants.{Get, Put, Post}
 use Rattle.ob_object.specs.Object.{Object}
 use Rattle.ob_watching.specs.WatchOuts.{Text}
-use Rattle.ob_asking.specs.Places.{Place, Request, place_at}
+use Rattle.ob_asking.specs.declared.place.Place.{Place}
+use Rattle.ob_asking.specs.declared.request.Request.{Request}
+use Rattle.ob_asking.specs.Places.{place_at}
 use Rattle.ob_super.specs.declared.upstream.Live.{Live}
 use Rattle.ob_super.specs.declared.upstream.Followed.{Followed}
 use Rattle.ob_super.specs.Upstreams.{Upstream}

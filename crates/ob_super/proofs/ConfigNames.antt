@@ -7,7 +7,7 @@ use Rattle.ob_object.specs.declared.kind.Kind.TheVariants as kind
 use Rattle.ob_watching.specs.Tables.{is_among}
 use Rattle.ob_watching.specs.WatchOuts.{Text, is_of_kind}
 use Rattle.ob_client.proofs.TableLemmas.{bytes_eq_sym}
-use Rattle.ob_asking.specs.Places.{Place}
+use Rattle.ob_asking.specs.declared.place.Place.{Place}
 use Rattle.ob_parts.specs.Offences.{said}
 use Rattle.std.specs.Prelude.{codes}
 use Rattle.ob_super.specs.declared.upstream.Upstream as code

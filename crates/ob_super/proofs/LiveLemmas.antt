@@ -9,7 +9,8 @@ use Rattle.ob_io.specs.Told.{Gains, Gains-none}
 use Rattle.ob_object.specs.Object.{Object}
 use Rattle.ob_http.proofs.RepliesLemmas.{start}
 use Rattle.ob_watching.specs.WatchOuts.{Text}
-use Rattle.ob_asking.specs.Places.{Request, host_of, port_in}
+use Rattle.ob_asking.specs.declared.request.Request.{Request}
+use Rattle.ob_asking.specs.Places.{host_of, port_in}
 use Rattle.ob_asking.specs.Wires.{Wire, wire}
 use Rattle.ob_asking.specs.declared.fault.Fault.{Fault}
 use Rattle.ob_asking.specs.declared.fault.Fault.TheVariants as faults

@@ -5,7 +5,9 @@ use Rattle.std.specs.Option.{option_map_or}
 use Rattle.ob_object.specs.Object.{Object}
 use Rattle.ob_watching.specs.WatchOuts.{Text}
 use Rattle.ob_client.specs.Entries.{is_err}
-use Rattle.ob_asking.specs.Places.{Place, Request, child_place}
+use Rattle.ob_asking.specs.declared.place.Place.{Place}
+use Rattle.ob_asking.specs.declared.request.Request.{Request}
+use Rattle.ob_asking.specs.Places.{child_place}
 use Rattle.ob_asking.specs.Watches.{get, watch_in}
 use Rattle.ob_asking.specs.Wires.{Wire}
 use Rattle.ob_asking.specs.declared.fault.Fault.{Fault}

@@ -6,7 +6,9 @@ use Rattle.ob_io.specs.Dials.{Dial, Visit}
 use Rattle.ob_io.specs.Told.{Gains, Gains-none, Gains-then}
 use Rattle.ob_object.specs.Object.{Object}
 use Rattle.ob_watching.specs.WatchOuts.{Text, Held}
-use Rattle.ob_asking.specs.Places.{Place, Request, place_at}
+use Rattle.ob_asking.specs.declared.place.Place.{Place}
+use Rattle.ob_asking.specs.declared.request.Request.{Request}
+use Rattle.ob_asking.specs.Places.{place_at}
 use Rattle.ob_asking.specs.Wires.{Wire}
 use Rattle.ob_asking.specs.declared.fault.Fault.{Fault}
 use Rattle.ob_asking.specs.declared.fault.Fault.TheVariants as faults

@@ -3,7 +3,6 @@ use Rattle.std.specs.Prelude.{◌≡◌, ℕ, Bool, cond, min, ◌||◌, bytes_e
 use Rattle.std.specs.declared.result.Result.TheVariants.{Ok, Err}
 use denote.Ref.{Bor}
 use Rattle.std.specs.List.{list_any}
-use Rattle.ob_asking.specs.Told as dialogue
 use Rattle.ob_parts.specs.Least.{least}
 use Rattle.ob_super.specs.declared.config_fault.ConfigFault.{ConfigFault}
 use Rattle.ob_super.specs.declared.config_fault.ConfigFault.TheVariants.{Shape, Memory}
@@ -13,7 +12,7 @@ use Rattle.ob_super.specs.Upstreams.{is_text}
 use Rattle.ob_watching.specs.WatchOuts.{Text}
 
 abbrev pub upstream : Upstream → spec.Upstream
-upstream u = record { name = u.name; lobby = dialogue.place u.lobby; hrefs = u.hrefs.items }
+upstream u = record { name = u.name; lobby = u.lobby; hrefs = u.hrefs.items }
 
 -- no part offends, and what is told is so; or the first part that offends; or there was no memory
 abbrev pub Judges : {A : Type 0} → List ℕ → (A → Type 0) → Result A ConfigFault → Type 0

@@ -3,7 +3,6 @@ use Rattle.std.specs.Prelude.{◌≡◌, ◌⊎◌, ◌<◌, ℕ, length, false,
 use Rattle.std.specs.declared.result.Result.TheVariants.{Ok, Err}
 use Rattle.ob_io.specs.Links.{inlet}
 use Rattle.ob_asking.specs.Wires.{Wire, wire}
-use Rattle.ob_asking.specs.Told as dialogue
 use Rattle.ob_client.specs.declared.session.Session.{Session}
 use Rattle.ob_super.specs.Upstreams as spec
 use Rattle.ob_super.specs.Upstreams.{IsConfig, IsFirstOffence, configured}
@@ -23,11 +22,11 @@ use Rattle.std.specs.List.{AllByRecursion, flat_map}
 use Rattle.ob_watching.specs.WatchOuts.{Text, Held}
 use Rattle.ob_client.specs.declared.mirror_fault.MirrorFault.{MirrorFault}
 use Rattle.ob_client.specs.declared.mirror_fault.MirrorFault.TheVariants as mirrors
-use Rattle.ob_asking.specs.Places as plans
 use Rattle.ob_values.specs.declared.verb.Verb.{Verb}
-use Rattle.ob_asking.specs.Places.{Request, child_place}
-use Rattle.ob_client.specs.Mirrors.{found}
 use Rattle.ob_asking.specs.declared.place.Place.{Place}
+use Rattle.ob_asking.specs.declared.request.Request.{Request}
+use Rattle.ob_asking.specs.Places.{child_place}
+use Rattle.ob_client.specs.Mirrors.{found}
 use Rattle.ob_asking.specs.declared.fault.Fault.{Fault}
 use Rattle.ob_asking.specs.declared.fault.Fault.TheVariants as faults
 use Rattle.ob_super.specs.declared.asking.Ops.{Ops}
@@ -111,20 +110,20 @@ module _ {L : Type 0} (left taken held : L → Option (List ℕ)) where
       (live ≡ None) × ((visits : List Visit) × Goes before [] visits after × BreaksAt (IsSome after.visits) u calls q faults.Memory visits)
 
   -- The PUT of a path was sent on to this place of the upstream's server, if its href leads to one.
-  abbrev pub PutsTo : Outside → Outside → spec.Upstream → List Call → Text → Option plans.Place → Option Object → Option (Live L) → Result (Option Object) AllocError → Type 0
+  abbrev pub PutsTo : Outside → Outside → spec.Upstream → List Call → Text → Option Place → Option Object → Option (Live L) → Result (Option Object) AllocError → Type 0
   PutsTo before after u calls path place body live result =
       (new : Standing) × (visits : List Visit) × Goes before [] visits after
       × SendsIf (IsSome after.visits) u calls new path place body visits result × Stands u new live
 
   -- Without memory it was answered, or its link came back.
-  abbrev pub HasSent : Outside → Outside → spec.Upstream → List Call → Option plans.Place → Option Object → Option (Live L) → Type 0
+  abbrev pub HasSent : Outside → Outside → spec.Upstream → List Call → Option Place → Option Object → Option (Live L) → Type 0
   HasSent before after u calls None body live = ⊥
   HasSent before after u calls (Some p) body live =
       ((o : Object) × (after ≡ before) × Stands u (Up (calls ++ SentOn p.target body o ∷ [])) live)
       ⊎ ((live ≡ None) × ((visits : List Visit) × Goes before [] visits after × BreaksAt (IsSome after.visits) u calls (put_on p.target body) faults.Memory visits))
 
   -- The same of a PUT that may want memory, before the upstream is taken down for it; nothing may have been sent.
-  abbrev pub MayPut : Outside → Outside → spec.Upstream → List Call → Text → Option plans.Place → Option Object → Option (Live L) → Result Object AllocError → Type 0
+  abbrev pub MayPut : Outside → Outside → spec.Upstream → List Call → Text → Option Place → Option Object → Option (Live L) → Result Object AllocError → Type 0
   MayPut before after u calls path place body live (Ok reply) = PutsTo before after u calls path place body live (Ok (Some reply))
   MayPut before after u calls path place body live (Err e) =
       ((after ≡ before) × Stands u (Up calls) live) ⊎ HasSent before after u calls place body live
@@ -213,10 +212,6 @@ abbrev pub opened : Result Watch Fault → Result Stage Fault
 opened (Ok w) = Ok (polling w)
 opened (Err e) = Err e
 
-abbrev pub place_result : Result Place Fault → Result plans.Place Fault
-place_result (Ok p) = Ok (dialogue.place p)
-place_result (Err e) = Err e
-
 abbrev pub ops_result : Result Ops Fault → Result (Text × Text) Fault
 ops_result (Ok o) = Ok (ops o)
 ops_result (Err e) = Err e
@@ -238,11 +233,11 @@ ComesBack left taken held reads writes link before after =
     (v : Visit) × Gains before (v ∷ []) after × (IsSome after → IsVisit v (left link) (taken link) (held link) (reads link) (writes link))
 
 -- both ops of a watch
-abbrev pub both_targets : Option plans.Place → Option plans.Place → Option (Text × Text)
+abbrev pub both_targets : Option Place → Option Place → Option (Text × Text)
 both_targets (Some add) (Some changes) = Some (add.target, changes.target)
 both_targets _ _ = None
 
-abbrev pub ops_in : plans.Place → Object → Option (Text × Text)
+abbrev pub ops_in : Place → Object → Option (Text × Text)
 ops_in place watch = both_targets (child_place place.url watch (codes "add")) (child_place place.url watch (codes "pollChanges"))
 
 -- what is found is needed; or there was no memory

@@ -12,7 +12,8 @@ use Rattle.ob_object.specs.declared.head.Slot.TheVariants.{Is}
 use Rattle.ob_object.specs.Object.{Object, children}
 use Rattle.ob_href.specs.Href.{as_base}
 use Rattle.ob_watching.specs.WatchOuts.{Text, is_of_kind}
-use Rattle.ob_asking.specs.Places.{Place, some_of, place_at}
+use Rattle.ob_asking.specs.declared.place.Place.{Place}
+use Rattle.ob_asking.specs.Places.{some_of, place_at}
 use Rattle.ob_parts.specs.Numbered.{Part, inside, inside_child, root}
 use Rattle.ob_parts.specs.Offences.{unless, needs, said, each, IsFirst}
 

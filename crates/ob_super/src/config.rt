@@ -1,7 +1,6 @@
 //! What a config tells.
-ghost use Rattle.std.specs.Prelude.{◌≡◌, ◌++◌, ◌∷◌, [], true, Some, IfOk, OnOk, is_some, option_copied, option_map, codes, map};
+ghost use Rattle.std.specs.Prelude.{◌≡◌, ◌++◌, ◌∷◌, [], true, Some, IfOk, OnOk, is_some, option_copied, codes, map};
 ghost use Rattle.std.specs.List.{list_all};
-ghost use Rattle.ob_asking.specs.Told as dialogue;
 ghost use Rattle.ob_parts.specs.Numbered.{inside, inside_child};
 ghost use Rattle.ob_parts.specs.Offences.{unless, needs, said, each};
 ghost use Rattle.ob_parts.specs.Views.{part_of};
@@ -93,7 +92,7 @@ fn uri_in(object: &Obj) -> Option<&Text>
 
 // Where an http URL without fragment leads.
 fn lobby_at(alloc: Global, text: &Text) -> Result<Option<Place>, AllocError>
-    ensures { IfOk result (λ place. option_map dialogue.place place ≡ form.lobby_at text.now) }
+    ensures { IfOk result (λ place. place ≡ form.lobby_at text.now) }
 {
     match Base::new(alloc, text.as_str()) {
         Ok(base) => {
@@ -140,7 +139,7 @@ fn name(part: Part<'_>) -> Result<Text, ConfigFault>
 
 // The lobby that a uri says.
 fn lobby_in(alloc: Global, object: &Obj) -> Result<Option<Place>, AllocError>
-    ensures { IfOk result (λ place. option_map dialogue.place place ≡ form.lobby_in object.now) }
+    ensures { IfOk result (λ place. place ≡ form.lobby_in object.now) }
 {
     match uri_in(object) {
         Some(text) => lobby_at(alloc, text),
@@ -150,7 +149,7 @@ fn lobby_in(alloc: Global, object: &Obj) -> Result<Option<Place>, AllocError>
 
 // The lobby of an upstream.
 fn lobby(alloc: Global, part: Part<'_>) -> Result<Place, ConfigFault>
-    ensures { read.Judges (needs (codes "url") (λ o. is_some (form.lobby_in o)) (part_of part.entry)) (λ place. said (codes "url") form.lobby_in part.entry.object.now ≡ Some (dialogue.place place)) result }
+    ensures { read.Judges (needs (codes "url") (λ o. is_some (form.lobby_in o)) (part_of part.entry)) (λ place. said (codes "url") form.lobby_in part.entry.object.now ≡ Some place) result }
 {
     let Some(url) = part.child("url") else {
         return wrong(part.number);

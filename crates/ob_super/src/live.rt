@@ -44,7 +44,7 @@ fn begin<W: Dialer>(
     ensures back { OnErr result (told.ComesBack W.L.left W.L.taken W.L.held W.L.read_faults W.L.write_faults link (W.visits dialer.old) (W.visits dialer.new)) }
     ensures apart { W.dials dialer.new ≡ W.dials dialer.old }
 {
-    let Ok(host) = host_field(alloc, &upstream.lobby.base) else {
+    let Ok(host) = host_field(alloc, &upstream.lobby.url) else {
         dialer.back(link);
         return Err(AllocError);
     };
@@ -65,7 +65,7 @@ fn connect<W: Dialer>(
 ) -> Result<Option<Live<W::L>>, AllocError>
     ensures { told.Parts W.L.left W.L.taken W.L.held (told.outside (W.dials dialer.old) (W.visits dialer.old)) (told.outside (W.dials dialer.new) (W.visits dialer.new)) (told.upstream upstream.now) Down result }
 {
-    let base = &upstream.lobby.base;
+    let base = &upstream.lobby.url;
     let Ok(link) = dialer.dial(base.host(), base.port()) else {
         return Ok(None);
     };

@@ -95,12 +95,12 @@ fn put_at<W: Dialer>(
     ensures same { followed.new.upstream ≡ followed.old.upstream }
     ensures puts { (calls : List Call) → (href : List ℕ) → told.Stands W.L.left W.L.taken W.L.held (told.upstream followed.old.upstream) (Up calls) followed.old.live
         → slice_get followed.old.upstream.hrefs.items place ≡ Some href
-        → told.MayPut W.L.left W.L.taken W.L.held (told.outside (W.dials dialer.old) (W.visits dialer.old)) (told.outside (W.dials dialer.new) (W.visits dialer.new)) (told.upstream followed.old.upstream) calls (object_at followed.old.upstream.name place) (place_at followed.old.upstream.lobby.base href) (option_copied body.entry) followed.new.live result }
+        → told.MayPut W.L.left W.L.taken W.L.held (told.outside (W.dials dialer.old) (W.visits dialer.old)) (told.outside (W.dials dialer.new) (W.visits dialer.new)) (told.upstream followed.old.upstream) calls (object_at followed.old.upstream.name place) (place_at followed.old.upstream.lobby.url href) (option_copied body.entry) followed.new.live result }
 {
     let path = object_path(alloc, &followed.upstream.name, place)?;
     let upstream = &followed.upstream;
     let href = upstream.hrefs[place].as_str();
-    let Some(asked) = place_at(alloc, &upstream.lobby.base, href)? else {
+    let Some(asked) = place_at(alloc, &upstream.lobby.url, href)? else {
         return not_supported(alloc);
     };
     let target = asked.into_target();
@@ -150,7 +150,7 @@ fn put_or_down<W: Dialer>(
     ensures same { followed.new.upstream ≡ followed.old.upstream }
     ensures puts { (calls : List Call) → (href : List ℕ) → told.Stands W.L.left W.L.taken W.L.held (told.upstream followed.old.upstream) (Up calls) followed.old.live
         → slice_get followed.old.upstream.hrefs.items place ≡ Some href
-        → told.PutsTo W.L.left W.L.taken W.L.held (told.outside (W.dials dialer.old) (W.visits dialer.old)) (told.outside (W.dials dialer.new) (W.visits dialer.new)) (told.upstream followed.old.upstream) calls (object_at followed.old.upstream.name place) (place_at followed.old.upstream.lobby.base href) (option_copied body.entry) followed.new.live result }
+        → told.PutsTo W.L.left W.L.taken W.L.held (told.outside (W.dials dialer.old) (W.visits dialer.old)) (told.outside (W.dials dialer.new) (W.visits dialer.new)) (told.upstream followed.old.upstream) calls (object_at followed.old.upstream.name place) (place_at followed.old.upstream.lobby.url href) (option_copied body.entry) followed.new.live result }
 {
     match put_at(alloc, followed, place, dialer, body) {
         Ok(reply) => Ok(Some(reply)),

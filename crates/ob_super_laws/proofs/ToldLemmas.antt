@@ -5,7 +5,9 @@ use Rattle.std.specs.declared.alloc.AllocError.{AllocError}
 use Rattle.ob_io.specs.Dials.{Visit}
 use Rattle.ob_object.specs.Object.{Object}
 use Rattle.ob_watching.specs.WatchOuts.{Text}
-use Rattle.ob_asking.specs.Places.{Place, Request, place_at}
+use Rattle.ob_asking.specs.declared.place.Place.{Place}
+use Rattle.ob_asking.specs.declared.request.Request.{Request}
+use Rattle.ob_asking.specs.Places.{place_at}
 use Rattle.ob_super.specs.Upstreams.{Upstream}
 use Rattle.ob_super.specs.Calls.{Call, put_on}
 use Rattle.ob_super.specs.Turns.{Standing, Down, Up, is_up}

@@ -6,7 +6,7 @@ use Rattle.ob_object.specs.declared.status.Status.TheVariants as status
 use Rattle.ob_object.specs.Facets.{no_facets}
 use Rattle.ob_object.specs.Object.{Object, empty_head, in_row}
 use Rattle.ob_watching.specs.WatchOuts.{Text}
-use Rattle.ob_asking.specs.Places.{Place}
+use Rattle.ob_asking.specs.declared.place.Place.{Place}
 use Rattle.ob_super.specs.Upstreams.{lobby_at, offences, configured}
 use Rattle.ob_super.specs.Calls.{Lobby, Adding, Polling, next}
 use Rattle.ob_super.specs.Turns.{Reply, Down, Up, after}

@@ -6,7 +6,7 @@ use Rattle.ob_object.specs.Object.{Object}
 use Rattle.ob_machine.specs.declared.call.Answer.{Answer}
 use Rattle.ob_machine.specs.declared.call.Answer.TheVariants.{Done, NoMemory}
 use Rattle.ob_site_rules.specs.declared.request.Request.{Request as Framed}
-use Rattle.ob_asking.specs.Places.{Request}
+use Rattle.ob_asking.specs.declared.request.Request.{Request}
 use Rattle.ob_server.specs.Answered.{Serves}
 use Rattle.ob_server.specs.Answering.{AreDone}
 use Rattle.ob_server.specs.Exchange.{Call, had}

@@ -1,4 +1,4 @@
-use Rattle.std.proofs.Common.{◌∙◌, Option, ap, sym, subst, option_map}
+use Rattle.std.proofs.Common.{◌∙◌, Option, ap, sym, subst}
 use Rattle.ob_http.specs.Asking.{request_text}
 use Rattle.ob_object.specs.Object.{Object}
 use Rattle.ob_client.specs.Sessions.{Asks, body_text}
@@ -35,8 +35,8 @@ returns-clause-exchanges g c =
     let old = c.args.session.now in
     let new = c.call.new.self in
     let r = c.in-Some.request in
-    call_exchanges old.host (told.stage c.args.stage.now) (told.request r) _ _ c.call.result c.gave-2.result c.gave-2.ensures
-    (sym c.in-Ok.ensures ∙ ap (option_map told.request) c.in-Some.is)
+    call_exchanges old.host (told.stage c.args.stage.now) r _ _ c.call.result c.gave-2.result c.gave-2.ensures
+    (sym c.in-Ok.ensures ∙ c.in-Some.is)
     (subst (λ (b : Option Object). Asks (g.L.Link.held old.link) (g.L.Link.held new.link) (request_text r.verb r.target old.host (body_text b)) c.call.result) c.as_ref.ensures.value (c.call.ensures.asks c.requires))
     (c.call.ensures.reads c.requires)
 

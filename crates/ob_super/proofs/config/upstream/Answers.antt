@@ -1,6 +1,5 @@
 use Rattle.std.proofs.Common.{rules, ◌≡◌, ◌++◌, [], true, Some, sym, subst, ◌∙◌}
 use Rattle.std.specs.Prelude.{codes, is_some}
-use Rattle.ob_asking.specs.Told as dialogue
 use Rattle.ob_parts.specs.Numbered.{inside_child}
 use Rattle.ob_parts.specs.Offences.{unless, needs, said, each}
 use Rattle.ob_parts.specs.Views.{part_of}
@@ -16,7 +15,7 @@ returns-in-Err c =
     let p = part_of c.args.part in
     refused (unless (is_some (name_in p.object)) p) (needs (codes "url") (λ o. is_some (lobby_in o)) p)
     (needs (codes "hrefs") (is_list 1 2_048) p ++ each href_offences [] (inside_child (codes "hrefs") p))
-    (λ n. name_in p.object ≡ Some n) (λ l. said (codes "url") lobby_in p.object ≡ Some (dialogue.place l)) (λ t. said (codes "hrefs") hrefs_in p.object ≡ Some t.items)
+    (λ n. name_in p.object ≡ Some n) (λ l. said (codes "url") lobby_in p.object ≡ Some l) (λ t. said (codes "hrefs") hrefs_in p.object ≡ Some t.items)
     (λ (u : code.Upstream). upstream_in p.object ≡ Some (upstream u))
     c.name.result c.lobby.result c.hrefs.result c.both-reached.result c.in-Err.fault
     c.name.ensures c.lobby.ensures c.hrefs.ensures c.both-reached.ensures (sym c.both.ensures ∙ c.in-Err.is)

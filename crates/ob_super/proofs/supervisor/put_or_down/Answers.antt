@@ -13,8 +13,8 @@ returns-in-Err-clause-puts g c = λ calls href stands at.
     let after = told.outside (g.W.Dialer.dials c.take_down.new.dialer) (g.W.Dialer.visits c.take_down.new.dialer) in
     let up = c.args.followed.now.upstream in
     let live = c.put_at.new.followed.live in
-    subst (λ x. told.PutsTo g.W.L.Link.left g.W.L.Link.taken g.W.L.Link.held before after (told.upstream up) calls (object_at up.name c.args.place) (place_at up.lobby.base href) (option_copied c.args.body) x (Err c.in-Err.field-0))
+    subst (λ x. told.PutsTo g.W.L.Link.left g.W.L.Link.taken g.W.L.Link.held before after (told.upstream up) calls (object_at up.name c.args.place) (place_at up.lobby.url href) (option_copied c.args.body) x (Err c.in-Err.field-0))
     (sym (ap (λ x. x.live) c.take_down.ensures.down))
-    (put_down g.W.L.Link.left g.W.L.Link.taken g.W.L.Link.held g.W.L.Link.read_faults g.W.L.Link.write_faults (told.upstream up) before mid after calls (object_at up.name c.args.place) (place_at up.lobby.base href) (option_copied c.args.body) live c.in-Err.field-0
+    (put_down g.W.L.Link.left g.W.L.Link.taken g.W.L.Link.held g.W.L.Link.read_faults g.W.L.Link.write_faults (told.upstream up) before mid after calls (object_at up.name c.args.place) (place_at up.lobby.url href) (option_copied c.args.body) live c.in-Err.field-0
     (c.in-Err.ensures.puts calls href stands at)
     (is_down g.W.L.Link.left g.W.L.Link.taken g.W.L.Link.held g.W.L.Link.read_faults g.W.L.Link.write_faults live mid after (λ e. ap (λ d. told.outside (g.W.Dialer.dials d) (g.W.Dialer.visits d)) (c.take_down.ensures.none e)) c.take_down.ensures.back c.take_down.ensures.apart))
