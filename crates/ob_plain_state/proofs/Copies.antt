@@ -4,7 +4,7 @@ use Rattle.std.proofs.lemmas.List.{map-append, take_more, take_all}
 use Rattle.ob_site_rules.specs.Build.{Path}
 use Rattle.ob_site_rules.specs.State.{Log as SiteLog, rolled, rolled_logs}
 use Rattle.ob_plain_state.specs.States.{log_of, entry_of}
-use Rattle.ob_plain_state.specs.declared.log.Log.{Log}
+use Rattle.ob_plain_state.specs.declared.log.OpenedLog.{OpenedLog}
 
 -- one more element, which is seen as the next one is
 pub more : {A B C : Type 0} (f : A → B) (g : C → B) (done : List C) (xs : List A) (i : ℕ) (x : A) (y : C)
@@ -20,9 +20,9 @@ pub whole : {A B C : Type 0} (f : A → B) (g : C → B) (done : List C) (xs : L
 whole f g done xs i end so_far = so_far ∙ ap (map f) (take_all i xs end)
 
 -- a log under its path, rolled
-abbrev pub rolled_entry : Path × Log → Path × SiteLog
+abbrev pub rolled_entry : Path × OpenedLog → Path × SiteLog
 rolled_entry e = (e.0, rolled (log_of e.1))
 
-pub rolled-all : (ls : List (Path × Log)) → map rolled_entry ls ≡ rolled_logs (map entry_of ls)
+pub rolled-all : (ls : List (Path × OpenedLog)) → map rolled_entry ls ≡ rolled_logs (map entry_of ls)
 rolled-all [] = refl
 rolled-all (l ∷ ls) = ap (λ r. rolled_entry l ∷ r) (rolled-all ls)

@@ -13,7 +13,7 @@ use Rattle.ob_site_rules.specs.Build.{Path}
 use Rattle.ob_plain_state.specs.States.{AreCounted, NamesAreFree, entry_of, log_of}
 use Rattle.ob_site_rules.specs.Shown.{derived, derived_at, history_part, lobby_children, subject_children, write_point_op}
 use Rattle.ob_site_rules.specs.Writes.{events_ever}
-use Rattle.ob_plain_state.specs.declared.log.Log.{Log}
+use Rattle.ob_plain_state.specs.declared.log.OpenedLog.{OpenedLog}
 
 abbrev pub names_of : List Object → List (Option Path)
 names_of os = map (λ o. o.head.name) os
@@ -113,9 +113,9 @@ NamesAreFree-same plan s t e (node h inner rest) f =
     (NamesDiffer-same _ _ names f.0, NamesAreFree-same plan s t e inner f.1, NamesAreFree-same plan s t e rest f.2)
 
 -- the log of an entry is counted
-pub counted_at : (ls : List (Path × Log)) (i : ℕ) (x : Path × Log) → i < length ls → x ≡ get_or ls i x → AreCounted (map entry_of ls) → events_ever (log_of x.1) < 2 ^ 63
+pub counted_at : (ls : List (Path × OpenedLog)) (i : ℕ) (x : Path × OpenedLog) → i < length ls → x ≡ get_or ls i x → AreCounted (map entry_of ls) → events_ever (log_of x.1) < 2 ^ 63
 counted_at [] i x lt is c = absurd (omega arith)
-counted_at (l ∷ ls) zero x lt is c = subst (λ (e : Path × Log). events_ever (log_of e.1) < 2 ^ 63) (sym is) c.0
+counted_at (l ∷ ls) zero x lt is c = subst (λ (e : Path × OpenedLog). events_ever (log_of e.1) < 2 ^ 63) (sym is) c.0
 counted_at (l ∷ ls) (suc i) x lt is c = counted_at ls i x (omega arith) is c.1
 
 rolled-counted : (l : SiteLog) (o : Option ℕ) → l.capacity ≡ o → events_ever l < 2 ^ 63 → events_ever (rolled l) < 2 ^ 63

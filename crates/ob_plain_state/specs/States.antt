@@ -1,4 +1,4 @@
--- What log of a site's definitions a `Log` is, and what a state owes its plan, part by part.
+-- What log of a site's definitions an `OpenedLog` is, and what a state owes its plan, part by part.
 use Rattle.std.specs.Prelude.{◌≡◌, ℕ, ◌<◌, ◌^◌, Bool, true, false, not, ◌++◌, List, [], ◌∷◌, Option, Some, None, slice_get, Ok}
 use Rattle.ob_object.specs.declared.kind.Kind.{Kind}
 use Rattle.ob_object.specs.declared.kind.Kind.TheVariants as kind
@@ -15,14 +15,14 @@ use Rattle.ob_site_rules.specs.State.{State as SiteState, Log as SiteLog, number
 use Rattle.ob_site_rules.specs.Build.{Path}
 use Rattle.ob_site_rules.specs.Shown.{derived, rule_of}
 use Rattle.ob_site_rules.specs.Writes.{events_ever}
-use Rattle.ob_plain_state.specs.declared.log.Log.{Log}
+use Rattle.ob_plain_state.specs.declared.log.OpenedLog.{OpenedLog}
 
 -- a log as the definitions have it
-abbrev pub log_of : Log → SiteLog
+abbrev pub log_of : OpenedLog → SiteLog
 log_of l = record { capacity = l.capacity; gone = l.gone; kept = l.kept.items }
 
 -- a log under its path
-abbrev pub entry_of : Path × Log → Path × SiteLog
+abbrev pub entry_of : Path × OpenedLog → Path × SiteLog
 entry_of e = (e.0, log_of e.1)
 
 -- In each row the names of the own children differ, from one another and from those that the roles of their parent derive.

@@ -7,17 +7,17 @@ use ob_history::Record;
 
 /// The records of a history: how many are kept at most, if not all; how many rolled off; and the kept
 /// ones, the oldest first.
-pub struct Log {
+pub struct OpenedLog {
     pub capacity: Option<u64>,
     pub gone: u64,
     pub kept: Vec<Record>,
     pub ghost values_fit: { IsTrue (list_all (λ r. fits_slot r.kind r.slot) kept.items) },
 }
 
-impl Drop for Log {
+impl Drop for OpenedLog {
     // By one call, so that to drop it is one call to whoever may have to.
     fn drop(self) {
-        let Log {
+        let OpenedLog {
             capacity: _,
             gone: _,
             kept,

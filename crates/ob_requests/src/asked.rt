@@ -12,7 +12,7 @@ use std::alloc::{AllocError, Global};
 use std::collections::BTreeSet;
 
 /// An href as it is asked, and the input that stands beside it.
-pub type Asked = (Text, Option<Obj>);
+pub type WatchInItem = (Text, Option<Obj>);
 
 /// The text of a uri that has one.
 pub fn uri_of(object: &Obj) -> Option<&Text>
@@ -38,7 +38,7 @@ fn copy_child(object: &Obj, name: &str) -> Result<Option<Obj>, AllocError>
 }
 
 // What a uri asks for.
-fn asked_of(object: &Obj) -> Result<Option<Asked>, AllocError>
+fn asked_of(object: &Obj) -> Result<Option<WatchInItem>, AllocError>
     ensures { IfOk result (λ asked. asked ≡ asked_of object.now) }
 {
     let Some(text) = uri_of(object) else {
@@ -50,7 +50,7 @@ fn asked_of(object: &Obj) -> Result<Option<Asked>, AllocError>
 }
 
 // The uris of a list, each with its child `in`, if all are uris with a value.
-fn asked_items(alloc: Global, objects: &[Obj]) -> Result<Option<Vec<Asked>>, AllocError>
+fn asked_items(alloc: Global, objects: &[Obj]) -> Result<Option<Vec<WatchInItem>>, AllocError>
     ensures { IfOk result (λ asked. option_map (λ v. v.items) asked ≡ asked_items objects.now) }
 {
     let mut all = Vec::new(alloc);
@@ -64,7 +64,7 @@ fn asked_items(alloc: Global, objects: &[Obj]) -> Result<Option<Vec<Asked>>, All
 }
 
 // What a list of uris asks for.
-fn asked_in(alloc: Global, hrefs: Option<&Obj>) -> Result<Option<Vec<Asked>>, AllocError>
+fn asked_in(alloc: Global, hrefs: Option<&Obj>) -> Result<Option<Vec<WatchInItem>>, AllocError>
     ensures { IfOk result (λ asked. option_map (λ v. v.items) asked ≡ asked_in (option_copied hrefs.entry)) }
 {
     let Some(hrefs) = hrefs else {
@@ -80,7 +80,7 @@ fn asked_in(alloc: Global, hrefs: Option<&Obj>) -> Result<Option<Vec<Asked>>, Al
 /// nothing. An error only for want of memory.
 ///
 /// Source: oBIX 1.1, chapter 12 (WatchIn).
-pub fn asked_by(alloc: Global, input: &Option<Obj>) -> Result<Option<Vec<Asked>>, AllocError>
+pub fn asked_by(alloc: Global, input: &Option<Obj>) -> Result<Option<Vec<WatchInItem>>, AllocError>
     ensures { IfOk result (λ asked. option_map (λ v. v.items) asked ≡ asked_by input.now) }
 {
     let Some(input) = input else {
@@ -96,7 +96,7 @@ pub fn asked_by(alloc: Global, input: &Option<Obj>) -> Result<Option<Vec<Asked>>
 }
 
 // A copy of what is asked for.
-fn copy_asked(asked: &Asked) -> Result<Asked, AllocError>
+fn copy_asked(asked: &WatchInItem) -> Result<WatchInItem, AllocError>
     ensures { IfOk result (λ copy. copy ≡ asked.now) }
 {
     let text = asked.0.copy()?;
@@ -112,8 +112,8 @@ fn copy_asked(asked: &Asked) -> Result<Asked, AllocError>
 // Puts a copy of what is asked for last, unless its href is among those that were seen.
 fn put_first<'a>(
     seen: &mut BTreeSet<&'a str>,
-    kept: &mut Vec<Asked>,
-    asked: &'a Asked,
+    kept: &mut Vec<WatchInItem>,
+    asked: &'a WatchInItem,
 ) -> Result<(), AllocError>
     ensures { IfOk result (λ _. HaveSeen seen.old kept.old.items → ArePut seen.new kept.old.items kept.new.items asked.now) }
 {
@@ -127,7 +127,7 @@ fn put_first<'a>(
 }
 
 /// What is asked for without what asks for an href again: of equal hrefs only the first counts.
-pub fn firsts(alloc: Global, asked: &[Asked]) -> Result<Vec<Asked>, AllocError>
+pub fn firsts(alloc: Global, asked: &[WatchInItem]) -> Result<Vec<WatchInItem>, AllocError>
     ensures { IfOk result (λ kept. kept.items ≡ firsts asked.now) }
 {
     let mut seen = BTreeSet::new(alloc);
@@ -139,7 +139,7 @@ pub fn firsts(alloc: Global, asked: &[Asked]) -> Result<Vec<Asked>, AllocError>
 }
 
 /// The hrefs that are asked for.
-pub fn texts_of(alloc: Global, asked: &[Asked]) -> Result<Vec<Text>, AllocError>
+pub fn texts_of(alloc: Global, asked: &[WatchInItem]) -> Result<Vec<Text>, AllocError>
     ensures { IfOk result (λ texts. texts.items ≡ map (λ a. a.0) asked.now) }
 {
     let mut texts = Vec::new(alloc);

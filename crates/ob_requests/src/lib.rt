@@ -14,7 +14,7 @@ mod locating;
 mod paths;
 mod target;
 
-pub use asked::{Asked, asked_by, firsts, texts_of, uri_of};
+pub use asked::{WatchInItem, asked_by, firsts, texts_of, uri_of};
 pub use items::item_request;
 pub use laws::as_the_site_says;
 pub use lease::{Found, feed_with, lease_asked};

@@ -5,7 +5,7 @@ ghost use Rattle.ob_site_rules.specs.Paths.{make_path, watch_part};
 ghost use Rattle.ob_site_rules.specs.Watched.{call_of_watch, operation, put_to_watch, target_at, target_part};
 ghost use Rattle.ob_requests.specs.Targets.{IsTarget, operation_of};
 
-use crate::asked::{Asked, asked_by, texts_of};
+use crate::asked::{WatchInItem, asked_by, texts_of};
 use crate::paths::{OfWatch, watch_part};
 use ob_object::Obj;
 use ob_site_rules::{Fault, Plan, Request, WatchPart};
@@ -20,7 +20,7 @@ use std::alloc::{AllocError, Global};
 pub enum Operation {
     Look(WatchPart),
     Renew(Option<Obj>),
-    Add(Vec<Asked>),
+    Add(Vec<WatchInItem>),
     Remove(Vec<Text>),
     PollChanges,
     PollRefresh,

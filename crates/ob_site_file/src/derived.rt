@@ -9,7 +9,7 @@ ghost use Rattle.ob_site_file.specs.Sizes.{has_text, IsCounting, stand_in, stood
 
 use ob_contracts::Library;
 use ob_object::Attributes;
-use ob_plain_state::Log;
+use ob_plain_state::OpenedLog;
 use ob_site_rules::Plan;
 use ob_values::Text;
 use std::alloc::{AllocError, Global};
@@ -39,7 +39,7 @@ fn texts_of<'a>(alloc: Global, texts: &'a [Text]) -> Result<Texts<'a>, AllocErro
 }
 
 // The paths of logs as a set.
-fn paths_of<'a>(alloc: Global, logs: &'a [(Text, Log)]) -> Result<Texts<'a>, AllocError>
+fn paths_of<'a>(alloc: Global, logs: &'a [(Text, OpenedLog)]) -> Result<Texts<'a>, AllocError>
     ensures { IfOk result (λ set. (t : List ℕ) → has_text set t ≡ is_some (at t (map entry_of logs.now))) }
 {
     let mut set = BTreeSet::new(alloc);
@@ -123,7 +123,7 @@ impl<'a> Counting<'a> {
         alloc: Global,
         library: &'a Library,
         plan: &'a Plan,
-        logs: &'a [(Text, Log)],
+        logs: &'a [(Text, OpenedLog)],
     ) -> Result<Counting<'a>, AllocError>
         ensures library { IfOk result (λ c. c.library.now ≡ library.now) }
         ensures plan { IfOk result (λ c. c.plan.now ≡ plan.now) }

@@ -17,7 +17,7 @@ use ob_contracts::Library;
 use ob_href::Base;
 use ob_hrefs::{bad_href, made_root, root_of};
 use ob_object::Obj;
-use ob_plain_state::Log;
+use ob_plain_state::OpenedLog;
 use ob_roles::{all_parts, kept_root};
 use ob_site_rules::Plan;
 use ob_times::Moment;
@@ -61,7 +61,7 @@ pub struct Opened {
     pub plan: Plan,
     pub library: Library,
     pub tree: Obj,
-    pub logs: Vec<(Text, Log)>,
+    pub logs: Vec<(Text, OpenedLog)>,
 }
 
 // What a root opens whose contracts are in a library, and whose objects have these roles.

@@ -10,7 +10,7 @@ use crate::items::{child_of, items_of};
 use crate::records::records_in;
 use crate::rules::source_of;
 use ob_object::{Kind, Obj, Slot};
-use ob_plain_state::Log;
+use ob_plain_state::OpenedLog;
 use ob_roles::Part;
 use ob_values::{Text, Value};
 use std::alloc::{AllocError, Global};
@@ -32,13 +32,13 @@ pub(crate) fn capacity_of(object: &Obj) -> Option<u64>
 }
 
 /// The log of a history with all its records. Those above its capacity roll off when the site is opened.
-pub(crate) fn log_of(alloc: Global, part: &Part) -> Result<Log, AllocError>
+pub(crate) fn log_of(alloc: Global, part: &Part) -> Result<OpenedLog, AllocError>
     ensures log { IfOk result (λ log. log_of log ≡ (whole_log (site_part part.now)).1) }
     ensures counted { IfOk result (λ log. length log.kept.items < 2 ^ 63) }
 {
     let items = items_of(part, "data");
     let kept = records_in(alloc, items.objects)?;
-    Ok(Log {
+    Ok(OpenedLog {
         capacity: capacity_of(part.own),
         gone: 0,
         kept,

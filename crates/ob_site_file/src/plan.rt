@@ -14,7 +14,7 @@ use crate::nodes::nodes_of;
 use crate::rules::put_rules;
 use ob_href::Base;
 use ob_object::Obj;
-use ob_plain_state::Log;
+use ob_plain_state::OpenedLog;
 use ob_roles::Part;
 use ob_site_rules::{Fixed, Plan, PointRule};
 use ob_times::Moment;
@@ -191,7 +191,7 @@ pub(crate) fn plan_of(
 }
 
 // Puts the log of a part last, if it is a history.
-fn put_log(alloc: Global, logs: &mut Vec<(Text, Log)>, part: &Part) -> Result<(), AllocError>
+fn put_log(alloc: Global, logs: &mut Vec<(Text, OpenedLog)>, part: &Part) -> Result<(), AllocError>
     ensures logs { IfOk result (λ _. map entry_of logs.new.items ≡ map entry_of logs.old.items ++ map whole_log (histories_in (site_part part.now ∷ []))) }
     ensures counted { IfOk result (λ _. AreCounted (map entry_of logs.old.items) → AreCounted (map entry_of logs.new.items)) }
 {
@@ -205,7 +205,7 @@ fn put_log(alloc: Global, logs: &mut Vec<(Text, Log)>, part: &Part) -> Result<()
 }
 
 /// The logs of the histories among parts, each under its path.
-pub(crate) fn logs_of(alloc: Global, parts: &[Part]) -> Result<Vec<(Text, Log)>, AllocError>
+pub(crate) fn logs_of(alloc: Global, parts: &[Part]) -> Result<Vec<(Text, OpenedLog)>, AllocError>
     ensures logs { IfOk result (λ logs. map entry_of logs.items ≡ map whole_log (histories_in (map site_part parts.now))) }
     ensures counted { IfOk result (λ logs. AreCounted (map entry_of logs.items)) }
 {

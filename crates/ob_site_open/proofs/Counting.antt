@@ -11,7 +11,7 @@ use Rattle.ob_history.specs.Records.{InOrder, IsNotBefore, Follows, MayFollow}
 use Rattle.ob_history.specs.Logs.{History, settled}
 use Rattle.ob_site_rules.specs.Build.{Path}
 use Rattle.ob_site_rules.specs.State.{Log, history_of, rolled, rolled_logs}
-use Rattle.ob_plain_state.specs.declared.log.Log.{Log as OpenedLog}
+use Rattle.ob_plain_state.specs.declared.log.OpenedLog.{OpenedLog}
 use Rattle.ob_plain_state.specs.States.{entry_of as opened_entry, log_of as opened_log}
 use Rattle.ob_site_state.specs.Tallies.{capacities_of}
 use Rattle.ob_opens_laws.specs.Records.{EachLog}

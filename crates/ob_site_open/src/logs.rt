@@ -13,7 +13,7 @@ ghost use Rattle.ob_site_open.specs.Logs.{CanStand, HasNanos, HaveNanos, stand_i
 
 use ob_history::{Log, Record};
 use ob_object::{Kind, Slot};
-use ob_plain_state::Log as OpenedLog;
+use ob_plain_state::OpenedLog;
 use ob_times::Moment;
 use ob_values::{Abstime, Text};
 use std::alloc::{AllocError, Global};

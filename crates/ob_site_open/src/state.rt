@@ -21,7 +21,7 @@ use ob_ground::Ground;
 use ob_history::Log;
 use ob_object::Obj;
 use ob_site_file::{LoadFault, Opened, opening};
-use ob_site_roles::Roles;
+use ob_site_roles::RoleIndex;
 use ob_site_state::{Contents, State};
 use ob_times::Moment;
 use ob_tree::{Tree, TreeFault};
@@ -83,7 +83,7 @@ pub fn state_of(
     let logs = logs_in(alloc, &opened)?;
     let board = board_of(alloc, &opened.plan)?;
     let capacities = capacities_in(alloc, &opened)?;
-    let roles = Roles::of(alloc, &opened.plan)?;
+    let roles = RoleIndex::of(alloc, &opened.plan)?;
     let Opened {
         plan,
         library,

@@ -5,7 +5,7 @@ ghost use Rattle.ob_consistent_laws.specs.Ordered.{moment_from, opening_time};
 ghost use Rattle.ob_plain_state.specs.States.{entry_of};
 
 use ob_history::Record;
-use ob_plain_state::Log;
+use ob_plain_state::OpenedLog;
 use ob_times::Moment;
 use ob_values::{Abstime, Text};
 
@@ -52,7 +52,7 @@ fn latest(time: Moment, records: &[Record]) -> Moment
 }
 
 /// When a site that booted then is opened with these logs: at the first moment that is neither before the boot nor before a record.
-pub(crate) fn opening_time(boot: Moment, logs: &[(Text, Log)]) -> Moment
+pub(crate) fn opening_time(boot: Moment, logs: &[(Text, OpenedLog)]) -> Moment
     ensures { result ≡ opening_time boot (map entry_of logs.now) }
 {
     let mut time = boot;

@@ -15,7 +15,7 @@ ghost use Rattle.ob_requests.specs.Calls.{found as found_of};
 
 use ob_contracts::Steps;
 use ob_object::{Kind, Obj};
-use ob_requests::{Asked, Found, feed_with, is_of_watch, located};
+use ob_requests::{Found, WatchInItem, feed_with, is_of_watch, located};
 use ob_site_places::computed_place;
 use ob_site_rules::{Fault, Plan, Resource};
 use ob_site_shown::shown_kind;
@@ -95,7 +95,7 @@ pub fn found<L: Ledger>(
     plan: &Plan,
     contents: &Contents,
     numbers: &[u64],
-    asked: &Asked,
+    asked: &WatchInItem,
     steps: &mut Steps<L>,
 ) -> Result<Found, AllocError>
     requires { IsReadable plan.now contents.now }

@@ -8,7 +8,7 @@ use Rattle.ob_object.specs.Paths.{is_path}
 use Rattle.ob_site_rules.specs.declared.plan.Plan.{Plan}
 use Rattle.ob_site_rules.specs.declared.plan.PointRule.{PointRule}
 use Rattle.ob_site_rules.specs.Shown.{rule_of}
-use Rattle.ob_site_roles.specs.declared.roles.Roles.{Roles}
+use Rattle.ob_site_roles.specs.declared.roles.RoleIndex.{RoleIndex}
 
 -- the place of the first element, from a place on, that passes a test
 abbrev pub place_from : {A : Type 0} → (A → Bool) → ℕ → List A → Option ℕ
@@ -46,7 +46,7 @@ places_at m p = kept_places (get_by_text m p)
 
 -- The roles are those of a plan: a path leads to the rule with that source, to the point there, to the history there, and
 -- to the histories that record the node there.
-pub record AreRoles (r : Roles) (plan : Plan) : Type 0 where
+pub record AreRoles (r : RoleIndex) (plan : Plan) : Type 0 where
   pub rules : (p : Path) → get_by_text r.rules p ≡ rule_of plan p
   pub points : (p : Path) → get_by_text r.points p ≡ first_place (is_at p) plan.points
   pub histories : (p : Path) → get_by_text r.histories p ≡ first_place (stands_at p) plan.histories

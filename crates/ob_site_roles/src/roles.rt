@@ -15,17 +15,17 @@ use std::collections::BTreeMap;
 
 /// What a plan says of each path, for look-ups: the place of the rule of each source, of each point, and of the history
 /// at each path; and the places of the histories of each source.
-pub struct Roles {
+pub struct RoleIndex {
     rules: BTreeMap<String, usize>,
     points: BTreeMap<String, usize>,
     histories: BTreeMap<String, usize>,
     recorders: BTreeMap<String, Vec<usize>>,
 }
 
-impl Drop for Roles {
+impl Drop for RoleIndex {
     // By one call for each part, so that to drop it is one call to whoever may have to.
     fn drop(self) {
-        let Roles {
+        let RoleIndex {
             rules,
             points,
             histories,
@@ -38,16 +38,16 @@ impl Drop for Roles {
     }
 }
 
-impl Roles {
+impl RoleIndex {
     /// The roles of a plan. An error only for want of memory.
-    pub fn of(alloc: Global, plan: &Plan) -> Result<Roles, AllocError>
+    pub fn of(alloc: Global, plan: &Plan) -> Result<RoleIndex, AllocError>
         ensures { IfOk result (λ roles. AreRoles roles plan.now) }
     {
         let rules = rules_by_source(alloc, plan.rules.as_slice())?;
         let points = paths_by_path(alloc, plan.points.as_slice())?;
         let histories = histories_by_path(alloc, plan.histories.as_slice())?;
         let recorders = recorders_by_source(alloc, plan.histories.as_slice())?;
-        Ok(Roles {
+        Ok(RoleIndex {
             rules,
             points,
             histories,

@@ -2,7 +2,7 @@
 use Rattle.std.proofs.Common.{◌≡◌, ◌∙◌, sym, subst}
 use Rattle.ob_site_rules.specs.declared.plan.Plan.{Plan}
 use Rattle.ob_site_roles.specs.Roles.{AreRoles}
-use Rattle.ob_site_roles.specs.declared.roles.Roles.{Roles}
+use Rattle.ob_site_roles.specs.declared.roles.RoleIndex.{RoleIndex}
 use Rattle.ob_site_state.specs.declared.contents.Contents.{Contents}
 use Rattle.ob_site_state.specs.Contents.{SameRest}
 
@@ -17,4 +17,4 @@ rest_then a b c f g = record {
 
 -- the same roles are those of the same plan
 pub roles_stay : (plan : Plan) (a b : Contents) → b.roles ≡ a.roles → AreRoles a.roles plan → AreRoles b.roles plan
-roles_stay plan a b same are = subst (λ (r : Roles). AreRoles r plan) (sym same) are
+roles_stay plan a b same are = subst (λ (r : RoleIndex). AreRoles r plan) (sym same) are

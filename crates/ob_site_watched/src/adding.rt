@@ -19,7 +19,7 @@ use crate::offering::{Offer, offered, refused};
 use ob_contracts::Steps;
 use ob_object::{Obj, copy_text};
 use ob_replies::{refusal, watch_out};
-use ob_requests::{Asked, as_the_site_says, firsts};
+use ob_requests::{WatchInItem, as_the_site_says, firsts};
 use ob_site_rules::{Fault, Plan};
 use ob_site_state::Contents;
 use ob_times::Moment;
@@ -33,7 +33,7 @@ use std::sync::ledger::Ledger;
 pub struct Adding<'a> {
     pub number: u64,
     pub moment: Moment,
-    pub asked: &'a [Asked],
+    pub asked: &'a [WatchInItem],
 }
 
 /// Whether a watch whose lease hasn't run out has its most items, and none of this href.

@@ -11,7 +11,7 @@ use ob_contracts::Steps;
 use ob_marks_laws::watched_are_own;
 use ob_object::Obj;
 use ob_replies::{entry, refusal};
-use ob_requests::{Asked, Found};
+use ob_requests::{Found, WatchInItem};
 use ob_site_reads::{count_at, found};
 use ob_site_rules::{Fault, Plan};
 use ob_site_state::Contents;
@@ -73,7 +73,7 @@ pub(crate) fn offered<L: Ledger>(
     plan: &Plan,
     contents: &Contents,
     numbers: &[u64],
-    asked: &Asked,
+    asked: &WatchInItem,
     steps: &mut Steps<L>,
 ) -> Result<Offer, AllocError>
     requires complete { IsComplete plan.now contents.now }

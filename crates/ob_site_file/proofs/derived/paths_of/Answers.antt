@@ -3,7 +3,7 @@ use Rattle.std.specs.Prelude.{bytes_eq}
 use Rattle.std.proofs.lemmas.List.{take_all}
 use Rattle.ob_site_rules.specs.State.{at}
 use Rattle.ob_plain_state.specs.States.{entry_of}
-use Rattle.ob_plain_state.specs.declared.log.Log.{Log}
+use Rattle.ob_plain_state.specs.declared.log.OpenedLog.{OpenedLog}
 use Rattle.ob_site_file.specs.Sizes.{has_text}
 use Rattle.ob_site_file.proofs.Counted.{there_none, there_more, text_more}
 use Rattle.ob_site_file.proofs.derived.paths_of.Goals as goal
@@ -19,4 +19,4 @@ loop-entry-preserved c = λ t.
     ∙ sym (there_more entry_of (λ e. refl) t c.args.logs.now c.loop-entry.entry-index c.entry-item.result c.loop-entry-test.true c.entry-item.is)
 
 pub returns : goal.returns
-returns c = λ t. c.loop-entry.invariant t ∙ ap (λ (l : List (List ℕ × Log)). is_some (at t (map entry_of l))) (take_all c.loop-entry.entry-index c.args.logs.now c.loop-entry-test.false)
+returns c = λ t. c.loop-entry.invariant t ∙ ap (λ (l : List (List ℕ × OpenedLog)). is_some (at t (map entry_of l))) (take_all c.loop-entry.entry-index c.args.logs.now c.loop-entry-test.false)

@@ -3,7 +3,7 @@ use Rattle.ob_alarms.specs.Lists.{first_place}
 use Rattle.ob_site_rules.specs.declared.plan.PointRule.{PointRule}
 use Rattle.ob_site_rules.specs.Build.{Path}
 use Rattle.ob_site_roles.specs.Roles.{has_source, is_at, stands_at, all_places, is_of}
-use Rattle.ob_site_roles.proofs.roles.Roles.of.Goals as goal
+use Rattle.ob_site_roles.proofs.roles.RoleIndex.of.Goals as goal
 
 pub returns : goal.returns
 returns c = record {
