@@ -20,7 +20,7 @@ use Rattle.ob_site_rules.specs.declared.request.Request.{Request}
 use Rattle.ob_site_rules.specs.declared.watch_part.WatchPart.TheVariants as parts
 use Rattle.ob_site_rules.specs.Build.{Text, Path, child, leaf, word}
 use Rattle.ob_site_rules.specs.Paths.{below, make_path, watch_part}
-use Rattle.ob_site_rules.specs.State.{Plan, Log, State, at, board}
+use Rattle.ob_site_rules.specs.State.{Log, State, at, board}
 use Rattle.ob_site_rules.specs.declared.fault.Fault.{Fault}
 use Rattle.ob_site_rules.specs.declared.fault.Fault.TheVariants.{LeaseOutOfRange, NoSuchObject, NotSupported, NotWatchable, OtherKind, OtherShape}
 use Rattle.ob_site_rules.specs.declared.plan.Plan.{Plan}

@@ -18,7 +18,8 @@ use Rattle.ob_site_rules.specs.Computed.{watch_out}
 use Rattle.ob_site_rules.specs.declared.request.Request.{Request}
 use Rattle.ob_site_rules.specs.Replies.{Reading, entry, is_plain, sent}
 use Rattle.ob_site_rules.specs.Sites.{watched_object}
-use Rattle.ob_site_rules.specs.State.{Plan, State}
+use Rattle.ob_site_rules.specs.State.{State}
+use Rattle.ob_site_rules.specs.declared.plan.Plan.{Plan}
 use Rattle.ob_site_rules.specs.Watched.{WatchOperation}
 use Rattle.ob_tree.specs.declared.node.NodeId.{NodeId}
 use Rattle.ob_tree.specs.Depths.{depth_at, levels}

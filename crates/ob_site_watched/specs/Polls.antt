@@ -16,7 +16,8 @@ use Rattle.ob_watching.specs.Watches as rules
 use Rattle.ob_watching.specs.WatchOuts.{is_of_kind, entries_of}
 use Rattle.ob_site_rules.specs.Build.{Path, Text}
 use Rattle.ob_site_rules.specs.Sites.{watched_object}
-use Rattle.ob_site_rules.specs.State.{Plan, State}
+use Rattle.ob_site_rules.specs.State.{State}
+use Rattle.ob_site_rules.specs.declared.plan.Plan.{Plan}
 use Rattle.ob_site_rules.specs.Watched.{SiteTarget, WatchOperation}
 
 -- a watch of a site

@@ -17,7 +17,8 @@ ghost use Rattle.ob_site_watched.specs.Entries.{all_changes, all_readings};
 ghost use Rattle.ob_site_watched.specs.Known.{AreKnown};
 ghost use Rattle.ob_site_watched.specs.Leaving.{Renews, is_add, leaving};
 ghost use Rattle.ob_site_watched.specs.Answers.{AllKnown, IsDone, IsReply};
-ghost use Rattle.ob_site_rules.specs.State.{Plan as SitePlan, State as SiteState};
+ghost use Rattle.ob_site_rules.specs.State.{State as SiteState};
+ghost use Rattle.ob_site_rules.specs.declared.plan.Plan.{Plan as SitePlan};
 ghost use Rattle.ob_site_watched.specs.Polls.{SiteWatch, WatchTakes, poll_steps, refresh_steps};
 
 use crate::adding::{Adding, add};
