@@ -10,7 +10,6 @@ ghost use Rattle.ob_contracts.specs.Telling.{TellTheSame};
 ghost use Rattle.ob_site_rules.specs.Shown.{derived, with_roles, shown_root};
 ghost use Rattle.ob_site_rules.specs.declared.plan.Plan.{Plan};
 ghost use Rattle.ob_site_rules.specs.State.{State as SiteState};
-ghost use Rattle.ob_site_rules.specs.declared.plan.Plan.{Plan as SitePlan};
 ghost use Rattle.ob_site_file.specs.Sizes.{has_text, HasNames, is_fresh, IsCounting, dressed_at, stood, row_count};
 
 use crate::derived::{Counting, Derived, Texts, derived_children};
