@@ -5,13 +5,16 @@ use ob_href::Base;
 use ob_times::Moment;
 use ob_values::Text;
 
-/// Values of the source outside these limits raise an alarm.
+/// Values of the source outside these limits, which are themselves inside, raise an alarm.
 #[derive(Drop)]
 pub struct PointRule {
     /// The path of the point.
     pub source: Text,
+    /// The least value that raises none.
     pub low: Num,
+    /// The greatest value that raises none.
     pub high: Num,
+    /// Whether its alarms wait for an acknowledgement.
     pub needs_ack: bool,
 }
 
@@ -31,6 +34,7 @@ pub struct Plan {
     pub histories: Fixed<(Text, Option<Text>)>,
     /// The path of the alarm subject.
     pub subject: Option<Text>,
+    /// The rules of the alarm subject, in its order.
     pub rules: Fixed<PointRule>,
     /// The texts of the About object that the site replaces, each behind its name.
     pub about: Fixed<(Text, Text)>,
