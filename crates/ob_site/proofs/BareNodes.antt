@@ -6,7 +6,8 @@ use Rattle.std.proofs.lemmas.List.{length-map}
 use Rattle.ob_site_roles.specs.Roles.{all_places, is_of, recorders_of}
 use Rattle.ob_site_rules.specs.Build.{Path}
 use Rattle.ob_site_rules.specs.Shown.{node_of, rule_of}
-use Rattle.ob_site_rules.specs.State.{Plan, State}
+use Rattle.ob_site_rules.specs.State.{State}
+use Rattle.ob_site_rules.specs.declared.plan.Plan.{Plan}
 use Rattle.ob_site.specs.Bare.{has_history, is_bare}
 
 not_not : (b : Bool) → not (not b) ≡ b

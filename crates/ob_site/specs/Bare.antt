@@ -4,7 +4,8 @@ use Rattle.std.specs.List.{list_any}
 use Rattle.ob_site_rules.specs.Build.{Path}
 use Rattle.ob_site_rules.specs.Shown.{node_of, rule_of}
 use Rattle.ob_object.specs.Paths.{is_path}
-use Rattle.ob_site_rules.specs.State.{Plan, State}
+use Rattle.ob_site_rules.specs.State.{State}
+use Rattle.ob_site_rules.specs.declared.plan.Plan.{Plan}
 
 -- a history has this source
 abbrev pub has_history : Plan → Path → Bool
