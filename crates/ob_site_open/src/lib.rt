@@ -8,4 +8,4 @@ mod logs;
 mod state;
 mod time;
 
-pub use state::{open_state, state_of};
+pub use state::state_of;

@@ -1,5 +1,5 @@
 //! The state that a document opens.
-ghost use Rattle.std.specs.Prelude.{◌≡◌, [], None, Ok, map, replicate, IfOk, IfErr};
+ghost use Rattle.std.specs.Prelude.{◌≡◌, [], None, Ok, map, replicate, IfOk};
 ghost use Rattle.ob_object.specs.Object.{parts};
 ghost use Rattle.ob_object.specs.WellFormed.{IsWellFormed};
 ghost use Rattle.ob_tree.specs.Laid.{paths};
@@ -7,12 +7,11 @@ ghost use Rattle.ob_tree.specs.Paths.{first_twice};
 ghost use Rattle.ob_site_rules.specs.Opening.{opening};
 ghost use Rattle.ob_plain_state.specs.States.{AreCounted, entry_of as opened_entry};
 ghost use Rattle.ob_site_file.specs.Opened.{site_of};
-ghost use Rattle.ob_site_file.specs.Passes.{Refuses};
 ghost use Rattle.ob_site_state.specs.Kept.{entry_of};
 ghost use Rattle.ob_site_state.specs.Tallies.{capacities_of};
 ghost use Rattle.ob_opens_laws.specs.Records.{EachLog};
 ghost use Rattle.ob_site_open.specs.Logs.{CanStand, HaveNanos};
-ghost use Rattle.ob_site_open.specs.Opens.{Opens, just_opened};
+ghost use Rattle.ob_site_open.specs.Opens.{just_opened};
 
 use crate::board::board_of;
 use crate::logs::{capacities_of, logs_of};
@@ -20,7 +19,7 @@ use crate::time::opening_time;
 use ob_ground::Ground;
 use ob_history::Log;
 use ob_object::Obj;
-use ob_site_file::{LoadFault, Opened, opening};
+use ob_site_file::Opened;
 use ob_site_roles::RoleIndex;
 use ob_site_state::{Contents, State};
 use ob_times::Moment;
@@ -100,17 +99,5 @@ pub fn state_of(
         roles,
     };
     let state = State::new(alloc, plan, time, contents, capacities)?;
-    Ok(state)
-}
-
-/// The state that a document's root opens at a moment, or the first refusal in the order of `LoadFault`.
-///
-/// Source: oBIX 1.1, chapters 5 to 7 and 13 to 15; the form of the site file, its refusals and their order are this profile's own.
-pub fn open_state(alloc: Global, root: &Obj, boot: Moment) -> Result<State, LoadFault>
-    ensures opened { IfOk result (Opens root.now boot) }
-    ensures refused { IfErr result (Refuses root.now boot) }
-{
-    let opened = opening(alloc, root, boot)?;
-    let state = state_of(alloc, root, boot, opened)?;
     Ok(state)
 }

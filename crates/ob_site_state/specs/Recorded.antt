@@ -12,7 +12,3 @@ use Rattle.ob_site_rules.specs.Writes.{events_ever, records_from}
 abbrev pub TakesRecord : Plan → Record → Path → List (Path × Log) → ℕ → Type 0
 TakesRecord plan r source ls place =
     (l : Path × Log) → slice_get ls place ≡ Some l → records_from plan source l.0 ≡ true → (events_ever l.1 + 1 < 2 ^ 63) × IsRecord r
-
--- whether the history of a place has this source
-abbrev pub HasSource : List (Path × Option Path) → ℕ → Path → Bool → Type 0
-HasSource histories place source has = (h : Path × Option Path) → slice_get histories place ≡ Some h → has ≡ is_path source h.1

@@ -28,7 +28,7 @@ ghost use Rattle.ob_site_state.specs.Tallies.{capacities_of, growing_in};
 
 use crate::change::Change;
 use crate::contents::Contents;
-use crate::roles::{has_source, number_in};
+use crate::roles::number_in;
 use crate::tally::{Tally, count_at};
 use ob_alarms::{Alarms, Num};
 use ob_contracts::Library;
@@ -374,14 +374,6 @@ impl State {
         ensures { result ≡ growing_in source.now self.now.plan.histories (capacities_of self.now.now.logs) }
     {
         count_at(&self.tally.growing, source)
-    }
-
-    /// Whether the history of a place records a node.
-    pub fn records(&self, place: usize, source: &Text) -> bool
-        requires { place < length self.now.now.logs }
-        ensures { (l : Path × SiteLog) → slice_get self.now.now.logs place ≡ Some l → result ≡ records_from self.now.plan source.now l.0 }
-    {
-        has_source(self.plan.histories.as_slice(), place, source)
     }
 
     /// Puts a record of a copy of a value last in the log of a place. Want of memory leaves all as it was.
