@@ -1,8 +1,12 @@
 -- A text cut behind a beginning, and at its first slash.
-use Rattle.std.proofs.Common.{◌≡◌, ℕ, suc, ◌+◌, ◌<◌, ◌≤◌, Bool, true, false, cond, not, ◌&&◌, ◌==◌, List, [], ◌∷◌, length, take, drop, Some, None, refl, ap, ◌∙◌, arith}
+use Rattle.std.proofs.Common.{◌≡◌, ℕ, suc, ◌+◌, ◌<◌, ◌≤◌, Bool, true, false, cond, not, ◌&&◌, ◌==◌, List, [], ◌∷◌, ◌++◌, length, take, drop, Some, None, refl, sym, ap, ap₂, ◌∙◌, arith}
 use Rattle.std.specs.Prelude.{nat_eq}
 use Rattle.std.specs.List.{position_or_len, position, starts_with}
-use Rattle.std.proofs.lemmas.Bool.Decides.{nat_tests}
+use Rattle.std.specs.Str.{bytes_eq}
+use Rattle.std.proofs.lemmas.List.{append_cancel_left}
+use Rattle.std.proofs.lemmas.Slice.Eq.{bytes_eq-Decides}
+use Rattle.std.proofs.lemmas.Bool.Decides.{Decides-eqb, nat_tests}
+use Rattle.ob_values.proofs.Bools.{bool_same, is_false}
 use Rattle.ob_requests.specs.Numbers.{is_slash}
 use Rattle.ob_site_rules.specs.Paths.{behind, before_slash, behind_slash}
 
@@ -24,6 +28,39 @@ behind_other (a ∷ front) (b ∷ t) h = go (a == b) h (behind_other front t)
     go : (same : Bool) → (same && starts_with nat_eq t front) ≡ false → (starts_with nat_eq t front ≡ false → behind front t ≡ None) → cond same (behind front t) None ≡ None
     go true h rest = rest h
     go false h rest = refl
+
+-- what is behind a beginning is what the text has behind it
+parted : (front t rest : List ℕ) → behind front t ≡ Some rest → t ≡ front ++ rest
+parted [] t rest e = is_that e
+  where
+    is_that : {a b : List ℕ} → Some a ≡ Some b → a ≡ b
+    is_that f = cc
+parted (a ∷ front) [] rest e = absurd cc
+parted (a ∷ front) (b ∷ t) rest e = go (a == b) refl e (parted front t rest)
+  where
+    go : (same : Bool) → (a == b) ≡ same → cond same (behind front t) None ≡ Some rest → (behind front t ≡ Some rest → t ≡ front ++ rest) → b ∷ t ≡ a ∷ front ++ rest
+    go true f e more = ap₂ (λ (x : ℕ) (xs : List ℕ). x ∷ xs) (sym ((Decides-eqb a b).0 f)) (more e)
+    go false f e more = absurd cc
+
+unparted : (front rest : List ℕ) → behind front (front ++ rest) ≡ Some rest
+unparted [] rest = refl
+unparted (a ∷ front) rest = ap (λ (same : Bool). cond same (behind front (front ++ rest)) None) ((Decides-eqb a a).1 refl) ∙ unparted front rest
+
+-- a text is a beginning with this behind it where this is what is behind the beginning
+pub is_behind : (front tail t rest : List ℕ) → behind front t ≡ Some rest → bytes_eq tail rest ≡ bytes_eq t (front ++ tail)
+is_behind front tail t rest e =
+    let is = parted front t rest e in
+    bool_same (bytes_eq tail rest) (bytes_eq t (front ++ tail))
+    (λ f. (bytes_eq-Decides t (front ++ tail)).1 (is ∙ ap (λ (x : List ℕ). front ++ x) (sym ((bytes_eq-Decides tail rest).0 f))))
+    (λ f. (bytes_eq-Decides tail rest).1 (append_cancel_left front tail rest (sym ((bytes_eq-Decides t (front ++ tail)).0 f) ∙ is)))
+
+pub isnt_behind : (front tail t : List ℕ) → behind front t ≡ None → false ≡ bytes_eq t (front ++ tail)
+isnt_behind front tail t e = sym (is_false (bytes_eq t (front ++ tail)) other)
+  where
+    other : bytes_eq t (front ++ tail) ≡ true → ⊥
+    other f =
+        let there : Some tail ≡ None = sym (unparted front tail) ∙ ap (behind front) (sym ((bytes_eq-Decides t (front ++ tail)).0 f)) ∙ e in
+        cc
 
 before : (t : List ℕ) → before_slash t ≡ take (position_or_len is_slash t) t
 before [] = refl

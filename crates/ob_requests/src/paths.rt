@@ -33,7 +33,7 @@ enum Spelled {
 }
 
 // What is behind a beginning, if a text begins so.
-fn behind<'a>(front: &[u8], text: &'a [u8]) -> Option<&'a [u8]>
+pub(crate) fn behind<'a>(front: &[u8], text: &'a [u8]) -> Option<&'a [u8]>
     ensures { option_map (λ rest. rest.now) result ≡ behind front.now text.entry.now }
 {
     if text.starts_with(front) {
@@ -99,7 +99,7 @@ fn read_number(text: &[u8]) -> Spelled
 }
 
 // Whether a text is this one.
-fn is_text(text: &[u8], other: &[u8]) -> bool
+pub(crate) fn is_text(text: &[u8], other: &[u8]) -> bool
     ensures { result ≡ bytes_eq other.now text.now }
 {
     other == text

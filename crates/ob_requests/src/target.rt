@@ -6,7 +6,7 @@ ghost use Rattle.ob_site_rules.specs.Watched.{call_of_watch, operation, put_to_w
 ghost use Rattle.ob_requests.specs.Targets.{IsTarget, operation_of};
 
 use crate::asked::{WatchInItem, asked_by, texts_of};
-use crate::paths::{OfWatch, watch_part};
+use crate::paths::{OfWatch, behind, is_text, watch_part};
 use ob_object::Obj;
 use ob_site_rules::{Fault, Plan, Request, WatchPart};
 use ob_values::{Text, Verb};
@@ -123,11 +123,14 @@ fn asks_of(
 }
 
 // Whether a path is that of the op that makes watches.
-fn is_make(alloc: Global, plan: &Plan, path: &Text) -> Result<bool, AllocError>
-    ensures { IfOk result (λ is. is ≡ bytes_eq path.now (make_path plan.now)) }
+fn is_make(plan: &Plan, path: &Text) -> bool
+    ensures { result ≡ bytes_eq path.now (make_path plan.now) }
 {
-    let make = plan.root.followed_by(alloc, "watchService/make")?;
-    Ok(path.as_str() == make.as_str())
+    let root = plan.root.as_str().as_bytes();
+    match behind(root, path.as_str().as_bytes()) {
+        Some(rest) => is_text(rest, b"watchService/make"),
+        None => false,
+    }
 }
 
 // Whom a request is for that makes no watch.
@@ -163,7 +166,7 @@ pub fn target_at(
     let Some(path) = path else {
         return Ok(Target::Nowhere);
     };
-    if is_make(alloc, plan, path)? && request.verb == Verb::Post {
+    if is_make(plan, path) && request.verb == Verb::Post {
         return Ok(Target::NewWatch);
     }
     target_part(alloc, plan, request, path)
