@@ -11,7 +11,9 @@ use Rattle.ob_alarms.specs.Lists.{first_place}
 use Rattle.ob_contracts.specs.Inherit.{or_else}
 use Rattle.ob_site_rules.specs.Build.{Path}
 use Rattle.ob_site_rules.specs.State.{at, is_among}
-use Rattle.ob_site_rules.specs.Paths.{below}
+use Rattle.ob_site_rules.specs.Paths.{below, ends_with_slash}
+use Rattle.ob_site_rules.specs.Places.{event_places, history_places, subject_places}
+use Rattle.ob_site_rules.specs.declared.plan.Plan.{Plan}
 use Rattle.ob_site_rules.specs.declared.resource.Resource.{Resource}
 use Rattle.ob_plain_state.specs.Parts.{point_parts, history_parts}
 use Rattle.ob_plain_state.proofs.Placed.{at-append, Entries}
@@ -19,7 +21,7 @@ use Rattle.ob_site_roles.specs.Roles.{is_at, stands_at}
 use Rattle.ob_site_roles.proofs.Placed.{some_first}
 use Rattle.ob_site_shown.specs.Parents.{has_slash, IsParent}
 use Rattle.ob_site_shown.proofs.Slashes.{at_parent, no_parent}
-use Rattle.ob_site_places.proofs.Fronts.{point_off, history_off}
+use Rattle.ob_site_places.proofs.Fronts.{point_off, history_off, subject_off}
 
 is_same : (q a : Path) → bytes_eq q a ≡ true → q ≡ a
 is_same q a e = (bytes_eq-Decides q a).0 e
@@ -160,6 +162,20 @@ never_below p q name none = go (bytes_eq (below q name) p) refl
     go true e = absurd (no_parent p q name none (is_same (below q name) p e))
     go false e = refl
 
+-- nor do those of any where the path doesn't end with the name
+abbrev pub IsUnended : Path → Path → Type 0
+IsUnended p name = (front : Path) → p ≡ front ++ name → ⊥
+
+unended_below : (p q name : Path) → IsUnended p name → bytes_eq (below q name) p ≡ false
+unended_below p q name off = go (bytes_eq (below q name) p) refl
+  where
+    go : (t : Bool) → bytes_eq (below q name) p ≡ t → t ≡ false
+    go true e = absurd (off (cond (ends_with_slash q) q (q ++ 47 ∷ [])) (sym (is_same (below q name) p e)))
+    go false e = refl
+
+pub unended_points : (p : Path) (qs : List Path) → IsUnended p (codes "writePoint") → at p (flat_map point_parts qs) ≡ None
+unended_points p qs off = none_at point_parts p qs (λ q i. point_off p q (unended_below p q (codes "writePoint") off))
+
 -- so of points
 pub points_at : (p front : Path) → IsParent p (Some front) → AreAtParent point_parts p front
 points_at p front is q a b = point_off p q (not_below p q (codes "writePoint") front is refl a b)
@@ -229,6 +245,22 @@ pub no_histories : (p : Path) (hs : List (Path × Option Path)) → IsParent p N
 no_histories p hs none =
     ap (at p) (by_paths hs)
     ∙ none_at history_parts p (map (λ h. h.0) hs) (λ q i. history_off p q (never_below p q (codes "query") none) (never_below p q (codes "feed") none))
+
+unended_histories : (p : Path) (hs : List (Path × Option Path)) → IsUnended p (codes "query") → IsUnended p (codes "feed") → at p (flat_map (λ h. history_parts h.0) hs) ≡ None
+unended_histories p hs a b =
+    ap (at p) (by_paths hs)
+    ∙ none_at history_parts p (map (λ h. h.0) hs) (λ q i. history_off p q (unended_below p q (codes "query") a) (unended_below p q (codes "feed") b))
+
+unended_subject : (p : Path) (subject : Option Path) → IsUnended p (codes "query") → IsUnended p (codes "feed") → at p (subject_places subject) ≡ None
+unended_subject p None a b = refl
+unended_subject p (Some q) a b = subject_off p q (unended_below p q (codes "query") a) (unended_below p q (codes "feed") b)
+
+-- the ops and feeds of histories and of the alarm subject
+pub unended_events : (plan : Plan) (p : Path) → IsUnended p (codes "query") → IsUnended p (codes "feed") → at p (event_places plan) ≡ None
+unended_events plan p a b =
+    at-append p (history_places plan) (subject_places plan.subject)
+    ∙ ap (λ (o : Option Resource). or_else o (at p (subject_places plan.subject))) (unended_histories p plan.histories a b)
+    ∙ unended_subject p plan.subject a b
 
 -- there is a history at a path where a place of one is found
 pub has_history : (p : Path) (hs : List (Path × Option Path)) → is_some (first_place (stands_at p) hs) ≡ is_among p (map (λ h. h.0) hs)

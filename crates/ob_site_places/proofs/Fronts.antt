@@ -53,6 +53,10 @@ pub history_off : (p q : Path) → bytes_eq (below q (codes "query")) p ≡ fals
 history_off p q e f =
     two_off (below q (codes "query")) (below q (codes "feed")) (QueryOf q) (FeedOf q) (bytes_eq (below q (codes "query")) p) (bytes_eq (below q (codes "feed")) p) e f
 
+pub subject_off : (p q : Path) → bytes_eq (below q (codes "query")) p ≡ false → bytes_eq (below q (codes "feed")) p ≡ false → at p (subject_places (Some q)) ≡ None
+subject_off p q e f =
+    two_off (below q (codes "query")) (below q (codes "feed")) AlarmQuery AlarmFeed (bytes_eq (below q (codes "query")) p) (bytes_eq (below q (codes "feed")) p) e f
+
 pub no_point : (q p : Path) → starts_with nat_eq p q ≡ false → at p (point_parts q) ≡ None
 no_point q p e = point_off p q (below_off q (codes "writePoint") p e)
 
@@ -60,6 +64,4 @@ pub no_history : (q p : Path) → starts_with nat_eq p q ≡ false → at p (his
 no_history q p e = history_off p q (below_off q (codes "query") p e) (below_off q (codes "feed") p e)
 
 pub no_subject : (q p : Path) → starts_with nat_eq p q ≡ false → at p (subject_places (Some q)) ≡ None
-no_subject q p e =
-    two_off (below q (codes "query")) (below q (codes "feed")) AlarmQuery AlarmFeed (bytes_eq (below q (codes "query")) p) (bytes_eq (below q (codes "feed")) p)
-    (below_off q (codes "query") p e) (below_off q (codes "feed") p e)
+no_subject q p e = subject_off p q (below_off q (codes "query") p e) (below_off q (codes "feed") p e)

@@ -1,5 +1,5 @@
 //! Paths compared with others without making any.
-ghost use Rattle.std.specs.Prelude.{◌≡◌, ◌<◌, ◌^◌, ◌++◌, ℕ, List, Some, bytes_eq};
+ghost use Rattle.std.specs.Prelude.{◌≡◌, ◌<◌, ◌^◌, ◌++◌, ℕ, List, Some, false, bytes_eq};
 ghost use Rattle.ob_alarms.specs.AlarmObjects.{alarm_path};
 
 use ob_site_rules::Plan;
@@ -13,6 +13,13 @@ pub(crate) fn is_followed(front: &Text, tail: &str, path: &Text) -> bool
         Some(rest) => tail == rest,
         None => false,
     }
+}
+
+/// Whether a path ends with a name.
+pub(crate) fn is_ended(path: &Text, name: &str) -> bool
+    ensures { result ≡ false → (front : List ℕ) → path.now ≡ front ++ name.now → ⊥ }
+{
+    path.as_str().ends_with(name)
 }
 
 /// The number that stands in a path where the path of an alarm has its own.

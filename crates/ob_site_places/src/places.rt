@@ -1,9 +1,10 @@
 //! What a path names: the computed paths first, then the nodes.
-ghost use Rattle.std.specs.Prelude.{◌≡◌, ◌++◌, Some, option_copied, slice_get, IfOk};
+ghost use Rattle.std.specs.Prelude.{◌≡◌, ◌++◌, Some, None, false, option_copied, slice_get, IfOk};
 ghost use Rattle.ob_alarms.specs.States.{needs_ack};
 ghost use Rattle.ob_alarms.specs.Changes.{alarm_of};
 ghost use Rattle.ob_contracts.specs.Inherit.{or_else};
 ghost use Rattle.ob_site_rules.specs.State.{at, numbered_from};
+ghost use Rattle.ob_site_rules.specs.declared.plan.Plan.{Plan as SitePlan};
 ghost use Rattle.ob_site_rules.specs.Places.{fixed_places, point_places, history_places, subject_places, event_places, alarm_places, computed_places, place_at};
 ghost use Rattle.ob_site_roles.specs.Roles.{AreRoles};
 ghost use Rattle.ob_site_state.specs.Contents.{state_in};
@@ -11,7 +12,7 @@ ghost use Rattle.ob_site_shown.specs.Parents.{IsParent};
 ghost use Rattle.ob_site_shown.specs.Readable.{IsReadable};
 ghost use Rattle.ob_plain_state.specs.Parts.{point_parts, history_parts, alarm_parts, parts_of_alarm};
 
-use crate::paths::{alarm_number, is_followed};
+use crate::paths::{alarm_number, is_ended, is_followed};
 use ob_alarms::{Alarm, Alarms};
 use ob_contracts::Steps;
 use ob_replies::{ack_path, alarm_path, below};
@@ -102,7 +103,7 @@ fn point_in(
     point_of_two(alloc, &slashed, parent, path)
 }
 
-/// The op of a writable point, by look-ups.
+/// The op of a writable point, by look-ups. Nothing is looked up for a path without its name at the end.
 fn point_place(
     alloc: Global,
     plan: &Plan,
@@ -112,6 +113,9 @@ fn point_place(
     requires { AreRoles contents.now.roles plan.now }
     ensures { IfOk result (λ place. place ≡ at path.now (point_places plan.now)) }
 {
+    if !is_ended(path, "writePoint") {
+        return Ok(None);
+    }
     match parent_path(alloc, path)? {
         Some(parent) => point_in(alloc, plan, contents, &parent, path),
         None => Ok(None),
@@ -222,8 +226,19 @@ fn subject_place(alloc: Global, plan: &Plan, path: &Text) -> Result<Option<Resou
     Ok(None)
 }
 
-/// The op or the feed of a history or of the alarm subject, if a path is one of theirs. An error only for want of
-/// memory.
+/// Whether a path ends with the name of an op or a feed of histories and of the alarm subject.
+fn is_event_name(path: &Text) -> bool
+    ensures { result ≡ false → (plan : SitePlan) → at path.now (event_places plan) ≡ None }
+{
+    if is_ended(path, "query") {
+        true
+    } else {
+        is_ended(path, "feed")
+    }
+}
+
+/// The op or the feed of a history or of the alarm subject, if a path is one of theirs. Nothing is looked up for a path without
+/// one of their names at the end. An error only for want of memory.
 pub fn event_place(
     alloc: Global,
     plan: &Plan,
@@ -233,6 +248,9 @@ pub fn event_place(
     requires { AreRoles contents.now.roles plan.now }
     ensures { IfOk result (λ place. place ≡ at path.now (event_places plan.now)) }
 {
+    if !is_event_name(path) {
+        return Ok(None);
+    }
     let found = history_place(alloc, plan, contents, path)?;
     if found.is_some() {
         return Ok(found);

@@ -5,6 +5,9 @@ use Rattle.ob_site_rules.specs.Places.{history_places, subject_places}
 use Rattle.ob_plain_state.proofs.Placed.{first_of, later_of}
 use Rattle.ob_site_places.proofs.places.event_place.Goals as goal
 
+pub returns-then-not-is_event_name : goal.returns-then-not-is_event_name
+returns-then-not-is_event_name c = sym (c.is_event_name.ensures c.if-not-is_event_name.true c.args.plan.now)
+
 pub returns-then-is_some : goal.returns-then-is_some
 returns-then-is_some c =
     let plan = c.args.plan.now in
