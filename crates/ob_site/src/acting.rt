@@ -2,7 +2,7 @@
 ghost use Rattle.std.specs.Prelude.{◌≡◌, IfOk, OnOk, OnErr};
 ghost use Rattle.ob_watching.specs.Asked.{Itself};
 ghost use Rattle.ob_watching.specs.Tables.{numbers_of};
-ghost use Rattle.ob_site_rules.specs.Actions.{act_itself};
+ghost use Rattle.ob_site_rules.specs.Actions.{act_itself, act_located};
 ghost use Rattle.ob_site_rules.specs.Locating.{locate};
 ghost use Rattle.ob_site_writes.specs.Stops.{IsDone};
 ghost use Rattle.ob_watch.specs.Tables.{lapsed_at};
@@ -15,35 +15,53 @@ use crate::keeper::Keeper;
 use ob_contracts::Steps;
 use ob_object::Obj;
 use ob_replies::refusal;
-use ob_site_calls::act_itself;
+use ob_site_calls::act_located;
 use ob_site_rules::Request;
 use ob_site_state::State;
 use ob_site_writes::Stop;
 use ob_step_laws::steps_take_none_away;
+use ob_values::Text;
 use ob_watch::Watches;
 use std::alloc::AllocError;
 use std::sync::ledger::Ledger;
 
-/// What a request does to the state, and its reply, before the step ends. An error only for want of memory.
-fn act<L: Ledger>(
+/// What a request does to the state, and its reply, before the step ends, where these are the numbers of the watches that stand. An
+/// error only for want of memory.
+fn act_by<L: Ledger>(
     state: &mut State,
-    watches: &Watches,
+    numbers: &[u64],
     request: &Request,
+    path: &Option<Text>,
     steps: &mut Steps<L>,
 ) -> Result<Obj, AllocError>
-    ensures done { IfOk result (IsDone state.old state.new (act_itself locate state.old.plan state.old.now (numbers_of (lapsed_at state.old.time watches.now).watches) request.now state.old.time)) }
+    ensures done { IfOk result (IsDone state.old state.new (act_located locate state.old.plan state.old.now numbers.now state.old.time request.now path.now)) }
     ensures stays { OnErr result (state.new ≡ record state.old { now = state.new.now }) }
 {
-    let numbers = watches.live_numbers(state.time())?;
-    match act_itself(state, &numbers, request, steps) {
+    match act_located(state, numbers, request, path, steps) {
         Ok(reply) => Ok(reply),
         Err(Stop::Refused(fault)) => refusal(state.allocator(), fault),
         Err(Stop::Memory) => Err(AllocError),
     }
 }
 
-/// What a request to the site itself leaves of the state and of the watches, and its reply. An error only for want of
-/// memory, or from the keeper; it leaves all but the state now, and the keeper.
+/// What a request at its path does to the state, and its reply, before the step ends. An error only for want of memory.
+fn act<L: Ledger>(
+    state: &mut State,
+    watches: &Watches,
+    request: &Request,
+    path: &Option<Text>,
+    steps: &mut Steps<L>,
+) -> Result<Obj, AllocError>
+    requires { path.now ≡ locate state.old.plan.base request.now.target }
+    ensures done { IfOk result (IsDone state.old state.new (act_itself locate state.old.plan state.old.now (numbers_of (lapsed_at state.old.time watches.now).watches) request.now state.old.time)) }
+    ensures stays { OnErr result (state.new ≡ record state.old { now = state.new.now }) }
+{
+    let numbers = watches.live_numbers(state.time())?;
+    act_by(state, &numbers, request, path, steps)
+}
+
+/// What a request to the site itself, by its path, leaves of the state and of the watches, and its reply. An error only for want
+/// of memory, or from the keeper; it leaves all but the state now, and the keeper.
 ///
 /// Source: oBIX 1.1, chapters 5 (Batch) and 10 (Networking).
 pub(crate) fn on_itself<L: Ledger, K: Keeper>(
@@ -51,10 +69,12 @@ pub(crate) fn on_itself<L: Ledger, K: Keeper>(
     watches: &mut Watches,
     keeper: &mut K,
     request: &Request,
+    path: &Option<Text>,
     steps: &mut Steps<L>,
 ) -> Result<Obj, AllocError>
     requires begun { IsBegun state.old watches.old }
     requires ready { K.is_ready keeper.old }
+    requires path { path.now ≡ locate state.old.plan.base request.now.target }
     ensures done { IfOk result (IsAnswered state.old state.new watches.old watches.new request.now Itself) }
     ensures err { OnErr result (IsUnanswered state.old state.new watches.old watches.new) }
     ensures keeps { OnOk result (Keeps K.below K.keeps keeper.old keeper.new (step_of state.old watches.old request.now Itself)) }
@@ -62,7 +82,7 @@ pub(crate) fn on_itself<L: Ledger, K: Keeper>(
 {
     state.is_sound();
     steps_take_none_away();
-    let reply = act(state, watches, request, steps)?;
+    let reply = act(state, watches, request, path, steps)?;
     end_step(state, watches, keeper, request, &reply, steps)?;
     Ok(reply)
 }

@@ -23,18 +23,24 @@ use ob_requests::{Target, located, target_at};
 use ob_site_rules::Request;
 use ob_site_state::State;
 use ob_times::Moment;
+use ob_values::Text;
 use ob_watch::Watches;
 use std::alloc::AllocError;
 use std::sync::ledger::Ledger;
 
-/// Whom a request is for.
-fn target(state: &State, request: &Request) -> Result<Target, AllocError>
+/// The path that a request's text leads to, if it leads to one.
+fn path_of(state: &State, request: &Request) -> Result<Option<Text>, AllocError>
+    ensures { IfOk result (λ path. path ≡ locate state.now.plan.base request.now.target) }
+{
+    located(state.allocator(), state.plan(), &request.target)
+}
+
+/// Whom a request is for, by its path.
+fn target(state: &State, request: &Request, path: &Option<Text>) -> Result<Target, AllocError>
+    requires { path.now ≡ locate state.now.plan.base request.now.target }
     ensures { IfOk result (λ target. IsTarget target ((site locate state.now.plan).target request.now)) }
 {
-    let alloc = state.allocator();
-    let plan = state.plan();
-    let path = located(alloc, plan, &request.target)?;
-    target_at(alloc, plan, request, &path)
+    target_at(state.allocator(), state.plan(), request, path)
 }
 
 /// What a request leaves of the state and of the watches, and its reply. An error only for want of memory, or from the keeper; it
@@ -54,8 +60,9 @@ fn answer<L: Ledger, K: Keeper>(
     ensures may_keep { OnErr result (MayKeep K.below K.may_keep keeper.old keeper.new (step_of state.old watches.old request.now ((site locate state.old.plan).target request.now))) }
     ensures steps { IfOk result (λ _. Takes state.old.plan (world_of state.old.plan state.old.time state.old.now (tree_of state.old) (lapsed_at state.old.time watches.old)) ((site locate state.old.plan).target request.now) steps.old steps.new) }
 {
-    match target(state, request)? {
-        Target::Itself => on_itself(state, watches, keeper, request, steps),
+    let path = path_of(state, request)?;
+    match target(state, request, &path)? {
+        Target::Itself => on_itself(state, watches, keeper, request, &path, steps),
         Target::Nowhere => to_nobody(state, watches),
         Target::Beyond => to_no_watch(state, watches),
         Target::NewWatch => to_service(state, watches, keeper, request),

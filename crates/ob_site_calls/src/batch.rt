@@ -7,7 +7,7 @@ ghost use Rattle.ob_site_rules.specs.Faults.{first_fault};
 ghost use Rattle.ob_site_rules.specs.Locating.{locate};
 ghost use Rattle.ob_site_rules.specs.Places.{place_at};
 ghost use Rattle.ob_site_rules.specs.Actions.{is_of_watch, is_post, is_left_out, item_on, act_item, act_all, item_request};
-ghost use Rattle.ob_site_rules.specs.Actions.{batch, batch_rows, act_located, act_itself};
+ghost use Rattle.ob_site_rules.specs.Actions.{batch, batch_rows, act_located};
 ghost use Rattle.ob_requests.specs.BatchCalls.{is_batch_call};
 ghost use Rattle.ob_site_writes.specs.Stops.{IsDone, Stops};
 
@@ -312,22 +312,24 @@ fn act_on<L: Ledger>(
     act_there(state, numbers, request, path, steps)
 }
 
-/// What a request to the site itself leaves of it, and the reply; `numbers` are those of the watches that stand.
+/// What a request to the site itself leaves of it, and the reply, by the path that its text leads to, if it leads to one; `numbers`
+/// are those of the watches that stand.
 ///
 /// Source: oBIX 1.1, chapters 5 (Batch) and 10 (Networking).
-pub fn act_itself<L: Ledger>(
+pub fn act_located<L: Ledger>(
     state: &mut State,
     numbers: &[u64],
     request: &Request,
+    path: &Option<Text>,
     steps: &mut Steps<L>,
 ) -> Result<Obj, Stop>
-    ensures ok { IfOk result
-        (IsDone state.old state.new (act_itself locate state.old.plan state.old.now numbers.now request.now state.old.time)) }
+    ensures ok { IfOk result (IsDone state.old state.new
+        (act_located locate state.old.plan state.old.now numbers.now state.old.time request.now path.now)) }
     ensures stop { IfErr result (Stops state.old state.new
-        (act_itself locate state.old.plan state.old.now numbers.now request.now state.old.time)) }
+        (act_located locate state.old.plan state.old.now numbers.now state.old.time request.now path.now)) }
 {
-    match located(state.allocator(), state.plan(), &request.target)? {
-        Some(path) => act_on(state, numbers, request, &path, steps),
+    match path {
+        Some(path) => act_on(state, numbers, request, path, steps),
         None => Err(Stop::Refused(Fault::NoSuchObject)),
     }
 }

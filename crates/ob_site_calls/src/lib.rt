@@ -12,5 +12,5 @@ mod refusing;
 
 pub use acks::acknowledge;
 pub use actions::act_at;
-pub use batch::act_itself;
+pub use batch::act_located;
 pub use calls::call;

@@ -164,5 +164,8 @@ returns-in-OneWatch-clause-keeps g c =
 pub returns-in-OneWatch-clause-may_keep : goal.returns-in-OneWatch-clause-may_keep
 returns-in-OneWatch-clause-may_keep g c = whatever_err c.to_watch.result _ (inl refl)
 
+pub returns-in_err-path-clause-may_keep : goal.returns-in_err-path-clause-may_keep
+returns-in_err-path-clause-may_keep g c = whatever_err c.from_residual.result _ (inl refl)
+
 pub returns-in_err-target-clause-may_keep : goal.returns-in_err-target-clause-may_keep
-returns-in_err-target-clause-may_keep g c = whatever_err c.from_residual.result _ (inl refl)
+returns-in_err-target-clause-may_keep g c = whatever_err c.from_residual-in_err-target.result _ (inl refl)
