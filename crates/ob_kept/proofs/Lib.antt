@@ -1,5 +1,4 @@
 mod Same
-mod RepliesApart
 mod Redoing
 mod Steps
 mod Growing

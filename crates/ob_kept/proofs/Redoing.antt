@@ -22,8 +22,9 @@ use Rattle.ob_site_lasting.proofs.SiteRecords.{apart}
 use Rattle.ob_values.specs.declared.verb.Verb.{Verb}
 use Rattle.ob_values.specs.declared.verb.Verb.TheVariants.{Get, Put, Post}
 use Rattle.ob_lasting.proofs.Replaying.{acted_time}
-use Rattle.ob_kept.specs.Redone.{is_batch, kept_reply, numbers_noted, request_redone, redone_as, redone}
-use Rattle.ob_kept.proofs.RepliesApart.{reply_apart}
+use Rattle.ob_requests.specs.BatchCalls.{posts_list}
+use Rattle.ob_requests.proofs.Apart.{act_apart}
+use Rattle.ob_kept.specs.Redone.{kept_reply, numbers_noted, request_redone, redone_as, redone}
 
 -- a request other than a Get is done again
 no_get : (verb : Verb) (s : SiteState) (r : Request) (time : ℕ) → verb ≢ Get → redone_as verb s r time ≡ (request_redone s r time, kept_reply r (acts s r time).1)
@@ -31,7 +32,7 @@ no_get Get s r time other = absurd (other refl)
 no_get Put s r time other = refl
 no_get Post s r time other = refl
 
-same_kept : (r : Request) (a b : Object) (batch : Bool) → is_batch r ≡ batch → (is_batch r ≡ false → a ≡ b) → kept_reply r a ≡ kept_reply r b
+same_kept : (r : Request) (a b : Object) (batch : Bool) → posts_list r ≡ batch → (posts_list r ≡ false → a ≡ b) → kept_reply r a ≡ kept_reply r b
 same_kept r a b true is same = ap (λ (x : Bool). cond x empty_object a) is ∙ sym (ap (λ (x : Bool). cond x empty_object b) is)
 same_kept r a b false is same = ap (kept_reply r) (same is)
 
@@ -70,12 +71,13 @@ module _ (now led : SiteState) (h : IsSiteRestartOf now led) (r : Request) (mome
   by_plan : (acts led r at).1 ≡ (act m led.world r at).1
   by_plan = ap (λ (plan : Plan). (act (of_plan plan) led.world r at).1) h.plan
 
-  reply_itself : m.target r ≡ Itself → is_batch r ≡ false → (acts led r at).1 ≡ (acts now r moment).1
+  reply_itself : m.target r ≡ Itself → posts_list r ≡ false → (acts led r at).1 ≡ (acts now r moment).1
   reply_itself itself plain =
       by_plan
       ∙ ap (λ t. m.sent (acted m (begun m led.world at) r t).1) itself
       ∙ ap (λ (o : Object). sent now.plan (Answered o)) (
-      reply_apart locate now.plan (numbers_of (begun m led.world at).watches) (numbers_of (begun m now.world moment).watches) (max led.world.time at) led.world.site r plain
+      ap (λ (x : State × Object). x.1)
+      (act_apart locate now.plan (numbers_of (begun m led.world at).watches) (numbers_of (begun m now.world moment).watches) (max led.world.time at) led.world.site r (locate now.plan.base r.target) plain)
       ∙ ap (λ (s : State). (act_itself locate now.plan s (numbers_of (begun m now.world moment).watches) r (max led.world.time at)).1) h.world.site
       ∙ ap (λ (t : ℕ). (act_itself locate now.plan now.world.site (numbers_of (begun m now.world moment).watches) r t).1) time_is
       )
@@ -98,7 +100,7 @@ module _ (now led : SiteState) (h : IsSiteRestartOf now led) (r : Request) (mome
 
     pub redone_reply : kept_reply r (acts now r moment).1 ≡ (redone led r at).1
     redone_reply =
-        sym (same_kept r (acts led r at).1 (acts now r moment).1 (is_batch r) refl (reply_itself itself))
+        sym (same_kept r (acts led r at).1 (acts now r moment).1 (posts_list r) refl (reply_itself itself))
         ∙ sym (ap (λ (x : SiteState × Object). x.1) done_so)
 
     -- and gives no number

@@ -1,13 +1,11 @@
 -- What the entries of a RECORD do to a site. Each is a call of a machine: the site, in which no watch stands behind a call.
-use Rattle.std.specs.Prelude.{ℕ, ◌+◌, min, Bool, false, cond, ◌&&◌, Option, Some, None}
+use Rattle.std.specs.Prelude.{ℕ, ◌+◌, min, cond}
 use Rattle.ob_values.specs.declared.verb.Verb.{Verb}
 use Rattle.ob_values.specs.declared.verb.Verb.TheVariants.{Get, Put, Post}
-use Rattle.ob_object.specs.Kinds.{same_kind}
 use Rattle.ob_object.specs.Object.{Object}
-use Rattle.ob_object.specs.declared.kind.Kind.TheVariants as kind
 use Rattle.ob_watching.specs.Watches.{last_number}
 use Rattle.ob_site_rules.specs.declared.request.Request.{Request}
-use Rattle.ob_site_rules.specs.Actions.{is_post}
+use Rattle.ob_requests.specs.BatchCalls.{posts_list}
 use Rattle.ob_site_rules.specs.Entries.{empty_object}
 use Rattle.ob_site_rules.specs.Sites.{SiteState}
 use Rattle.ob_site_laws.specs.SiteLaws.{acts, of_plan}
@@ -22,18 +20,10 @@ numbers_at_once = 10_000
 abbrev pub more_numbers : ℕ → ℕ
 more_numbers next = min (next + numbers_at_once) (last_number + 1)
 
--- a list is posted, as a batch is
-abbrev pub is_list : Option Object → Bool
-is_list None = false
-is_list (Some o) = same_kind o.head.kind kind.List
-
-abbrev pub is_batch : Request → Bool
-is_batch r = is_post r.verb && is_list r.body
-
 -- What an entry keeps of a reply: all of it, but of a batch nothing, since an item that asks something of a watch is answered
 -- otherwise once the watch is gone.
 abbrev pub kept_reply : Request → Object → Object
-kept_reply r reply = cond (is_batch r) empty_object reply
+kept_reply r reply = cond (posts_list r) empty_object reply
 
 -- each number below some more may have been given
 abbrev pub numbers_noted : SiteState → SiteState

@@ -3,11 +3,12 @@ ghost use Rattle.std.specs.Prelude.{◌≡◌, None, OnOk, OnErr, IfOk, false};
 ghost use Rattle.ob_encoding.specs.Canonical.{canonical_text};
 ghost use Rattle.ob_kept.specs.Redone.{kept_reply};
 
-use crate::redone::{is_batch, more_numbers};
+use crate::redone::more_numbers;
 use ob_encoding::encode;
 use ob_journal::{AppendFault, Device, Journal};
 use ob_object::{Kind, Obj};
 use ob_record_journal::{Blocks, write_closed};
+use ob_requests::posts_list;
 use ob_site::Keeper;
 use ob_site_rules::Request;
 use ob_times::Moment;
@@ -46,7 +47,7 @@ impl<D: Device + Drop> Drop for Recorder<D> {
 fn kept_text(alloc: Global, request: &Request, reply: &Obj) -> Result<Vec<u8>, AllocError>
     ensures { IfOk result (λ text. text.items ≡ canonical_text None (kept_reply request.now reply.now)) }
 {
-    if is_batch(request) {
+    if posts_list(request) {
         return encode(alloc, None, &Obj::new(alloc, Kind::Obj));
     }
     encode(alloc, None, reply)

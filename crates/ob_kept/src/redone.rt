@@ -8,6 +8,7 @@ ghost use Rattle.ob_kept.specs.Redone as spec;
 use crate::fault::ReopenFault;
 use ob_object::{Kind, Obj};
 use ob_record::{Run, Verdict, audit};
+use ob_requests::posts_list;
 use ob_site::{Machine, Site};
 use ob_site_rules::Request;
 use ob_times::Moment;
@@ -84,21 +85,11 @@ pub(crate) fn more_numbers(next: u64) -> u64
     next.saturating_add(AT_ONCE).min(NO_NUMBER)
 }
 
-/// Whether a list is posted, as a batch is.
-pub(crate) fn is_batch(request: &Request) -> bool
-    ensures { result ≡ spec.is_batch request.now }
-{
-    match (request.verb, &request.body) {
-        (Verb::Post, Some(body)) => body.kind().same(Kind::List),
-        _ => false,
-    }
-}
-
 /// What an entry keeps of a reply.
 fn kept_reply(alloc: Global, request: &Request, reply: Obj) -> Obj
     ensures { result ≡ spec.kept_reply request.now reply }
 {
-    if is_batch(request) {
+    if posts_list(request) {
         Obj::new(alloc, Kind::Obj)
     } else {
         reply

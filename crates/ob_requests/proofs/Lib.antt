@@ -7,5 +7,6 @@ pub mod Leading
 pub mod Places
 pub mod Replies
 pub mod Requests
+pub mod Apart
 pub mod Batches
 pub mod Seeing

@@ -3,9 +3,10 @@ ghost use Rattle.std.specs.Prelude.{◌≡◌, codes, option_map, IfOk};
 ghost use Rattle.ob_contracts.specs.Inherit.{words_in};
 ghost use Rattle.ob_site_rules.specs.Build.{nameless, child};
 ghost use Rattle.ob_site_rules.specs.Actions.{verb_of, first_verb, item_request};
+ghost use Rattle.ob_requests.specs.BatchCalls.{posts_list};
 
 use crate::asked::uri_of;
-use ob_object::Obj;
+use ob_object::{Kind, Obj};
 use ob_replies::build::nameless;
 use ob_site_rules::Request;
 use ob_values::{Text, Verb};
@@ -78,4 +79,14 @@ pub fn item_request(item: &Obj) -> Result<Option<Request>, AllocError>
     let target = text.copy()?;
     let body = item_input(item)?;
     Ok(Some(Request { verb, target, body }))
+}
+
+/// Whether a list is posted, as a batch is: the reply to any other request doesn't depend on which watches stand.
+pub fn posts_list(request: &Request) -> bool
+    ensures { result ≡ posts_list request.now }
+{
+    match (request.verb, &request.body) {
+        (Verb::Post, Some(body)) => body.kind().same(Kind::List),
+        _ => false,
+    }
 }

@@ -15,7 +15,7 @@ mod paths;
 mod target;
 
 pub use asked::{WatchInItem, asked_by, firsts, texts_of, uri_of};
-pub use items::item_request;
+pub use items::{item_request, posts_list};
 pub use laws::as_the_site_says;
 pub use lease::{Found, feed_with, lease_asked};
 pub use locating::located;

@@ -6,5 +6,6 @@ pub mod Keeping
 pub mod Steps
 pub mod Counts
 pub mod Ending
+pub mod Alike
 pub mod Worked
 pub mod Bare

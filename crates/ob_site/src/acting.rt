@@ -6,6 +6,7 @@ ghost use Rattle.ob_site_rules.specs.Actions.{act_itself, act_located};
 ghost use Rattle.ob_site_rules.specs.Locating.{locate};
 ghost use Rattle.ob_site_writes.specs.Stops.{IsDone};
 ghost use Rattle.ob_watch.specs.Tables.{lapsed_at};
+ghost use Rattle.ob_site.specs.Alike.{AnswersAlike};
 ghost use Rattle.ob_site.specs.Between.{IsBegun};
 ghost use Rattle.ob_site.specs.Keeping.{Keeps, MayKeep};
 ghost use Rattle.ob_site.specs.Steps.{IsAnswered, IsUnanswered, step_of};
@@ -15,6 +16,7 @@ use crate::keeper::Keeper;
 use ob_contracts::Steps;
 use ob_object::Obj;
 use ob_replies::refusal;
+use ob_requests::posts_list;
 use ob_site_calls::act_located;
 use ob_site_rules::Request;
 use ob_site_state::State;
@@ -44,6 +46,16 @@ fn act_by<L: Ledger>(
     }
 }
 
+/// The numbers of the watches that stand, or none where a request is answered alike whatever they are.
+fn numbers_for(state: &State, watches: &Watches, request: &Request) -> Result<Vec<u64>, AllocError>
+    ensures { IfOk result (λ numbers. AnswersAlike request.now numbers.items (numbers_of (lapsed_at state.now.time watches.now).watches)) }
+{
+    if posts_list(request) {
+        return watches.live_numbers(state.time());
+    }
+    Ok(Vec::new(state.allocator()))
+}
+
 /// What a request at its path does to the state, and its reply, before the step ends. An error only for want of memory.
 fn act<L: Ledger>(
     state: &mut State,
@@ -56,7 +68,7 @@ fn act<L: Ledger>(
     ensures done { IfOk result (IsDone state.old state.new (act_itself locate state.old.plan state.old.now (numbers_of (lapsed_at state.old.time watches.now).watches) request.now state.old.time)) }
     ensures stays { OnErr result (state.new ≡ record state.old { now = state.new.now }) }
 {
-    let numbers = watches.live_numbers(state.time())?;
+    let numbers = numbers_for(state, watches, request)?;
     act_by(state, &numbers, request, path, steps)
 }
 

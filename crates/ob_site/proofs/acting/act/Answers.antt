@@ -1,4 +1,4 @@
-use Rattle.std.proofs.Common.{◌≡◌, ℕ, List, Option, ap, ap₂, ◌∙◌, subst}
+use Rattle.std.proofs.Common.{◌≡◌, ℕ, List, Option, ap, ◌∙◌, subst}
 use Rattle.std.proofs.lemmas.Result.{IfOk-weaker}
 use Rattle.ob_object.specs.Object.{Object}
 use Rattle.ob_watch.specs.Tables.{lapsed_at}
@@ -16,6 +16,6 @@ returns-clause-done g c =
     let n = c.act_by.new.state in
     let r = c.args.request.now in
     let made : List ℕ → Option Path → State × Object = λ ns p. act_located locate k.plan k.now ns k.time r p in
-    let numbers = c.in_ok-numbers.ensures ∙ ap (λ (time : ℕ). numbers_of (lapsed_at time c.args.watches.now).watches) c.time.ensures in
+    let numbers = c.in_ok-numbers.ensures k.plan k.now k.time c.args.path.now in
     IfOk-weaker c.act_by.result (IsDone k n (made c.in_ok-numbers.numbers.items c.args.path.now)) (IsDone k n (act_itself locate k.plan k.now (numbers_of (lapsed_at k.time c.args.watches.now).watches) r k.time))
-    (λ o done. subst (λ (m : State × Object). IsDone k n m o) (ap₂ made numbers c.requires) done) c.act_by.ensures.done
+    (λ o done. subst (λ (m : State × Object). IsDone k n m o) (numbers ∙ ap (made (numbers_of (lapsed_at k.time c.args.watches.now).watches)) c.requires) done) c.act_by.ensures.done
