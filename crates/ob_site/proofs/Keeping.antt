@@ -53,10 +53,11 @@ module _ (plan : Plan) (s : State) (ns : List ℕ) (now : ℕ) (target : Text) (
   read_located None = refl
   read_located (Some p) = read_on p (place_at plan s p)
 
-abbrev acts_on : Kept → List ℕ → Request → State × Object
+abbrev pub acts_on : Kept → List ℕ → Request → State × Object
 acts_on k numbers r = act_itself locate k.plan k.now numbers r k.time
 
-read_leaves : (k : Kept) (numbers : List ℕ) (r : Request) → r.verb ≡ Get → (acts_on k numbers r).0 ≡ k.now
+-- so of the site in place
+pub read_leaves : (k : Kept) (numbers : List ℕ) (r : Request) → r.verb ≡ Get → (acts_on k numbers r).0 ≡ k.now
 read_leaves k numbers r is =
     subst (λ (verb : Verb). (acts_on k numbers (record { verb = verb; target = r.target; body = r.body })).0 ≡ k.now) (sym is)
     (read_located k.plan k.now numbers k.time r.target r.body (locate k.plan.base r.target))
@@ -121,10 +122,14 @@ module _ (k : Kept) (t : Table) (r : Request) where
         ∙ sym (ap (λ (x : Kept). x.before) done.after)
         )) done.answer (subst (λ (time : ℕ). keeps a l r time t.next o) (ap (λ (x : Kept). x.time) done.after) kept)
 
+    -- a read keeps nothing
+    pub read_keeps : IsBegun k t → l ≡ a → r.verb ≡ Get → Keeps below keeps a l (step_of k t r Itself)
+    read_keeps is same get = inl (unchanged_so is same (read_leaves k numbers r get))
+
     pub change_so : (m : Kept) (o : Object) → IsBegun k t → IsDone k m acted_on o → KeepsChange below keeps a l m.before m.now r m.time t.next o → Keeps below keeps a l (step_of k t r Itself)
     change_so m o is done (inl (same, inl e)) =
         inl (unchanged_so is same (sym (ap (λ (x : Kept). x.now) done.after) ∙ e ∙ ap (λ (x : Kept). x.before) done.after ∙ is.before))
-    change_so m o is done (inl (same, inr get)) = inl (unchanged_so is same (read_leaves k numbers r get))
+    change_so m o is done (inl (same, inr get)) = read_keeps is same get
     change_so m o is done (inr (change, kept)) = inr (inl (done_so m o is done change kept))
 
     -- ---- a request for a new watch

@@ -11,8 +11,9 @@ ghost use Rattle.ob_site.specs.Between.{IsBegun};
 ghost use Rattle.ob_site.specs.Keeping.{Keeps, MayKeep};
 ghost use Rattle.ob_site.specs.Steps.{IsAnswered, IsUnanswered, step_of};
 
-use crate::ending::end_step;
+use crate::ending::{end_step, is_read};
 use crate::keeper::Keeper;
+use crate::quiet::end_quietly;
 use ob_contracts::Steps;
 use ob_object::Obj;
 use ob_replies::refusal;
@@ -73,7 +74,7 @@ fn act<L: Ledger>(
 }
 
 /// What a request to the site itself, by its path, leaves of the state and of the watches, and its reply. An error only for want
-/// of memory, or from the keeper; it leaves all but the state now, and the keeper.
+/// of memory, or from the keeper; it leaves all but the state now, and the keeper. A read ends as what leaves the state as it is.
 ///
 /// Source: oBIX 1.1, chapters 5 (Batch) and 10 (Networking).
 pub(crate) fn on_itself<L: Ledger, K: Keeper>(
@@ -95,6 +96,10 @@ pub(crate) fn on_itself<L: Ledger, K: Keeper>(
     state.is_sound();
     steps_take_none_away();
     let reply = act(state, watches, request, path, steps)?;
+    if is_read(request.verb) {
+        end_quietly(state, watches);
+        return Ok(reply);
+    }
     end_step(state, watches, keeper, request, &reply, steps)?;
     Ok(reply)
 }

@@ -49,7 +49,7 @@ fn settle(state: &mut State, watches: &mut Watches, nodes: &[NodeId], news: &New
 }
 
 /// Whether a verb is that of a read.
-fn is_read(verb: Verb) -> bool
+pub(crate) fn is_read(verb: Verb) -> bool
     ensures { MatchBool result (verb ≡ Get) (verb ≢ Get) }
 {
     match verb {

@@ -29,7 +29,7 @@ use std::alloc::AllocError;
 use std::sync::ledger::Ledger;
 
 /// Ends a step that has changed nothing of the state. It takes no memory.
-fn end_quietly(state: &mut State, watches: &mut Watches)
+pub(crate) fn end_quietly(state: &mut State, watches: &mut Watches)
     ensures state { state.new ≡ record state.old { now = roll state.old.now; since = state.old.time; before = roll state.old.now } }
     ensures watches { watches.new ≡ lapsed_at state.old.time watches.old }
 {

@@ -1,8 +1,22 @@
+use Rattle.std.proofs.Common.{◌≡◌, ◌≢◌, Bool, refl, subst}
+use Rattle.std.specs.Prelude.{MatchBool}
+use Rattle.ob_values.specs.declared.verb.Verb.TheVariants.{Get}
 use Rattle.ob_watching.specs.Tables.{numbers_of}
 use Rattle.ob_watch.specs.Tables.{lapsed_at}
 use Rattle.ob_site.proofs.Acted.{acted_so, kept_in, none_away, stays_by}
-use Rattle.ob_site.proofs.Keeping.{change_so, may_change_so, whatever_err}
+use Rattle.ob_site.proofs.Keeping.{change_so, may_change_so, read_keeps, whatever_err}
+use Rattle.ob_site.proofs.Reads.{read_so}
 use Rattle.ob_site.proofs.acting.on_itself.Goals as goal
+
+pub returns-then-is_read-clause-done : goal.returns-then-is_read-clause-done
+returns-then-is_read-clause-done g c =
+    read_so c.args.state.now c.args.watches.now c.args.request.now c.in_ok-reply.reply (subst (λ (b : Bool). MatchBool b (c.args.request.now.verb ≡ Get) (c.args.request.now.verb ≢ Get)) c.if-is_read.true c.is_read.ensures)
+    c.act.new.state c.end_quietly.new.state c.end_quietly.new.watches c.requires.begun c.in_ok-reply.ensures.done c.end_quietly.ensures.state c.end_quietly.ensures.watches
+
+pub returns-then-is_read-clause-keeps : goal.returns-then-is_read-clause-keeps
+returns-then-is_read-clause-keeps g c =
+    read_keeps c.args.state.now c.args.watches.now c.args.request.now g.K.Keeper.below g.K.Keeper.keeps c.args.keeper.now c.args.keeper.now c.requires.begun refl
+    (subst (λ (b : Bool). MatchBool b (c.args.request.now.verb ≡ Get) (c.args.request.now.verb ≢ Get)) c.if-is_read.true c.is_read.ensures)
 
 pub end_step-requires-clause-kept : goal.end_step-requires-clause-kept
 end_step-requires-clause-kept g c = (kept_in c.args.state.now c.act.new.state c.args.watches.now _ c.requires.begun c.in_ok-reply.ensures.done.after).0
