@@ -1,7 +1,8 @@
--- What an own node refuses by its own head, whatever is in it.
-use Rattle.std.proofs.Common.{◌≡◌, ℕ, cond, List, Option, Some, None, option_map, refl, sym, ap, ap₂, ◌∙◌}
+-- What an own node refuses by its own head, whatever is in it, and what is done of it.
+use Rattle.std.proofs.Common.{◌≡◌, ℕ, cond, List, Option, Some, None, option_map, refl, sym, ap, ap₂, ◌∙◌, subst}
+use Rattle.std.specs.Prelude.{Result, Ok, Err, IfOk, MatchOption}
 use Rattle.ob_values.specs.declared.verb.Verb.{Verb}
-use Rattle.ob_values.specs.declared.verb.Verb.TheVariants.{Post}
+use Rattle.ob_values.specs.declared.verb.Verb.TheVariants.{Post, Put}
 use Rattle.ob_object.specs.declared.kind.Kind.{Kind}
 use Rattle.ob_object.specs.Object.{Object}
 use Rattle.ob_contracts.specs.Inherit.{or_else}
@@ -21,8 +22,13 @@ use Rattle.ob_site_rules.specs.Posts.{write_point}
 use Rattle.ob_site_rules.specs.Writes.{write_by}
 use Rattle.ob_site_rules.specs.Actions.{act_at, act_located, item_on}
 use Rattle.ob_requests.proofs.Requests.{act_done, item_done}
+use Rattle.ob_site_state.specs.Kept.{Kept}
+use Rattle.ob_site_writes.specs.Own.{IsPut, StopsPut}
+use Rattle.ob_site_writes.specs.Stops.{IsDone, Stops}
 use Rattle.ob_site_writes.specs.Targets.{IsRefused}
-use Rattle.ob_site_calls.specs.Refusing.{IsRefusedThere}
+use Rattle.ob_site_writes.specs.declared.stop.Stop.{Stop}
+use Rattle.ob_site_writes.specs.declared.stop.Stop.TheVariants.{Refused, Memory}
+use Rattle.ob_site_calls.specs.Refusing.{IsDoneThere, IsRefusedThere, StopsThere}
 use Rattle.ob_site_calls.proofs.Pointed.{point_written}
 
 -- no node is called
@@ -37,11 +43,14 @@ never_called plan s now p body kind is = go (shown plan s p) refl is
     go None e of_kind = absurd (none_same of_kind)
     go (Some o) e of_kind = (o, (e, refl))
 
--- where no computed path is that of what refuses, it is what the path names
+-- where no computed path is the same, what is shown is what the path names
+placed : (plan : Plan) (s : State) (p : Path) (o : Object) → at p (computed_places plan s) ≡ None → shown plan s p ≡ Some o → place_at plan s p ≡ Some (Node o)
+placed plan s p o free is = ap₂ (λ (i : Option Resource) (j : Option Object). or_else i (option_map Node j)) free is
+
 pub refused_there : (plan : Plan) (s : State) (now : ℕ) (p : Path) (verb : Verb) (body : Option Object) (fault : Fault) → IsRefused plan s p (λ o. act_at plan s now p verb (Node o) body) fault
     → at p (computed_places plan s) ≡ None → IsRefusedThere plan s now p verb body fault
 refused_there plan s now p verb body fault is free =
-    (is.0, (ap₂ (λ (i : Option Resource) (j : Option Object). or_else i (option_map Node j)) free is.1.0, is.1.1))
+    (is.0, (placed plan s p is.0 free is.1.0, is.1.1))
 
 pub item_refused : (plan : Plan) (s : State) (ns : List ℕ) (now : ℕ) (r : Request) (p : Path) (fault : Fault) → IsRefusedThere plan s now p r.verb r.body fault → item_on plan s ns now r (Some p) ≡ (s, err fault)
 item_refused plan s ns now r p fault there = item_done plan s ns now r p (Node there.0) there.1.0 refl ∙ there.1.1
@@ -49,6 +58,36 @@ item_refused plan s ns now r p fault there = item_done plan s ns now r p (Node t
 pub act_refused : (plan : Plan) (s : State) (ns : List ℕ) (now : ℕ) (r : Request) (p : Path) (fault : Fault) → IsRefusedThere plan s now p r.verb r.body fault
     → act_located locate plan s ns now r (Some p) ≡ (s, err fault)
 act_refused plan s ns now r p fault there = act_done locate plan s ns now r p (Node there.0) there.1.0 refl ∙ there.1.1
+
+-- what is done there is done
+pub item_done_there : (k n : Kept) (ns : List ℕ) (r : Request) (p : Path) (reply : Object) → IsDoneThere k n p r.verb r.body reply → IsDone k n (item_on k.plan k.now ns k.time r (Some p)) reply
+item_done_there k n ns r p reply there = subst (λ (m : State × Object). IsDone k n m reply) (sym (item_done k.plan k.now ns k.time r p (Node there.0) there.1.0 refl)) there.1.1
+
+pub act_done_there : (k n : Kept) (ns : List ℕ) (r : Request) (p : Path) (reply : Object) → IsDoneThere k n p r.verb r.body reply → IsDone k n (act_located locate k.plan k.now ns k.time r (Some p)) reply
+act_done_there k n ns r p reply there = subst (λ (m : State × Object). IsDone k n m reply) (sym (act_done locate k.plan k.now ns k.time r p (Node there.0) there.1.0 refl)) there.1.1
+
+-- and what stops there stops
+pub item_stops : (k n : Kept) (ns : List ℕ) (r : Request) (p : Path) (stop : Stop) → StopsThere k n p r.verb r.body stop → Stops k n (item_on k.plan k.now ns k.time r (Some p)) stop
+item_stops k n ns r p (Refused fault) stops = (stops.0, item_refused k.plan k.now ns k.time r p fault stops.1)
+item_stops k n ns r p Memory stops = stops
+
+pub act_stops : (k n : Kept) (ns : List ℕ) (r : Request) (p : Path) (stop : Stop) → StopsThere k n p r.verb r.body stop → Stops k n (act_located locate k.plan k.now ns k.time r (Some p)) stop
+act_stops k n ns r p (Refused fault) stops = (stops.0, act_refused k.plan k.now ns k.time r p fault stops.1)
+act_stops k n ns r p Memory stops = stops
+
+-- a Put to what is shown at a path that no computed one is
+pub put_placed : (k n : Kept) (p : Path) (body : Option Object) (reply : Object) → at p (computed_places k.plan k.now) ≡ None → IsPut k n p body reply → IsDoneThere k n p Put body reply
+put_placed k n p body reply free is = (is.0, (placed k.plan k.now p is.0 free is.1.0, is.1.1))
+
+pub all_placed : (k n : Kept) (p : Path) (body : Option Object) (result : Result (Option Object) Stop) → at p (computed_places k.plan k.now) ≡ None → IfOk result (λ done. MatchOption done (n ≡ k) (IsPut k n p body))
+    → IfOk result (λ done. MatchOption done (n ≡ k) (IsDoneThere k n p Put body))
+all_placed k n p body (Ok None) free is = is
+all_placed k n p body (Ok (Some reply)) free is = put_placed k n p body reply free is
+all_placed k n p body (Err stop) free is = is
+
+pub put_stopped : (k n : Kept) (p : Path) (body : Option Object) (stop : Stop) → at p (computed_places k.plan k.now) ≡ None → StopsPut k n p body stop → StopsThere k n p Put body stop
+put_stopped k n p body (Refused fault) free stops = (stops.0, refused_there k.plan k.now k.time p Put body fault stops.1 free)
+put_stopped k n p body Memory free stops = stops
 
 -- a write to a point that the point refuses
 pub point_refused : (plan : Plan) (s : State) (now : ℕ) (p : Path) (new : Object) (fault : Fault) → IsRefused plan s p (λ o. write_by plan s now p o None new) fault

@@ -12,7 +12,7 @@ ghost use Rattle.ob_requests.specs.BatchCalls.{is_batch_call};
 ghost use Rattle.ob_site_writes.specs.Stops.{IsDone, Stops};
 
 use crate::actions::act_at;
-use crate::refusing::refused;
+use crate::refusing::at_once;
 use ob_contracts::Steps;
 use ob_object::{Kind, Obj};
 use ob_replies::build::put;
@@ -105,7 +105,6 @@ fn item_there<L: Ledger>(
 }
 
 /// An item of a batch at its path.
-#[tactic(auto, using(crate::proofs::ByHead::item_refused))]
 fn item_at<L: Ledger>(
     state: &mut State,
     numbers: &[u64],
@@ -118,10 +117,11 @@ fn item_at<L: Ledger>(
     ensures stop { IfErr result (Stops state.old state.new
         (item_on state.old.plan state.old.now numbers.now state.old.time request.now (Some path.now))) }
 {
-    if let Some(fault) = refused(state, path, request.verb, request.body.as_ref(), steps)? {
-        return Err(Stop::Refused(fault));
+    match at_once(state, path, request.verb, request.body.as_ref(), steps) {
+        Ok(Some(reply)) => Ok(reply),
+        Ok(None) => item_there(state, numbers, request, path, steps),
+        Err(stop) => Err(stop),
     }
-    item_there(state, numbers, request, path, steps)
 }
 
 /// An item of a batch that is a request.
@@ -293,7 +293,6 @@ fn act_there<L: Ledger>(
 }
 
 /// A request at its path.
-#[tactic(auto, using(crate::proofs::ByHead::act_refused))]
 fn act_on<L: Ledger>(
     state: &mut State,
     numbers: &[u64],
@@ -306,10 +305,11 @@ fn act_on<L: Ledger>(
     ensures stop { IfErr result (Stops state.old state.new
         (act_located locate state.old.plan state.old.now numbers.now state.old.time request.now (Some path.now))) }
 {
-    if let Some(fault) = refused(state, path, request.verb, request.body.as_ref(), steps)? {
-        return Err(Stop::Refused(fault));
+    match at_once(state, path, request.verb, request.body.as_ref(), steps) {
+        Ok(Some(reply)) => Ok(reply),
+        Ok(None) => act_there(state, numbers, request, path, steps),
+        Err(stop) => Err(stop),
     }
-    act_there(state, numbers, request, path, steps)
 }
 
 /// What a request to the site itself leaves of it, and the reply, by the path that its text leads to, if it leads to one; `numbers`

@@ -13,12 +13,12 @@ use Rattle.ob_object.specs.Write.{verdict}
 use Rattle.ob_points.specs.Points.{suits, passes}
 use Rattle.ob_site_rules.specs.Build.{Path}
 use Rattle.ob_site_rules.specs.declared.fault.Fault.{Fault}
-use Rattle.ob_site_rules.specs.declared.fault.Fault.TheVariants.{OtherKind, OtherShape, TooManyEntries}
+use Rattle.ob_site_rules.specs.declared.fault.Fault.TheVariants.{OtherKind, TooManyEntries}
 use Rattle.ob_site_rules.specs.Faults.{err, first_fault}
 use Rattle.ob_site_rules.specs.Shown.{shown}
 use Rattle.ob_site_rules.specs.declared.plan.Plan.{Plan}
 use Rattle.ob_site_rules.specs.State.{State}
-use Rattle.ob_site_rules.specs.Writes.{given_by, is_listed, overfills, put, showing, slot_fault, target_fault, unless, value_fault, verdict_fault, write_by, written}
+use Rattle.ob_site_rules.specs.Writes.{given_by, is_listed, overfills, showing, slot_fault, target_fault, unless, value_fault, verdict_fault, write_by, written}
 use Rattle.ob_site_shown.specs.Targets.{target, target_head}
 use Rattle.ob_site_writes.specs.Targets.{IsRefused, IsTarget}
 
@@ -70,7 +70,7 @@ passes_by plan s p v o is =
     (sym (slot_same plan s o.head (Is v)) ∙ sym (ap (λ (x : Object). slot_fault plan s x.head (Is v)) is.1.1) ∙ slot_same plan s is.0.head (Is v))
     ∙ sym (ap (λ (q : Option Object). unwrap_or (option_map (suits plan s v) q) false) is.1.0)
 
-value_told : (plan : Plan) (s : State) (now : ℕ) (p : Path) (new : Head) (o x : Object) → target x ≡ target o → value_fault plan s now p x.head new ≡ value_fault plan s now p o.head new
+pub value_told : (plan : Plan) (s : State) (now : ℕ) (p : Path) (new : Head) (o x : Object) → target x ≡ target o → value_fault plan s now p x.head new ≡ value_fault plan s now p o.head new
 value_told plan s now p new o x same =
     sym (value_same plan s now p x.head new) ∙ ap (λ (y : Object). value_fault plan s now p y.head new) same ∙ value_same plan s now p o.head new
 
@@ -86,25 +86,6 @@ pub write_refused : (plan : Plan) (s : State) (now : ℕ) (p : Path) (o body : O
 write_refused plan s now p o body None is e = tt
 write_refused plan s now p o body (Some f) is e = (is.0, (is.1.0, refuses_value plan s now p o body None f is refl (sym e)))
 
-target_told : (o x : Object) → target x ≡ target o → target_fault x.head ≡ target_fault o.head
+-- and what is wrong with the target
+pub target_told : (o x : Object) → target x ≡ target o → target_fault x.head ≡ target_fault o.head
 target_told o x same = ap (λ (y : Object). target_fault y.head) same
-
-pub put_refused : (plan : Plan) (s : State) (now : ℕ) (p : Path) (o body : Object) (fault : Option Fault) → IsTarget plan s p o → target_fault o.head ≡ None
-    → fault ≡ value_fault plan s now p o.head (given_by s body) → IfSome fault (λ f. IsRefused plan s p (λ x. put plan s now p x (Some body)) f)
-put_refused plan s now p o body None is free e = tt
-put_refused plan s now p o body (Some f) is free e =
-    (is.0, (is.1.0, refuses_value plan s now p o body (target_fault is.0.head) f is (target_told o is.0 is.1.1 ∙ free) (sym e)))
-
--- and so does what is wrong with the target, and that there is no body
-pub target_refused : (plan : Plan) (s : State) (now : ℕ) (p : Path) (o : Object) (body : Option Object) (fault : Option Fault) → IsTarget plan s p o → fault ≡ target_fault o.head
-    → IfSome fault (λ f. IsRefused plan s p (λ x. put plan s now p x body) f)
-target_refused plan s now p o body None is e = tt
-target_refused plan s now p o body (Some f) is e = (is.0, (is.1.0, go body (target_told o is.0 is.1.1 ∙ sym e)))
-  where
-    go : (b : Option Object) → target_fault is.0.head ≡ Some f → put plan s now p is.0 b ≡ (s, err f)
-    go None t = ap (λ (g : Option Fault). unless (option_or g (Some OtherShape)) s (s, is.0)) t
-    go (Some x) t = ap (λ (g : Option Fault). write_by plan s now p is.0 g x) t
-
-pub bodiless_refused : (plan : Plan) (s : State) (now : ℕ) (p : Path) (o : Object) → IsTarget plan s p o → target_fault o.head ≡ None → IsRefused plan s p (λ x. put plan s now p x None) OtherShape
-bodiless_refused plan s now p o is free =
-    (is.0, (is.1.0, ap (λ (g : Option Fault). unless (option_or g (Some OtherShape)) s (s, is.0)) (target_told o is.0 is.1.1 ∙ free)))

@@ -4,6 +4,7 @@
 //! as it was; want of memory leaves all but the state now, so that `undo` gives that back.
 #![tactic(auto)]
 
+mod own;
 mod passing;
 mod putting;
 mod reading;
@@ -12,8 +13,9 @@ mod stop;
 mod value;
 mod written;
 
+pub use own::put_own;
 pub use passing::passes;
 pub use putting::{put, write_by};
 pub use reading::{replied, shown};
-pub use refusing::{put_fault, write_fault};
+pub use refusing::write_fault;
 pub use stop::Stop;

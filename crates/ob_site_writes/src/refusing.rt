@@ -1,11 +1,10 @@
 //! What is wrong with a write, told by the own head of the node that it is for: nothing is shown for it.
 ghost use Rattle.std.specs.Prelude.{◌≡◌, None, IfOk, IfSome};
-ghost use Rattle.std.specs.Option.{option_copied};
-ghost use Rattle.ob_site_rules.specs.Writes.{given_by, put, value_fault, write_by};
+ghost use Rattle.ob_site_rules.specs.Writes.{given_by, value_fault, write_by};
 ghost use Rattle.ob_site_writes.specs.Targets.{IsRefused, IsTarget};
 
 use crate::putting::given_by;
-use crate::value::{target_fault, value_fault};
+use crate::value::value_fault;
 use ob_contracts::Steps;
 use ob_object::Obj;
 use ob_site_rules::Fault;
@@ -62,45 +61,6 @@ pub fn write_fault<L: Ledger>(
 {
     match target_at(state, path, steps)? {
         Some(target) => body_fault(state, path, &target, body, steps),
-        None => Ok(None),
-    }
-}
-
-/// Why a Put is refused by a target. All stays as it is.
-fn target_refusal<L: Ledger>(
-    state: &mut State,
-    path: &Text,
-    target: &Obj,
-    body: Option<&Obj>,
-    steps: &mut Steps<L>,
-) -> Result<Option<Fault>, AllocError>
-    requires { IsTarget state.old.plan state.old.now path.now target.now }
-    ensures same { state.new ≡ state.old }
-    ensures fault { IfOk result (λ fault. IfSome fault (λ f. IsRefused state.old.plan state.old.now path.now (λ o. put state.old.plan state.old.now state.old.time path.now o (option_copied body.entry)) f)) }
-{
-    let fault = target_fault(target.head());
-    if fault.is_some() {
-        return Ok(fault);
-    }
-    match body {
-        Some(body) => body_fault(state, path, target, body, steps),
-        None => Ok(Some(Fault::OtherShape)),
-    }
-}
-
-/// Why a Put is refused by the own node of a path, told by its own head. It tells nothing where no own node is there. All
-/// stays as it is; an error only for want of memory.
-pub fn put_fault<L: Ledger>(
-    state: &mut State,
-    path: &Text,
-    body: Option<&Obj>,
-    steps: &mut Steps<L>,
-) -> Result<Option<Fault>, AllocError>
-    ensures same { state.new ≡ state.old }
-    ensures fault { IfOk result (λ fault. IfSome fault (λ f. IsRefused state.old.plan state.old.now path.now (λ o. put state.old.plan state.old.now state.old.time path.now o (option_copied body.entry)) f)) }
-{
-    match target_at(state, path, steps)? {
-        Some(target) => target_refusal(state, path, &target, body, steps),
         None => Ok(None),
     }
 }
