@@ -124,8 +124,34 @@ fn change_due<L: Ledger>(
     }
 }
 
+/// Puts the entry of what has changed of an item that is to be reported last, if something has. It stands apart, so that no place
+/// is made ready for an object where an item isn't due.
+#[inline(never)]
+#[tactic(auto, using(crate::proofs::Due::entry_due))]
+fn push_due<L: Ledger>(
+    alloc: Global,
+    plan: &Plan,
+    contents: &Contents,
+    item: &Item,
+    entries: &mut Vec<Obj>,
+    steps: &mut Steps<L>,
+) -> Result<(), AllocError>
+    requires complete { IsComplete plan.now contents.now }
+    requires known { IsKnown plan.now contents.now item.now }
+    requires due { is_due contents.now.ground.tree item.now ≡ true }
+    ensures entries { IfOk result (λ _. entries.new.items ≡ entries.old.items ++ map entry (changes_in plan.now contents.now item.now)) }
+    ensures steps { IfOk result (λ _. steps.new ≡ steps.old + item_steps plan.now (state_in contents.now) item.now.path (flag_of contents.now.ground.tree item.now.tracked)) }
+{
+    let Some(content) = change_due(alloc, plan, contents, item, steps)? else {
+        return Ok(());
+    };
+    let text = item.text().copy()?;
+    entries.push(entry(content, text))?;
+    Ok(())
+}
+
 /// Puts the entry of what has changed of an item last, if something has. Nothing is read of an item that isn't due.
-#[tactic(auto, using(crate::proofs::Due::nothing_due, crate::proofs::Due::entry_due))]
+#[tactic(auto, using(crate::proofs::Due::nothing_due))]
 fn push_change<L: Ledger>(
     alloc: Global,
     plan: &Plan,
@@ -142,12 +168,7 @@ fn push_change<L: Ledger>(
     if !item.is_due(contents.ground.tree()) {
         return Ok(());
     }
-    let Some(content) = change_due(alloc, plan, contents, item, steps)? else {
-        return Ok(());
-    };
-    let text = item.text().copy()?;
-    entries.push(entry(content, text))?;
-    Ok(())
+    push_due(alloc, plan, contents, item, entries, steps)
 }
 
 /// The entries of what has changed of items since it was last reported. Only the items that are due are read: for each on an
