@@ -21,3 +21,4 @@ pub mod Heads
 pub mod Naming
 pub mod Taught
 pub mod UpTo
+pub mod Alone
