@@ -9,3 +9,4 @@ pub mod Rewound
 pub mod Ordered
 pub mod Early
 pub mod EventsShown
+pub mod Would

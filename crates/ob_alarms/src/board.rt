@@ -290,6 +290,18 @@ impl Alarms {
         }
     }
 
+    /// Whether a value of the source of a rule, or that it has none, would be an event. It costs a look-up.
+    pub fn would_turn(&self, rule: u64, value: &Option<Num>) -> bool
+        requires { Takes self.now.rules rule value.now }
+        ensures { (now : ℕ) → length (on_value self.now rule value.now now).0.events ≡ length self.now.events + cond result 1 0 }
+    {
+        let outside = self.is_outside(rule, value);
+        match self.current(rule) {
+            Some(_number) => !outside,
+            None => outside,
+        }
+    }
+
     /// Acknowledges an alarm that needs it, unless it was done before. It takes no memory.
     ///
     /// Answers `NoSuch` exactly where no alarm that needs an acknowledgement has that number, and
@@ -305,6 +317,16 @@ impl Alarms {
                 self.acknowledge(number, user, now);
                 AckResult::Done
             }
+        }
+    }
+
+    /// Whether an acknowledgement of an alarm would be an event.
+    pub fn would_ack(&self, number: u64) -> bool
+        ensures { (user : Option (List ℕ)) (now : ℕ) → length (on_ack self.now number user now).0.events ≡ length self.now.events + cond result 1 0 }
+    {
+        match self.is_acked(number) {
+            Some(acked) => !acked,
+            None => false,
         }
     }
 

@@ -4,7 +4,6 @@ use Rattle.std.specs.Option.{option_copied}
 use Rattle.ob_object.specs.declared.head.Head.{Head}
 use Rattle.ob_object.specs.declared.head.Slot.{Slot}
 use Rattle.ob_object.specs.declared.head.Slot.TheVariants.{Absent, Null, Is}
-use Rattle.ob_object.specs.declared.facet.Facets.{Facets}
 use Rattle.ob_object.specs.Kinds.{is_ref}
 use Rattle.ob_object.specs.Object.{Object}
 use Rattle.ob_contracts.specs.Inherit.{Contracts, Words, bare, contract_of, given, inherited_facets, inherited_head, or_else, present, result_of, slot_of, sources, words_in}

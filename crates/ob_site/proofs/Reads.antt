@@ -1,5 +1,5 @@
 -- A read of the site itself leaves it as it is.
-use Rattle.std.proofs.Common.{◌≡◌, ℕ, List, sym, ap, ◌∙◌, subst}
+use Rattle.std.proofs.Common.{◌≡◌, ℕ, List, sym, ap, ◌∙◌}
 use Rattle.ob_values.specs.declared.verb.Verb.TheVariants.{Get}
 use Rattle.ob_object.specs.Object.{Object}
 use Rattle.ob_watching.specs.Asked.{Itself}

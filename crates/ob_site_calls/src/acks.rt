@@ -74,24 +74,23 @@ fn is_unacked(alarms: &Alarms, number: u64) -> bool
 }
 
 /// What is wrong with an acknowledgement: the input has another shape, the user's text is too long, or its event would
-/// be too many. All stays as it is.
-fn ack_fault(state: &mut State, number: u64, input: &Obj) -> Result<Option<Fault>, AllocError>
-    ensures same { state.new ≡ state.old }
-    ensures fault { IfOk result (λ fault. fault ≡ ack_fault state.old.plan state.old.now state.old.time number input.now) }
+/// be too many.
+fn ack_fault(state: &State, number: u64, input: &Obj) -> Option<Fault>
+    ensures { result ≡ ack_fault state.now.plan state.now.now state.now.time number input.now }
 {
     if !is_ack_in(input) {
-        return Ok(Some(Fault::OtherShape));
+        return Some(Fault::OtherShape);
     }
     if is_long_text(user_in(input)) {
-        return Ok(Some(Fault::TextTooLong));
+        return Some(Fault::TextTooLong);
     }
     if !is_unacked(state.alarms(), number) {
-        return Ok(None);
+        return None;
     }
-    if ack_overfills(state, number)? {
-        return Ok(Some(Fault::TooManyEntries));
+    if ack_overfills(state, number) {
+        return Some(Fault::TooManyEntries);
     }
-    Ok(None)
+    None
 }
 
 /// Acknowledges an alarm for the user that an input names, and answers it as it then is.
@@ -116,7 +115,7 @@ pub fn acknowledge(state: &mut State, number: u64, input: &Obj) -> Result<Obj, S
     ensures stop { IfErr result (Stops state.old state.new
         (acknowledge state.old.plan state.old.now state.old.time number input.now)) }
 {
-    if let Some(fault) = ack_fault(state, number, input)? {
+    if let Some(fault) = ack_fault(state, number, input) {
         return Err(Stop::Refused(fault));
     }
     let reply = show_acknowledged(state, number, input)?;

@@ -240,40 +240,6 @@ event_undone s new e es al =
     ∙ ap (λ (x : List Event). let t : State = record s { alarms = alarms_before s.events s.alarms; events = x } in t)
     (sym (ap events_before es ∙ events_before-append new.events e))
 
--- a value that was an event is taken back
-pub value_taken_back : (s : State) (b c d : Board) (rule now : ℕ) (value : Option Num) (r : Turned) → b.alarms ≡ s.alarms → b.events ≡ s.events → (let x : Board × Turned = (c, r) in x) ≡ on_value b rule value now → is_turn r ≡ true
-    → IsUndone c d → (let t : State = record s { alarms = d.alarms; events = d.events } in t) ≡ s
-value_taken_back s b c d rule now value r al es e turned u =
-    event_undone (with_board s c) d u.0 u.1 (ap (λ (x : Board). x.alarms) u.2)
-    ∙ (subst (λ (is : Bool). AddsEvent is s (with_board s c)) turned (value_event s b c rule now value r al es e)).1
-
--- and so is an acknowledgement
-pub ack_taken_back : (s : State) (b c d : Board) (number : ℕ) (user : Option (List ℕ)) (now : ℕ) (r : AckResult) → b.alarms ≡ s.alarms → b.events ≡ s.events → (let x : Board × AckResult = (c, r) in x) ≡ on_ack b number user now → is_done r ≡ true
-    → IsUndone c d → (let t : State = record s { alarms = d.alarms; events = d.events } in t) ≡ s
-ack_taken_back s b c d number user now r al es e done u =
-    event_undone (with_board s c) d u.0 u.1 (ap (λ (x : Board). x.alarms) u.2)
-    ∙ (subst (λ (is : Bool). AddsEvent is s (with_board s c)) done (ack_event s b c number user now r al es e)).1
-
--- how many events there are after a value
-turn_more : (b : Board) (rule now : ℕ) (v : Option Num) (w : Option ℕ) → length (turn b rule now v w).0.events ≡ length b.events + cond (is_turn (turn b rule now v w).1) 1 0
-turn_more b rule now (Some value) None = (let e : Event = record { number = length b.alarms + 1; what = what.Raised; at = now } in length-append b.events (e ∷ []))
-turn_more b rule now None (Some number) = (let e : Event = record { number = number; what = what.Normal; at = now } in length-append b.events (e ∷ []))
-turn_more b rule now (Some value) (Some number) = omega arith
-turn_more b rule now None None = omega arith
-
-pub value_more : (b : Board) (rule : ℕ) (value : Option Num) (now : ℕ) → length (on_value b rule value now).0.events ≡ length b.events + cond (is_turn (on_value b rule value now).1) 1 0
-value_more b rule value now = turn_more b rule now (outside_of (slice_get b.rules rule) value) (current rule b.alarms)
-
-answered_more : (b : Board) (number : ℕ) (user other : Option (List ℕ)) (now : ℕ) (o : Option Bool)
-    → length (answered b number user now o).0.events ≡ length b.events + cond (is_done (answered b number other now o).1) 1 0
-answered_more b number user other now None = omega arith
-answered_more b number user other now (Some true) = omega arith
-answered_more b number user other now (Some false) = (let e : Event = record { number = number; what = what.Acked; at = now } in length-append b.events (e ∷ []))
-
--- and after an acknowledgement, whoever it names
-pub ack_more : (b : Board) (number : ℕ) (user other : Option (List ℕ)) (now : ℕ) → length (on_ack b number user now).0.events ≡ length b.events + cond (is_done (on_ack b number other now).1) 1 0
-ack_more b number user other now = answered_more b number user other now (acked_if_needed b.rules (alarm_of number b.alarms))
-
 -- the same by the plan's alarms
 pub value_has : (plan : Plan) (s : State) (b : Board) (rule : ℕ) (value : Option Num) (now : ℕ) (is : Bool) → b.root ≡ plan.root → b.rules ≡ numbered_from 0 plan.rules → b.alarms ≡ s.alarms → b.events ≡ s.events
     → HasEvents is s (on_value b rule value now).0 → HasEvents is s (on_value (board plan s) rule value now).0
@@ -288,21 +254,3 @@ ack_has plan s b number user now is root rules al es has =
     sym (ap (λ (t : State). length t.events)
     (ap (λ (x : Board). with_board s (on_ack x number user now).0) (board_is plan s b root rules al es) ∙ ack_spare s (board plan s) b.spare number user now))
     ∙ has
-
--- how many events a value adds, with room made for it
-pub value_counted : (s : State) (b c d : Board) (rule now : ℕ) (value : Option Num) (r : Turned) (is : Bool) → c ≡ record b { spare = c.spare } → b.events ≡ s.events → (let x : Board × Turned = (d, r) in x) ≡ on_value c rule value now
-    → is ≡ is_turn r → HasEvents is s (on_value b rule value now).0
-value_counted s b c d rule now value r is stays es e turned =
-    sym (ap (λ (t : State). length t.events) (ap (λ (x : Board). with_board s (on_value x rule value now).0) stays ∙ value_spare s b c.spare rule value now))
-    ∙ value_more c rule value now
-    ∙ ap (λ (n : ℕ). n + cond {A = ℕ} (is_turn (on_value c rule value now).1) 1 0) (ap (λ (x : Board). length x.events) stays ∙ ap (λ (l : List Event). length l) es)
-    ∙ ap (λ (x : Bool). length s.events + cond {A = ℕ} x 1 0) (ap is_turn (sym (ap (λ (x : Board × Turned). x.1) e)) ∙ sym turned)
-
--- and an acknowledgement, whoever it names
-pub ack_counted : (s : State) (b c d : Board) (number : ℕ) (user other : Option (List ℕ)) (now : ℕ) (r : AckResult) (is : Bool) → c ≡ record b { spare = c.spare } → b.events ≡ s.events → (let x : Board × AckResult = (d, r) in x) ≡ on_ack c number other now
-    → is ≡ is_done r → HasEvents is s (on_ack b number user now).0
-ack_counted s b c d number user other now r is stays es e done =
-    sym (ap (λ (t : State). length t.events) (ap (λ (x : Board). with_board s (on_ack x number user now).0) stays ∙ ack_spare s b c.spare number user now))
-    ∙ ack_more c number user other now
-    ∙ ap (λ (n : ℕ). n + cond {A = ℕ} (is_done (on_ack c number other now).1) 1 0) (ap (λ (x : Board). length x.events) stays ∙ ap (λ (l : List Event). length l) es)
-    ∙ ap (λ (x : Bool). length s.events + cond {A = ℕ} x 1 0) (ap is_done (sym (ap (λ (x : Board × AckResult). x.1) e)) ∙ sym done)

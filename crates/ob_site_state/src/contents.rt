@@ -1,6 +1,6 @@
 //! What changes of a site: its library, its own objects, the logs of its histories and its alarms; and the roles of its
 //! plan, by which it is looked up.
-ghost use Rattle.std.specs.Prelude.{◌≡◌, ℕ, All, ◌-◌, List, Option, ◌<◌, ◌≤◌, ◌+◌, ◌^◌, [], Bool, true, false, map, length, replicate, slice_get, Some, option_map, IsTrue, IfOk, OnOk, OnErr};
+ghost use Rattle.std.specs.Prelude.{◌≡◌, ℕ, All, ◌-◌, ◌<◌, ◌≤◌, ◌+◌, ◌^◌, [], Bool, true, false, map, length, replicate, slice_get, Some, option_map, IsTrue, IfOk, OnOk, OnErr};
 ghost use Rattle.ob_object.specs.declared.head.Head.{Head};
 ghost use Rattle.ob_object.specs.Fits.{fits_slot};
 ghost use Rattle.ob_object.specs.Object.{parts};
@@ -12,7 +12,7 @@ ghost use Rattle.ob_history.specs.Records.{MayFollow, IsRecord};
 ghost use Rattle.ob_site_rules.specs.Build.{Path};
 ghost use Rattle.ob_site_rules.specs.State.{Log as SiteLog, with_board};
 ghost use Rattle.ob_site_rules.specs.Writes.{events_ever, with_record};
-ghost use Rattle.ob_site_state.specs.Changes.{undone, rewound, settled_by, settled_all, with_log, CanUndo, CanRewind, IsPlaced, AddsEvent, HasEvents, is_turn, is_done};
+ghost use Rattle.ob_site_state.specs.Changes.{undone, rewound, settled_by, settled_all, with_log, CanUndo, CanRewind, IsPlaced, AddsEvent, is_turn, is_done};
 ghost use Rattle.ob_site_state.specs.Contents.{state_in, SameRest};
 ghost use Rattle.ob_site_state.specs.Stamping.{after_step};
 
@@ -143,42 +143,6 @@ impl Contents {
         self.board.reserve(1)?;
         let answer = self.board.ack(number, user, now);
         Ok(is_done(&answer))
-    }
-
-    /// Whether a value of the source of a rule would be an event. All stays as it is.
-    pub(crate) fn would_turn(
-        &mut self,
-        rule: u64,
-        value: Option<Num>,
-        now: Moment,
-    ) -> Result<bool, AllocError>
-        requires { Takes self.old.board.rules rule value }
-        ensures same { state_in self.new ≡ state_in self.old }
-        ensures event { IfOk result (λ is. HasEvents is (state_in self.old) (on_value self.old.board rule value now).0) }
-        ensures rest { SameRest self.old self.new }
-    {
-        self.board.reserve(1)?;
-        let turned = self.board.on_value(rule, value, now);
-        let is_event = is_turn(turned);
-        if is_event {
-            self.board.undo();
-        }
-        Ok(is_event)
-    }
-
-    /// Whether an acknowledgement of an alarm would be an event. All stays as it is.
-    pub(crate) fn would_ack(&mut self, number: u64, now: Moment) -> Result<bool, AllocError>
-        ensures same { state_in self.new ≡ state_in self.old }
-        ensures event { IfOk result (λ is. (user : Option (List ℕ)) → HasEvents is (state_in self.old) (on_ack self.old.board number user now).0) }
-        ensures rest { SameRest self.old self.new }
-    {
-        self.board.reserve(1)?;
-        let answer = self.board.ack(number, None, now);
-        let is_event = is_done(&answer);
-        if is_event {
-            self.board.undo();
-        }
-        Ok(is_event)
     }
 
     /// Takes a change back. It takes no memory.

@@ -320,21 +320,19 @@ impl State {
         Ok(())
     }
 
-    /// Whether a value of the source of a rule would be an alarm event. All stays as it is.
-    pub fn would_turn(&mut self, rule: u64, value: Option<Num>) -> Result<bool, AllocError>
-        requires { Takes (numbered_from 0 self.old.plan.rules) rule value }
-        ensures same { self.new ≡ self.old }
-        ensures event { IfOk result (λ is. HasEvents is self.old.now (on_value (board self.old.plan self.old.now) rule value self.old.time).0) }
+    /// Whether a value of the source of a rule would be an alarm event.
+    pub fn would_turn(&self, rule: u64, value: &Option<Num>) -> bool
+        requires { Takes (numbered_from 0 self.now.plan.rules) rule value.now }
+        ensures { HasEvents result self.now.now (on_value (board self.now.plan self.now.now) rule value.now self.now.time).0 }
     {
-        self.contents.would_turn(rule, value, self.time)
+        self.contents.board.would_turn(rule, value)
     }
 
-    /// Whether an acknowledgement of an alarm would be an alarm event. All stays as it is.
-    pub fn would_ack(&mut self, number: u64) -> Result<bool, AllocError>
-        ensures same { self.new ≡ self.old }
-        ensures event { IfOk result (λ is. (user : Option (List ℕ)) → HasEvents is self.old.now (on_ack (board self.old.plan self.old.now) number user self.old.time).0) }
+    /// Whether an acknowledgement of an alarm would be an alarm event.
+    pub fn would_ack(&self, number: u64) -> bool
+        ensures { (user : Option (List ℕ)) → HasEvents result self.now.now (on_ack (board self.now.plan self.now.now) number user self.now.time).0 }
     {
-        self.contents.would_ack(number, self.time)
+        self.contents.board.would_ack(number)
     }
 
     /// Acknowledges an alarm for a user, if one is named, at the time. Want of memory leaves all as it was.
@@ -439,15 +437,14 @@ impl State {
         }
     }
 
-    /// Whether a value of a node would be an alarm event. All stays as it is.
-    pub fn would_act(&mut self, source: &Text, slot: &Slot) -> Result<bool, AllocError>
-        requires { TakesIfRule (numbered_from 0 self.old.plan.rules) (rule_of self.old.plan source.now) slot.now }
-        ensures same { self.new ≡ self.old }
-        ensures event { IfOk result (λ is. HasEvents is self.old.now (board_after self.old.plan self.old.now self.old.time source.now slot.now)) }
+    /// Whether a value of a node would be an alarm event.
+    pub fn would_act(&self, source: &Text, slot: &Slot) -> bool
+        requires { TakesIfRule (numbered_from 0 self.now.plan.rules) (rule_of self.now.plan source.now) slot.now }
+        ensures { HasEvents result self.now.now (board_after self.now.plan self.now.now self.now.time source.now slot.now) }
     {
         match self.rule_of(source) {
-            Some(rule) => self.would_turn(rule, number_in(slot)),
-            None => Ok(false),
+            Some(rule) => self.would_turn(rule, &number_in(slot)),
+            None => false,
         }
     }
 

@@ -7,10 +7,9 @@ use Rattle.ob_object.specs.Kinds.{has_values}
 use Rattle.ob_object.specs.Object.{Object}
 use Rattle.ob_tree.specs.Laid.{paths}
 use Rattle.ob_site_rules.specs.Build.{Path}
-use Rattle.ob_site_rules.specs.Faults.{err}
 use Rattle.ob_site_rules.specs.Sameness.{same_slot}
 use Rattle.ob_site_rules.specs.State.{State}
-use Rattle.ob_site_rules.specs.Writes.{given_by, is_writable, put, showing, target_fault, unless, write, written}
+use Rattle.ob_site_rules.specs.Writes.{given_by, is_writable, put, target_fault, unless, write, written}
 use Rattle.ob_site_rules.specs.declared.fault.Fault.{Fault}
 use Rattle.ob_site_rules.specs.declared.fault.Fault.TheVariants.{NotSupported, NotWritable, OtherShape}
 use Rattle.ob_site_rules.specs.declared.plan.Plan.{Plan}

@@ -32,32 +32,30 @@ pub(crate) fn target_at<L: Ledger>(
     )
 }
 
-/// What is wrong with the value that a body gives for a target. All stays as it is.
+/// What is wrong with the value that a body gives for a target.
 fn body_fault<L: Ledger>(
-    state: &mut State,
+    state: &State,
     path: &Text,
     target: &Obj,
     body: &Obj,
     steps: &mut Steps<L>,
 ) -> Result<Option<Fault>, AllocError>
-    requires { IsTarget state.old.plan state.old.now path.now target.now }
-    ensures same { state.new ≡ state.old }
-    ensures fault { IfOk result (λ fault. fault ≡ value_fault state.old.plan state.old.now state.old.time path.now target.now.head (given_by state.old.now body.now)) }
+    requires { IsTarget state.now.plan state.now.now path.now target.now }
+    ensures { IfOk result (λ fault. fault ≡ value_fault state.now.plan state.now.now state.now.time path.now target.now.head (given_by state.now.now body.now)) }
 {
     let given = given_by(state.allocator(), state.library(), body, steps)?;
     value_fault(state, path, target, &given, steps)
 }
 
 /// Why the write of the value that a body gives is refused by the own node of a path, told by its own head. It tells nothing
-/// where no own node is there. All stays as it is; an error only for want of memory.
+/// where no own node is there. An error only for want of memory.
 pub fn write_fault<L: Ledger>(
-    state: &mut State,
+    state: &State,
     path: &Text,
     body: &Obj,
     steps: &mut Steps<L>,
 ) -> Result<Option<Fault>, AllocError>
-    ensures same { state.new ≡ state.old }
-    ensures fault { IfOk result (λ fault. IfSome fault (λ f. IsRefused state.old.plan state.old.now path.now (λ o. write_by state.old.plan state.old.now state.old.time path.now o None body.now) f)) }
+    ensures { IfOk result (λ fault. IfSome fault (λ f. IsRefused state.now.plan state.now.now path.now (λ o. write_by state.now.plan state.now.now state.now.time path.now o None body.now) f)) }
 {
     match target_at(state, path, steps)? {
         Some(target) => body_fault(state, path, &target, body, steps),

@@ -162,17 +162,16 @@ fn slot_fault<L: Ledger>(
 }
 
 /// What is wrong with a value for the object shown at a path, of which the same is asked as of this one: its kind, a text
-/// too long, below min, above max, not in range, and last that it would store too much. All stays as it is.
+/// too long, below min, above max, not in range, and last that it would store too much.
 pub(crate) fn value_fault<L: Ledger>(
-    state: &mut State,
+    state: &State,
     path: &Text,
     object: &Obj,
     new: &Attributes,
     steps: &mut Steps<L>,
 ) -> Result<Option<Fault>, AllocError>
-    requires { IsTarget state.old.plan state.old.now path.now object.now }
-    ensures same { state.new ≡ state.old }
-    ensures fault { IfOk result (λ fault. fault ≡ value_fault state.old.plan state.old.now state.old.time path.now object.now.head new.now) }
+    requires { IsTarget state.now.plan state.now.now path.now object.now }
+    ensures { IfOk result (λ fault. fault ≡ value_fault state.now.plan state.now.now state.now.time path.now object.now.head new.now) }
 {
     let head = object.head();
     if !new.kind().same(head.kind()) {
@@ -184,7 +183,7 @@ pub(crate) fn value_fault<L: Ledger>(
         return Ok(fault);
     }
     state.is_sound();
-    if overfills(state, path, head, slot)? {
+    if overfills(state, path, head, slot) {
         return Ok(Some(Fault::TooManyEntries));
     }
     Ok(None)

@@ -1,5 +1,5 @@
 //! Whether what a write or an acknowledgement stores would be too much.
-ghost use Rattle.std.specs.Prelude.{◌≡◌, cond, Option, List, ℕ, IfOk};
+ghost use Rattle.std.specs.Prelude.{◌≡◌, cond, Option, List, ℕ};
 ghost use Rattle.ob_site_rules.specs.State.{numbered_from, board};
 ghost use Rattle.ob_site_rules.specs.Shown.{rule_of};
 ghost use Rattle.ob_site_rules.specs.Writes.{is_over, overfills};
@@ -11,7 +11,6 @@ use crate::slots::same_slot;
 use ob_object::{Attributes, Slot};
 use ob_site_state::State;
 use ob_values::Text;
-use std::alloc::AllocError;
 
 /// One where something is so, and else none.
 fn one_if(is_so: bool) -> u64
@@ -43,34 +42,27 @@ fn any_counted_out(state: &State, source: &Text) -> bool
 }
 
 /// Whether a value of a node, whose head is given, changes it, and its records and its alarm event would be too many:
-/// more than 1,000,000 in all, or more than a history can count. All stays as it is.
+/// more than 1,000,000 in all, or more than a history can count.
 ///
 /// The limits are this profile's own.
-pub fn overfills(
-    state: &mut State,
-    path: &Text,
-    head: &Attributes,
-    slot: &Slot,
-) -> Result<bool, AllocError>
-    requires { TakesIfRule (numbered_from 0 state.old.plan.rules) (rule_of state.old.plan path.now) slot.now }
-    ensures same { state.new ≡ state.old }
-    ensures over { IfOk result (λ over. over ≡ overfills state.old.plan state.old.now state.old.time path.now head.now slot.now) }
+pub fn overfills(state: &State, path: &Text, head: &Attributes, slot: &Slot) -> bool
+    requires { TakesIfRule (numbered_from 0 state.now.plan.rules) (rule_of state.now.plan path.now) slot.now }
+    ensures { result ≡ overfills state.now.plan state.now.now state.now.time path.now head.now slot.now }
 {
     if same_slot(slot, head.slot()) {
-        return Ok(false);
+        return false;
     }
     state.is_sound();
-    let is_event = state.would_act(path, slot)?;
+    let is_event = state.would_act(path, slot);
     let more = growing(state, path).saturating_add(one_if(is_event));
-    Ok(state.is_full(more) || any_counted_out(state, path))
+    state.is_full(more) || any_counted_out(state, path)
 }
 
-/// Whether an acknowledgement of an alarm would be an alarm event too many. All stays as it is.
-pub fn ack_overfills(state: &mut State, number: u64) -> Result<bool, AllocError>
-    ensures same { state.new ≡ state.old }
-    ensures over { IfOk result (λ over. (user : Option (List ℕ)) → over ≡ is_over state.old.now.logs (acked (board state.old.plan state.old.now) number user state.old.time)) }
+/// Whether an acknowledgement of an alarm would be an alarm event too many.
+pub fn ack_overfills(state: &State, number: u64) -> bool
+    ensures { (user : Option (List ℕ)) → result ≡ is_over state.now.now.logs (acked (board state.now.plan state.now.now) number user state.now.time) }
 {
     state.is_sound();
-    let is_event = state.would_ack(number)?;
-    Ok(state.is_full(one_if(is_event)))
+    let is_event = state.would_ack(number);
+    state.is_full(one_if(is_event))
 }

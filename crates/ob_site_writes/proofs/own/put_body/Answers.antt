@@ -1,6 +1,5 @@
-use Rattle.std.proofs.Common.{◌≡◌, None, Option, ap, ap₂, ◌∙◌, subst}
+use Rattle.std.proofs.Common.{None, Option, ap, ap₂, ◌∙◌, subst}
 use Rattle.std.proofs.lemmas.Result.{IfOk-weaker, IfErr-weaker}
-use Rattle.ob_object.specs.declared.head.Head.{Head}
 use Rattle.ob_object.specs.declared.head.Slot.{Slot}
 use Rattle.ob_object.specs.declared.kind.Kind.{Kind}
 use Rattle.ob_object.specs.Object.{Object, empty_head}

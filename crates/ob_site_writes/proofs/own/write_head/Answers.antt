@@ -1,4 +1,4 @@
-use Rattle.std.proofs.Common.{◌≡◌, true, Some, Option, None, sym, ap, ◌∙◌, subst, IsTrue}
+use Rattle.std.proofs.Common.{◌≡◌, true, None, sym, ap, ◌∙◌, subst, IsTrue}
 use Rattle.ob_object.specs.declared.head.Slot.{Slot}
 use Rattle.ob_object.specs.declared.kind.Kind.{Kind}
 use Rattle.ob_object.specs.Fits.{fits_slot}
@@ -6,21 +6,15 @@ use Rattle.ob_object.specs.Kinds.{same_kind, has_values}
 use Rattle.ob_object.specs.Object.{Object}
 use Rattle.ob_contracts.proofs.Fitting.{one_kind}
 use Rattle.ob_history.specs.Records.{holds_value}
-use Rattle.ob_tree.specs.Laid.{paths}
-use Rattle.ob_tree.specs.Paths.{place_of}
 use Rattle.ob_site_rules.specs.State.{State}
 use Rattle.ob_site_rules.specs.Writes.{slot_fault, overfills, value_fault, written, showing}
 use Rattle.ob_site_written.proofs.Passed.{slot_fits}
 use Rattle.ob_site_written.proofs.Refused.{nothing_of}
-use Rattle.ob_site_state.specs.Kept.{Kept}
 use Rattle.ob_site_written.specs.Fitting.{CanBeWritten}
 use Rattle.ob_site_writes.specs.Stops.{IsDone}
 use Rattle.ob_site_writes.proofs.Fitting.{can_be_written}
 use Rattle.ob_site_writes.proofs.Refused.{same_of}
 use Rattle.ob_site_writes.proofs.own.write_head.Goals as goal
-
-pub show_own-requires-clause-place : goal.show_own-requires-clause-place
-show_own-requires-clause-place g c = subst (λ (x : Kept). place_of c.args.path.now (paths x.now.tree) ≡ Some c.args.node.number) (sym c.in_ok-fault.ensures.same) c.requires.place
 
 pub show_own-requires-clause-can : goal.show_own-requires-clause-can
 show_own-requires-clause-can g c =
@@ -29,7 +23,7 @@ show_own-requires-clause-can g c =
     let o = c.args.own.now in
     let x = c.requires.asked.0 in
     let new = c.args.new.now in
-    let right : value_fault k.plan k.now k.time p o.head new ≡ None = sym c.in_ok-fault.ensures.fault ∙ c.in_default.is in
+    let right : value_fault k.plan k.now k.time p o.head new ≡ None = sym c.in_ok-fault.ensures ∙ c.in_default.is in
     let over = overfills k.plan k.now k.time p o.head new.slot in
     let found = slot_fault k.plan k.now o.head new.slot in
     let fits : IsTrue (fits_slot o.head.kind new.slot) = slot_fits k.plan k.now o.head new.slot (nothing_of (same_kind new.kind o.head.kind) found over right).0 in
@@ -37,10 +31,9 @@ show_own-requires-clause-can g c =
     let own : o.head.kind ≡ x.head.kind = sym (ap (λ (y : Object). y.head.kind) c.requires.asked.1.1) in
     let held : has_values x.head.kind ≡ true → IsTrue (holds_value x.head.kind new.slot) =
     subst (λ (y : Kind). has_values y ≡ true → IsTrue (holds_value y new.slot)) (kind ∙ own) (λ v. c.requires.held v (subst (λ (y : Kind). IsTrue (fits_slot y new.slot)) (sym kind) fits)) in
-    subst (λ (y : Kept). CanBeWritten y.plan y.now p o.head.kind c.slot.result.now) (sym c.in_ok-fault.ensures.same)
-    (subst (λ (s : Slot). CanBeWritten k.plan k.now p o.head.kind s) (sym c.slot.ensures)
+    subst (λ (s : Slot). CanBeWritten k.plan k.now p o.head.kind s) (sym c.slot.ensures)
     (subst (λ (y : Kind). CanBeWritten k.plan k.now p y new.slot) (sym own)
-    (can_be_written k.plan k.now p x new.slot c.is_sound.ensures.sound.consistent c.requires.asked.1.0 (subst (λ (y : Kind). IsTrue (fits_slot y new.slot)) own fits) (λ history has. ap has_values (sym own) ∙ c.requires.values) held)))
+    (can_be_written k.plan k.now p x new.slot c.is_sound.ensures.sound.consistent c.requires.asked.1.0 (subst (λ (y : Kind). IsTrue (fits_slot y new.slot)) own fits) (λ history has. ap has_values (sym own) ∙ c.requires.values) held))
 
 pub returns-clause-ok : goal.returns-clause-ok
 returns-clause-ok g c =
@@ -50,10 +43,6 @@ returns-clause-ok g c =
     let o = c.args.own.now in
     let new = c.args.new.now in
     let reply = c.in_ok-reply.reply in
-    let right : value_fault k.plan k.now k.time p o.head new ≡ None = sym c.in_ok-fault.ensures.fault ∙ c.in_default.is in
-    let made : Kept → Slot → Object → State × Object = λ x s d. showing x.plan p d (written x.plan x.time p o s x.now) in (
-      right,
-      λ d.
-          subst (λ (s : Slot). IsDone k t (made k s d) reply) c.slot.ensures
-          (subst (λ (x : Kept). IsDone x t (made x c.slot.result.now d) reply) c.in_ok-fault.ensures.same (c.in_ok-reply.ensures.ok d)),
-    )
+    let right : value_fault k.plan k.now k.time p o.head new ≡ None = sym c.in_ok-fault.ensures ∙ c.in_default.is in
+    let made : Slot → Object → State × Object = λ s d. showing k.plan p d (written k.plan k.time p o s k.now) in
+    (right, λ d. subst (λ (s : Slot). IsDone k t (made s d) reply) c.slot.ensures (c.in_ok-reply.ensures.ok d))

@@ -11,7 +11,6 @@ use Rattle.ob_site_rules.specs.State.{State}
 use Rattle.ob_site_rules.specs.Writes.{slot_fault, overfills, value_fault, written, showing, unless}
 use Rattle.ob_site_written.proofs.Passed.{slot_fits}
 use Rattle.ob_site_written.proofs.Refused.{nothing_of}
-use Rattle.ob_site_state.specs.Kept.{Kept}
 use Rattle.ob_site_written.specs.Fitting.{CanBeWritten}
 use Rattle.ob_site_writes.specs.Stops.{IsDone}
 use Rattle.ob_site_writes.proofs.Fitting.{can_be_written}
@@ -24,15 +23,14 @@ show_written-requires-clause-can g c =
     let p = c.args.path.now in
     let o = c.args.object.now in
     let new = c.args.new.now in
-    let right : value_fault k.plan k.now k.time p o.head new ≡ None = sym c.in_ok-fault.ensures.fault ∙ c.in_default.is in
+    let right : value_fault k.plan k.now k.time p o.head new ≡ None = sym c.in_ok-fault.ensures ∙ c.in_default.is in
     let over = overfills k.plan k.now k.time p o.head new.slot in
     let found = slot_fault k.plan k.now o.head new.slot in
     let fits : IsTrue (fits_slot o.head.kind new.slot) = slot_fits k.plan k.now o.head new.slot (nothing_of (same_kind new.kind o.head.kind) found over right).0 in
     let kind : new.kind ≡ o.head.kind = one_kind new.kind o.head.kind (same_of (same_kind new.kind o.head.kind) found over right) in
     let held = subst (λ (x : Kind). has_values x ≡ true → IsTrue (fits_slot x new.slot) → IsTrue (holds_value x new.slot)) kind c.requires.held in
-    subst (λ (x : Kept). CanBeWritten x.plan x.now p o.head.kind c.slot.result.now) (sym c.in_ok-fault.ensures.same)
-    (subst (λ (s : Slot). CanBeWritten k.plan k.now p o.head.kind s) (sym c.slot.ensures)
-    (can_be_written k.plan k.now p o new.slot c.is_sound.ensures.sound.consistent c.requires.shows fits c.requires.records (λ v. held v fits)))
+    subst (λ (s : Slot). CanBeWritten k.plan k.now p o.head.kind s) (sym c.slot.ensures)
+    (can_be_written k.plan k.now p o new.slot c.is_sound.ensures.sound.consistent c.requires.shows fits c.requires.records (λ v. held v fits))
 
 pub returns-clause-ok : goal.returns-clause-ok
 returns-clause-ok g c =
@@ -42,9 +40,7 @@ returns-clause-ok g c =
     let o = c.args.object.now in
     let new = c.args.new.now in
     let reply = c.in_ok-reply.reply in
-    let right : value_fault k.plan k.now k.time p o.head new ≡ None = sym c.in_ok-fault.ensures.fault ∙ c.in_default.is in
-    let made : Kept → Slot → State × Object = λ x s. showing x.plan p o (written x.plan x.time p o s x.now) in
-    let done : IsDone k t (made k new.slot) reply =
-    subst (λ (s : Slot). IsDone k t (made k s) reply) c.slot.ensures
-    (subst (λ (x : Kept). IsDone x t (made x c.slot.result.now) reply) c.in_ok-fault.ensures.same c.in_ok-reply.ensures.ok) in
-    subst (λ (f : Option Fault). IsDone k t (unless f k.now (made k new.slot)) reply) (sym right) done
+    let right : value_fault k.plan k.now k.time p o.head new ≡ None = sym c.in_ok-fault.ensures ∙ c.in_default.is in
+    let made : Slot → State × Object = λ s. showing k.plan p o (written k.plan k.time p o s k.now) in
+    let done : IsDone k t (made new.slot) reply = subst (λ (s : Slot). IsDone k t (made s) reply) c.slot.ensures c.in_ok-reply.ensures.ok in
+    subst (λ (f : Option Fault). IsDone k t (unless f k.now (made new.slot)) reply) (sym right) done

@@ -8,8 +8,8 @@ use Rattle.ob_site_rules.specs.declared.fault.Fault.{Fault}
 use Rattle.ob_site_rules.specs.Writes.{given_by, value_fault}
 use Rattle.ob_site_writes.proofs.refusing.body_fault.Goals as goal
 
-pub returns-clause-fault : goal.returns-clause-fault
-returns-clause-fault g c =
+pub returns : goal.returns
+returns g c =
     let k = c.args.state.now in
     let p = c.args.path.now in
     let o = c.args.target.now in
@@ -19,4 +19,4 @@ returns-clause-fault g c =
     let kind = c.in_ok-given.ensures.kind ∙ ap (λ (lib : Contracts). (effective_of lib body None None).head.kind) c.library.ensures in
     let slot = c.in_ok-given.ensures.slot ∙ ap (λ (lib : Contracts). (effective_of lib body None None).head.slot) c.library.ensures in
     IfOk-weaker c.value_fault.result (λ f. f ≡ found new.kind new.slot) (λ f. f ≡ value_fault k.plan k.now k.time p o.head (given_by k.now body))
-    (λ f is. is ∙ ap₂ found kind slot) c.value_fault.ensures.fault
+    (λ f is. is ∙ ap₂ found kind slot) c.value_fault.ensures

@@ -13,12 +13,12 @@ body_fault-requires g c =
     let p = c.args.path.now in
     subst (λ (found : Option Object). IfSome found (λ o. IsTarget k.plan k.now p o)) c.in-Some.is c.in_ok-target.ensures
 
-pub returns-in-Some-clause-fault : goal.returns-in-Some-clause-fault
-returns-in-Some-clause-fault g c =
+pub returns-in-Some : goal.returns-in-Some
+returns-in-Some g c =
     let k = c.args.state.now in
     let p = c.args.path.now in
     let body = c.args.body.now in
     let t = c.in-Some.target in
     let is : IsTarget k.plan k.now p t = subst (λ (found : Option Object). IfSome found (λ o. IsTarget k.plan k.now p o)) c.in-Some.is c.in_ok-target.ensures in
     IfOk-weaker c.body_fault.result (λ f. f ≡ value_fault k.plan k.now k.time p t.head (given_by k.now body))
-    (λ f. IfSome f (λ g. IsRefused k.plan k.now p (λ o. write_by k.plan k.now k.time p o None body) g)) (λ f e. write_refused k.plan k.now k.time p t body f is e) c.body_fault.ensures.fault
+    (λ f. IfSome f (λ g. IsRefused k.plan k.now p (λ o. write_by k.plan k.now k.time p o None body) g)) (λ f e. write_refused k.plan k.now k.time p t body f is e) c.body_fault.ensures
