@@ -8,3 +8,4 @@ pub mod OwnHeads
 pub mod Slashes
 pub mod Spans
 pub mod Stands
+pub mod Plain

@@ -1,9 +1,10 @@
 //! Own objects with the children that roles derive, and the status of each rule's source.
-ghost use Rattle.std.specs.Prelude.{◌≡◌, ◌++◌, map, IfOk};
+ghost use Rattle.std.specs.Prelude.{◌≡◌, ◌++◌, [], true, map, is_some, IfOk};
 ghost use Rattle.ob_object.specs.Object.{node, none};
+ghost use Rattle.ob_object.specs.Paths.{node_path};
 ghost use Rattle.ob_site_rules.specs.declared.plan.Plan.{Plan};
 ghost use Rattle.ob_site_rules.specs.State.{numbered_from};
-ghost use Rattle.ob_site_rules.specs.Shown.{with_status};
+ghost use Rattle.ob_site_rules.specs.Shown.{derived as derived_by, rule_of, with_status};
 ghost use Rattle.ob_shown_laws.specs.Own.{dressed_own};
 ghost use Rattle.ob_plain_state.specs.States.{NamesAreFree};
 ghost use Rattle.ob_site_roles.specs.Roles.{AreRoles};
@@ -14,6 +15,7 @@ use crate::roles::derived;
 use ob_object::{Attributes, Obj};
 use ob_site_rules::Plan;
 use ob_site_state::Contents;
+use ob_values::Text;
 use std::alloc::{AllocError, Global};
 
 /// A copy of a head, with the status of the alarms of its rule if it has one.
@@ -60,4 +62,73 @@ pub fn dress(
     let derived = derived(alloc, plan, contents, object.head().node_path())?;
     let all = joined(own, derived)?;
     Ok(Obj::with_children(head, all))
+}
+
+/// Whether a node has a rule.
+fn has_rule(contents: &Contents, path: &Text) -> bool
+    ensures { (plan : Plan) → AreRoles contents.now.roles plan → result ≡ is_some (rule_of plan path.now) }
+{
+    contents.roles.rule_of(path).is_some()
+}
+
+/// Whether a head shows no status of a rule.
+fn has_no_rule(contents: &Contents, head: &Attributes) -> bool
+    ensures { result ≡ true → (plan : Plan) → AreRoles contents.now.roles plan → with_status plan (state_in contents.now) head.now ≡ head.now }
+{
+    match head.node_path() {
+        Some(path) => !has_rule(contents, path),
+        None => true,
+    }
+}
+
+/// Whether no role derives a child of a head. An error only for want of memory.
+fn derives_none(
+    alloc: Global,
+    plan: &Plan,
+    contents: &Contents,
+    head: &Attributes,
+) -> Result<bool, AllocError>
+    requires roles { AreRoles contents.now.roles plan.now }
+    requires histories { keys (state_in contents.now).logs ≡ map (λ h. h.0) plan.now.histories }
+    ensures { IfOk result (λ none. none ≡ true → derived_by plan.now (state_in contents.now) (node_path head.now) ≡ []) }
+{
+    let children = derived(alloc, plan, contents, head.node_path())?;
+    Ok(children.as_slice().is_empty())
+}
+
+/// Whether nothing is put to an object: it has no children, no rule looks at it, and no role derives a child of it. An error only
+/// for want of memory.
+fn stays(alloc: Global, plan: &Plan, contents: &Contents, object: &Obj) -> Result<bool, AllocError>
+    requires roles { AreRoles contents.now.roles plan.now }
+    requires histories { keys (state_in contents.now).logs ≡ map (λ h. h.0) plan.now.histories }
+    ensures { IfOk result (λ stays. stays ≡ true → dressed_own plan.now (state_in contents.now) object.now ≡ object.now) }
+{
+    if !object.is_empty() {
+        return Ok(false);
+    }
+    if !has_no_rule(contents, object.head()) {
+        return Ok(false);
+    }
+    derives_none(alloc, plan, contents, object.head())
+}
+
+/// The same as `dress`, of an object that stays where nothing is put to it.
+pub(crate) fn dress_own(
+    alloc: Global,
+    plan: &Plan,
+    contents: &Contents,
+    object: Obj,
+) -> Result<Obj, AllocError>
+    requires rules { contents.now.board.rules ≡ numbered_from 0 plan.now.rules }
+    requires roles { AreRoles contents.now.roles plan.now }
+    requires histories { keys (state_in contents.now).logs ≡ map (λ h. h.0) plan.now.histories }
+    requires free { NamesAreFree plan.now (state_in contents.now) (node object.head object.inner none) }
+    ensures { IfOk result (λ o. o ≡ dressed_own plan.now (state_in contents.now) object) }
+{
+    let same = stays(alloc, plan, contents, &object)?;
+    if same {
+        Ok(object)
+    } else {
+        dress(alloc, plan, contents, &object)
+    }
 }

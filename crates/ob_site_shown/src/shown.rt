@@ -12,7 +12,7 @@ ghost use Rattle.ob_shown_laws.specs.OwnTree.{own_shown_at};
 ghost use Rattle.ob_site_state.specs.Contents.{state_in};
 ghost use Rattle.ob_site_shown.specs.Readable.{IsReadable};
 
-use crate::dressing::dress;
+use crate::dressing::dress_own;
 use crate::owners::shown_derived;
 use ob_contracts::Steps;
 use ob_object::Obj;
@@ -36,7 +36,7 @@ pub fn dressed_part(
     ensures { IfOk result (λ o. Some o ≡ option_map (dressed_own plan.now (state_in contents.now)) (part_at node.number contents.now.ground.tree.root)) }
 {
     let own = contents.ground.tree().copy(alloc, node)?;
-    dress(alloc, plan, contents, &own)
+    dress_own(alloc, plan, contents, own)
 }
 
 /// What is shown of the own object of a number where it stands: it and all in it, with statuses, derived children
