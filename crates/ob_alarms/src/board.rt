@@ -1,5 +1,5 @@
 //! The alarms that rules raise.
-ghost use Rattle.std.specs.Prelude.{ℕ, ◌≡◌, ◌↔◌, ◌+◌, ◌≤◌, ◌<◌, ◌^◌, length, Option, Some, None, slice_get, drop, option_map, option_copied, not, is_some, IsTrue, IfOk, OnOk, OnErr, All, []};
+ghost use Rattle.std.specs.Prelude.{ℕ, ◌≡◌, ◌↔◌, ◌+◌, ◌≤◌, ◌<◌, ◌^◌, length, Option, Some, None, slice_get, drop, option_map, option_copied, not, is_some, IsTrue, IfOk, OnOk, OnErr, All, [], cond, List};
 ghost use Rattle.std.specs.List.{Contains};
 ghost use Rattle.std.specs.List.Sorted.{IsStrictlyIncreasing};
 ghost use Rattle.ob_alarms.specs.AlarmObjects.{alarm_obj, event_obj};
