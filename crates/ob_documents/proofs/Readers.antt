@@ -8,8 +8,9 @@ use Rattle.ob_object.specs.declared.kind.Kind.TheVariants as kind
 use Rattle.ob_object.specs.declared.status.Status.{Status}
 use Rattle.ob_object.specs.declared.status.Status.TheVariants as status
 use Rattle.ob_object.specs.Fits.{fits_value, fits_limit}
+use Rattle.ob_object.specs.Kinds.{has_values}
 use Rattle.ob_encoding.specs.Names.{status_word}
-use Rattle.ob_encoding.specs.Fields.{has_value, has_limit}
+use Rattle.ob_encoding.specs.Fields.{has_limit}
 use Rattle.ob_encoding.specs.Parts.{ReadsValue, ReadsLimit}
 use Rattle.ob_encoding.specs.Statuses.{status_read}
 
@@ -35,7 +36,7 @@ value_read k (value.Reltime r) e s = absurd cc
 value_read k (value.Date d) e s = absurd cc
 value_read k (value.Time n) e s = absurd cc
 
-pub has_value_of : (k : Kind) (v : Value) → fits_value k v ≡ true → has_value k ≡ true
+pub has_value_of : (k : Kind) (v : Value) → fits_value k v ≡ true → has_values k ≡ true
 has_value_of kind.Bool v e = refl
 has_value_of kind.Int v e = refl
 has_value_of kind.Real v e = refl

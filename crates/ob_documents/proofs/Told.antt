@@ -12,7 +12,7 @@ use Rattle.ob_object.specs.declared.head.Head.{Head}
 use Rattle.ob_object.specs.declared.head.Slot.{Slot}
 use Rattle.ob_object.specs.declared.head.Slot.TheVariants.{Absent, Null, Is}
 use Rattle.ob_object.specs.declared.facet.Facets.{Facets}
-use Rattle.ob_object.specs.Kinds.{has_of, has_input, has_output}
+use Rattle.ob_object.specs.Kinds.{has_of, has_input, has_output, has_values}
 use Rattle.ob_object.specs.Words.{is_word}
 use Rattle.ob_object.specs.Fits.{fits_limit, fits_slot, fits_if_there, fits_facets, fits_name, fits_words, fits_lists, fits_head}
 use Rattle.ob_object.specs.Object.{empty_head}
@@ -25,7 +25,7 @@ use Rattle.ob_encoding.specs.declared.field.Field.{Field}
 use Rattle.ob_encoding.specs.declared.field.Field.TheVariants as field
 use Rattle.ob_encoding.specs.declared.part.Part.{Part}
 use Rattle.ob_encoding.specs.declared.part.Part.TheVariants as part
-use Rattle.ob_encoding.specs.Fields.{field_of, known, has_value, has_limit}
+use Rattle.ob_encoding.specs.Fields.{field_of, known, has_limit}
 use Rattle.ob_encoding.specs.Parts.{read_as, ReadsPart, put_part}
 use Rattle.ob_encoding.specs.Names.{status_word}
 use Rattle.ob_encoding.specs.Canonical.{joined, null_text, val_text, attributes}
@@ -127,7 +127,7 @@ known_null : (k : Kind) → known k (codes "null") ≡ Some (field.Value reads.N
 unfolding field_of
 known_null k = refl
 
-known_val : (k : Kind) → has_value k ≡ true → known k (codes "val") ≡ Some (field.Value reads.Val)
+known_val : (k : Kind) → has_values k ≡ true → known k (codes "val") ≡ Some (field.Value reads.Val)
 unfolding field_of
 known_val k e = rw e refl
 

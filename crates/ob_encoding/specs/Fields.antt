@@ -2,7 +2,7 @@
 use Rattle.std.specs.Prelude.{ℕ, Bool, true, false, List, Option, Some, None, if◌then◌else◌, codes}
 use Rattle.ob_object.specs.declared.kind.Kind.{Kind}
 use Rattle.ob_object.specs.declared.kind.Kind.TheVariants as kind
-use Rattle.ob_object.specs.Kinds.{has_of, has_input, has_output}
+use Rattle.ob_object.specs.Kinds.{has_of, has_input, has_output, has_values}
 use Rattle.ob_encoding.specs.declared.field.TextField.{TextField}
 use Rattle.ob_encoding.specs.declared.field.TextField.TheVariants as texts
 use Rattle.ob_encoding.specs.declared.field.WordsField.{WordsField}
@@ -54,16 +54,6 @@ field_of n =
     (or_else (then_read (words_field n) (λ f. Some (field.Words f)))
     (then_read (value_field n) (λ f. Some (field.Value f))))
 
--- the kinds of objects that have values
-abbrev pub has_value : Kind → Bool
-has_value kind.Obj = false
-has_value kind.List = false
-has_value kind.Op = false
-has_value kind.Feed = false
-has_value kind.Ref = false
-has_value kind.Err = false
-has_value _ = true
-
 -- the kinds whose values, or whose lengths, are bounded by a least and a greatest
 abbrev pub has_limit : Kind → Bool
 has_limit kind.Int = true
@@ -84,7 +74,7 @@ applies k (field.Words lists.Of) = has_of k
 applies k (field.Words lists.In) = has_input k
 applies k (field.Words lists.Out) = has_output k
 applies k (field.Value reads.Null) = true
-applies k (field.Value reads.Val) = has_value k
+applies k (field.Value reads.Val) = has_values k
 applies k (field.Value reads.Max) = has_limit k
 applies k (field.Value reads.Min) = has_limit k
 applies k (field.Value reads.Precision) = true

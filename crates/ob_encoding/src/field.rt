@@ -139,16 +139,6 @@ fn read_field(name: &[u8]) -> Option<Field>
     None
 }
 
-/// Whether objects of the kind have values.
-fn has_value(kind: Kind) -> bool
-    ensures { result ≡ Rattle.ob_encoding.specs.Fields.has_value kind }
-{
-    !matches!(
-        kind,
-        Kind::Obj | Kind::List | Kind::Op | Kind::Feed | Kind::Ref | Kind::Err
-    )
-}
-
 /// Whether the values of the kind, or their lengths, are bounded by a least and a greatest.
 fn has_limit(kind: Kind) -> bool
     ensures { result ≡ Rattle.ob_encoding.specs.Fields.has_limit kind }
@@ -176,7 +166,7 @@ fn kind_has(kind: Kind, field: Field) -> bool
         Field::Words(WordsField::Of) => kind.has_of(),
         Field::Words(WordsField::In) => kind.has_input(),
         Field::Words(WordsField::Out) => kind.has_output(),
-        Field::Value(ValueField::Val) => has_value(kind),
+        Field::Value(ValueField::Val) => kind.has_values(),
         Field::Value(ValueField::Max) => has_limit(kind),
         Field::Value(ValueField::Min) => has_limit(kind),
         Field::Value(_) => true,

@@ -1,7 +1,8 @@
 //! What one attribute says of an object.
 
 ghost use Rattle.std.specs.Prelude.{◌≡◌, true, IfOk, OnOk, Ok};
-ghost use Rattle.ob_encoding.specs.Fields.{has_value, has_limit, applies};
+ghost use Rattle.ob_encoding.specs.Fields.{has_limit, applies};
+ghost use Rattle.ob_object.specs.Kinds.{has_values};
 ghost use Rattle.ob_encoding.specs.Parts.{ReadsValue, ReadsLimit, PartRead, put_text, put_words, put_part};
 
 use crate::field::{Field, TextField, ValueField, WordsField};
@@ -51,7 +52,7 @@ impl From<AllocError> for PartFault {
 
 /// The value of a kind that a text spells.
 fn read_value(kind: Kind, text: Text) -> Result<Value, ValueFault>
-    requires { has_value kind ≡ true }
+    requires { has_values kind ≡ true }
     ensures { ReadsValue kind text result }
 {
     match kind {
