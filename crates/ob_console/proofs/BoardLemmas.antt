@@ -9,7 +9,7 @@ use Rattle.indexmap.specs.IndexMap.{insert_entry}
 use Rattle.ob_object.specs.Object.{Object}
 use Rattle.ob_watching.specs.WatchOuts.{Text}
 use Rattle.ob_console.specs.Boards.{Line, put_line, line_at, alarm_of, board_from, first_other, Puts}
-use Rattle.ob_console.specs.Told.{shown, line}
+use Rattle.ob_console.specs.InHand.{shown, line}
 use Rattle.ob_console.specs.declared.alarm.Named.{Named}
 use Rattle.ob_console.specs.declared.alarm.Alarm.{Alarm}
 

@@ -6,7 +6,7 @@ use Rattle.ob_console.specs.declared.board.Board.{Board}
 use Rattle.ob_console.specs.declared.board.BoardFault.{BoardFault}
 use Rattle.ob_console.specs.declared.board.BoardFault.TheVariants.{Shape, Memory}
 use Rattle.ob_console.specs.Boards.{board_of, first_other}
-use Rattle.ob_console.specs.Told.{lines_of}
+use Rattle.ob_console.specs.InHand.{lines_of}
 
 -- The last event of each alarm, in the order of the alarms' first events; or the place of the first event that is no
 -- alarm; or want of memory.

@@ -3,7 +3,7 @@ ghost use Rattle.std.specs.Prelude.{◌≡◌, [], ◌∷◌, Ok, IfOk, codes};
 ghost use Rattle.std.specs.Option.{option_copied};
 ghost use Rattle.ob_object.specs.Object.{empty_head};
 ghost use Rattle.ob_console.specs.Acks.{op_of, leads_to, fault_of, FindsTarget, user_child, ack_in, CallsAck, Acknowledges, answer_as, standing};
-ghost use Rattle.ob_console.specs.Told as told;
+ghost use Rattle.ob_console.specs.InHand as told;
 ghost use Rattle.ob_io.specs.Links.{inlet};
 
 use crate::board::Board;

@@ -3,7 +3,7 @@ ghost use Rattle.std.specs.Prelude.{◌≡◌, IfOk, codes, option_map, option_a
 ghost use Rattle.std.specs.Option.{option_copied};
 ghost use Rattle.ob_console.specs.Alarms.{if_kind, child_of, is_given, instant_in, or_null, source_of, time_of, in_alarm, value_of, acking, acking_by, state_of, shows, shows_by, child};
 ghost use Rattle.ob_console.specs.Boards.{alarm_of};
-ghost use Rattle.ob_console.specs.Told as told;
+ghost use Rattle.ob_console.specs.InHand as told;
 
 use ob_object::{Kind, Obj, Slot, Status};
 use ob_values::{Abstime, Text, Value};

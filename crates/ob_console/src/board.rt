@@ -2,7 +2,7 @@
 ghost use Rattle.std.specs.Prelude.{◌≡◌, ◌==◌, IfOk, length, option_map, slice_get};
 ghost use Rattle.ob_console.specs.Boards.{Puts, line_at};
 ghost use Rattle.ob_console.specs.Making.{Makes};
-ghost use Rattle.ob_console.specs.Told as told;
+ghost use Rattle.ob_console.specs.InHand as told;
 
 use crate::alarm::{Alarm, Named, alarm_of};
 use indexmap::IndexMap;

@@ -5,11 +5,11 @@ use Rattle.std.specs.declared.alloc.AllocError.{AllocError}
 use Rattle.ob_object.specs.Object.{Object}
 use Rattle.ob_console.specs.Boards.{Line, put_line, alarm_of, board_from, board_of, first_other}
 use Rattle.ob_console.specs.Making.{Makes as Made}
-use Rattle.ob_console.specs.Told.{lines_of}
+use Rattle.ob_console.specs.InHand.{lines_of}
 use Rattle.ob_console.specs.declared.board.Board.{Board}
 use Rattle.ob_console.specs.declared.board.BoardFault.{BoardFault}
 use Rattle.ob_console.specs.declared.board.BoardFault.TheVariants as boards
-use Rattle.ob_dialogue.specs.Told.{Makes}
+use Rattle.ob_dialogue.specs.InHand.{Makes}
 
 board_step : (a : Option Line) (n place : ℕ) (os : List Object) (lines : List Line) → ((l : Line) → first_other (n + 1) os ≡ Some place → board_from (put_line l lines) os ≡ None)
     → cond (is_none a) (Some n) (first_other (n + 1) os) ≡ Some place → option_and_then (λ (l : Line). board_from (put_line l lines) os) a ≡ None

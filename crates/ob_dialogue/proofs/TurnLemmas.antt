@@ -12,7 +12,7 @@ use Rattle.ob_dialogue.specs.Stages.{Stage, request_at}
 use Rattle.ob_dialogue.specs.Taking.{Taken, taken}
 use Rattle.ob_dialogue.specs.Legs.{Pause, Ended, ending_of, ended_by, Goes, Had, had, Leg}
 use Rattle.ob_dialogue.specs.Exchanges.{Wire, Called, Faulted}
-use Rattle.ob_dialogue.specs.Told.{Gives, Prints, Printed, CutOff, Reaches, Turns, GoesOn, stage}
+use Rattle.ob_dialogue.specs.InHand.{Gives, Prints, Printed, CutOff, Reaches, Turns, GoesOn, stage}
 use Rattle.ob_dialogue.proofs.LegLemmas.{none_front, leg_memory, leg_done, leg_err, leg_shape, leg_fault, leg_more, leg_cut}
 use Rattle.ob_dialogue.specs.declared.ending.Peer.{Peer}
 use Rattle.ob_dialogue.specs.declared.ending.Peer.TheVariants as peer

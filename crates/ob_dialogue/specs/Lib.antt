@@ -8,4 +8,4 @@ pub mod Links
 pub mod Completes
 pub mod Legs
 pub mod Exchanges
-pub mod Told
+pub mod InHand

@@ -5,13 +5,13 @@ ghost use Rattle.ob_dialogue.specs.Turns.{begins};
 ghost use Rattle.ob_dialogue.specs.Links.{TalksFrom, outside};
 ghost use Rattle.ob_dialogue.specs.Completes.{Completes};
 ghost use Rattle.ob_dialogue.specs.Legs.{Visits};
-ghost use Rattle.ob_dialogue.specs.Told as told;
+ghost use Rattle.ob_dialogue.specs.InHand as told;
 ghost use Rattle.ob_dialogue.specs.declared.ending.Ending.TheVariants as ending;
 
 use crate::ending::{Ending, Peer};
 use crate::laws::completes;
 use crate::link::{Pause, on_link};
-use crate::plan::Plan;
+use crate::plan::DialoguePlan;
 use crate::stage::{Stage, first};
 use ob_asking::host_field;
 use ob_client::Session;
@@ -21,7 +21,7 @@ use std::alloc::Global;
 // The dialogue from a stage on over a link that is dialled, and given back.
 fn on_dialled<W: Dialer, K: Sink>(
     alloc: Global,
-    plan: &Plan,
+    plan: &DialoguePlan,
     stage: Stage,
     dialer: &mut W,
     sink: &mut K,
@@ -57,7 +57,7 @@ fn on_dialled<W: Dialer, K: Sink>(
 // The dialogue from a stage on, of which so many broken polls may be mended.
 fn from_stage<W: Dialer, K: Sink>(
     alloc: Global,
-    plan: &Plan,
+    plan: &DialoguePlan,
     stage: Stage,
     dialer: &mut W,
     sink: &mut K,
@@ -84,7 +84,7 @@ fn from_stage<W: Dialer, K: Sink>(
 /// Source: oBIX 1.1, chapters 11 (REST), 12 (Watches) and 15 (Alarming).
 pub fn converse<W: Dialer, K: Sink>(
     alloc: Global,
-    plan: &Plan,
+    plan: &DialoguePlan,
     dialer: &mut W,
     sink: &mut K,
 ) -> Ending

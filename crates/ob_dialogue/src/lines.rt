@@ -1,9 +1,9 @@
 //! What is printed.
 ghost use Rattle.std.specs.Prelude.{◌≡◌, ◌++◌, IfOk, OnOk, filter, option_map};
 ghost use Rattle.ob_client.specs.Entries.{is_err};
-ghost use Rattle.ob_console.specs.Told as boards;
+ghost use Rattle.ob_console.specs.InHand as boards;
 ghost use Rattle.ob_dialogue.specs.Printing.{line, lines_of, items_text, events_of, board_in, body_text, add_heading, poll_heading};
-ghost use Rattle.ob_dialogue.specs.Told as told;
+ghost use Rattle.ob_dialogue.specs.InHand as told;
 
 use crate::plan::Topic;
 use crate::stage::Watching;

@@ -5,10 +5,10 @@ ghost use Rattle.ob_io.specs.Links.{inlet};
 ghost use Rattle.ob_client.specs.declared.call_fault.CallFault.TheVariants as calls;
 ghost use Rattle.ob_dialogue.specs.Legs.{Goes, Leg, had, ending_of, ended_by};
 ghost use Rattle.ob_dialogue.specs.Exchanges.{Exchanges, Replied, FailedByLink, WasAlive, gave, wire};
-ghost use Rattle.ob_dialogue.specs.Told as told;
+ghost use Rattle.ob_dialogue.specs.InHand as told;
 
 use crate::ending::{Ending, Peer};
-use crate::plan::Plan;
+use crate::plan::DialoguePlan;
 use crate::request::request_at;
 use crate::stage::{Stage, is_poll, mended};
 use crate::taking::{Outcome, taken};
@@ -157,7 +157,13 @@ fn print<K: Sink>(sink: &mut K, lines: &[u8], next: Result<Stage, Peer>) -> Turn
 }
 
 // Prints what a reply gives at a stage.
-fn give<K: Sink>(alloc: Global, plan: &Plan, stage: Stage, reply: Obj, sink: &mut K) -> Turned
+fn give<K: Sink>(
+    alloc: Global,
+    plan: &DialoguePlan,
+    stage: Stage,
+    reply: Obj,
+    sink: &mut K,
+) -> Turned
     requires { told.IsLive stage }
     ensures gives { told.Gives (K.held sink.old) (K.held sink.new) (told.program plan.now) (told.stage stage) reply result }
     ensures live { told.TurnedIsLive result }
@@ -177,7 +183,7 @@ fn give<K: Sink>(alloc: Global, plan: &Plan, stage: Stage, reply: Obj, sink: &mu
 // Writes a request, reads its reply and prints what it gives.
 fn turn<L: Link, K: Sink>(
     alloc: Global,
-    plan: &Plan,
+    plan: &DialoguePlan,
     stage: Stage,
     session: &mut Session<L>,
     sink: &mut K,
@@ -210,7 +216,7 @@ fn turn<L: Link, K: Sink>(
 /// The dialogue from a stage on, on one link. It ends: each reply leads nearer to the end of the polls.
 pub(crate) fn on_link<L: Link, K: Sink>(
     alloc: Global,
-    plan: &Plan,
+    plan: &DialoguePlan,
     stage: Stage,
     session: &mut Session<L>,
     sink: &mut K,

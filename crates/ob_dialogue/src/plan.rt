@@ -21,7 +21,7 @@ pub enum Topic {
 /// What a client is to do: the URL of a lobby, what is watched, how often it is polled, and how many broken polls are
 /// mended in all.
 #[derive(Drop)]
-pub struct Plan {
+pub struct DialoguePlan {
     pub url: Base,
     pub topic: Topic,
     pub polls: u64,

@@ -2,7 +2,7 @@
 ghost use Rattle.std.specs.Prelude.{◌≡◌, Some, IfOk};
 ghost use Rattle.ob_dialogue.specs.Stages.{get, request_at};
 ghost use Rattle.ob_dialogue.specs.Stages as stages;
-ghost use Rattle.ob_dialogue.specs.Told as told;
+ghost use Rattle.ob_dialogue.specs.InHand as told;
 
 use crate::stage::{Stage, Watching};
 use ob_asking::{Place, Request, watch_in};

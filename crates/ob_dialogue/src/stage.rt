@@ -2,9 +2,9 @@
 ghost use Rattle.std.specs.Prelude.{◌≡◌, ◌<◌, ◌^◌, IfOk, option_map, unwrap_or, [], true, false};
 ghost use Rattle.ob_dialogue.specs.Stages.{ops_of, refresh_in, begun, onward, mended};
 ghost use Rattle.ob_dialogue.specs.Plans.{place_at};
-ghost use Rattle.ob_dialogue.specs.Told as told;
+ghost use Rattle.ob_dialogue.specs.InHand as told;
 
-use crate::plan::Plan;
+use crate::plan::DialoguePlan;
 use ob_asking::{Place, child_place, place_at};
 use ob_client::Mirror;
 use ob_href::Base;
@@ -89,7 +89,7 @@ impl Ops {
 }
 
 /// The first stage: the lobby is asked for.
-pub(crate) fn first(alloc: Global, plan: &Plan) -> Result<Option<Stage>, AllocError>
+pub(crate) fn first(alloc: Global, plan: &DialoguePlan) -> Result<Option<Stage>, AllocError>
     ensures { IfOk result (λ s. option_map told.stage s ≡ told.lobby (place_at plan.now.url [])) }
 {
     match place_at(alloc, &plan.url, "")? {
@@ -163,7 +163,7 @@ pub(crate) fn begun(alloc: Global, ops: Ops, asked: Vec<Text>) -> Watching
 }
 
 /// The stage behind an answered add or poll: a further poll, or the end.
-pub(crate) fn onward(plan: &Plan, watching: Watching) -> Stage
+pub(crate) fn onward(plan: &DialoguePlan, watching: Watching) -> Stage
     requires { watching.mirror.stale ≡ false }
     ensures value { told.stage result ≡ onward (told.program plan.now) (told.watching watching) }
     ensures live { told.IsLive result }

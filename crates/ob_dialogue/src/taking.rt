@@ -5,11 +5,11 @@ ghost use Rattle.ob_dialogue.specs.Printing.{add_heading, body_text};
 ghost use Rattle.ob_dialogue.specs.Stages as stages;
 ghost use Rattle.ob_dialogue.specs.Stages.{ops_of};
 ghost use Rattle.ob_dialogue.specs.Taking.{silent, to_watch, to_feed, ack_target, acked, printed, taken, taken_at, on_poll};
-ghost use Rattle.ob_dialogue.specs.Told as told;
+ghost use Rattle.ob_dialogue.specs.InHand as told;
 
 use crate::ending::Peer;
 use crate::lines::{add_heading, board_in, body, errs, poll_heading};
-use crate::plan::{Plan, Topic};
+use crate::plan::{DialoguePlan, Topic};
 use crate::stage::{Ops, Stage, Watching, begun, onward, ops_of};
 use ob_asking::{Place, child_place, place_at};
 use ob_client::MirrorFault;
@@ -97,7 +97,11 @@ fn to_subject(ops: Ops, place: Option<Place>) -> Option<Stage>
 }
 
 // Once the watch is made: its hrefs are added, or the subject is asked for.
-fn to_watch(alloc: Global, plan: &Plan, ops: Option<Ops>) -> Result<Option<Stage>, AllocError>
+fn to_watch(
+    alloc: Global,
+    plan: &DialoguePlan,
+    ops: Option<Ops>,
+) -> Result<Option<Stage>, AllocError>
     ensures value { IfOk result (λ s. option_map told.stage s ≡ to_watch plan.now.url (told.watched plan.now.topic) (option_map told.ops ops)) }
     ensures live { IfOk result (λ s. told.OptionIsLive s) }
 {
@@ -172,7 +176,11 @@ fn to_ack(
 }
 
 // Behind the add: the acknowledgement of an alarm, if one is wanted.
-fn acked(alloc: Global, plan: &Plan, watching: Watching) -> Result<Option<Stage>, AllocError>
+fn acked(
+    alloc: Global,
+    plan: &DialoguePlan,
+    watching: Watching,
+) -> Result<Option<Stage>, AllocError>
     requires { watching.mirror.stale ≡ false }
     ensures value { IfOk result (λ s. option_map told.stage s ≡ acked (told.program plan.now) (told.watched plan.now.topic) (told.watching watching)) }
     ensures live { IfOk result (λ s. told.OptionIsLive s) }
@@ -238,7 +246,7 @@ fn printed(
 // The hrefs were added, with these lines of errs.
 fn added(
     alloc: Global,
-    plan: &Plan,
+    plan: &DialoguePlan,
     watching: Watching,
     errs: Vec<u8>,
 ) -> Result<Outcome, AllocError>
@@ -255,7 +263,7 @@ fn added(
 // The reply to an add came.
 fn on_add(
     alloc: Global,
-    plan: &Plan,
+    plan: &DialoguePlan,
     mut watching: Watching,
     reply: Obj,
 ) -> Result<Outcome, AllocError>
@@ -272,7 +280,7 @@ fn on_add(
 }
 
 // A poll was answered.
-fn on_poll(alloc: Global, plan: &Plan, watching: Watching) -> Result<Outcome, AllocError>
+fn on_poll(alloc: Global, plan: &DialoguePlan, watching: Watching) -> Result<Outcome, AllocError>
     requires { watching.mirror.stale ≡ false }
     ensures value { IfOk result (λ t. told.taken t ≡ on_poll (told.program plan.now) (told.watching watching)) }
     ensures live { IfOk result (λ t. told.NextIsLive t.next) }
@@ -286,7 +294,7 @@ fn on_poll(alloc: Global, plan: &Plan, watching: Watching) -> Result<Outcome, Al
 // The changes came.
 fn on_changes(
     alloc: Global,
-    plan: &Plan,
+    plan: &DialoguePlan,
     mut watching: Watching,
     reply: Obj,
 ) -> Result<Outcome, AllocError>
@@ -306,7 +314,7 @@ fn on_changes(
 // All that is watched came.
 fn on_refresh(
     alloc: Global,
-    plan: &Plan,
+    plan: &DialoguePlan,
     mut watching: Watching,
     reply: Obj,
 ) -> Result<Outcome, AllocError>
@@ -360,7 +368,12 @@ fn ops_in(alloc: Global, mends: bool, place: Place, watch: Obj) -> Result<Option
 }
 
 // A watch was made.
-fn on_make(alloc: Global, plan: &Plan, place: Place, reply: Obj) -> Result<Outcome, AllocError>
+fn on_make(
+    alloc: Global,
+    plan: &DialoguePlan,
+    place: Place,
+    reply: Obj,
+) -> Result<Outcome, AllocError>
     ensures value { IfOk result (λ t. told.taken t ≡ taken_at (told.program plan.now) (stages.Make place) reply) }
     ensures live { IfOk result (λ t. told.NextIsLive t.next) }
 {
@@ -380,7 +393,12 @@ fn on_subject(alloc: Global, ops: Ops, place: Place, reply: Obj) -> Result<Outco
 }
 
 // What a reply that is no err gives.
-fn taken_at(alloc: Global, plan: &Plan, stage: Stage, reply: Obj) -> Result<Outcome, AllocError>
+fn taken_at(
+    alloc: Global,
+    plan: &DialoguePlan,
+    stage: Stage,
+    reply: Obj,
+) -> Result<Outcome, AllocError>
     requires { told.IsLive stage }
     ensures value { IfOk result (λ t. told.taken t ≡ taken_at (told.program plan.now) (told.stage stage) reply) }
     ensures live { IfOk result (λ t. told.NextIsLive t.next) }
@@ -403,7 +421,7 @@ fn taken_at(alloc: Global, plan: &Plan, stage: Stage, reply: Obj) -> Result<Outc
 #[tactic(auto, unfolding(crate::specs::Taking::taken))]
 pub(crate) fn taken(
     alloc: Global,
-    plan: &Plan,
+    plan: &DialoguePlan,
     stage: Stage,
     reply: Obj,
 ) -> Result<Outcome, AllocError>

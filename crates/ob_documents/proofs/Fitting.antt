@@ -70,7 +70,7 @@ name_only n e =
     text_name (same n (codes "name")) (same n (codes "href")) (same n (codes "display")) (same n (codes "displayName")) (same n (codes "icon")) (same n (codes "range")) (same n (codes "tz")) (same n (codes "unit"))
     (from_text (text_field n) (words_field n) (value_field n) texts.Name e)
 
-pub record IsKnown (k : Kind) (n : List ℕ) (f : Field) : Type 0 where
+pub record IsFieldOf (k : Kind) (n : List ℕ) (f : Field) : Type 0 where
   pub field_is : field_of n ≡ Some f
   pub applies_is : applies k f ≡ true
 
@@ -78,10 +78,10 @@ chosen : (b : Bool) (f g : Field) → cond b (Some f) None ≡ Some g → (b ≡
 chosen true f g e = (refl, cc)
 chosen false f g e = absurd cc
 
-pub known_parts : (k : Kind) (n : List ℕ) (f : Field) → known k n ≡ Some f → IsKnown k n f
+pub known_parts : (k : Kind) (n : List ℕ) (f : Field) → known k n ≡ Some f → IsFieldOf k n f
 known_parts k n f e = by (field_of n) refl e
   where
-    by : (o : Option Field) → field_of n ≡ o → then_read o (λ g. cond (applies k g) (Some g) None) ≡ Some f → IsKnown k n f
+    by : (o : Option Field) → field_of n ≡ o → then_read o (λ g. cond (applies k g) (Some g) None) ≡ Some f → IsFieldOf k n f
     by None i h = absurd cc
     by (Some g) i h =
         let p = chosen (applies k g) g f h in

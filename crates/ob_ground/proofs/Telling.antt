@@ -20,7 +20,7 @@ use Rattle.ob_tree.specs.Laid.{heads, heads_of, head_at, leaf, changed_in, chang
 use Rattle.ob_tree.specs.Shown.{at_top, effective_in, handed, handed_in, handed_at, standing_at}
 use Rattle.ob_tree.specs.Told.{IsToldAt, AreToldBy, words_for}
 use Rattle.ob_tree.proofs.Changing.{count-changed_in}
-use Rattle.ob_ground.specs.Grounds.{Taught, AreTold, alone_at, words_at, inside_at}
+use Rattle.ob_ground.specs.Grounds.{Taught, WordsStand, alone_at, words_at, inside_at}
 
 -- what an object says of itself but for its slot: all that it hands down is told by that
 abbrev rest_of : Head → Head
@@ -104,28 +104,28 @@ module _ (slot : Slot) where
       takes_by o.head o.inner none (changed_in with_slot n o.inner) none (at_top lib) m true (count-changed_in with_slot o.inner n) (λ d k. takes_in o.inner d n k) (λ d k. refl)
 
 -- a slot tells nothing
-pub told_set : (slot : Slot) (n : ℕ) (o : Object) (t : Taught) → AreTold o t → AreTold (changed (λ h. record h { slot = slot }) n o) t
-unfolding AreTold
+pub told_set : (slot : Slot) (n : ℕ) (o : Object) (t : Taught) → WordsStand o t → WordsStand (changed (λ h. record h { slot = slot }) n o) t
+unfolding WordsStand
 told_set slot n o t told =
     kept_by t.library (words_at t) o (changed (with_slot slot) n o) (λ m. rest_at slot n m o) (λ m. takes_at slot t.library n m o) told
 
 -- nor did the one that was there
-pub told_unset : (slot : Slot) (n : ℕ) (o : Object) (t : Taught) → AreTold (changed (λ h. record h { slot = slot }) n o) t → AreTold o t
-unfolding AreTold
+pub told_unset : (slot : Slot) (n : ℕ) (o : Object) (t : Taught) → WordsStand (changed (λ h. record h { slot = slot }) n o) t → WordsStand o t
+unfolding WordsStand
 told_unset slot n o t told =
     kept_by t.library (words_at t) (changed (with_slot slot) n o) o (λ m. sym (rest_at slot n m o)) (λ m. sym (takes_at slot t.library n m o)) told
 
 -- words of a map that is lent
-pub told_lent : (lib : Contracts) (o : Object) (t : Taught) (words : Bor (BTreeMap ℕ Instead)) → words.now.entries ≡ t.words → t.library ≡ lib → AreTold o t → AreToldBy lib o (words_for (Some words))
-unfolding AreTold
+pub told_lent : (lib : Contracts) (o : Object) (t : Taught) (words : Bor (BTreeMap ℕ Instead)) → words.now.entries ≡ t.words → t.library ≡ lib → WordsStand o t → AreToldBy lib o (words_for (Some words))
+unfolding WordsStand
 told_lent lib o t words e l told =
     subst (λ (x : Contracts). AreToldBy x o (words_for (Some words))) l
     (subst (λ (x : List (ℕ × Instead)). AreToldBy t.library o (λ n. lookup (is_at (nat_cmp n)) x)) (sym e) told)
 
 -- words that are told for an object may stand for its own where it stands
-pub told_inside : (t : Taught) (o : Object) (r : Context) (n : ℕ) (h : Head) (told : Option Instead) → AreTold o t → Some r ≡ standing_at t.library n o → head_at n o ≡ Some h → told ≡ words_at t n
+pub told_inside : (t : Taught) (o : Object) (r : Context) (n : ℕ) (h : Head) (told : Option Instead) → WordsStand o t → Some r ≡ standing_at t.library n o → head_at n o ≡ Some h → told ≡ words_at t n
     → MayStand r h told
-unfolding AreTold
+unfolding WordsStand
 told_inside t o r n h told are stands there is = subst (λ (x : Option Instead). MayStand r h x) (sym is) (are n r h stands there)
 
 -- what an object says of itself, told by its own without children

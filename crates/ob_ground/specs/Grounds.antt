@@ -29,8 +29,8 @@ abbrev pub words_at : Taught → ℕ → Option Instead
 words_at t n = lookup (is_at (nat_cmp n)) t.words
 
 -- all of them stand for those of the objects of a root, and for those that these give to their children where they stand
-unfoldable pub AreTold : Object → Taught → Type 0
-AreTold root t = AreToldBy t.library root (words_at t)
+unfoldable pub WordsStand : Object → Taught → Type 0
+WordsStand root t = AreToldBy t.library root (words_at t)
 
 -- where a child of a name stands, or would stand, in the object of a number
 abbrev pub inside_at : Contracts → ℕ → Option (List ℕ) → Object → Option Context

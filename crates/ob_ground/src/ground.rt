@@ -12,7 +12,7 @@ ghost use Rattle.ob_tree.specs.Shown.{standing_at};
 ghost use Rattle.ob_tree.specs.Stamps.{touched};
 ghost use Rattle.ob_contracts.specs.Shown.{shown};
 ghost use Rattle.ob_standing.specs.Standings.{context};
-ghost use Rattle.ob_ground.specs.Grounds.{AreTold, alone_at, inside_at};
+ghost use Rattle.ob_ground.specs.Grounds.{WordsStand, alone_at, inside_at};
 
 use crate::told::Told;
 use ob_contracts::{Library, Steps, View};
@@ -63,7 +63,7 @@ impl Model for Ground {
     ghost use Rattle.ob_contracts.specs.contracts.library.Library.{the_row as library_row};
     ghost use Rattle.ob_tree.specs.contracts.tree.Tree.{the_row as tree_row};
     ghost use Rattle.ob_tree.specs.Children.{AreNumbered};
-    ghost use Rattle.ob_ground.specs.Grounds.{Grounded, grounded_code, AreTold};
+    ghost use Rattle.ob_ground.specs.Grounds.{Grounded, grounded_code, WordsStand};
 
     ghost Value = { Grounded };
 
@@ -71,7 +71,7 @@ impl Model for Ground {
 
     ghost view = { λ a. record { library = a.told.library; tree = a.tree } };
 
-    ghost invariant = { λ a. AreTold a.tree.root a.told × AreNumbered a.tree.root a.numbers };
+    ghost invariant = { λ a. WordsStand a.tree.root a.told × AreNumbered a.tree.root a.numbers };
 }
 
 impl Ground {
@@ -105,17 +105,17 @@ impl Ground {
     /// A library, with the words that it tells the objects of this tree. An error only for want of memory.
     pub fn told_by(&self, alloc: Global, library: Library) -> Result<Told, AllocError>
         ensures library { IfOk result (λ told. told.library ≡ library) }
-        ensures told { IfOk result (AreTold self.now.tree.root) }
+        ensures told { IfOk result (WordsStand self.now.tree.root) }
     {
         Told::of(alloc, library, &self.tree)
     }
 
     /// Takes another library, and gives the old one. It takes no memory.
     pub fn replace(&mut self, told: Told) -> Told
-        requires { AreTold self.old.tree.root told }
+        requires { WordsStand self.old.tree.root told }
         ensures new { self.new ≡ record self.old { library = told.library } }
         ensures old { result.library ≡ self.old.library }
-        ensures told { AreTold self.old.tree.root result }
+        ensures told { WordsStand self.old.tree.root result }
     {
         std::mem::replace(&mut self.told, told)
     }

@@ -5,7 +5,7 @@ ghost use Rattle.ob_object.specs.Object.{parts};
 ghost use Rattle.ob_standing.specs.Standings.{context};
 ghost use Rattle.ob_tree.specs.Depths.{depth_at};
 ghost use Rattle.ob_tree.specs.Shown.{standing_at};
-ghost use Rattle.ob_ground.specs.Grounds.{AreTold, words_at};
+ghost use Rattle.ob_ground.specs.Grounds.{WordsStand, words_at};
 
 use ob_contracts::{Library, Steps};
 use ob_standing::{Instead, Standing};
@@ -44,10 +44,10 @@ impl Model for Told {
 
 impl Told {
     /// A library, with the words for the objects of a tree. An error only for want of memory.
-    #[tactic(auto, unfolding(crate::specs::Grounds::AreTold))]
+    #[tactic(auto, unfolding(crate::specs::Grounds::WordsStand))]
     pub fn of(alloc: Global, library: Library, tree: &Tree) -> Result<Told, AllocError>
         ensures library { IfOk result (λ told. told.library ≡ library) }
-        ensures told { IfOk result (AreTold tree.now.root) }
+        ensures told { IfOk result (WordsStand tree.now.root) }
     {
         let words = tree.telling(alloc, &library)?;
         Ok(Told { library, words })
@@ -69,7 +69,7 @@ impl Told {
         steps: &mut Steps<L>,
     ) -> Standing<'a>
         requires within { id.number < parts tree.now.root }
-        requires told { AreTold tree.now.root self.now }
+        requires told { WordsStand tree.now.root self.now }
         ensures stands { Some (context result) ≡ standing_at self.now.library id.number tree.now.root }
         ensures steps { steps.new ≡ steps.old + depth_at id.number tree.now.root }
     {

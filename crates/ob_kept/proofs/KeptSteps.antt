@@ -22,7 +22,7 @@ use Rattle.ob_site_rules.specs.declared.request.Request.{Request}
 use Rattle.ob_site_rules.specs.Entries.{empty_object}
 use Rattle.ob_site_rules.specs.Sites.{SiteState}
 use Rattle.ob_kept.specs.declared.recorder.Recorder.{Recorder}
-use Rattle.ob_kept.specs.Keeping.{LeavesOf, LeavesOneOf, LeavesMore, IsAtRestAt, IsKept}
+use Rattle.ob_kept.specs.Keeping.{LeavesOf, LeavesOneOf, LeavesMore, IsAtRestAt, IsRecoverable}
 use Rattle.ob_kept.specs.Recording.{entry_of, next_block, numbers_entry, Appended, MayHaveAppended, HasNoRoom, HasKept, MayHaveKept}
 use Rattle.ob_kept.specs.Redone.{kept_reply, more_numbers, numbers_noted, redone}
 use Rattle.ob_kept.proofs.Growing.{keeping}
@@ -35,7 +35,7 @@ module _ {D : Type 0} (told : Type 0) (seen : D → List ℕ) (may_leave : D →
   -- what is told of the device of a recorder
   abbrev pub Told : List SiteState → SiteState → Recorder D → Type 0
   Told past now k =
-      IsKept seen may_leave moment left_since (keeping k.boot opening since past now k.journal.end k.next k.begun) k.journal.device k.failed
+      IsRecoverable seen may_leave moment left_since (keeping k.boot opening since past now k.journal.end k.next k.begun) k.journal.device k.failed
 
   pub told_as : (l : Recorder D) (a b : List SiteState) (st u : SiteState) → a ≡ b → st ≡ u → Told b u l → Told a st l
   told_as l a b st u e f h = subst (λ (x : List SiteState). Told x st l) (sym e) (subst (λ (x : SiteState). Told b x l) (sym f) h)
@@ -81,7 +81,7 @@ module _ {D : Type 0} (told : Type 0) (seen : D → List ℕ) (may_leave : D →
           (subst (λ (b : Bool). IsAtRestAt seen may_leave moment left_since k.boot opening later l.journal.device l.journal.end next b) (sym done.begun) again) in
           let early = h.later in
           let on = leaves.later in
-          subst (λ (boot : ℕ). IsKept seen may_leave moment left_since (keeping boot opening since states later l.journal.end l.next l.begun) l.journal.device l.failed) (sym done.boot)
+          subst (λ (boot : ℕ). IsRecoverable seen may_leave moment left_since (keeping boot opening since states later l.journal.end l.next l.begun) l.journal.device l.failed) (sym done.boot)
           (record {
             later = omega (arith, early, on);
             crash = λ c was. inl (⊎_elim
@@ -100,7 +100,7 @@ module _ {D : Type 0} (told : Type 0) (seen : D → List ℕ) (may_leave : D →
           let on = leaves.later in
           let more : (c : List ℕ) → Leaves c later → (l.failed ≡ true) × LeavesMore k.boot opening c now =
           λ c there. (lost.failed, (r, time, subst (λ (st : SiteState). LeavesOf k.boot opening c st) later_is there)) in
-          subst (λ (boot : ℕ). IsKept seen may_leave moment left_since (keeping boot opening since past now l.journal.end l.next l.begun) l.journal.device l.failed) (sym lost.boot)
+          subst (λ (boot : ℕ). IsRecoverable seen may_leave moment left_since (keeping boot opening since past now l.journal.end l.next l.begun) l.journal.device l.failed) (sym lost.boot)
           (record {
             later = omega (arith, early, on);
             crash = λ c was. ⊎_elim

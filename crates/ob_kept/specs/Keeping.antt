@@ -146,7 +146,7 @@ module _ {D : Type 0} (seen : D → List ℕ) (may_leave : D → List ℕ → Ty
   -- What a device tells of the files that a crash since the opening might have left: each leads to where the site may go on from
   -- one of the states that it has been in; or, where a call of the device has failed, from one request more. And of those that one
   -- may leave now, the same of the state that it is in.
-  pub record IsKept (k : Keeping) (device : D) (failed : Bool) : Type 0 where
+  pub record IsRecoverable (k : Keeping) (device : D) (failed : Bool) : Type 0 where
     pub later : k.since ≤ moment device
     pub crash : (c : List ℕ) → left_since device k.since c
         → LeavesOneOf k.boot k.opening c (k.past ++ k.now ∷ []) ⊎ ((failed ≡ true) × LeavesMore k.boot k.opening c k.now)

@@ -19,7 +19,7 @@ use Rattle.ob_site_laws.specs.SiteLaws.{IsSoundSite}
 use Rattle.ob_site_rules.specs.Sites.{SiteState}
 use Rattle.ob_kept.specs.declared.fault.ReopenFault.{ReopenFault}
 use Rattle.ob_kept.specs.declared.fault.ReopenFault.TheVariants as faults
-use Rattle.ob_kept.specs.Keeping.{Keeping, IsKept}
+use Rattle.ob_kept.specs.Keeping.{Keeping, IsRecoverable}
 use Rattle.ob_kept.specs.Reading.{CeasesToBeLegal, Undone}
 use Rattle.ob_kept.specs.Redone.{redone}
 use Rattle.ob_kept.specs.Saying.{LeadsTo}
@@ -127,4 +127,4 @@ starting since boot opening now end begun = record { boot = boot; opening = open
 abbrev pub KeepsOn : {D : Type 0} → (seen : D → List ℕ) → (may_leave : D → List ℕ → Type 0) → (moment : D → ℕ) → (left_since : D → ℕ → List ℕ → Type 0)
     → (since boot : ℕ) → (opening now : SiteState) → (device : D) → (end : ℕ) → (begun : Bool) → Type 0
 KeepsOn seen may_leave moment left_since since boot opening now device end begun =
-    IsKept seen may_leave moment left_since (starting since boot opening now end begun) device false
+    IsRecoverable seen may_leave moment left_since (starting since boot opening now end begun) device false

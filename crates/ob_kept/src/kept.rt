@@ -30,7 +30,7 @@ pub struct Kept<D: Device> {
 
 impl<D: Device> Model for Kept<D> {
     ghost use Rattle.std.specs.Prelude.{◌≡◌, ◌≤◌, false};
-    ghost use Rattle.ob_kept.specs.Keeping.{Keeping, keeping_code, kept_of, IsKept};
+    ghost use Rattle.ob_kept.specs.Keeping.{Keeping, keeping_code, kept_of, IsRecoverable};
 
     ghost Value = { Keeping };
 
@@ -39,7 +39,7 @@ impl<D: Device> Model for Kept<D> {
     ghost view = { λ k. kept_of D.moment k.site k.recorder k.opening k.opened k.past.items };
 
     ghost invariant = { λ k. (k.recorder.full ≡ false) × (k.site.world.next ≤ k.recorder.next)
-        × (D.is_told → IsKept D.seen D.may_leave D.moment D.left_since
+        × (D.is_told → IsRecoverable D.seen D.may_leave D.moment D.left_since
         (kept_of D.moment k.site k.recorder k.opening k.opened k.past.items)
         k.recorder.journal.device k.recorder.failed) };
 }
@@ -78,10 +78,10 @@ impl<D: Device> Kept<D> {
     ghost use Rattle.ob_kept.specs.Keeping.{IsLeft};
 
     /// The state that the site is in is sound.
-    pub fn is_sound(&self)
+    pub fn sound_law(&self)
         ensures { IsSoundSite self.now.now }
     {
-        self.site.is_sound();
+        self.site.sound_law();
     }
 
     /// The site, as it is now.
@@ -133,7 +133,7 @@ impl<D: Device> Machine for Kept<D> {
         if self.recorder.failed {
             return Err(AllocError);
         }
-        self.site.is_sound();
+        self.site.sound_law();
         self.past.push(Snapshot::of(&self.site))?;
         match self.site.step_kept(&mut self.recorder, request, moment) {
             Ok(reply) => Ok(reply),

@@ -157,7 +157,7 @@ fn open_site<F: Files>(
         Ok(Loaded { ns, mut site }) => {
             // A site file opens no watch; where its bytes aren't told, this says so.
             site.restart(0);
-            site.is_sound();
+            site.sound_law();
             Ok(Loaded { ns, site })
         }
         Err(fault) => Err(ReopenFault::Site(fault)),
@@ -210,7 +210,7 @@ pub(crate) fn ready_redone<F: Files>(
     let Loaded { ns, site } = open_site(alloc, files, name, boot)?;
     let opening = Snapshot::of(&site);
     let site = redo(alloc, site, run)?;
-    site.is_sound();
+    site.sound_law();
     Ok(Ready {
         ns,
         site,

@@ -107,7 +107,7 @@ where
     ensures cause { HasPortCause result.end (P.faults port.old) (P.faults port.new)
         (C.faults clock.old) (C.faults clock.new) }
 {
-    kept.is_sound();
+    kept.sound_law();
     let stays = AtomicBool::new(true);
     let staff = Staff {
         workers,

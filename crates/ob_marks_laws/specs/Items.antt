@@ -23,6 +23,7 @@ abbrev pub OnNodeBy : (Text → NodeId → Type 0) → Text → Tracked → Type
 OnNodeBy P path (tracked.Object node mark) = P path node
 OnNodeBy P path (tracked.Feed filter given total due) = Unit {0}
 
+-- the same fact, of an item
 abbrev pub OnNode : (Text → NodeId → Type 0) → Item → Type 0
 OnNode P i = OnNodeBy P i.path i.tracked
 

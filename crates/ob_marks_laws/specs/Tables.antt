@@ -10,10 +10,11 @@ use Rattle.ob_watch.specs.Items.{Text, put_item}
 use Rattle.ob_watch.specs.Marks.{IsMarkPast}
 use Rattle.ob_watch.specs.Tables.{Leased, Table, at_number, lapsed_at, with_all_items, with_new, without}
 
--- a fact of each item of a watch, and of each item of all watches
+-- a fact of each item of a watch
 abbrev pub AllOf : (Item → Type 0) → Leased → Type 0
 AllOf P w = AllByRecursion P w.items
 
+-- a fact of each item of all watches
 abbrev pub AllItems : (Item → Type 0) → List (ℕ × Leased) → Type 0
 AllItems P ws = AllByRecursion (λ e. AllByRecursion P e.1.items) ws
 
@@ -33,9 +34,10 @@ pub record TableKeeps (P : Item → Type 0) : Type 0 where
   pub removes : (texts : List Text) (w : Leased) → AllOf P w → AllOf P (without texts w)
   pub puts : (new : Item) (items : List Item) → P new → AllByRecursion P items → AllByRecursion P (put_item new items)
 
--- so of marks that are of no step to come, and of what is counted of feeds
+-- so of marks that are of no step to come
 abbrev pub TablesKeepMarks : Type 0
 TablesKeepMarks = (steps : ℕ) → TableKeeps (IsMarkPast steps)
 
+-- so of what is counted of feeds
 abbrev pub TablesKeepCounts : Type 0
 TablesKeepCounts = (plan : Plan) (s : State) → TableKeeps (IsCounted plan s)

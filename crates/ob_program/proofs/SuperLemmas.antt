@@ -7,7 +7,7 @@ use Rattle.ob_object.specs.Object.{Object}
 use Rattle.ob_server.specs.Complete.{ServesWhole, IsWellFramed}
 use Rattle.ob_server.specs.declared.end.LinkEnd.{LinkEnd}
 use Rattle.ob_site_file.specs.declared.fault.LoadFault.{LoadFault}
-use Rattle.ob_super.specs.Told.{Outside, Configures}
+use Rattle.ob_super.specs.InHand.{Outside, Configures}
 use Rattle.ob_super.specs.Upstreams.{Upstream, offences}
 use Rattle.ob_super.specs.declared.config_fault.ConfigFault.{ConfigFault}
 use Rattle.ob_super.specs.declared.config_fault.ConfigFault.TheVariants as configs

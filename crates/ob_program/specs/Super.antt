@@ -5,7 +5,7 @@ use Rattle.ob_io.specs.Faults.{Rose}
 use Rattle.ob_io.specs.Links.{inlet}
 use Rattle.ob_object.specs.Object.{Object}
 use Rattle.ob_server.specs.Complete.{IsWellFramed}
-use Rattle.ob_super.specs.Told.{Outside, outside}
+use Rattle.ob_super.specs.InHand.{Outside, outside}
 use Rattle.ob_super.specs.Upstreams.{Upstream, configured, IsConfig, IsFirstOffence}
 use Rattle.ob_super.specs.declared.config_fault.ConfigFault.{ConfigFault}
 use Rattle.ob_super.specs.declared.config_fault.ConfigFault.TheVariants as configs

@@ -1,6 +1,6 @@
 //! `watch` and `console`: dialogues with a server.
 ghost use Rattle.std.specs.Prelude.{◌≡◌, IfOk};
-ghost use Rattle.ob_dialogue.specs.Told.{program};
+ghost use Rattle.ob_dialogue.specs.InHand.{program};
 ghost use Rattle.ob_program.specs.Client.{watched, alarms, exit_of_dialogue, ClientRan};
 ghost use Rattle.ob_program.specs.Outside.{dialled};
 ghost use Rattle.ob_program.specs.Telling.{errors_told};
@@ -9,12 +9,12 @@ ghost use Rattle.ob_program.specs.Words.{dialogue_words};
 use crate::exit::Exit;
 use crate::telling::tell;
 use ob_command::{Console, Watch};
-use ob_dialogue::{Ending, Plan, Topic, converse};
+use ob_dialogue::{DialoguePlan, Ending, Topic, converse};
 use ob_io::{Dialer, Sink};
 use std::alloc::{AllocError, Global};
 
 /// What is to be done for a watch.
-pub(crate) fn watch_plan(watch: Watch) -> Plan
+pub(crate) fn watch_plan(watch: Watch) -> DialoguePlan
     ensures { program result ≡ watched watch }
 {
     let Watch {
@@ -23,7 +23,7 @@ pub(crate) fn watch_plan(watch: Watch) -> Plan
         polls,
         retries,
     } = watch;
-    Plan {
+    DialoguePlan {
         url,
         topic: Topic::Watch { hrefs },
         polls,
@@ -32,7 +32,7 @@ pub(crate) fn watch_plan(watch: Watch) -> Plan
 }
 
 /// What is to be done for a console.
-pub(crate) fn console_plan(console: Console) -> Plan
+pub(crate) fn console_plan(console: Console) -> DialoguePlan
     ensures { program result ≡ alarms console }
 {
     let Console {
@@ -42,7 +42,7 @@ pub(crate) fn console_plan(console: Console) -> Plan
         ack,
         user,
     } = console;
-    Plan {
+    DialoguePlan {
         url,
         topic: Topic::Console { subject, ack, user },
         polls,
@@ -76,7 +76,7 @@ fn words_of(alloc: Global, ending: &Ending) -> Result<Vec<u8>, AllocError>
 /// Has the dialogue of a plan with a server, and tells on `errors` what went wrong.
 pub(crate) fn run_client<W: Dialer, K: Sink, E: Sink>(
     alloc: Global,
-    plan: Plan,
+    plan: DialoguePlan,
     dialer: &mut W,
     sink: &mut K,
     errors: &mut E,

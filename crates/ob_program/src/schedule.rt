@@ -94,7 +94,7 @@ fn answer_site<L: Link, C: Clock>(
         (L.write_faults link.old) (L.write_faults link.new) (C.faults clock.old) (C.faults clock.new) result }
 {
     let Loaded { ns, mut site } = loaded;
-    site.is_sound();
+    site.sound_law();
     serve_scheduled(alloc, &mut site, schedules, boot, ns.as_ref(), link, clock)
 }
 

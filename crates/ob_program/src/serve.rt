@@ -236,7 +236,7 @@ where
     };
     match load(alloc, files, service.site, boot) {
         Ok(Loaded { ns, site }) => {
-            site.is_sound();
+            site.sound_law();
             serve_site(rt, alloc, service, site, ns.as_ref(), sink, port, clock)
         }
         Err(fault) => ServeEnd::of_fault(fault),

@@ -178,7 +178,7 @@ fn record_site<L: Link, C: Clock>(
         (L.write_faults link.old) (L.write_faults link.new) (C.faults clock.old) (C.faults clock.new) result }
 {
     let Loaded { ns: _, mut site } = loaded;
-    site.is_sound();
+    site.sound_law();
     record_run(alloc, &mut site, boot, link, clock)
 }
 

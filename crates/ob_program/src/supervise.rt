@@ -4,7 +4,7 @@ ghost use Rattle.std.specs.List.{AllByRecursion};
 ghost use Rattle.ob_io.specs.Faults.{Rose};
 ghost use Rattle.ob_server.specs.Complete.{ServesWhole};
 ghost use Rattle.ob_server.specs.declared.end.LinkEnd.{LinkEnd};
-ghost use Rattle.ob_super.specs.Told.{upstreams, outside};
+ghost use Rattle.ob_super.specs.InHand.{upstreams, outside};
 ghost use Rattle.ob_program.specs.Form.{plain};
 ghost use Rattle.ob_program.specs.Outside.{streams, dialled};
 ghost use Rattle.ob_program.specs.Stdio.{HasCause, IsUnserved};

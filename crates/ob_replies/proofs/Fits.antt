@@ -12,7 +12,7 @@ use Rattle.ob_object.specs.Words.{is_word}
 use Rattle.ob_site_rules.specs.Build.{valued, word, time_slot, ref_to, op_at, feed_at}
 use Rattle.ob_replies.specs.declared.contract.Contract.{Contract}
 use Rattle.ob_replies.specs.declared.contract.Contract.TheVariants as named
-use Rattle.ob_replies.specs.Told.{contract}
+use Rattle.ob_replies.specs.ContractWords.{contract}
 use Rattle.ob_replies.specs.Names.{is_name}
 
 pub contract_printable : (c : Contract) → is_printable (contract c) ≡ true

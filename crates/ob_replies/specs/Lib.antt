@@ -1,4 +1,4 @@
-pub mod Told
+pub mod ContractWords
 pub mod Names
 pub mod Abouts
 pub mod WatchChildren

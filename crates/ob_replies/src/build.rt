@@ -6,7 +6,7 @@ ghost use Rattle.ob_object.specs.WellFormed.{is_taken, with_child};
 ghost use Rattle.ob_object.specs.declared.kind.Kind.TheVariants as kind;
 ghost use Rattle.ob_site_rules.specs.Build.{whole, word, valued, time_slot, ref_to, op_at, feed_at, nameless, under_name};
 ghost use Rattle.ob_replies.specs.Names.{is_name, are_new};
-ghost use Rattle.ob_replies.specs.Told as told;
+ghost use Rattle.ob_replies.specs.ContractWords as told;
 
 use crate::contract::Contract;
 use ob_object::{Attributes, Kind, Obj, Slot};

@@ -1,6 +1,6 @@
 //! The contracts that the server names.
 ghost use Rattle.std.specs.Prelude.{◌≡◌, ◌∷◌, [], IfOk};
-ghost use Rattle.ob_replies.specs.Told as told;
+ghost use Rattle.ob_replies.specs.ContractWords as told;
 
 use ob_object::{WordFault, Words};
 use ob_values::Text;

@@ -3,7 +3,7 @@ ghost use Rattle.std.specs.Prelude.{◌≡◌, ◌<◌, ◌^◌, ◌&&◌, [], n
 ghost use Rattle.std.specs.List.{list_all};
 ghost use Rattle.circular_buffer.specs.Buffer.{last_item};
 ghost use Rattle.ob_site_rules.specs.Entries.{query_out, is_within};
-ghost use Rattle.ob_replies.specs.Told as told;
+ghost use Rattle.ob_replies.specs.ContractWords as told;
 ghost use Rattle.ob_replies.specs.Queries.{counts_of, data_of};
 
 use crate::build::{obj_head, put, timed, valued, whole};

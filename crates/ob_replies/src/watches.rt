@@ -5,7 +5,7 @@ ghost use Rattle.ob_site_rules.specs.Build.{op_at, under_href};
 ghost use Rattle.ob_site_rules.specs.Computed.{watch_object, watch_part_object, watch_out};
 ghost use Rattle.ob_replies.specs.WatchChildren.{span_value, lease_at, child_at, children_at};
 ghost use Rattle.ob_replies.specs.Names.{is_name};
-ghost use Rattle.ob_replies.specs.Told as told;
+ghost use Rattle.ob_replies.specs.ContractWords as told;
 
 use crate::build::{nameless, obj_head, one_child, op_at, put, whole};
 use crate::contract::Contract;

@@ -18,6 +18,6 @@ pub use asked::{WatchInItem, asked_by, firsts, texts_of, uri_of};
 pub use items::{item_request, posts_list};
 pub use laws::as_the_site_says;
 pub use lease::{Found, feed_with, lease_asked};
-pub use locating::located;
+pub use locating::locate_path;
 pub use paths::{OfWatch, is_of_watch, watch_part};
 pub use target::{Operation, Target, target_at};

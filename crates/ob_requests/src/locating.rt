@@ -11,7 +11,7 @@ use std::alloc::{AllocError, Global};
 ///
 /// Source: oBIX 1.1, chapter 6 (Naming).
 #[tactic(auto, using(crate::proofs::Leading::leads, crate::proofs::Leading::no_url, crate::proofs::Leading::elsewhere, crate::proofs::Leading::part_of))]
-pub fn located(alloc: Global, plan: &Plan, text: &Text) -> Result<Option<Text>, AllocError>
+pub fn locate_path(alloc: Global, plan: &Plan, text: &Text) -> Result<Option<Text>, AllocError>
     ensures { IfOk result (λ path. path ≡ locate plan.now.base text.now) }
 {
     if plan.base.keeps(text.as_str()) {

@@ -3,6 +3,6 @@ pub mod Few
 pub mod Given
 pub mod Summed
 pub mod Sums
-pub mod Told
+pub mod SiteParts
 pub mod Tables
 pub mod Worded

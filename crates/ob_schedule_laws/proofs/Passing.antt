@@ -21,7 +21,7 @@ use Rattle.ob_site_rules.specs.Writes.{ranged, has_child, is_listed, verdict_fau
 use Rattle.ob_plain_state.proofs.Keeping.{found_or}
 use Rattle.ob_shown_laws.specs.Alike.{row, without_values, AreAlike, DifferInSlots, DifferInValues}
 use Rattle.ob_shown_laws.specs.Changed.{head_in, PathsDiffer}
-use Rattle.ob_shown_laws.specs.Own.{dressed_own}
+use Rattle.ob_shown_laws.specs.Own.{derived_own}
 use Rattle.ob_shown_laws.proofs.Alikes.{head_in-alike, handed_alike, missing_names, names_alike}
 use Rattle.ob_shown_laws.proofs.OwnStanding.{own_tells_differences}
 use Rattle.ob_shown_laws.proofs.Reaching.{status_alike, alike_append, alike_listed, roles_alike, derived_alike}
@@ -62,7 +62,7 @@ names_comes c o q e a =
 abbrev verdict_by : Value → Head → Bool → Option Fault
 verdict_by v h is_in = verdict_fault (verdict h.kind h.facets.min h.facets.max v is_in)
 
-head_comes : (plan : Plan) (s : State) (c : Context) (o : Object) → (comes_to c (dressed_own plan s o)).head ≡ head_in c (with_status plan s o.head)
+head_comes : (plan : Plan) (s : State) (c : Context) (o : Object) → (comes_to c (derived_own plan s o)).head ≡ head_in c (with_status plan s o.head)
 unfolding result_of
 head_comes plan s c o = refl
 
@@ -76,12 +76,12 @@ module _ (plan : Plan) (s t : State) (d : DifferInValues s t) (differ : PathsDif
     context = (own_tells_differences plan s t d).stands p v.at w.at v.own w.own
 
     abbrev shown_s : Object
-    shown_s = comes_to v.at.context (dressed_own plan s v.at.object)
+    shown_s = comes_to v.at.context (derived_own plan s v.at.object)
 
     abbrev shown_t : Object
-    shown_t = comes_to w.at.context (dressed_own plan t w.at.object)
+    shown_t = comes_to w.at.context (derived_own plan t w.at.object)
 
-    heads_alike : without_values (dressed_own plan s v.at.object).head ≡ without_values (dressed_own plan t w.at.object).head
+    heads_alike : without_values (derived_own plan s v.at.object).head ≡ without_values (derived_own plan t w.at.object).head
     heads_alike = status_alike plan s t v.at.object.head w.at.object.head objects.0
 
     facets_stay : without_values shown_s.head ≡ without_values shown_t.head
@@ -91,7 +91,7 @@ module _ (plan : Plan) (s t : State) (d : DifferInValues s t) (differ : PathsDif
         ∙ (ap (λ (c : Context). without_values (head_in c (with_status plan t w.at.object.head))) (sym context)
         ∙ sym (ap without_values (head_comes plan t w.at.context w.at.object))))
 
-    inner_alike : AreAlike (dressed_own plan s v.at.object).inner (dressed_own plan t w.at.object).inner
+    inner_alike : AreAlike (derived_own plan s v.at.object).inner (derived_own plan t w.at.object).inner
     inner_alike =
         alike_append (listed (with_roles plan s v.at.object.inner)) (listed (with_roles plan t w.at.object.inner)) (derived plan s (node_path v.at.object.head)) (derived plan t (node_path w.at.object.head))
         (alike_listed (with_roles plan s v.at.object.inner) (with_roles plan t w.at.object.inner) (roles_alike plan s t d.histories v.at.object.inner w.at.object.inner objects.2))
@@ -99,8 +99,8 @@ module _ (plan : Plan) (s t : State) (d : DifferInValues s t) (differ : PathsDif
 
     names_stay : names (listed shown_s.inner) ≡ names (listed shown_t.inner)
     names_stay =
-        names_comes v.at.context (dressed_own plan s v.at.object) (dressed_own plan t w.at.object) heads_alike inner_alike
-        ∙ ap (λ (c : Context). names (listed (comes_to c (dressed_own plan t w.at.object)).inner)) (sym context)
+        names_comes v.at.context (derived_own plan s v.at.object) (derived_own plan t w.at.object) heads_alike inner_alike
+        ∙ ap (λ (c : Context). names (listed (comes_to c (derived_own plan t w.at.object)).inner)) (sym context)
 
   there_stays : (p : Path) → is_some (node_of p t.tree) ≡ is_some (node_of p s.tree)
   there_stays p = go (node_of p s.tree) (node_of p t.tree) (nodes_same p (row s.tree) (row t.tree) d.tree)

@@ -43,7 +43,7 @@ use Rattle.ob_watching.specs.Tables.{numbers_of}
 use Rattle.ob_watching.specs.Watches.{World, Reply, acted, begun, with_site}
 use Rattle.ob_shown_laws.specs.Alike.{row}
 use Rattle.ob_shown_laws.specs.Changed.{PathsDiffer}
-use Rattle.ob_shown_laws.specs.Own.{dressed_own}
+use Rattle.ob_shown_laws.specs.Own.{derived_own}
 use Rattle.ob_standing.specs.Contexts.{comes_to}
 use Rattle.ob_shown_laws.proofs.Reaching.{status_off}
 use Rattle.ob_step_laws.proofs.Slotted.{kind_given}
@@ -187,7 +187,7 @@ module _ (start st : SiteState) (ready : IsReady start) (stands : Stands start s
   shows = shown_at st.plan st.world.site p now_ready.differ (there start ready st stands p point.among)
 
   abbrev o : Object
-  o = comes_to shows.at.context (dressed_own st.plan st.world.site shows.at.object)
+  o = comes_to shows.at.context (derived_own st.plan st.world.site shows.at.object)
 
   same_object_kind : (a b : Option Object) (x y : Object) → AreSame a b → a ≡ Some x → b ≡ Some y → x.head.kind ≡ y.head.kind
   same_object_kind None b x y d e f = absurd cc

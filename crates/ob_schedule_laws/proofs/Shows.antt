@@ -15,7 +15,7 @@ use Rattle.ob_site_rules.specs.State.{State}
 use Rattle.ob_site_rules.specs.declared.plan.Plan.{Plan}
 use Rattle.ob_shown_laws.specs.Alike.{row, without_slot, DifferInSlots, DifferInValues}
 use Rattle.ob_shown_laws.specs.Changed.{head_in, is_in, PathsDiffer}
-use Rattle.ob_shown_laws.specs.Own.{dressed_own}
+use Rattle.ob_shown_laws.specs.Own.{derived_own}
 use Rattle.ob_shown_laws.specs.OwnShown.{own_standing, dressed_standing}
 use Rattle.ob_shown_laws.specs.Numbered.{root_row}
 use Rattle.ob_shown_laws.specs.Standing.{Standing, effective, standing_in}
@@ -38,7 +38,7 @@ pub record IsShown (plan : Plan) (s : State) (p : Path) : Type 0 where
   pub at : Standing
   pub own : own_standing s p ≡ Some at
   pub node_is : node_of p s.tree ≡ Some at.object
-  pub shows : shown plan s p ≡ Some (comes_to at.context (dressed_own plan s at.object))
+  pub shows : shown plan s p ≡ Some (comes_to at.context (derived_own plan s at.object))
 
 pub shown_at : (plan : Plan) (s : State) (p : Path) → PathsDiffer (row (dressed plan s)) → is_some (node_of p s.tree) ≡ true → IsShown plan s p
 shown_at plan s p differ is = go (own_standing s p) refl (there p (root_row s.library) (row s.tree) ∙ is_there p s.tree is)
@@ -61,7 +61,7 @@ status_slot plan s c h (Some p) = by_rule (rule_of plan p)
     by_rule None = refl
     by_rule (Some r) = refl
 
-pub head_comes : (plan : Plan) (s : State) (c : Context) (o : Object) → (comes_to c (dressed_own plan s o)).head ≡ head_in c (with_status plan s o.head)
+pub head_comes : (plan : Plan) (s : State) (c : Context) (o : Object) → (comes_to c (derived_own plan s o)).head ≡ head_in c (with_status plan s o.head)
 unfolding result_of
 head_comes plan s c o = refl
 

@@ -13,7 +13,7 @@ use Rattle.ob_standing.specs.Contexts.{Context, under}
 use Rattle.ob_shown_laws.specs.Alike.{DifferInSlots}
 use Rattle.ob_shown_laws.specs.Standing.{standing_at as site_standing}
 use Rattle.ob_shown_laws.specs.Changed.{is_round, is_watchable, reaches, differs, PathsDiffer}
-use Rattle.ob_shown_laws.specs.Own.{dressed_own}
+use Rattle.ob_shown_laws.specs.Own.{derived_own}
 use Rattle.ob_shown_laws.specs.OwnShown.{dressed_standing}
 use Rattle.ob_shown_laws.proofs.Reaching.{changes_reach}
 use Rattle.ob_shown_laws.proofs.Looking.{looking}
@@ -67,7 +67,7 @@ kind_off plan s h (Some p) = by_rule (rule_of plan p)
 
 -- what some paths reach is told by their numbers
 any_number : (plan : Plan) (s : State) → PathsDiffer (row (dressed plan s)) → (ps : List Path) (ns : List ℕ) → AreNumbers s.tree ps ns → (n : ℕ) (x : Object) → part_at n s.tree ≡ Some x
-    → list_any (λ p. is_round p (dressed_own plan s x)) ps ≡ list_any (λ m. nat_le n m && nat_lt m (n + parts x)) ns
+    → list_any (λ p. is_round p (derived_own plan s x)) ps ≡ list_any (λ m. nat_le n m && nat_lt m (n + parts x)) ns
 any_number plan s differ [] [] are n x here = refl
 any_number plan s differ [] (m ∷ ms) are n x here = absurd are
 any_number plan s differ (p ∷ ps) [] are n x here = absurd are
@@ -101,7 +101,7 @@ stamps_follow plan s t values differ looked left ns are tree root long p n h at 
     stands : standing_at s.library n s.tree ≡ Some c
     stands = ap (option_map (λ (k : Head). under (handed_at s.library n s.tree) k.name)) head
 
-    found : site_standing plan s p ≡ Some (record { context = c; object = dressed_own plan s x.0 })
+    found : site_standing plan s p ≡ Some (record { context = c; object = derived_own plan s x.0 })
     found =
         (own_is_enough plan s).stands p (not_derived plan s p n differ at)
         ∙ ap (option_map (dressed_standing plan s)) (own_found s p n x.0 c at stands x.1)
@@ -109,8 +109,8 @@ stamps_follow plan s t values differ looked left ns are tree root long p n h at 
     watched : is_watchable (with_status plan s x.0.head) ≡ true
     watched = kind_off plan s x.0.head (node_path x.0.head) ∙ ap (λ (k : Head). is_watchable k) x.2 ∙ watchable
 
-    reached : reaches touched (site_standing plan s p) ≡ list_any (λ q. is_round q (dressed_own plan s x.0)) touched
-    reached = ap (reaches touched) found ∙ ap (λ b. b && list_any (λ q. is_round q (dressed_own plan s x.0)) touched) watched
+    reached : reaches touched (site_standing plan s p) ≡ list_any (λ q. is_round q (derived_own plan s x.0)) touched
+    reached = ap (reaches touched) found ∙ ap (λ b. b && list_any (λ q. is_round q (derived_own plan s x.0)) touched) watched
 
     not_not : (b : Bool) → not (not b) ≡ b
     not_not true = refl

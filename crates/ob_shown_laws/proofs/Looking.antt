@@ -21,7 +21,7 @@ use Rattle.ob_shown_laws.specs.Alike.{without_values, AreAlike, DifferInSlots, p
 use Rattle.ob_standing.specs.Contexts.{Context, HandedDown, handed_down, under}
 use Rattle.ob_shown_laws.specs.Standing.{Standing, standing_in}
 use Rattle.ob_shown_laws.specs.Changed.{same_values, head_in, same_leaves, same_node, same_standing, differs, same_log, same_derived}
-use Rattle.ob_shown_laws.specs.Own.{dressed_own}
+use Rattle.ob_shown_laws.specs.Own.{derived_own}
 use Rattle.ob_shown_laws.specs.Looked.{NodesAreSame, IsLeft, LookingIsEnough}
 use Rattle.ob_shown_laws.proofs.Standings.{or_else-assoc}
 use Rattle.ob_shown_laws.proofs.Itself.{slot_itself, values_itself}
@@ -184,7 +184,7 @@ same_roles plan s t values p left r none (node k inner more) d n = absurd d
 same_roles plan s t values p left r (node h below rest) none d n = absurd d
 same_roles plan s t values p left r (node h below rest) (node k inner more) d n =
     ap (same_standing (standing_in p r (with_roles plan s (node h below rest)))) (first_alike p r x y _ (with_roles plan t more) (status_alike plan s t h k d.0))
-    ∙ same_first (is_path p (node_path x)) (record { context = c; object = dressed_own plan s (record { head = h; inner = below }) }) (record { context = c; object = dressed_own plan t (record { head = k; inner = inner }) })
+    ∙ same_first (is_path p (node_path x)) (record { context = c; object = derived_own plan s (record { head = h; inner = below }) }) (record { context = c; object = derived_own plan t (record { head = k; inner = inner }) })
     _ _ (standing_in p r (with_roles plan s rest)) (standing_in p r (with_roles plan t more))
     own
     (both_there p e _ _ (alike_append (listed (with_roles plan s below)) (listed (with_roles plan t inner)) (derived plan s (node_path h)) (derived plan t (node_path k)) (alike_listed (with_roles plan s below) (with_roles plan t inner) alike) more_alike))
@@ -219,7 +219,7 @@ same_roles plan s t values p left r (node h below rest) (node k inner more) d n 
     more_stay : NodesStay (in_row (derived plan s (node_path h))) (in_row (derived plan t (node_path k)))
     more_stay = subst (λ (o : Option Path). NodesStay (in_row (derived plan s (node_path h))) (in_row (derived plan t o))) paths (derived_stay plan s t values.histories (node_path h))
 
-    own : is_path p (node_path x) ≡ true → same_node c (dressed_own plan s (record { head = h; inner = below })) (dressed_own plan t (record { head = k; inner = inner })) ≡ true
+    own : is_path p (node_path x) ≡ true → same_node c (derived_own plan s (record { head = h; inner = below })) (derived_own plan t (record { head = k; inner = inner })) ≡ true
     own found =
         let here : is_path p (node_path h) ≡ true = ap (is_path p) (sym (path_off plan s h (node_path h))) ∙ found in
         let is : node_path h ≡ Some p = at_path p (node_path h) here in

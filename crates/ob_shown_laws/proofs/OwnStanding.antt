@@ -15,7 +15,7 @@ use Rattle.ob_shown_laws.specs.Alike.{row, without_slot, without_values, DifferI
 use Rattle.ob_shown_laws.specs.Standing.{Standing, effective, standing_in, root_standing, standing_at}
 use Rattle.ob_shown_laws.specs.Changed.{same_standing, is_in, is_round, differs, PathsDiffer}
 use Rattle.ob_shown_laws.specs.Numbered.{root_row, numbered}
-use Rattle.ob_shown_laws.specs.Own.{dressed_own}
+use Rattle.ob_shown_laws.specs.Own.{derived_own}
 use Rattle.ob_shown_laws.specs.OwnShown.{IsNotDerived, own_standing, dressed_standing, derived_standing, OwnIsEnough, OwnTellsDifferences}
 use Rattle.ob_shown_laws.proofs.Standings.{or_else-none, node_of-effective}
 use Rattle.ob_values.proofs.Lists.{bytes_itself}
@@ -176,7 +176,7 @@ in_dressed plan s p (node h below rest) off =
     ∙ or_false (is_in p below))
     (in_dressed plan s p rest off.2))
 
-round_dressed : (plan : Plan) (s : State) (p : Path) (o : Object) → IsNotDerived plan s p (row o) → is_round p (dressed_own plan s o) ≡ is_round p o
+round_dressed : (plan : Plan) (s : State) (p : Path) (o : Object) → IsNotDerived plan s p (row o) → is_round p (derived_own plan s o) ≡ is_round p o
 round_dressed plan s p o off =
     ap₂ (λ a b. a || b) (ap (is_path p) (path_off plan s o.head (node_path o.head)))
     (in_behind p (with_roles plan s o.inner) (derived plan s (node_path o.head))

@@ -15,7 +15,7 @@ use Rattle.ob_shown_laws.specs.Alike.{without_slot, without_values, DifferInSlot
 use Rattle.ob_shown_laws.specs.Standing.{Standing, effective, root_standing}
 use Rattle.ob_shown_laws.specs.Changed.{same_values, head_in, same_derived, is_in, is_round, PathsDiffer}
 use Rattle.ob_shown_laws.specs.Numbered.{number_in, numbered, root_row}
-use Rattle.ob_shown_laws.specs.Own.{dressed_own}
+use Rattle.ob_shown_laws.specs.Own.{derived_own}
 use Rattle.ob_shown_laws.specs.OwnShown.{IsNotDerived, own_standing, dressed_standing}
 use Rattle.ob_shown_laws.proofs.Standings.{node_of-effective}
 use Rattle.ob_shown_laws.proofs.Numbering.{number_there, numbers_tell}
@@ -95,7 +95,7 @@ shown_of_number plan s n =
   where
     go : (c : Option Context) (o : Option Object)
         → option_map (λ x. effective (dressed_standing plan s x)) (option_and_then (λ c. option_map (standing c) o) c)
-        ≡ option_and_then (λ c. option_map (λ o. comes_to c (dressed_own plan s o)) o) c
+        ≡ option_and_then (λ c. option_map (λ o. comes_to c (derived_own plan s o)) o) c
     go None o = refl
     go (Some c) None = refl
     go (Some c) (Some o) = refl
@@ -145,7 +145,7 @@ derives plan s p q n place h d differ at head is path =
     ∙ sym (ap (option_map (λ c. comes_to (under (handed_down c h) d.head.name) d)) stands)
 
 pub round : (plan : Plan) (s : State) (p : Path) (n k : ℕ) (x : Object) → PathsDiffer (row (dressed plan s)) → place_of p (paths s.tree) ≡ Some n → part_at k s.tree ≡ Some x
-    → is_round p (dressed_own plan s x) ≡ (nat_le k n && nat_lt n (k + parts x))
+    → is_round p (derived_own plan s x) ≡ (nat_le k n && nat_lt n (k + parts x))
 round plan s p n k x differ at here =
     let head : head_at k s.tree ≡ Some x.head = head_of_part k s.tree ∙ ap (option_map (λ (y : Object). y.head)) here in
     let c : Context = under (handed_at s.library k s.tree) x.head.name in

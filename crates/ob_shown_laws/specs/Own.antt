@@ -15,8 +15,8 @@ use Rattle.ob_shown_laws.specs.Alike.{row, DifferInSlots, DifferInValues}
 use Rattle.ob_shown_laws.specs.Changed.{same_values, head_in, same_node, same_derived, PathsDiffer}
 
 -- an own object with the status of each source in it, and what roles derive behind the own children of each node
-abbrev pub dressed_own : Plan → State → Object → Object
-dressed_own plan s o = record {
+abbrev pub derived_own : Plan → State → Object → Object
+derived_own plan s o = record {
   head = with_status plan s o.head;
   inner = in_row (listed (with_roles plan s o.inner) ++ derived plan s (node_path o.head));
 }
@@ -26,7 +26,7 @@ dressed_own plan s o = record {
 abbrev pub OwnNodesDiffer : Type 0
 OwnNodesDiffer = (plan : Plan) (s t : State) → DifferInValues s t → (o q : Object)
     → DifferInSlots (row o) (row q) → (p : Path) → node_path o.head ≡ Some p → (c : Context)
-    → same_node c (dressed_own plan s o) (dressed_own plan t q)
+    → same_node c (derived_own plan s o) (derived_own plan t q)
     ≡ (same_values (head_in c (with_status plan s o.head)) (head_in c (with_status plan t q.head)) && same_derived plan s t p)
 
 -- Steps leave states that differ in values alone, in which the paths of nodes differ as before: one that does nothing, one

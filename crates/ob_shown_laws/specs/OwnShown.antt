@@ -12,7 +12,7 @@ use Rattle.ob_shown_laws.specs.Alike.{row, DifferInValues}
 use Rattle.ob_shown_laws.specs.Standing.{Standing, effective, standing_in, standing_at}
 use Rattle.ob_shown_laws.specs.Numbered.{root_row, numbered}
 use Rattle.ob_shown_laws.specs.Changed.{same_values, head_in, same_derived, is_in, is_round, differs, PathsDiffer}
-use Rattle.ob_shown_laws.specs.Own.{dressed_own}
+use Rattle.ob_shown_laws.specs.Own.{derived_own}
 
 -- no role of a node in a row derives a node of this path
 abbrev pub IsNotDerived : Plan → State → Path → Objects → Type 0
@@ -26,7 +26,7 @@ own_standing s p = standing_in p (root_row s.library) (row s.tree)
 
 -- an own object where it stands, with statuses and what roles derive
 abbrev pub dressed_standing : Plan → State → Standing → Standing
-dressed_standing plan s x = record { context = x.context; object = dressed_own plan s x.object }
+dressed_standing plan s x = record { context = x.context; object = derived_own plan s x.object }
 
 -- a child that roles derive of an own object, where it stands behind the own children
 abbrev pub derived_standing : Standing → Object → Standing
@@ -44,7 +44,7 @@ pub record OwnTells (plan : Plan) (s : State) : Type 0 where
       → own_standing s q ≡ Some x → slice_get (derived_at plan s q) place ≡ Some d → node_path d.head ≡ Some p
       → standing_at plan s p ≡ Some (derived_standing x d)
   pub round : (p : Path) (k : ℕ) (x : Standing) → IsNotDerived plan s p (row s.tree)
-      → numbered k (root_row s.library) (row s.tree) ≡ Some x → is_round p (dressed_own plan s x.object) ≡ is_round p x.object
+      → numbered k (root_row s.library) (row s.tree) ≡ Some x → is_round p (derived_own plan s x.object) ≡ is_round p x.object
   -- no role derives the path of an own node, where no two nodes have one path
   pub own : (p : Path) → PathsDiffer (row (dressed plan s)) → is_in p (row s.tree) ≡ true → IsNotDerived plan s p (row s.tree)
   pub differ : PathsDiffer (row (dressed plan s)) → PathsDiffer (row s.tree)

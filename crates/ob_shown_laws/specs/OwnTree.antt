@@ -11,7 +11,7 @@ use Rattle.ob_site_rules.specs.declared.plan.Plan.{Plan}
 use Rattle.ob_standing.specs.Contexts.{Context, handed_down, under, comes_to}
 use Rattle.ob_shown_laws.specs.Alike.{row, DifferInValues}
 use Rattle.ob_shown_laws.specs.Changed.{same_values, head_in, same_derived, is_round, differs, PathsDiffer}
-use Rattle.ob_shown_laws.specs.Own.{dressed_own}
+use Rattle.ob_shown_laws.specs.Own.{derived_own}
 use Rattle.ob_shown_laws.specs.OwnShown.{IsNotDerived}
 use Rattle.ob_tree.specs.Laid.{paths, head_at}
 use Rattle.ob_tree.specs.Paths.{place_of}
@@ -21,7 +21,7 @@ use Rattle.ob_tree.specs.Shown.{part_at, standing_at}
 abbrev pub own_shown_at : Plan → State → ℕ → Option Object
 own_shown_at plan s n =
     option_and_then
-    (λ c. option_map (λ o. comes_to c (dressed_own plan s o)) (part_at n s.tree))
+    (λ c. option_map (λ o. comes_to c (derived_own plan s o)) (part_at n s.tree))
     (standing_at s.library n s.tree)
 
 -- What is shown at a path that no role derives is what is shown of the own object that is the node of that path, by its number;
@@ -38,7 +38,7 @@ pub record OwnTreeTells (plan : Plan) (s : State) : Type 0 where
       → shown plan s p ≡ option_map (λ c. comes_to (under (handed_down c h) d.head.name) d) (standing_at s.library n s.tree)
   pub round : (p : Path) (n k : ℕ) (x : Object) → PathsDiffer (row (dressed plan s))
       → place_of p (paths s.tree) ≡ Some n → part_at k s.tree ≡ Some x
-      → is_round p (dressed_own plan s x) ≡ (nat_le k n && nat_lt n (k + parts x))
+      → is_round p (derived_own plan s x) ≡ (nat_le k n && nat_lt n (k + parts x))
   -- no role derives the path of an own node, where no two nodes have one path
   pub own : (p : Path) (n : ℕ) → PathsDiffer (row (dressed plan s)) → place_of p (paths s.tree) ≡ Some n
       → IsNotDerived plan s p (row s.tree)

@@ -26,7 +26,7 @@ use Rattle.ob_watch.specs.Counted.{of_plan}
 use Rattle.ob_watch.specs.Flags.{flag_of, flags, flags_of}
 use Rattle.ob_watch.specs.Tables.{Leased, Table, lapsed_at, live}
 use Rattle.ob_watch.proofs.LawLemmas.{tables_agree}
-use Rattle.ob_site.specs.Between.{AreKept, IsBegun}
+use Rattle.ob_site.specs.Between.{HoldsBetweenSteps, IsBegun}
 use Rattle.ob_site.specs.Ending.{IsEnded}
 use Rattle.ob_site.specs.Steps.{IsAnswered}
 use Rattle.ob_site.specs.Views.{tree_with}
@@ -96,10 +96,10 @@ module _ (k n : Kept) (t u : Table) (r : Request) (o : Node) where
   acted_so l before done is = answered_by before (subst (λ (x : Kept). IsEnded x n t u) done.after is) done.answer
 
 -- what the end of a step asks of the state in the middle of it
-pub kept_in : (k l : Kept) (t : Table) (s : State) → IsBegun k t → l ≡ with_now k s → AreKept l.plan l.before l.stamps l.steps t × (l.steps < 2 ^ 64 - 1)
+pub kept_in : (k l : Kept) (t : Table) (s : State) → IsBegun k t → l ≡ with_now k s → HoldsBetweenSteps l.plan l.before l.stamps l.steps t × (l.steps < 2 ^ 64 - 1)
 kept_in k l t s begun is =
-    subst (λ (x : Kept). AreKept x.plan x.before x.stamps x.steps t × (x.steps < 2 ^ 64 - 1)) (sym is)
-    (subst (λ (x : State). AreKept k.plan x k.stamps k.steps t) (sym begun.before) begun.kept, begun.room)
+    subst (λ (x : Kept). HoldsBetweenSteps x.plan x.before x.stamps x.steps t × (x.steps < 2 ^ 64 - 1)) (sym is)
+    (subst (λ (x : State). HoldsBetweenSteps k.plan x k.stamps k.steps t) (sym begun.before) begun.kept, begun.room)
 
 -- a request to the site itself takes no slot away
 pub none_away : StepsTakeNoneAway → (k l : Kept) (t : Table) (numbers : List ℕ) (r : Request) (o : Node) → IsBegun k t → IsSoundFor k.plan k.now → IsDone k l (act_itself locate k.plan k.now numbers r k.time) o

@@ -21,8 +21,8 @@ use Rattle.ob_watch.specs.AsRules.{world_of}
 use Rattle.ob_watch.specs.Counted.{of_plan, IsCounted}
 use Rattle.ob_watch.specs.Marks.{AreStampsPast, IsMarkPast}
 use Rattle.ob_watch.specs.Tables.{Table, lapsed_at, live}
-use Rattle.ob_site.specs.Between.{AreKept}
-use Rattle.ob_site.specs.Ending.{AreTold, IsEnded, NodesStay}
+use Rattle.ob_site.specs.Between.{HoldsBetweenSteps}
+use Rattle.ob_site.specs.Ending.{OnlyFeedsCounted, IsEnded, NodesStay}
 use Rattle.ob_site.specs.Views.{tree_with}
 use Rattle.ob_site.proofs.Marks.{long_after}
 
@@ -38,7 +38,7 @@ tree_closed ns k =
     ap (λ (root : Node). let t : Stamped = record { root = root; stamps = (after_step ns (tree_of k)).stamps; steps = (after_step ns (tree_of k)).steps } in t)
     (sym (rooted ns (done Begins (tree_of k))))
 
-module _ (k : Kept) (ns : List ℕ) (t u : Table) (kept : AreKept k.plan k.before k.stamps k.steps t) (ends : EndsAll k ns) (told : AreTold k.plan k.before (roll k.now) (lapsed_at k.time t) u) (stay : NodesStay k.before k.now) (left : TakesNoneAway k.plan k.before k.now) where
+module _ (k : Kept) (ns : List ℕ) (t u : Table) (kept : HoldsBetweenSteps k.plan k.before k.stamps k.steps t) (ends : EndsAll k ns) (told : OnlyFeedsCounted k.plan k.before (roll k.now) (lapsed_at k.time t) u) (stay : NodesStay k.before k.now) (left : TakesNoneAway k.plan k.before k.now) where
   own_swept : AllItems (IsOwn k.before.tree) (live k.time t.watches)
   own_swept = (table_keeps (IsOwn k.before.tree)).lapses k.time t kept.own
 
@@ -82,9 +82,9 @@ module _ (k : Kept) (ns : List ℕ) (t u : Table) (kept : AreKept k.plan k.befor
   }
 
 -- a step is ended so
-pub ended_by : (k m n : Kept) (ns : List ℕ) (t s u : Table) → AreKept k.plan k.before k.stamps k.steps t → EndsAll k ns → NodesStay k.before k.now → TakesNoneAway k.plan k.before k.now
-    → s ≡ lapsed_at k.time t → AreTold k.plan k.before (roll k.now) s u → m ≡ stamped_by ns k → n ≡ record m { now = roll m.now; since = m.time; before = roll m.now } → IsEnded k n t u
+pub ended_by : (k m n : Kept) (ns : List ℕ) (t s u : Table) → HoldsBetweenSteps k.plan k.before k.stamps k.steps t → EndsAll k ns → NodesStay k.before k.now → TakesNoneAway k.plan k.before k.now
+    → s ≡ lapsed_at k.time t → OnlyFeedsCounted k.plan k.before (roll k.now) s u → m ≡ stamped_by ns k → n ≡ record m { now = roll m.now; since = m.time; before = roll m.now } → IsEnded k n t u
 ended_by k m n ns t s u kept ends stay left swept told stamped committed =
     let end : n ≡ closed ns k = committed ∙ ap (λ (x : Kept). let y : Kept = record x { now = roll x.now; since = x.time; before = roll x.now } in y) stamped in
     subst (λ (x : Kept). IsEnded k x t u) (sym end)
-    (ended_so k ns t u kept ends (subst (λ (x : Table). AreTold k.plan k.before (roll k.now) x u) swept told) stay left)
+    (ended_so k ns t u kept ends (subst (λ (x : Table). OnlyFeedsCounted k.plan k.before (roll k.now) x u) swept told) stay left)

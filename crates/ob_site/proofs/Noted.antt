@@ -20,7 +20,7 @@ use Rattle.ob_site_rules.specs.declared.plan.Plan.{Plan}
 use Rattle.ob_site_rules.specs.Writes.{events_ever, site_contracts}
 use Rattle.ob_site_state.specs.declared.change.Change.{Change}
 use Rattle.ob_site_state.specs.declared.change.Change.TheVariants as change
-use Rattle.ob_site_state.specs.Changes.{rewound, cut, with_log, events_before, CanRewind, AreTold}
+use Rattle.ob_site_state.specs.Changes.{rewound, cut, with_log, events_before, CanRewind, ChangesTell}
 use Rattle.ob_site_state.proofs.Noting.{head_there, head_set}
 use Rattle.ob_site_state.proofs.Rewinding.{set_to}
 use Rattle.ob_site_state.proofs.Settling.{equal_of, differ_of}
@@ -205,7 +205,7 @@ is_entry (change.Event rule status) = true
 is_entry _ = false
 
 -- so there were no more before, and fewer where a note is of one
-ever_before : (plan : Plan) (cs : List Change) (s : State) → CanRewind cs s → AreTold plan cs s
+ever_before : (plan : Plan) (cs : List Change) (s : State) → CanRewind cs s → ChangesTell plan cs s
     → (ever (rewound cs s) ≤ ever s) × (list_any is_entry cs ≡ true → ever (rewound cs s) < ever s)
 ever_before plan [] s can told = (omega arith, λ any. absurd (false_true any))
 ever_before plan (change.Slot node slot ∷ cs) s can told = ever_before plan cs s can.1 told.1
@@ -243,7 +243,7 @@ other_head n cs (Some h) other same =
     let yes : same_slot (slot_before n cs h.slot) h.slot ≡ true = ap (λ (x : Slot). same_slot x h.slot) slots ∙ tells_slot.itself h.slot in
     false_true (sym (ap not yes) ∙ other)
 
-something_changed : (plan : Plan) (cs : List Change) (before now : State) → CanRewind cs now → AreTold plan cs now → rewound cs now ≡ before → list_any (is_otherwise cs now.tree) cs ≡ true → roll now ≢ before
+something_changed : (plan : Plan) (cs : List Change) (before now : State) → CanRewind cs now → ChangesTell plan cs now → rewound cs now ≡ before → list_any (is_otherwise cs now.tree) cs ≡ true → roll now ≢ before
 something_changed plan cs before now can told is any same = go (which cs cs now.tree any)
   where
     go : ((n : ℕ) × (has_other_slot n cs now.tree ≡ true)) ⊎ (list_any is_entry cs ≡ true) → ⊥
@@ -276,7 +276,7 @@ inside n cs root o slot before b is slot_is before_is b_is =
     ap not (b_is ∙ ap (λ (x : Slot). same_slot x slot) before_is) ∙ own_slot n cs o slot (head_at n root) is slot_is
 
 -- a test of the notes decides it
-pub changed_so : (plan : Plan) (cs : List Change) (before now : State) (b : Bool) → b ≡ list_any (is_otherwise cs now.tree) cs → CanRewind cs now → AreTold plan cs now → rewound cs now ≡ before
+pub changed_so : (plan : Plan) (cs : List Change) (before now : State) (b : Bool) → b ≡ list_any (is_otherwise cs now.tree) cs → CanRewind cs now → ChangesTell plan cs now → rewound cs now ≡ before
     → IsMade before → IsMade now → MatchBool b (roll now ≢ before) (now ≡ before)
 changed_so plan cs before now true e can told is made_before made = something_changed plan cs before now can told is (sym e)
 changed_so plan cs before now false e can told is made_before made = nothing_changed cs before now can is made_before made (sym e)

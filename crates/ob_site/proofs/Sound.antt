@@ -16,7 +16,7 @@ use Rattle.ob_site_rules.specs.Sites.{SiteState, step}
 use Rattle.ob_site_rules.specs.State.{State, roll}
 use Rattle.ob_site_state.specs.Kept.{Kept, IsSoundFor}
 use Rattle.ob_watch.specs.Tables.{Table, no_watches}
-use Rattle.ob_site.specs.Between.{AreKept, IsOpened, IsSite}
+use Rattle.ob_site.specs.Between.{HoldsBetweenSteps, IsOpened, IsSite}
 use Rattle.ob_site.proofs.Levels.{opened_shallow}
 use Rattle.ob_site.proofs.Marks.{long_same}
 

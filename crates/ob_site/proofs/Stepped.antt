@@ -15,7 +15,7 @@ use Rattle.ob_watch.specs.AsRules.{world_of}
 use Rattle.ob_watch.specs.Counted.{of_plan}
 use Rattle.ob_watch.specs.Tables.{Table, lapsed_at}
 use Rattle.ob_watch.proofs.LawLemmas.{tables_agree}
-use Rattle.ob_site.specs.Between.{AreKept, IsBegun, IsSite}
+use Rattle.ob_site.specs.Between.{HoldsBetweenSteps, IsBegun, IsSite}
 use Rattle.ob_site.specs.Steps.{acting, IsAnswered, IsUnanswered}
 use Rattle.ob_site.specs.Views.{site_of}
 use Rattle.ob_site.proofs.Sound.{sound_step}

@@ -15,7 +15,7 @@ use Rattle.ob_watch.specs.declared.item.Tracked.TheVariants as tracked
 use Rattle.ob_watch.specs.declared.item.Item.{Item}
 use Rattle.ob_watch.specs.Marks.{IsMarkPast, IsMarkPastBy}
 use Rattle.ob_watch.specs.Tables.{Table, holding}
-use Rattle.ob_site.specs.Ending.{AreTold}
+use Rattle.ob_site.specs.Ending.{OnlyFeedsCounted}
 
 own_by : (o : Object) (p q : Path) (k l : Tracked) → q ≡ p → StaysBy k l → IsOwnBy o p k → IsOwnBy o q l
 own_by o p q (tracked.Object node mark) l same stays own =
@@ -27,10 +27,10 @@ mark_by steps (tracked.Object node mark) l stays past = subst (λ (x : Tracked).
 mark_by steps (tracked.Feed filter given total due) l stays past = subst (λ (x : Tracked). IsMarkPastBy steps x) (sym stays.1.1) tt
 
 pub told_so : (plan : Plan) (s u : State) (events : List FeedEvent) (rolls : List FeedRoll) (old new : Table) → FeedsAreTold → IsNews plan s u events rolls
-    → new ≡ holding (all_told events rolls old.watches) old → AreTold plan s (roll u) old new
+    → new ≡ holding (all_told events rolls old.watches) old → OnlyFeedsCounted plan s (roll u) old new
 told_so plan s u events rolls old new tells news is =
     let all : TellsAll plan s u events rolls old.watches = tells plan s u events rolls news old.watches in
-    subst (AreTold plan s (roll u) old) (sym is) (record {
+    subst (OnlyFeedsCounted plan s (roll u) old) (sym is) (record {
       next = refl;
       flags = all.flags;
       own = λ o. kept_by (IsOwn o) (λ i j stays own. own_by o i.path j.path i.tracked j.tracked stays.path stays.tracked own) events rolls old.watches;

@@ -23,7 +23,7 @@ use Rattle.ob_watch.specs.Counted.{of_plan, IsCounted}
 use Rattle.ob_watch.specs.Flags.{flags_of}
 use Rattle.ob_watch.specs.Marks.{IsMarkPast}
 use Rattle.ob_watch.specs.Tables.{Table, lapsed_at}
-use Rattle.ob_site.specs.Between.{AreKept, IsBegun}
+use Rattle.ob_site.specs.Between.{HoldsBetweenSteps, IsBegun}
 use Rattle.ob_site.specs.Steps.{IsQuiet, IsAnswered}
 
 abbrev Flagged : Type 0
@@ -68,7 +68,7 @@ quiet k = record k { now = roll k.now; since = k.time; before = roll k.now }
 
 module _ (k : Kept) (t u : Table) (r : Request) (target : SiteTarget) (o : Node) where
   -- so a request is answered that leaves the state as it is
-  answered_so : roll k.now ≡ k.now → IsQuiet k t u r target o → AreKept k.plan (roll k.now) k.stamps k.steps (lapsed_at k.time u) → IsAnswered k (quiet k) t (lapsed_at k.time u) r target o
+  answered_so : roll k.now ≡ k.now → IsQuiet k t u r target o → HoldsBetweenSteps k.plan (roll k.now) k.stamps k.steps (lapsed_at k.time u) → IsAnswered k (quiet k) t (lapsed_at k.time u) r target o
   answered_so rolled is kept = record {
     plan = refl;
     time = refl;
@@ -83,7 +83,7 @@ module _ (k : Kept) (t u : Table) (r : Request) (target : SiteTarget) (o : Node)
   }
 
 -- the watches whose lease has not run out
-lapsed_kept : (plan : Plan) (s : State) (xs : List ℕ) (m now : ℕ) (u : Table) → AreKept plan s xs m u → AreKept plan s xs m (lapsed_at now u)
+lapsed_kept : (plan : Plan) (s : State) (xs : List ℕ) (m now : ℕ) (u : Table) → HoldsBetweenSteps plan s xs m u → HoldsBetweenSteps plan s xs m (lapsed_at now u)
 lapsed_kept plan s xs m now u kept = record {
   made = kept.made;
   points = kept.points;
@@ -95,10 +95,10 @@ lapsed_kept plan s xs m now u kept = record {
   counted = (table_keeps (IsCounted plan s)).lapses now u kept.counted;
 }
 
-pub quietly : (k n : Kept) (t u x : Table) (r : Request) (target : SiteTarget) (o : Node) → IsBegun k t → IsQuiet k t u r target o → AreKept k.plan k.now k.stamps k.steps u → n ≡ quiet k → x ≡ lapsed_at k.time u
+pub quietly : (k n : Kept) (t u x : Table) (r : Request) (target : SiteTarget) (o : Node) → IsBegun k t → IsQuiet k t u r target o → HoldsBetweenSteps k.plan k.now k.stamps k.steps u → n ≡ quiet k → x ≡ lapsed_at k.time u
     → IsAnswered k n t x r target o
 quietly k n t u x r target o begun is kept state swept =
     subst (λ (y : Kept). IsAnswered k y t x r target o) (sym state)
     (subst (λ (y : Table). IsAnswered k (quiet k) t y r target o) (sym swept)
     (answered_so k t u r target o begun.rolled is
-    (subst (λ (s : State). AreKept k.plan s k.stamps k.steps (lapsed_at k.time u)) (sym begun.rolled) (lapsed_kept k.plan k.now k.stamps k.steps k.time u kept))))
+    (subst (λ (s : State). HoldsBetweenSteps k.plan s k.stamps k.steps (lapsed_at k.time u)) (sym begun.rolled) (lapsed_kept k.plan k.now k.stamps k.steps k.time u kept))))

@@ -24,7 +24,7 @@ IsShallow root = levels (row root) ≤ 32
 -- The library is the one that the site's contracts make, each writable point is of a kind that has values, and the own objects
 -- stand on at most 32 levels. Each own object has a stamp, and no stamp and no mark is of a step to come; each item on an object
 -- names an own node that can be watched, and each item on a feed has counted its events.
-pub record AreKept (plan : Plan) (s : State) (stamps : List ℕ) (steps : ℕ) (t : Table) : Type 0 where
+pub record HoldsBetweenSteps (plan : Plan) (s : State) (stamps : List ℕ) (steps : ℕ) (t : Table) : Type 0 where
   pub made : IsMade s
   pub points : PointsHaveValues plan s
   pub shallow : IsShallow s.tree
@@ -38,14 +38,14 @@ pub record AreKept (plan : Plan) (s : State) (stamps : List ℕ) (steps : ℕ) (
 pub record IsSite (k : Kept) (t : Table) : Type 0 where
   pub since : k.since ≡ k.time
   pub before : k.before ≡ k.now
-  pub kept : AreKept k.plan k.now k.stamps k.steps t
+  pub kept : HoldsBetweenSteps k.plan k.now k.stamps k.steps t
   pub sound : IsSoundSite (site_of k t)
 
 -- A step has begun and has changed nothing yet: each history is within its capacity, and one more step can be counted.
 pub record IsBegun (k : Kept) (t : Table) : Type 0 where
   pub before : k.before ≡ k.now
   pub rolled : roll k.now ≡ k.now
-  pub kept : AreKept k.plan k.now k.stamps k.steps t
+  pub kept : HoldsBetweenSteps k.plan k.now k.stamps k.steps t
   pub room : k.steps < 2 ^ 64 - 1
 
 -- a state that the root of some document of at most 32 levels opens at some moment

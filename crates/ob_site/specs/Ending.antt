@@ -18,10 +18,10 @@ use Rattle.ob_watch.specs.Counted.{of_plan, IsCounted}
 use Rattle.ob_watch.specs.Flags.{flags_of}
 use Rattle.ob_watch.specs.Marks.{IsMarkPast}
 use Rattle.ob_watch.specs.Tables.{Table, lapsed_at}
-use Rattle.ob_site.specs.Between.{AreKept}
+use Rattle.ob_site.specs.Between.{HoldsBetweenSteps}
 
 -- The watches after they were told of events: nothing but what is counted of feeds has changed, and that is counted by now.
-pub record AreTold (plan : Plan) (before after : State) (old new : Table) : Type 0 where
+pub record OnlyFeedsCounted (plan : Plan) (before after : State) (old new : Table) : Type 0 where
   pub next : new.next ≡ old.next
   pub flags : (t : Stamped) → flags_of t new.watches ≡ flags_of t old.watches
   pub own : (o : Object) → AllItems (IsOwn o) old.watches → AllItems (IsOwn o) new.watches
@@ -42,4 +42,4 @@ pub record IsEnded (k n : Kept) (t u : Table) : Type 0 where
   pub before : n.before ≡ n.now
   pub count : parts k.now.tree ≡ parts k.before.tree
   pub world : world_of k.plan k.time n.now (tree_of n) u ≡ ended (of_plan k.plan) k.before (world_of k.plan k.time k.now (tree_of k) (lapsed_at k.time t))
-  pub kept : AreKept n.plan n.now n.stamps n.steps u
+  pub kept : HoldsBetweenSteps n.plan n.now n.stamps n.steps u

@@ -12,7 +12,7 @@ use Rattle.ob_site_state.specs.Stamping.{tree_of}
 use Rattle.ob_watch.specs.AsRules.{world_of}
 use Rattle.ob_watch.specs.Counted.{of_plan}
 use Rattle.ob_watch.specs.Tables.{Table, lapsed_at}
-use Rattle.ob_site.specs.Between.{AreKept}
+use Rattle.ob_site.specs.Between.{HoldsBetweenSteps}
 use Rattle.ob_site.specs.Keeping.{Stepping}
 
 -- what a request does from a state at its time, before the step ends; the watches whose lease has run out are gone
@@ -44,7 +44,7 @@ pub record IsAnswered (k n : Kept) (t u : Table) (r : Request) (target : SiteTar
   pub before : n.before ≡ n.now
   pub world : world_of k.plan k.time n.now (tree_of n) u ≡ ended (of_plan k.plan) k.now (acting k t r target).0
   pub reply : o ≡ sent k.plan (acting k t r target).1
-  pub kept : AreKept n.plan n.now n.stamps n.steps u
+  pub kept : HoldsBetweenSteps n.plan n.now n.stamps n.steps u
 
 -- an error leaves the watches, and all of the state but what is now
 pub record IsUnanswered (k n : Kept) (t u : Table) : Type 0 where

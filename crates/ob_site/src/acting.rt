@@ -21,7 +21,7 @@ use ob_requests::posts_list;
 use ob_site_calls::act_located;
 use ob_site_rules::Request;
 use ob_site_state::State;
-use ob_site_writes::Stop;
+use ob_site_writes::NotDone;
 use ob_step_laws::steps_take_none_away;
 use ob_values::Text;
 use ob_watch::Watches;
@@ -42,8 +42,8 @@ fn act_by<L: Ledger>(
 {
     match act_located(state, numbers, request, path, steps) {
         Ok(reply) => Ok(reply),
-        Err(Stop::Refused(fault)) => refusal(state.allocator(), fault),
-        Err(Stop::Memory) => Err(AllocError),
+        Err(NotDone::Refused(fault)) => refusal(state.allocator(), fault),
+        Err(NotDone::Memory) => Err(AllocError),
     }
 }
 
@@ -93,7 +93,7 @@ pub(crate) fn on_itself<L: Ledger, K: Keeper>(
     ensures keeps { OnOk result (Keeps K.below K.keeps keeper.old keeper.new (step_of state.old watches.old request.now Itself)) }
     ensures may_keep { OnErr result (MayKeep K.below K.may_keep keeper.old keeper.new (step_of state.old watches.old request.now Itself)) }
 {
-    state.is_sound();
+    state.sound_law();
     steps_take_none_away();
     let reply = act(state, watches, request, path, steps)?;
     if is_read(request.verb) {

@@ -5,7 +5,7 @@ ghost use Rattle.ob_object.specs.Object.{parts};
 ghost use Rattle.ob_step_laws.specs.Given.{IsMade, TakesNoneAway};
 ghost use Rattle.ob_site_defaults.specs.Ended.{EndsAll};
 ghost use Rattle.ob_site_feeds.specs.News.{IsNews};
-ghost use Rattle.ob_site.specs.Between.{AreKept};
+ghost use Rattle.ob_site.specs.Between.{HoldsBetweenSteps};
 ghost use Rattle.ob_site.specs.Ending.{IsEnded, NodesStay};
 ghost use Rattle.ob_site.specs.Keeping.{IsChange, KeepsChange};
 
@@ -24,7 +24,7 @@ use std::alloc::AllocError;
 use std::sync::ledger::Ledger;
 
 /// A step moves no own node, and what could be watched before it can be after it.
-fn nodes_stay(state: &State)
+fn nodes_stay_law(state: &State)
     ensures { NodesStay state.now.before state.now.now }
 {
     let _changes = state.changes();
@@ -32,7 +32,7 @@ fn nodes_stay(state: &State)
 
 /// Ends a step, of which these nodes show themselves otherwise and feeds have these news. It takes no memory.
 fn settle(state: &mut State, watches: &mut Watches, nodes: &[NodeId], news: &News)
-    requires kept { AreKept state.old.plan state.old.before state.old.stamps state.old.steps watches.old }
+    requires kept { HoldsBetweenSteps state.old.plan state.old.before state.old.stamps state.old.steps watches.old }
     requires room { state.old.steps < 2 ^ 64 - 1 }
     requires given { TakesNoneAway state.old.plan state.old.before state.old.now }
     requires ends { EndsAll state.old (map (λ node. node.number) nodes.now) }
@@ -40,7 +40,7 @@ fn settle(state: &mut State, watches: &mut Watches, nodes: &[NodeId], news: &New
     requires news { IsNews state.old.plan state.old.before state.old.now news.now.events.items news.now.rolls.items }
     ensures { IsEnded state.old state.new watches.old watches.new }
 {
-    nodes_stay(state);
+    nodes_stay_law(state);
     feeds_are_told();
     watches.sweep(state.time());
     tell(watches, news);
@@ -100,7 +100,7 @@ pub(crate) fn end_step<L: Ledger, K: Keeper>(
     reply: &Obj,
     steps: &mut Steps<L>,
 ) -> Result<(), AllocError>
-    requires kept { AreKept state.old.plan state.old.before state.old.stamps state.old.steps watches.old }
+    requires kept { HoldsBetweenSteps state.old.plan state.old.before state.old.stamps state.old.steps watches.old }
     requires room { state.old.steps < 2 ^ 64 - 1 }
     requires given { TakesNoneAway state.old.plan state.old.before state.old.now }
     requires ready { K.is_ready keeper.old }
@@ -110,7 +110,7 @@ pub(crate) fn end_step<L: Ledger, K: Keeper>(
     ensures keeps { OnOk result (KeepsChange K.below K.keeps keeper.old keeper.new state.old.before state.old.now request.now state.old.time watches.old.next reply.now) }
     ensures may_keep { OnErr result ((keeper.new ≡ keeper.old) ⊎ (IsChange state.old.before state.old.now request.now.verb × K.may_keep keeper.old keeper.new request.now state.old.time watches.old.next reply.now)) }
 {
-    nodes_stay(state);
+    nodes_stay_law(state);
     let nodes = stamped_nodes(state, steps)?;
     let news = news(state)?;
     keep_change(state, watches, keeper, request, reply)?;

@@ -38,7 +38,7 @@ pub(crate) fn end_quietly(state: &mut State, watches: &mut Watches)
 }
 
 /// Numbers of watches are of 64 bits.
-fn fit(_numbers: &[u64])
+fn fit_law(_numbers: &[u64])
     ensures { (place : ℕ) → slice_index _numbers.now place < 2 ^ 64 }
 {}
 
@@ -60,7 +60,7 @@ pub(crate) fn to_no_watch(state: &mut State, watches: &mut Watches) -> Result<Ob
     ensures none { IfOk result (λ _. (n : ℕ) (op : WatchOperation) (steps : ℕ) → 2 ^ 64 ≤ n → Takes state.old.plan (world_of state.old.plan state.old.time state.old.now (tree_of state.old) (lapsed_at state.old.time watches.old)) (OneWatch n op) steps steps) }
     ensures err { OnErr result (IsUnanswered state.old state.new watches.old watches.new) }
 {
-    fit(watches.numbers());
+    fit_law(watches.numbers());
     let reply = refusal(state.allocator(), Fault::NoSuchObject)?;
     end_quietly(state, watches);
     Ok(reply)
@@ -142,7 +142,7 @@ pub(crate) fn to_watch<L: Ledger>(
     ensures err { OnErr result (IsUnanswered state.old state.new watches.old watches.new) }
     ensures steps { IfOk result (λ _. Takes state.old.plan (world_of state.old.plan state.old.time state.old.now (tree_of state.old) (lapsed_at state.old.time watches.old)) (OneWatch number (operation_of asks)) steps.old steps.new) }
 {
-    state.is_sound();
+    state.sound_law();
     let call = Call {
         number,
         moment: state.time(),

@@ -69,7 +69,7 @@ impl Site {
         requires { IsOpened state }
         ensures { result ≡ opened state }
     {
-        state.is_sound();
+        state.sound_law();
         let alloc = state.allocator();
         let _changes = state.changes();
         Site {
@@ -206,7 +206,7 @@ impl Site {
 
     /// Every site is sound: numbers of watches rise, no watch has an href twice, and each history is
     /// within its capacity. So the laws of the watches hold from it on.
-    pub fn is_sound(&self)
+    pub fn sound_law(&self)
         ensures { IsSoundSite self.now }
     {
         let _ = &self.state;

@@ -19,7 +19,7 @@ use crate::quiet::{to_no_watch, to_nobody, to_service, to_watch};
 use crate::room::make_room;
 use ob_contracts::Steps;
 use ob_object::Obj;
-use ob_requests::{Target, located, target_at};
+use ob_requests::{Target, locate_path, target_at};
 use ob_site_rules::Request;
 use ob_site_state::State;
 use ob_times::Moment;
@@ -32,7 +32,7 @@ use std::sync::ledger::Ledger;
 fn path_of(state: &State, request: &Request) -> Result<Option<Text>, AllocError>
     ensures { IfOk result (λ path. path ≡ locate state.now.plan.base request.now.target) }
 {
-    located(state.allocator(), state.plan(), &request.target)
+    locate_path(state.allocator(), state.plan(), &request.target)
 }
 
 /// Whom a request is for, by its path.

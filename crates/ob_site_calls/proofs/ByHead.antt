@@ -26,8 +26,8 @@ use Rattle.ob_site_state.specs.Kept.{Kept}
 use Rattle.ob_site_writes.specs.Own.{IsPut, StopsPut}
 use Rattle.ob_site_writes.specs.Stops.{IsDone, Stops}
 use Rattle.ob_site_writes.specs.Targets.{IsRefused}
-use Rattle.ob_site_writes.specs.declared.stop.Stop.{Stop}
-use Rattle.ob_site_writes.specs.declared.stop.Stop.TheVariants.{Refused, Memory}
+use Rattle.ob_site_writes.specs.declared.not_done.NotDone.{NotDone}
+use Rattle.ob_site_writes.specs.declared.not_done.NotDone.TheVariants.{Refused, Memory}
 use Rattle.ob_site_calls.specs.Refusing.{IsDoneThere, IsRefusedThere, StopsThere}
 use Rattle.ob_site_calls.proofs.Pointed.{point_written}
 
@@ -67,11 +67,11 @@ pub act_done_there : (k n : Kept) (ns : List ℕ) (r : Request) (p : Path) (repl
 act_done_there k n ns r p reply there = subst (λ (m : State × Object). IsDone k n m reply) (sym (act_done locate k.plan k.now ns k.time r p (Node there.0) there.1.0 refl)) there.1.1
 
 -- and what stops there stops
-pub item_stops : (k n : Kept) (ns : List ℕ) (r : Request) (p : Path) (stop : Stop) → StopsThere k n p r.verb r.body stop → Stops k n (item_on k.plan k.now ns k.time r (Some p)) stop
+pub item_stops : (k n : Kept) (ns : List ℕ) (r : Request) (p : Path) (stop : NotDone) → StopsThere k n p r.verb r.body stop → Stops k n (item_on k.plan k.now ns k.time r (Some p)) stop
 item_stops k n ns r p (Refused fault) stops = (stops.0, item_refused k.plan k.now ns k.time r p fault stops.1)
 item_stops k n ns r p Memory stops = stops
 
-pub act_stops : (k n : Kept) (ns : List ℕ) (r : Request) (p : Path) (stop : Stop) → StopsThere k n p r.verb r.body stop → Stops k n (act_located locate k.plan k.now ns k.time r (Some p)) stop
+pub act_stops : (k n : Kept) (ns : List ℕ) (r : Request) (p : Path) (stop : NotDone) → StopsThere k n p r.verb r.body stop → Stops k n (act_located locate k.plan k.now ns k.time r (Some p)) stop
 act_stops k n ns r p (Refused fault) stops = (stops.0, act_refused k.plan k.now ns k.time r p fault stops.1)
 act_stops k n ns r p Memory stops = stops
 
@@ -79,13 +79,13 @@ act_stops k n ns r p Memory stops = stops
 pub put_placed : (k n : Kept) (p : Path) (body : Option Object) (reply : Object) → at p (computed_places k.plan k.now) ≡ None → IsPut k n p body reply → IsDoneThere k n p Put body reply
 put_placed k n p body reply free is = (is.0, (placed k.plan k.now p is.0 free is.1.0, is.1.1))
 
-pub all_placed : (k n : Kept) (p : Path) (body : Option Object) (result : Result (Option Object) Stop) → at p (computed_places k.plan k.now) ≡ None → IfOk result (λ done. MatchOption done (n ≡ k) (IsPut k n p body))
+pub all_placed : (k n : Kept) (p : Path) (body : Option Object) (result : Result (Option Object) NotDone) → at p (computed_places k.plan k.now) ≡ None → IfOk result (λ done. MatchOption done (n ≡ k) (IsPut k n p body))
     → IfOk result (λ done. MatchOption done (n ≡ k) (IsDoneThere k n p Put body))
 all_placed k n p body (Ok None) free is = is
 all_placed k n p body (Ok (Some reply)) free is = put_placed k n p body reply free is
 all_placed k n p body (Err stop) free is = is
 
-pub put_stopped : (k n : Kept) (p : Path) (body : Option Object) (stop : Stop) → at p (computed_places k.plan k.now) ≡ None → StopsPut k n p body stop → StopsThere k n p Put body stop
+pub put_stopped : (k n : Kept) (p : Path) (body : Option Object) (stop : NotDone) → at p (computed_places k.plan k.now) ≡ None → StopsPut k n p body stop → StopsThere k n p Put body stop
 put_stopped k n p body (Refused fault) free stops = (stops.0, refused_there k.plan k.now k.time p Put body fault stops.1 free)
 put_stopped k n p body Memory free stops = stops
 

@@ -11,7 +11,7 @@ use Rattle.ob_object.specs.Kinds.{has_values}
 use Rattle.ob_contracts.specs.Inherit.{Contracts, Words, result_of, effective_of}
 use Rattle.ob_standing.specs.Contexts.{Context, comes_to}
 use Rattle.ob_shown_laws.specs.Alike.{row}
-use Rattle.ob_shown_laws.specs.Own.{dressed_own}
+use Rattle.ob_shown_laws.specs.Own.{derived_own}
 use Rattle.ob_shown_laws.proofs.Looking.{at_path}
 use Rattle.ob_site_rules.specs.Build.{Path}
 use Rattle.ob_site_rules.specs.Shown.{node_of, rule_of, with_status_at, with_status_by}
@@ -74,14 +74,14 @@ effective_kind : (lib : Contracts) (o : Object) (implied : Option Words) (over :
 unfolding result_of
 effective_kind lib o implied over = refl
 
-comes_to_kind : (plan : Plan) (s : State) (c : Context) (x : Object) → (comes_to c (dressed_own plan s x)).head.kind ≡ x.head.kind
-comes_to_kind plan s c x = effective_kind c.library (dressed_own plan s x) c.implied c.over ∙ status_at plan s x.head (node_path x.head)
+comes_to_kind : (plan : Plan) (s : State) (c : Context) (x : Object) → (comes_to c (derived_own plan s x)).head.kind ≡ x.head.kind
+comes_to_kind plan s c x = effective_kind c.library (derived_own plan s x) c.implied c.over ∙ status_at plan s x.head (node_path x.head)
 
 number_kind : (plan : Plan) (s : State) (n : ℕ) (x o : Object) → part_at n s.tree ≡ Some x → own_shown_at plan s n ≡ Some o → o.head.kind ≡ x.head.kind
 number_kind plan s n x o there shows =
-    go (standing_at s.library n s.tree) (sym (ap (λ (q : Option Object). option_and_then (λ c. option_map (λ y. comes_to c (dressed_own plan s y)) q) (standing_at s.library n s.tree)) there) ∙ shows)
+    go (standing_at s.library n s.tree) (sym (ap (λ (q : Option Object). option_and_then (λ c. option_map (λ y. comes_to c (derived_own plan s y)) q) (standing_at s.library n s.tree)) there) ∙ shows)
   where
-    go : (c : Option Context) → option_and_then (λ c. option_map (λ y. comes_to c (dressed_own plan s y)) (Some x)) c ≡ Some o → o.head.kind ≡ x.head.kind
+    go : (c : Option Context) → option_and_then (λ c. option_map (λ y. comes_to c (derived_own plan s y)) (Some x)) c ≡ Some o → o.head.kind ≡ x.head.kind
     go None e = absurd cc
     go (Some c) e = ap (λ (y : Object). y.head.kind) (sym (some_same e)) ∙ comes_to_kind plan s c x
 

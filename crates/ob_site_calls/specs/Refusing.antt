@@ -12,8 +12,8 @@ use Rattle.ob_site_rules.specs.declared.plan.Plan.{Plan}
 use Rattle.ob_site_rules.specs.State.{State}
 use Rattle.ob_site_state.specs.Kept.{Kept}
 use Rattle.ob_site_writes.specs.Stops.{IsDone}
-use Rattle.ob_site_writes.specs.declared.stop.Stop.{Stop}
-use Rattle.ob_site_writes.specs.declared.stop.Stop.TheVariants.{Refused, Memory}
+use Rattle.ob_site_writes.specs.declared.not_done.NotDone.{NotDone}
+use Rattle.ob_site_writes.specs.declared.not_done.NotDone.TheVariants.{Refused, Memory}
 
 -- a path names a node that refuses with this fault what a verb asks of it with a body
 abbrev pub IsRefusedThere : Plan → State → ℕ → Path → Verb → Option Object → Fault → Type 0
@@ -26,6 +26,6 @@ IsDoneThere k n p verb body reply =
     (o : Object) × ((place_at k.plan k.now p ≡ Some (Node o)) × IsDone k n (act_at k.plan k.now k.time p verb (Node o) body) reply)
 
 -- A path names a node that refuses it, and all stays as it is; or want of memory leaves all but the state now.
-abbrev pub StopsThere : Kept → Kept → Path → Verb → Option Object → Stop → Type 0
+abbrev pub StopsThere : Kept → Kept → Path → Verb → Option Object → NotDone → Type 0
 StopsThere k n p verb body (Refused fault) = (n ≡ k) × IsRefusedThere k.plan k.now k.time p verb body fault
 StopsThere k n p verb body Memory = n ≡ record k { now = n.now }

@@ -14,7 +14,7 @@ use ob_object::{Kind, Obj, Slot};
 use ob_replies::{ack_out, alarm_object};
 use ob_site_rules::Fault;
 use ob_site_state::State;
-use ob_site_writes::Stop;
+use ob_site_writes::NotDone;
 use ob_site_written::ack_overfills;
 use ob_values::{Text, Value};
 use std::alloc::AllocError;
@@ -109,14 +109,14 @@ fn show_acknowledged(state: &mut State, number: u64, input: &Obj) -> Result<Obj,
 /// AckAlarmIn: the alarm is acknowledged, and answered as it then is.
 ///
 /// Source: oBIX 1.1, chapter 15 (AckAlarm).
-pub fn acknowledge(state: &mut State, number: u64, input: &Obj) -> Result<Obj, Stop>
+pub fn acknowledge(state: &mut State, number: u64, input: &Obj) -> Result<Obj, NotDone>
     ensures ok { IfOk result (IsDone state.old state.new
         (acknowledge state.old.plan state.old.now state.old.time number input.now)) }
     ensures stop { IfErr result (Stops state.old state.new
         (acknowledge state.old.plan state.old.now state.old.time number input.now)) }
 {
     if let Some(fault) = ack_fault(state, number, input) {
-        return Err(Stop::Refused(fault));
+        return Err(NotDone::Refused(fault));
     }
     let reply = show_acknowledged(state, number, input)?;
     Ok(reply)

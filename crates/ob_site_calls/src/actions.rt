@@ -11,7 +11,7 @@ use ob_object::Obj;
 use ob_site_places::object_at;
 use ob_site_rules::{Fault, Resource};
 use ob_site_state::State;
-use ob_site_writes::{Stop, put};
+use ob_site_writes::{NotDone, put};
 use ob_values::{Text, Verb};
 use std::alloc::AllocError;
 use std::sync::ledger::Ledger;
@@ -23,7 +23,7 @@ fn put_at<L: Ledger>(
     place: &Resource,
     body: Option<&Obj>,
     steps: &mut Steps<L>,
-) -> Result<Obj, Stop>
+) -> Result<Obj, NotDone>
     requires { place_at state.old.plan state.old.now path.now ≡ Some place.now }
     ensures ok { IfOk result (IsDone state.old state.new
         (put_at state.old.plan state.old.now state.old.time path.now place.now (option_copied body.entry))) }
@@ -42,7 +42,7 @@ fn put_at<L: Ledger>(
         | Resource::QueryOf(_)
         | Resource::FeedOf(_)
         | Resource::AlarmQuery
-        | Resource::AlarmFeed => Err(Stop::Refused(Fault::NotSupported)),
+        | Resource::AlarmFeed => Err(NotDone::Refused(Fault::NotSupported)),
     }
 }
 
@@ -55,7 +55,7 @@ fn read_at<L: Ledger>(
 ) -> Result<Obj, AllocError>
     ensures { IfOk result (λ o. o ≡ object_at state.now.plan state.now.now state.now.time path.now place) }
 {
-    state.is_sound();
+    state.sound_law();
     object_at(
         state.allocator(),
         state.plan(),
@@ -77,7 +77,7 @@ pub fn act_at<L: Ledger>(
     place: Resource,
     body: Option<&Obj>,
     steps: &mut Steps<L>,
-) -> Result<Obj, Stop>
+) -> Result<Obj, NotDone>
     requires { place_at state.old.plan state.old.now path.now ≡ Some place }
     ensures ok { IfOk result (IsDone state.old state.new
         (act_at state.old.plan state.old.now state.old.time path.now verb place (option_copied body.entry))) }

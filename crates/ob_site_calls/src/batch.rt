@@ -17,11 +17,11 @@ use ob_contracts::Steps;
 use ob_object::{Kind, Obj};
 use ob_replies::build::put;
 use ob_replies::{batch_out, refusal};
-use ob_requests::{is_of_watch, item_request, located};
+use ob_requests::{is_of_watch, item_request, locate_path};
 use ob_site_places::place_at;
 use ob_site_rules::{Fault, Request, Resource};
 use ob_site_state::State;
-use ob_site_writes::Stop;
+use ob_site_writes::NotDone;
 use ob_values::{Text, Verb};
 use std::alloc::AllocError;
 use std::sync::ledger::Ledger;
@@ -53,7 +53,7 @@ fn named<L: Ledger>(
 ) -> Result<Option<Resource>, AllocError>
     ensures { IfOk result (λ place. place ≡ place_at state.now.plan state.now.now path.now) }
 {
-    state.is_sound();
+    state.sound_law();
     place_at(
         state.allocator(),
         state.plan(),
@@ -82,17 +82,17 @@ fn item_there<L: Ledger>(
     request: &Request,
     path: &Text,
     steps: &mut Steps<L>,
-) -> Result<Obj, Stop>
+) -> Result<Obj, NotDone>
     ensures ok { IfOk result (IsDone state.old state.new
         (item_on state.old.plan state.old.now numbers.now state.old.time request.now (Some path.now))) }
     ensures stop { IfErr result (Stops state.old state.new
         (item_on state.old.plan state.old.now numbers.now state.old.time request.now (Some path.now))) }
 {
     let Some(place) = named(state, path, steps)? else {
-        return Err(Stop::Refused(nowhere(state, numbers, path)));
+        return Err(NotDone::Refused(nowhere(state, numbers, path)));
     };
     if is_left_out(&place) {
-        return Err(Stop::Refused(Fault::NotInBatch));
+        return Err(NotDone::Refused(Fault::NotInBatch));
     }
     act_at(
         state,
@@ -111,7 +111,7 @@ fn item_at<L: Ledger>(
     request: &Request,
     path: &Text,
     steps: &mut Steps<L>,
-) -> Result<Obj, Stop>
+) -> Result<Obj, NotDone>
     ensures ok { IfOk result (IsDone state.old state.new
         (item_on state.old.plan state.old.now numbers.now state.old.time request.now (Some path.now))) }
     ensures stop { IfErr result (Stops state.old state.new
@@ -130,7 +130,7 @@ fn item_on<L: Ledger>(
     numbers: &[u64],
     request: &Request,
     steps: &mut Steps<L>,
-) -> Result<Obj, Stop>
+) -> Result<Obj, NotDone>
     ensures ok { IfOk result (IsDone state.old state.new
         (item_on state.old.plan state.old.now numbers.now state.old.time request.now
         (locate state.old.plan.base request.now.target))) }
@@ -138,9 +138,9 @@ fn item_on<L: Ledger>(
         (item_on state.old.plan state.old.now numbers.now state.old.time request.now
         (locate state.old.plan.base request.now.target))) }
 {
-    match located(state.allocator(), state.plan(), &request.target)? {
+    match locate_path(state.allocator(), state.plan(), &request.target)? {
         Some(path) => item_at(state, numbers, request, &path, steps),
-        None => Err(Stop::Refused(Fault::NoSuchObject)),
+        None => Err(NotDone::Refused(Fault::NoSuchObject)),
     }
 }
 
@@ -150,7 +150,7 @@ fn act_item<L: Ledger>(
     numbers: &[u64],
     item: &Obj,
     steps: &mut Steps<L>,
-) -> Result<Obj, Stop>
+) -> Result<Obj, NotDone>
     ensures ok { IfOk result (IsDone state.old state.new
         (act_item locate state.old.plan state.old.now numbers.now state.old.time (item_request item.now))) }
     ensures stop { IfErr result (Stops state.old state.new
@@ -158,7 +158,7 @@ fn act_item<L: Ledger>(
 {
     match item_request(item)? {
         Some(request) => item_on(state, numbers, &request, steps),
-        None => Err(Stop::Refused(Fault::OtherShape)),
+        None => Err(NotDone::Refused(Fault::OtherShape)),
     }
 }
 
@@ -175,8 +175,8 @@ fn item_result<L: Ledger>(
 {
     match act_item(state, numbers, item, steps) {
         Ok(reply) => Ok(reply),
-        Err(Stop::Refused(fault)) => refusal(state.allocator(), fault),
-        Err(Stop::Memory) => Err(AllocError),
+        Err(NotDone::Refused(fault)) => refusal(state.allocator(), fault),
+        Err(NotDone::Memory) => Err(AllocError),
     }
 }
 
@@ -208,17 +208,17 @@ fn batch<L: Ledger>(
     numbers: &[u64],
     body: Option<&Obj>,
     steps: &mut Steps<L>,
-) -> Result<Obj, Stop>
+) -> Result<Obj, NotDone>
     ensures ok { IfOk result (IsDone state.old state.new
         (batch locate state.old.plan state.old.now numbers.now state.old.time (option_copied body.entry))) }
     ensures stop { IfErr result (Stops state.old state.new
         (batch locate state.old.plan state.old.now numbers.now state.old.time (option_copied body.entry))) }
 {
     let Some(body) = body else {
-        return Err(Stop::Refused(Fault::OtherShape));
+        return Err(NotDone::Refused(Fault::OtherShape));
     };
     if let Some(fault) = batch_fault(body) {
-        return Err(Stop::Refused(fault));
+        return Err(NotDone::Refused(fault));
     }
     let results = act_all(state, numbers, body.children(), steps)?;
     let reply = batch_out(state.allocator(), results)?;
@@ -276,14 +276,14 @@ fn act_there<L: Ledger>(
     request: &Request,
     path: &Text,
     steps: &mut Steps<L>,
-) -> Result<Obj, Stop>
+) -> Result<Obj, NotDone>
     ensures ok { IfOk result (IsDone state.old state.new
         (act_located locate state.old.plan state.old.now numbers.now state.old.time request.now (Some path.now))) }
     ensures stop { IfErr result (Stops state.old state.new
         (act_located locate state.old.plan state.old.now numbers.now state.old.time request.now (Some path.now))) }
 {
     let Some(place) = named(state, path, steps)? else {
-        return Err(Stop::Refused(Fault::NoSuchObject));
+        return Err(NotDone::Refused(Fault::NoSuchObject));
     };
     let body = request.body.as_ref();
     if is_batch_call(&place, request.verb) {
@@ -299,7 +299,7 @@ fn act_on<L: Ledger>(
     request: &Request,
     path: &Text,
     steps: &mut Steps<L>,
-) -> Result<Obj, Stop>
+) -> Result<Obj, NotDone>
     ensures ok { IfOk result (IsDone state.old state.new
         (act_located locate state.old.plan state.old.now numbers.now state.old.time request.now (Some path.now))) }
     ensures stop { IfErr result (Stops state.old state.new
@@ -322,7 +322,7 @@ pub fn act_located<L: Ledger>(
     request: &Request,
     path: &Option<Text>,
     steps: &mut Steps<L>,
-) -> Result<Obj, Stop>
+) -> Result<Obj, NotDone>
     ensures ok { IfOk result (IsDone state.old state.new
         (act_located locate state.old.plan state.old.now numbers.now state.old.time request.now path.now)) }
     ensures stop { IfErr result (Stops state.old state.new
@@ -330,6 +330,6 @@ pub fn act_located<L: Ledger>(
 {
     match path {
         Some(path) => act_on(state, numbers, request, path, steps),
-        None => Err(Stop::Refused(Fault::NoSuchObject)),
+        None => Err(NotDone::Refused(Fault::NoSuchObject)),
     }
 }

@@ -14,7 +14,7 @@ use ob_replies::nil;
 use ob_site_places::{query_alarms, query_records};
 use ob_site_rules::{Fault, Resource};
 use ob_site_state::State;
-use ob_site_writes::{Stop, shown, write_by, write_fault};
+use ob_site_writes::{NotDone, shown, write_by, write_fault};
 use ob_values::Text;
 use std::alloc::AllocError;
 use std::sync::ledger::Ledger;
@@ -36,14 +36,14 @@ fn write_shown<L: Ledger>(
     point: &Text,
     new: &Obj,
     steps: &mut Steps<L>,
-) -> Result<Obj, Stop>
+) -> Result<Obj, NotDone>
     requires { is_among point.now state.old.plan.points ≡ true }
     ensures ok { IfOk result (IsDone state.old state.new
         (write_point state.old.plan state.old.now state.old.time point.now (Some new.now))) }
     ensures stop { IfErr result (Stops state.old state.new
         (write_point state.old.plan state.old.now state.old.time point.now (Some new.now))) }
 {
-    state.is_sound();
+    state.sound_law();
     match shown(state, point, steps)? {
         Some(target) => write_by(state, point, &target, new, steps),
         None => unreachable!(),
@@ -60,7 +60,7 @@ fn write_point<L: Ledger>(
     point: &Text,
     value: Option<&Obj>,
     steps: &mut Steps<L>,
-) -> Result<Obj, Stop>
+) -> Result<Obj, NotDone>
     requires { is_among point.now state.old.plan.points ≡ true }
     ensures ok { IfOk result (IsDone state.old state.new
         (write_point state.old.plan state.old.now state.old.time point.now (option_copied value.entry))) }
@@ -68,10 +68,10 @@ fn write_point<L: Ledger>(
         (write_point state.old.plan state.old.now state.old.time point.now (option_copied value.entry))) }
 {
     let Some(new) = value else {
-        return Err(Stop::Refused(Fault::OtherShape));
+        return Err(NotDone::Refused(Fault::OtherShape));
     };
     if let Some(fault) = write_fault(state, point, new, steps)? {
-        return Err(Stop::Refused(fault));
+        return Err(NotDone::Refused(fault));
     }
     write_shown(state, point, new, steps)
 }
@@ -81,7 +81,7 @@ fn records_asked(state: &State, history: &Text, input: Option<&Obj>) -> Result<O
     ensures { IfOk result (λ o. o
         ≡ query (λ f. records_out f (records_of state.now.now history.now)) (option_copied input.entry)) }
 {
-    state.is_sound();
+    state.sound_law();
     query_records(state.allocator(), state.contents(), history, input)
 }
 
@@ -89,12 +89,12 @@ fn records_asked(state: &State, history: &Text, input: Option<&Obj>) -> Result<O
 fn alarms_asked(state: &State, input: Option<&Obj>) -> Result<Obj, AllocError>
     ensures { IfOk result (λ o. o ≡ query (alarms_out (board state.now.plan state.now.now)) (option_copied input.entry)) }
 {
-    state.is_sound();
+    state.sound_law();
     query_alarms(state.allocator(), state.plan(), state.contents(), input)
 }
 
 /// An acknowledgement whose input may be left out: then it is Nil.
-fn ack_call(state: &mut State, number: u64, input: Option<&Obj>) -> Result<Obj, Stop>
+fn ack_call(state: &mut State, number: u64, input: Option<&Obj>) -> Result<Obj, NotDone>
     ensures ok { IfOk result (IsDone state.old state.new
         (acknowledge state.old.plan state.old.now state.old.time number (or_nil (option_copied input.entry)))) }
     ensures stop { IfErr result (Stops state.old state.new
@@ -118,7 +118,7 @@ pub fn call<L: Ledger>(
     place: &Resource,
     input: Option<&Obj>,
     steps: &mut Steps<L>,
-) -> Result<Obj, Stop>
+) -> Result<Obj, NotDone>
     requires { place_at state.old.plan state.old.now path.now ≡ Some place.now }
     ensures ok { IfOk result (IsDone state.old state.new
         (call state.old.plan state.old.now state.old.time place.now (option_copied input.entry))) }
@@ -146,6 +146,6 @@ pub fn call<L: Ledger>(
         | Resource::AlarmAt(_)
         | Resource::FeedOf(_)
         | Resource::AlarmFeed
-        | Resource::Node(_) => Err(Stop::Refused(Fault::NotSupported)),
+        | Resource::Node(_) => Err(NotDone::Refused(Fault::NotSupported)),
     }
 }

@@ -15,7 +15,7 @@ use ob_site_places::computed_place;
 use ob_site_rules::Fault;
 use ob_site_shown::own_kind;
 use ob_site_state::State;
-use ob_site_writes::{Stop, put_own};
+use ob_site_writes::{NotDone, put_own};
 use ob_values::{Text, Verb};
 use std::alloc::AllocError;
 use std::sync::ledger::Ledger;
@@ -24,7 +24,7 @@ use std::sync::ledger::Ledger;
 fn is_free(state: &State, path: &Text) -> Result<bool, AllocError>
     ensures { IfOk result (λ free. free ≡ true → at path.now (computed_places state.now.plan state.now.now) ≡ None) }
 {
-    state.is_sound();
+    state.sound_law();
     let found = computed_place(state.allocator(), state.plan(), state.contents(), path)?;
     Ok(found.is_none())
 }
@@ -33,7 +33,7 @@ fn is_free(state: &State, path: &Text) -> Result<bool, AllocError>
 fn post_fault(state: &State, path: &Text, body: Option<&Obj>) -> Option<Fault>
     ensures { IfSome result (λ f. IsRefused state.now.plan state.now.now path.now (λ o. act_at state.now.plan state.now.now state.now.time path.now Post (Node o) (option_copied body.entry)) f) }
 {
-    state.is_sound();
+    state.sound_law();
     match own_kind(state.plan(), state.contents(), path) {
         Some(_kind) => Some(Fault::NotSupported),
         None => None,
@@ -46,7 +46,7 @@ fn put_there<L: Ledger>(
     path: &Text,
     body: Option<&Obj>,
     steps: &mut Steps<L>,
-) -> Result<Option<Obj>, Stop>
+) -> Result<Option<Obj>, NotDone>
     ensures ok { IfOk result (λ done. MatchOption done (state.new ≡ state.old) (IsDoneThere state.old state.new path.now Put (option_copied body.entry))) }
     ensures stop { IfErr result (StopsThere state.old state.new path.now Put (option_copied body.entry)) }
 {
@@ -70,12 +70,12 @@ fn post_refused(state: &State, path: &Text, body: Option<&Obj>) -> Result<Option
 }
 
 /// A call of the own node that a path names.
-fn post_there(state: &mut State, path: &Text, body: Option<&Obj>) -> Result<Option<Obj>, Stop>
+fn post_there(state: &mut State, path: &Text, body: Option<&Obj>) -> Result<Option<Obj>, NotDone>
     ensures ok { IfOk result (λ done. MatchOption done (state.new ≡ state.old) (IsDoneThere state.old state.new path.now Post (option_copied body.entry))) }
     ensures stop { IfErr result (StopsThere state.old state.new path.now Post (option_copied body.entry)) }
 {
     match post_refused(state, path, body)? {
-        Some(fault) => Err(Stop::Refused(fault)),
+        Some(fault) => Err(NotDone::Refused(fault)),
         None => Ok(None),
     }
 }
@@ -89,7 +89,7 @@ pub(crate) fn at_once<L: Ledger>(
     verb: Verb,
     body: Option<&Obj>,
     steps: &mut Steps<L>,
-) -> Result<Option<Obj>, Stop>
+) -> Result<Option<Obj>, NotDone>
     ensures ok { IfOk result (λ done. MatchOption done (state.new ≡ state.old) (IsDoneThere state.old state.new path.now verb (option_copied body.entry))) }
     ensures stop { IfErr result (StopsThere state.old state.new path.now verb (option_copied body.entry)) }
 {

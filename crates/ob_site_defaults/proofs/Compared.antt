@@ -20,7 +20,7 @@ use Rattle.ob_site_laws.proofs.Same.{object_decides}
 use Rattle.ob_standing.specs.Contexts.{Context, under, comes_to}
 use Rattle.ob_shown_laws.specs.Alike.{row}
 use Rattle.ob_shown_laws.specs.Changed.{is_watchable, PathsDiffer}
-use Rattle.ob_shown_laws.specs.Own.{dressed_own}
+use Rattle.ob_shown_laws.specs.Own.{derived_own}
 use Rattle.ob_shown_laws.specs.OwnShown.{dressed_standing}
 use Rattle.ob_shown_laws.specs.Standing.{Standing, standing_at as site_standing}
 use Rattle.ob_shown_laws.proofs.OwnStanding.{own_is_enough}
@@ -40,7 +40,7 @@ use Rattle.ob_site_defaults.specs.Otherwise.{IsOtherwise}
 use Rattle.ob_site_defaults.specs.Watched.{can_be_watched}
 use Rattle.ob_site_defaults.proofs.Places.{placed_at, node_there}
 
-pub dressed_library : (plan : Plan) (s : State) (lib : Contracts) (x : Object) → dressed_own plan (with_library lib s) x ≡ dressed_own plan s x
+pub dressed_library : (plan : Plan) (s : State) (lib : Contracts) (x : Object) → derived_own plan (with_library lib s) x ≡ derived_own plan s x
 dressed_library plan s lib x = ap (λ (r : Objects). first_of x r) (roles_library plan s lib (row x))
 
 pub root_library : (plan : Plan) (s : State) (lib : Contracts) → dressed plan (with_library lib s) ≡ dressed plan s
@@ -48,18 +48,18 @@ root_library plan s lib = dressed_library plan s lib s.tree
 
 -- an own node is found where it stands, with statuses and derived children
 pub own_there : (plan : Plan) (s : State) (p : Path) (n : ℕ) (x : Object) (c : Context) → PathsDiffer (row (dressed plan s)) → place_of p (paths s.tree) ≡ Some n
-    → standing_at s.library n s.tree ≡ Some c → part_at n s.tree ≡ Some x → site_standing plan s p ≡ Some (standing c (dressed_own plan s x))
+    → standing_at s.library n s.tree ≡ Some c → part_at n s.tree ≡ Some x → site_standing plan s p ≡ Some (standing c (derived_own plan s x))
 own_there plan s p n x c differ at stands here =
     (own_is_enough plan s).stands p (not_derived plan s p n differ at) ∙ ap (option_map (dressed_standing plan s)) (own_found s p n x c at stands here)
 
 own_watched : (plan : Plan) (s : State) (p : Path) (n : ℕ) (x : Object) (c : Context) → PathsDiffer (row (dressed plan s)) → place_of p (paths s.tree) ≡ Some n
-    → standing_at s.library n s.tree ≡ Some c → part_at n s.tree ≡ Some x → watched_object plan s p ≡ as_watched (Some (standing c (dressed_own plan s x)))
+    → standing_at s.library n s.tree ≡ Some c → part_at n s.tree ≡ Some x → watched_object plan s p ≡ as_watched (Some (standing c (derived_own plan s x)))
 own_watched plan s p n x c differ at stands here =
     watched_at plan s p ∙ ap (λ (o : Option Standing). as_watched o) (sym (at_row plan s p) ∙ own_there plan s p n x c differ at stands here)
 
 -- and so with another library
 other_watched : (plan : Plan) (s : State) (lib : Contracts) (p : Path) (n : ℕ) (x : Object) (c : Context) → PathsDiffer (row (dressed plan s)) → place_of p (paths s.tree) ≡ Some n
-    → standing_at lib n s.tree ≡ Some c → part_at n s.tree ≡ Some x → watched_object plan (with_library lib s) p ≡ as_watched (Some (standing c (dressed_own plan s x)))
+    → standing_at lib n s.tree ≡ Some c → part_at n s.tree ≡ Some x → watched_object plan (with_library lib s) p ≡ as_watched (Some (standing c (derived_own plan s x)))
 other_watched plan s lib p n x c differ at stands here =
     own_watched plan (with_library lib s) p n x c (subst (λ (o : Object). PathsDiffer (row o)) (sym (root_library plan s lib)) differ) at stands here
     ∙ ap (λ (o : Object). as_watched (Some (standing c o))) (dressed_library plan s lib x)
@@ -96,7 +96,7 @@ stands_there lib n s h e = ap (option_map (λ (k : Head). under (handed_at lib n
 -- both states of a node are those in which it stands by the two libraries
 both_watched : (plan : Plan) (s : State) (old new : Contracts) (p : Path) (n : ℕ) (x : Object) (c k : Context) → PathsDiffer (row (dressed plan s)) → place_of p (paths s.tree) ≡ Some n
     → standing_at old n s.tree ≡ Some c → standing_at new n s.tree ≡ Some k → part_at n s.tree ≡ Some x
-    → is_same plan (with_library old s) (with_library new s) p ≡ same_object (as_watched (Some (standing c (dressed_own plan s x)))) (as_watched (Some (standing k (dressed_own plan s x))))
+    → is_same plan (with_library old s) (with_library new s) p ≡ same_object (as_watched (Some (standing c (derived_own plan s x)))) (as_watched (Some (standing k (derived_own plan s x))))
 both_watched plan s old new p n x c k differ at before after here =
     ap₂ (λ (u v : Object). same_object u v) (other_watched plan s old p n x c differ at before here) (other_watched plan s new p n x k differ at after here)
 
@@ -109,7 +109,7 @@ second_false true b e f = f
 second_false false b e f = absurd cc
 
 -- an own object with its status can be watched where it could without
-dressed_watchable : (plan : Plan) (s : State) (n : ℕ) (h : Head) (x : Object) → x.head ≡ h → is_watchable (dressed_own plan s x).head ≡ is_watchable h
+dressed_watchable : (plan : Plan) (s : State) (n : ℕ) (h : Head) (x : Object) → x.head ≡ h → is_watchable (derived_own plan s x).head ≡ is_watchable h
 dressed_watchable plan s n h x e = kind_off plan s x.head (node_path x.head) ∙ ap (λ (k : Head). is_watchable k) e
 
 -- what is no node, or can't be watched, isn't shown otherwise
@@ -122,7 +122,7 @@ not_otherwise plan s old n differ hidden otherwise =
     let x : (x : Object) × (part_at n s.tree ≡ Some x) × (x.head ≡ h.0) = part_there n s.tree h.0 h.1 in
     let off : is_watchable h.0 ≡ false =
     second_false (is_some (node_path h.0)) (is_watchable h.0) (node_there s.tree p n h.0 at_n h.1) (sym (ap (λ (o : Option Head). can_be_watched o) h.1) ∙ hidden) in
-    let d : Object = dressed_own plan s x.0 in
+    let d : Object = derived_own plan s x.0 in
     let c : Context = stands_at old n s h.0 in
     let k : Context = stands_at s.library n s h.0 in
     let same : as_watched (Some (standing c d)) ≡ as_watched (Some (standing k d)) = hidden_same c k d (dressed_watchable plan s n h.0 x.0 x.2 ∙ off) in
@@ -139,7 +139,7 @@ pub record Compared (plan : Plan) (s : State) (old : Contracts) (n : ℕ) (same 
 compared : (plan : Plan) (s : State) (old : Contracts) (n : ℕ) (h : Head) (x : Object) (c k : Context) (same : Bool) → PathsDiffer (row (dressed plan s)) → first_twice [] (paths s.tree) ≡ None
     → head_at n s.tree ≡ Some h → part_at n s.tree ≡ Some x → x.head ≡ h → (is_some (node_path h) && is_watchable h) ≡ true
     → standing_at old n s.tree ≡ Some c → standing_at s.library n s.tree ≡ Some k
-    → (same ≡ true → comes_to c (dressed_own plan s x) ≡ comes_to k (dressed_own plan s x)) → (comes_to c (dressed_own plan s x) ≡ comes_to k (dressed_own plan s x) → same ≡ true)
+    → (same ≡ true → comes_to c (derived_own plan s x) ≡ comes_to k (derived_own plan s x)) → (comes_to c (derived_own plan s x) ≡ comes_to k (derived_own plan s x) → same ≡ true)
     → Compared plan s old n same
 compared plan s old n h x c k same differ once here part head watched before after to from = record {
   told = λ e.
@@ -155,7 +155,7 @@ compared plan s old n h x c k same differ once here part head watched before aft
 }
   where
     d : Object
-    d = dressed_own plan s x
+    d = derived_own plan s x
 
     watchable : is_watchable d.head ≡ true
     watchable = dressed_watchable plan s n h x head ∙ and_second (is_some (node_path h)) (is_watchable h) watched
@@ -169,13 +169,13 @@ some_context : {a b : Context} → Some a ≡ Some b → a ≡ b
 some_context e = cc
 
 pub told_otherwise : (plan : Plan) (s : State) (old : Contracts) (n : ℕ) (d : Object) (c k : Context) (same : Bool) → PathsDiffer (row (dressed plan s)) → first_twice [] (paths s.tree) ≡ None
-    → n < parts s.tree → can_be_watched (head_at n s.tree) ≡ true → Some d ≡ option_map (dressed_own plan s) (part_at n s.tree)
+    → n < parts s.tree → can_be_watched (head_at n s.tree) ≡ true → Some d ≡ option_map (derived_own plan s) (part_at n s.tree)
     → Some c ≡ standing_at old n s.tree → Some k ≡ standing_at s.library n s.tree
     → (same ≡ true → comes_to c d ≡ comes_to k d) → (comes_to c d ≡ comes_to k d → same ≡ true) → Compared plan s old n same
 told_otherwise plan s old n d c k same differ once within watched made before after to from =
     let h : (h : Head) × (head_at n s.tree ≡ Some h) = head_there s.tree n within in
     let x : (x : Object) × (part_at n s.tree ≡ Some x) × (x.head ≡ h.0) = part_there n s.tree h.0 h.1 in
-    let is : d ≡ dressed_own plan s x.0 = some_same (made ∙ ap (option_map (dressed_own plan s)) x.1) in
+    let is : d ≡ derived_own plan s x.0 = some_same (made ∙ ap (option_map (derived_own plan s)) x.1) in
     compared plan s old n h.0 x.0 c k same differ once h.1 x.1 x.2 (sym (ap (λ (o : Option Head). can_be_watched o) h.1) ∙ watched) (sym before) (sym after)
     (λ e. subst (λ (o : Object). comes_to c o ≡ comes_to k o) is (to e))
     (λ e. from (subst (λ (o : Object). comes_to c o ≡ comes_to k o) (sym is) e))

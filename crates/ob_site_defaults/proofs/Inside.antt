@@ -15,7 +15,7 @@ use Rattle.ob_site_rules.specs.declared.plan.Plan.{Plan}
 use Rattle.ob_standing.specs.Contexts.{Context, under}
 use Rattle.ob_shown_laws.specs.Alike.{row}
 use Rattle.ob_shown_laws.specs.Changed.{is_watchable, PathsDiffer}
-use Rattle.ob_shown_laws.specs.Own.{dressed_own}
+use Rattle.ob_shown_laws.specs.Own.{derived_own}
 use Rattle.ob_tree.specs.Laid.{head_at, paths}
 use Rattle.ob_tree.specs.Paths.{place_of, first_twice}
 use Rattle.ob_tree.specs.Shown.{row as row_of, part_at, handed_at, standing_at}
@@ -47,7 +47,7 @@ reached plan s new differ p n x at_n here watchable q m at_m inside same =
     let c : Context = under (handed_at s.library n s.tree) x.head.name in
     let stands : standing_at s.library n s.tree ≡ Some c =
     ap (option_map (λ (k : Head). under (handed_at s.library n s.tree) k.name)) (head_part n s.tree x (place_within s.tree p n at_n) here) in
-    defaults_reach plan s new differ p q (standing c (dressed_own plan s x)) (own_there plan s p n x c differ at_n stands here)
+    defaults_reach plan s new differ p q (standing c (derived_own plan s x)) (own_there plan s p n x c differ at_n stands here)
     (kind_off plan s x.head (node_path x.head) ∙ watchable)
     (round plan s q m n x differ at_m here ∙ inside) same
 

@@ -10,7 +10,7 @@ use Rattle.ob_site_rules.specs.Shown.{with_roles}
 use Rattle.ob_site_rules.specs.State.{State}
 use Rattle.ob_site_rules.specs.declared.plan.Plan.{Plan}
 use Rattle.ob_standing.specs.Contexts.{Context, HandedDown, comes_to, handed_down, under}
-use Rattle.ob_shown_laws.specs.Own.{dressed_own}
+use Rattle.ob_shown_laws.specs.Own.{derived_own}
 use Rattle.ob_shown_laws.proofs.Alikes.{handed_alike}
 use Rattle.ob_shown_laws.proofs.Reaching.{status_off}
 use Rattle.ob_tree.specs.Laid.{head_at}
@@ -22,27 +22,27 @@ use Rattle.ob_site_defaults.proofs.Numbered.{ChildAt, child_at, part_within}
 -- own objects in a row come first in what the row comes to
 own_first : (plan : Plan) (s : State) (lib : Contracts) (implied : Option Words) (above : List Object) (os : Objects) (ds ms : List Object) (k : ℕ) (y : Object) → slice_get (listed os) k ≡ Some y
     → slice_get (listed (row_with_defaults (in_row (listed (row_results lib implied above (in_row (listed (with_roles plan s os) ++ ds))) ++ ms)))) k
-    ≡ Some (effective_of lib (dressed_own plan s y) implied (overridden (dressed_own plan s y).head.name above))
+    ≡ Some (effective_of lib (derived_own plan s y) implied (overridden (derived_own plan s y).head.name above))
 unfolding result_of
 own_first plan s lib implied above none ds ms k y e = absurd cc
 own_first plan s lib implied above (node h below rest) ds ms zero y e =
-    ap (λ (x : Object). Some (effective_of lib (dressed_own plan s x) implied (overridden (dressed_own plan s x).head.name above))) (some_same e)
+    ap (λ (x : Object). Some (effective_of lib (derived_own plan s x) implied (overridden (derived_own plan s x).head.name above))) (some_same e)
 own_first plan s lib implied above (node h below rest) ds ms (suc k) y e = own_first plan s lib implied above rest ds ms k y e
 
 -- so the own children of an object come first in what it comes to
 child_first : (plan : Plan) (s : State) (c : Context) (x y : Object) (k : ℕ) → slice_get (children x) k ≡ Some y
-    → slice_get (children (comes_to c (dressed_own plan s x))) k ≡ Some (comes_to (under (handed_down c (dressed_own plan s x).head) (dressed_own plan s y).head.name) (dressed_own plan s y))
+    → slice_get (children (comes_to c (derived_own plan s x))) k ≡ Some (comes_to (under (handed_down c (derived_own plan s x).head) (derived_own plan s y).head.name) (derived_own plan s y))
 unfolding result_of
 child_first plan s c x y k e =
-    let d : HandedDown = handed_down c (dressed_own plan s x).head in
-    own_first plan s c.library d.implied d.sources x.inner _ (map bare (missing (children (dressed_own plan s x)) d.sources)) k y e
+    let d : HandedDown = handed_down c (derived_own plan s x).head in
+    own_first plan s c.library d.implied d.sources x.inner _ (map bare (missing (children (derived_own plan s x)) d.sources)) k y e
 
 -- what is shown of an own object by its number
 pub shown_by : (plan : Plan) (s : State) (n : ℕ) (x : Object) → part_at n s.tree ≡ Some x
-    → own_shown_at plan s n ≡ Some (comes_to (under (handed_at s.library n s.tree) x.head.name) (dressed_own plan s x))
+    → own_shown_at plan s n ≡ Some (comes_to (under (handed_at s.library n s.tree) x.head.name) (derived_own plan s x))
 shown_by plan s n x is =
     let head : head_at n s.tree ≡ Some x.head = (grows_for s.tree x n (omega (arith, part_within (row s.tree) n x is)) is).head_is in
-    ap₂ (λ (i : Option Context) (j : Option Object). option_and_then (λ c. option_map (λ o. comes_to c (dressed_own plan s o)) j) i)
+    ap₂ (λ (i : Option Context) (j : Option Object). option_and_then (λ c. option_map (λ o. comes_to c (derived_own plan s o)) j) i)
     (ap (option_map (λ (h : Head). under (handed_at s.library n s.tree) h.name)) head) is
 
 -- the child of what is shown
@@ -55,8 +55,8 @@ pub child_shown : (plan : Plan) (s : State) (n k next : ℕ) (x y b : Object) �
     → Some b ≡ own_shown_at plan s n → ChildShown plan s k next b
 child_shown plan s n k next x y b is child at shows =
     let c : Context = under (handed_at s.library n s.tree) x.head.name in
-    let dx : Object = dressed_own plan s x in
-    let dy : Object = dressed_own plan s y in
+    let dx : Object = derived_own plan s x in
+    let dy : Object = derived_own plan s y in
     let here : ChildAt s.tree x n k next y = child_at s.tree x y n k next is child at in
     let whole : b ≡ comes_to c dx = some_same (shows ∙ shown_by plan s n x is) in
     let hands : handed_down c dx.head ≡ handed_at s.library next s.tree =

@@ -11,7 +11,7 @@ use Rattle.ob_tree.specs.declared.node.NodeId.{NodeId}
 use Rattle.ob_step_laws.specs.Defaults.{with_library}
 use Rattle.ob_step_laws.specs.Given.{TakesNoneAway}
 use Rattle.ob_site_state.specs.declared.change.Change.{Change}
-use Rattle.ob_site_state.specs.Changes.{rewound, CanRewind, AreTold}
+use Rattle.ob_site_state.specs.Changes.{rewound, CanRewind, ChangesTell}
 use Rattle.ob_site_state.specs.Kept.{Kept}
 use Rattle.ob_site_state.specs.Stamping.{tree_of}
 use Rattle.ob_site_state.proofs.Stepping.{numbers_of}
@@ -24,7 +24,7 @@ use Rattle.ob_site_defaults.specs.Ended.{EndsAll}
 use Rattle.ob_site_defaults.proofs.Ends.{defaults_end}
 
 -- but for another library it changes values alone
-pub noted_values : (k : Kept) (found : List Change) → rewound found k.now ≡ k.before → CanRewind found k.now → AreTold k.plan found k.now → DifferInValues k.before (ended_in_values k)
+pub noted_values : (k : Kept) (found : List Change) → rewound found k.now ≡ k.before → CanRewind found k.now → ChangesTell k.plan found k.now → DifferInValues k.before (ended_in_values k)
 noted_values k found is can told =
     subst (λ (s : State). DifferInValues s (with_library s.library (roll k.now))) is (notes_are_values k.plan found k.now can told)
 

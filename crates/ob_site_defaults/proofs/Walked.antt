@@ -12,7 +12,7 @@ use Rattle.ob_site_rules.specs.Shown.{dressed}
 use Rattle.ob_standing.specs.Contexts.{Context, comes_to, under}
 use Rattle.ob_shown_laws.specs.Alike.{row}
 use Rattle.ob_shown_laws.specs.Changed.{PathsDiffer}
-use Rattle.ob_shown_laws.specs.Own.{dressed_own}
+use Rattle.ob_shown_laws.specs.Own.{derived_own}
 use Rattle.ob_tree.specs.declared.node.NodeId.{NodeId}
 use Rattle.ob_tree.specs.Laid.{head_at, paths, width}
 use Rattle.ob_tree.specs.Paths.{first_twice}
@@ -39,11 +39,11 @@ tells : (plan : Plan) (s : State) (old : Contracts) (n : ℕ) (own before after 
     → IsTrue same ↔ (before ≡ after) → Compared plan s old n same
 tells plan s old n own before after same shown watched iff =
     told_otherwise plan s old n d c k same shown.differ shown.once within (ap (λ (o : Option Head). can_be_watched o) head ∙ watched)
-    (ap (option_map (dressed_own plan s)) (sym shown.is)) (stands old) (stands s.library)
+    (ap (option_map (derived_own plan s)) (sym shown.is)) (stands old) (stands s.library)
     (λ e. sym was ∙ iff.0 e ∙ is) (λ e. iff.1 (was ∙ e ∙ sym is))
   where
     d : Object
-    d = dressed_own plan s own
+    d = derived_own plan s own
 
     within : n < parts s.tree
     within = omega (arith, begins s n own shown.is)
@@ -96,11 +96,11 @@ is_put plan s old node own before after same nodes all shown watched iff e is fo
     one_more plan (with_library old s) s.library node nodes all found ((tells plan s old node.number own before after same shown watched iff).told e) is
 
 -- an own object that is made with another library is what is shown with that
-dressed_other : (plan : Plan) (s : State) (old : Contracts) (q : Option Object) → option_map (dressed_own plan s) q ≡ option_map (dressed_own plan (with_library old s)) q
+dressed_other : (plan : Plan) (s : State) (old : Contracts) (q : Option Object) → option_map (derived_own plan s) q ≡ option_map (derived_own plan (with_library old s)) q
 dressed_other plan s old None = refl
 dressed_other plan s old (Some x) = ap (λ (o : Object). Some o) (sym (dressed_library plan s old x))
 
-pub shown_before : (plan : Plan) (s : State) (old : Contracts) (n : ℕ) (c : Context) (d o : Object) → Some c ≡ standing_at old n s.tree → Some d ≡ option_map (dressed_own plan s) (part_at n s.tree)
+pub shown_before : (plan : Plan) (s : State) (old : Contracts) (n : ℕ) (c : Context) (d o : Object) → Some c ≡ standing_at old n s.tree → Some d ≡ option_map (derived_own plan s) (part_at n s.tree)
     → o ≡ comes_to c d → Some o ≡ own_shown_at plan (with_library old s) n
 shown_before plan s old n c d o at made is = stands plan (with_library old s) n c d o at (made ∙ dressed_other plan s old (part_at n s.tree)) is
 

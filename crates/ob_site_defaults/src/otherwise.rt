@@ -20,7 +20,7 @@ use ob_contracts::{Library, Steps};
 use ob_object::{Kind, Obj};
 use ob_site_rules::Plan;
 use ob_site_settled::library_before;
-use ob_site_shown::dressed_part;
+use ob_site_shown::derived_part;
 use ob_site_state::{Contents, State};
 use ob_tree::{NodeId, Tree};
 use std::alloc::{AllocError, Global};
@@ -78,7 +78,7 @@ fn both_shown<L: Ledger>(
     ensures before { IfOk result (λ both. Some both.0 ≡ own_shown_at plan.now (with_library old.now (state_in contents.now)) root.number) }
     ensures after { IfOk result (λ both. Some both.1 ≡ own_shown_at plan.now (state_in contents.now) root.number) }
 {
-    let dressed = dressed_part(alloc, plan, contents, root)?;
+    let dressed = derived_part(alloc, plan, contents, root)?;
     let before = contents.ground.tree().standing(old, root, steps);
     let after = contents.ground.standing(root, steps);
     let old_root = before.whole(alloc, &dressed, steps)?;
@@ -128,7 +128,7 @@ pub fn shown_otherwise<L: Ledger>(
     ensures others { IfOk result (λ nodes. AreOtherwise state.now.plan (with_library state.now.before.library state.now.now) state.now.now.library (map (λ node. node.number) nodes.items)) }
     ensures within { IfOk result (λ nodes. All (λ node. node.number < parts state.now.now.tree) nodes.items) }
 {
-    state.is_sound();
+    state.sound_law();
     let old = library_before(state);
     nodes_otherwise(
         state.allocator(),

@@ -11,7 +11,7 @@ ghost use Rattle.ob_site_defaults.specs.Ended.{EndsAll};
 
 use crate::otherwise::shown_otherwise;
 use ob_contracts::Steps;
-use ob_site_settled::{changed, changes_values};
+use ob_site_settled::{changed_nodes, changes_values};
 use ob_site_state::State;
 use ob_tree::NodeId;
 use std::alloc::AllocError;
@@ -46,7 +46,7 @@ fn nodes_with_defaults<L: Ledger>(
     ensures within { IfOk result (λ nodes. All (λ node. node.number < parts state.now.now.tree) nodes.items) }
 {
     is_told(state);
-    let nodes = changed(state, steps)?;
+    let nodes = changed_nodes(state, steps)?;
     let others = shown_otherwise(state, steps)?;
     joined(nodes, others)
 }
@@ -62,7 +62,7 @@ fn nodes_with_values<L: Ledger>(
     ensures within { IfOk result (λ nodes. All (λ node. node.number < parts state.now.now.tree) nodes.items) }
 {
     is_told(state);
-    changed(state, steps)
+    changed_nodes(state, steps)
 }
 
 /// The own nodes that the end of this step has to stamp, so that all watches are as the rules of watches have it; a node

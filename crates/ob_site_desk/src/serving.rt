@@ -77,7 +77,7 @@ pub fn serve_alone<R: Wait, L: Link, C: Clock>(
     ensures whole { ServesWhole (L.left link.old) (L.read_faults link.old) (L.read_faults link.new)
         (L.write_faults link.old) (L.write_faults link.new) (C.faults clock.old) (C.faults clock.new) result }
 {
-    site.is_sound();
+    site.sound_law();
     ob_server::serve_alone(rt, alloc, site, ns, link, clock)
 }
 
@@ -111,6 +111,6 @@ where
     ensures cause { HasPortCause result.end (P.faults port.old) (P.faults port.new)
         (C.faults clock.old) (C.faults clock.new) }
 {
-    site.is_sound();
+    site.sound_law();
     ob_server::serve_port(rt, alloc, site, ns, port, clock, staff)
 }

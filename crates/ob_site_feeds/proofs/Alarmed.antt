@@ -23,7 +23,7 @@ use Rattle.ob_site_rules.specs.declared.plan.Plan.{Plan}
 use Rattle.ob_site_rules.specs.declared.plan.PointRule.{PointRule}
 use Rattle.ob_site_state.specs.declared.change.Change.{Change}
 use Rattle.ob_site_state.specs.declared.change.Change.TheVariants as change
-use Rattle.ob_site_state.specs.Changes.{alarms_before, events_before, undone, rewound, CanRewind, IsNewest, AreTold}
+use Rattle.ob_site_state.specs.Changes.{alarms_before, events_before, undone, rewound, CanRewind, IsNewest, ChangesTell}
 use Rattle.ob_site_feeds.specs.declared.feeds.FeedEvent.{FeedEvent}
 use Rattle.ob_site_feeds.specs.News.{timestamp, times_of}
 use Rattle.ob_site_feeds.specs.Noted.{raised_event, alarm_event, is_event}
@@ -191,7 +191,7 @@ module _ (plan : Plan) (u : State) where
       counted : is_event c ≡ true → length rest.new ≡ length (filter is_event cs) → length (newest.event ∷ rest.new) ≡ length (filter is_event (c ∷ cs))
       counted e f = ap suc f ∙ sym (ap (λ b. length (cond b (c ∷ filter is_event cs) (filter is_event cs))) e)
 
-  pub alarmed : (cs : List Change) → CanRewind cs u → AreTold plan cs u → Alarmed plan u cs
+  pub alarmed : (cs : List Change) → CanRewind cs u → ChangesTell plan cs u → Alarmed plan u cs
   alarmed [] can told = record {
     new = [];
     events = sym (append-nil u.events);

@@ -28,7 +28,7 @@ use Rattle.ob_tree.specs.Laid.{paths}
 use Rattle.ob_tree.specs.Paths.{place_of}
 use Rattle.ob_shown_laws.proofs.Places.{place_at}
 use Rattle.ob_site_state.specs.declared.change.Change.{Change}
-use Rattle.ob_site_state.specs.Changes.{rewound, CanRewind, AreTold}
+use Rattle.ob_site_state.specs.Changes.{rewound, CanRewind, ChangesTell}
 use Rattle.ob_site_state.specs.Kept.{keys, IsSoundFor}
 use Rattle.ob_site_feeds.specs.declared.feeds.FeedEvent.{FeedEvent}
 use Rattle.ob_site_feeds.specs.declared.feeds.FeedRoll.{FeedRoll}
@@ -121,7 +121,7 @@ new_events u found = drop (length u.events - length (filter is_event found)) u.e
 abbrev pub all_events : Plan → State → List Change → List FeedEvent
 all_events plan u found = flat_map (note_events u.logs) found ++ subject_events plan.subject u.alarms (new_events u found)
 
-module _ (plan : Plan) (u : State) (known : AreLogs plan u) (found : List Change) (can : CanRewind found u) (told : AreTold plan found u) where
+module _ (plan : Plan) (u : State) (known : AreLogs plan u) (found : List Change) (can : CanRewind found u) (told : ChangesTell plan found u) where
   abbrev before : State
   before = rewound found u
 
@@ -210,7 +210,7 @@ module _ (plan : Plan) (u : State) (known : AreLogs plan u) (found : List Change
 
 -- so it is whatever lists are equal to what is put together
 pub news_are : (plan : Plan) (u b : State) (found : List Change) (from : ℕ) (first events : List FeedEvent) (rolls : List FeedRoll)
-    → rewound found u ≡ b → CanRewind found u → AreTold plan found u → roll b ≡ b → IsSoundFor plan u → keys u.logs ≡ history_paths plan → Apart (history_paths plan)
+    → rewound found u ≡ b → CanRewind found u → ChangesTell plan found u → roll b ≡ b → IsSoundFor plan u → keys u.logs ≡ history_paths plan → Apart (history_paths plan)
     → from ≡ length u.events - count_by is_event found → length u.events < 2 ^ 63
     → first ≡ flat_map (note_events u.logs) found → events ≡ first ++ subject_events plan.subject u.alarms (drop from u.events) → rolls ≡ flat_map (note_rolls u.logs) found
     → IsNews plan b u events rolls

@@ -17,7 +17,7 @@ use Rattle.ob_values.proofs.Bools.{or_first, or_second}
 use Rattle.ob_site_laws.proofs.Growth.{Logs}
 use Rattle.ob_site_state.specs.declared.change.Change.{Change}
 use Rattle.ob_site_state.specs.declared.change.Change.TheVariants as change
-use Rattle.ob_site_state.specs.Changes.{cut, with_log, undone, rewound, CanRewind, AreTold}
+use Rattle.ob_site_state.specs.Changes.{cut, with_log, undone, rewound, CanRewind, ChangesTell}
 use Rattle.ob_site_state.specs.Kept.{keys}
 use Rattle.ob_site_state.proofs.Noting.{got_there}
 use Rattle.ob_site_state.proofs.Places.{keys-with_log}
@@ -285,7 +285,7 @@ module _ (plan : Plan) (u : State) (known : AreLogs plan u) where
             gone = rest.gone ∙ ap gone_in (sym stays);
           }
 
-  pub recorded : (cs : List Change) (h : Path) → IsHistory h → CanRewind cs u → AreTold plan cs u → Recorded cs h
+  pub recorded : (cs : List Change) (h : Path) → IsHistory h → CanRewind cs u → ChangesTell plan cs u → Recorded cs h
   recorded [] h is can told = record { more = []; records = sym (append-nil (records_of u h)); times = refl; gone = refl }
   recorded (change.Slot node slot ∷ cs) h is can told =
       let rest = recorded cs h is can.1 told.1 in record { more = rest.more; records = rest.records; times = rest.times; gone = rest.gone }
@@ -328,7 +328,7 @@ taken_within zero xs = omega arith
 taken_within (suc n) [] = omega arith
 taken_within (suc n) (x ∷ xs) = let rest = taken_within n xs in omega (arith, rest)
 
-pub all_kept : (plan : Plan) (u : State) (cs : List Change) → CanRewind cs u → AreTold plan cs u → AllByRecursion (IsKeptRecord u.logs) cs
+pub all_kept : (plan : Plan) (u : State) (cs : List Change) → CanRewind cs u → ChangesTell plan cs u → AllByRecursion (IsKeptRecord u.logs) cs
 all_kept plan u [] can told = tt
 all_kept plan u (change.Slot node slot ∷ cs) can told = (tt, all_kept plan u cs can.1 told.1)
 all_kept plan u (change.Event rule status ∷ cs) can told = (tt, all_kept plan u cs can.1 told.1)

@@ -17,7 +17,7 @@ use Rattle.ob_site_rules.specs.Watched.{gone_in, gone_at}
 use Rattle.ob_site_state.specs.declared.change.Change.{Change}
 use Rattle.ob_site_state.specs.declared.change.Change.TheVariants as change
 use Rattle.ob_consistent_laws.specs.Laws.{Apart}
-use Rattle.ob_site_state.specs.Changes.{cut, with_log, rewound, CanRewind, AreTold}
+use Rattle.ob_site_state.specs.Changes.{cut, with_log, rewound, CanRewind, ChangesTell}
 use Rattle.ob_site_state.specs.Kept.{keys}
 use Rattle.ob_site_state.proofs.Noting.{got_there}
 use Rattle.ob_watch.specs.Counted.{of_plan}
@@ -135,7 +135,7 @@ module _ (plan : Plan) (u : State) (known : AreLogs plan u) where
           inl (ap (λ (o : Option Log). gone_in (option_map rolled o)) now ∙ none ∙ sym (ap gone_in now))
       go false e = inr (at_others (cut len) h (rewound cs u).logs place l there e ∙ same)
 
-  wholes : (cs : List Change) (h : Path) → CanRewind cs u → AreTold plan cs u → is_among (feed_of h) (rolled_feeds (flat_map (note_rolls u.logs) cs)) ≡ false
+  wholes : (cs : List Change) (h : Path) → CanRewind cs u → ChangesTell plan cs u → is_among (feed_of h) (rolled_feeds (flat_map (note_rolls u.logs) cs)) ≡ false
       → (StaysWhole h) ⊎ (at h (rewound cs u).logs ≡ at h u.logs)
   wholes [] h can told off = inr refl
   wholes (change.Slot node slot ∷ cs) h can told off = wholes cs h can.1 told.1 off
@@ -147,7 +147,7 @@ module _ (plan : Plan) (u : State) (known : AreLogs plan u) where
       (wholes cs h can.1 told.1 (among_second (feed_of h) (note_rolls u.logs (change.Records place len)) (flat_map (note_rolls u.logs) cs) off))
 
   -- a history of which nothing is told loses nothing
-  whole : (found : List Change) (h : Path) → CanRewind found u → AreTold plan found u → roll (rewound found u) ≡ rewound found u
+  whole : (found : List Change) (h : Path) → CanRewind found u → ChangesTell plan found u → roll (rewound found u) ≡ rewound found u
       → is_among (feed_of h) (rolled_feeds (flat_map (note_rolls u.logs) found)) ≡ false → StaysWhole h
   whole found h can told settled off = go (wholes found h can told off)
     where
@@ -160,7 +160,7 @@ module _ (plan : Plan) (u : State) (known : AreLogs plan u) where
           ap (λ (o : Option Log). gone_in (option_map rolled o)) (sym same)
           ∙ ap gone_in (sym (rolled_at h before.logs) ∙ ap (λ (s : State). at h s.logs) settled ∙ same)
 
-  pub others_stay : (found : List Change) → CanRewind found u → AreTold plan found u → roll (rewound found u) ≡ rewound found u → (path : Path)
+  pub others_stay : (found : List Change) → CanRewind found u → ChangesTell plan found u → roll (rewound found u) ≡ rewound found u → (path : Path)
       → is_among path (rolled_feeds (flat_map (note_rolls u.logs) found)) ≡ false → (of_plan plan).gone (roll u) path ≡ (of_plan plan).gone u path
   others_stay found can told settled path off = go (at path (event_places plan)) refl
     where

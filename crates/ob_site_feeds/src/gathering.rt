@@ -238,7 +238,7 @@ fn put_rolls(rolls: &mut Vec<FeedRoll>, state: &State, changes: &[Change]) -> Re
 pub fn news(state: &State) -> Result<News, AllocError>
     ensures { IfOk result (λ news. IsNews state.now.plan state.now.before state.now.now news.events.items news.rolls.items) }
 {
-    state.is_sound();
+    state.sound_law();
     let changes = state.changes();
     let from = first_event(state, changes);
     let mut news = News::new(state.allocator());

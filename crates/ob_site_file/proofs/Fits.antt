@@ -14,7 +14,7 @@ use Rattle.ob_contracts.proofs.Fitting.{one_kind}
 use Rattle.ob_site_rules.specs.Build.{Text, child}
 use Rattle.ob_site_rules.specs.Writes.{number_in}
 use Rattle.ob_site_rules.specs.Loading.{child_of, of_kind}
-use Rattle.ob_site_file.specs.Told.{num_kind}
+use Rattle.ob_site_file.specs.RulesAndRecords.{num_kind}
 
 both : (a b c d : Bool) → IsTrue ((a && b) && (c && d)) → IsTrue c
 both true true true d h = refl

@@ -15,7 +15,7 @@ use Rattle.ob_site_rules.specs.Build.{Path}
 use Rattle.ob_site_rules.specs.Loading.{Part, numbered, node_there, is_number_kind, rule_in, is_bad_rule, after_rule, bad_rules, least}
 use Rattle.ob_site_rules.specs.State.{is_among}
 use Rattle.ob_site_rules.specs.declared.plan.PointRule.{PointRule}
-use Rattle.ob_site_file.specs.Told.{Has, IsNext}
+use Rattle.ob_site_file.specs.RulesAndRecords.{Has, IsNext}
 use Rattle.ob_site_file.specs.declared.nodes.Nodes.{Nodes}
 use Rattle.ob_site_file.proofs.Firsts.{From, from_below, from_if, least_from}
 use Rattle.ob_values.proofs.Lists.{drop_all}

@@ -19,7 +19,7 @@ use Rattle.ob_object.specs.Kinds.{has_values}
 use Rattle.ob_contracts.specs.Inherit.{or_else}
 use Rattle.ob_site_rules.specs.Build.{Path}
 use Rattle.ob_site_rules.specs.Loading.{Part, node_there, is_number_kind}
-use Rattle.ob_roles.specs.Told.{part}
+use Rattle.ob_roles.specs.SiteParts.{part}
 use Rattle.ob_roles.specs.declared.part.Part.{Part as OwnPart}
 use Rattle.ob_site_file.specs.Sought.{has_path, kind_under, or_this, Sees}
 use Rattle.ob_site_file.specs.declared.nodes.Nodes.{Nodes}

@@ -8,7 +8,7 @@ use Rattle.ob_site_rules.specs.declared.roles.Roles.{Roles}
 use Rattle.ob_site_rules.specs.Roles.{role_at, is_dropped, holds_contracts, no_roles}
 use Rattle.ob_site_rules.specs.Writes.{stored_in}
 use Rattle.ob_site_rules.specs.Loading.{Part, parts_of, capacity_of, records_of, has_bad_source, has_bad_capacity, bad_records, items_of, bad_history, overfull, histories_in, bad_rules, bad_subjects, subjects, least, bad_part}
-use Rattle.ob_roles.specs.Told.{part}
+use Rattle.ob_roles.specs.SiteParts.{part}
 use Rattle.ob_roles.specs.declared.part.Part.{Part as OwnPart}
 use Rattle.ob_site_file.specs.Numbers.{earlier, IsNumbered, AreNumbered}
 use Rattle.ob_site_file.proofs.Firsts.{earlier_assoc, earlier_none, least_cons, least_append}

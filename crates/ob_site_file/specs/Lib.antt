@@ -1,6 +1,6 @@
 pub mod Numbers
 pub mod Sought
-pub mod Told
+pub mod RulesAndRecords
 pub mod Passes
 pub mod Sizes
 pub mod Abouts

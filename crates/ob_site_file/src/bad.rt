@@ -2,7 +2,7 @@
 ghost use Rattle.std.specs.Prelude.{◌≡◌, ◌||◌, ◌∷◌, [], cond, codes, map, find, List, Some, option_map, IfOk};
 ghost use Rattle.std.specs.List.{flat_map};
 ghost use Rattle.ob_site_rules.specs.Loading.{Part as SitePart, has_bad_capacity, has_bad_source, bad_history, bad_rules, bad_subjects, subjects, items_of, bad_part, least};
-ghost use Rattle.ob_roles.specs.Told.{part as site_part};
+ghost use Rattle.ob_roles.specs.SiteParts.{part as site_part};
 ghost use Rattle.ob_site_file.specs.Numbers.{IsNumbered, AreNumbered};
 ghost use Rattle.ob_site_file.specs.Sought.{Sees};
 

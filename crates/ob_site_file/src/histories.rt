@@ -2,7 +2,7 @@
 ghost use Rattle.std.specs.Prelude.{◌≡◌, ◌<◌, ◌^◌, codes, length, option_and_then, IfOk};
 ghost use Rattle.ob_site_rules.specs.Build.{child};
 ghost use Rattle.ob_site_rules.specs.Loading.{capacity_by, source_ref};
-ghost use Rattle.ob_roles.specs.Told.{part as site_part};
+ghost use Rattle.ob_roles.specs.SiteParts.{part as site_part};
 ghost use Rattle.ob_plain_state.specs.States.{log_of};
 ghost use Rattle.ob_site_file.specs.Opened.{whole_log};
 

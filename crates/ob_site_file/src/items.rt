@@ -5,7 +5,7 @@ ghost use Rattle.ob_object.specs.Object.{in_row, count};
 ghost use Rattle.ob_object.specs.declared.kind.Kind.TheVariants as kind;
 ghost use Rattle.ob_site_rules.specs.Roles.{is_part};
 ghost use Rattle.ob_site_rules.specs.Loading.{numbered, items_of, child_of};
-ghost use Rattle.ob_roles.specs.Told.{part as site_part};
+ghost use Rattle.ob_roles.specs.SiteParts.{part as site_part};
 ghost use Rattle.ob_site_file.specs.Numbers.{IsNumbered, earlier};
 
 use ob_object::{Kind, Obj};

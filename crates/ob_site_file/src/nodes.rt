@@ -2,7 +2,7 @@
 ghost use Rattle.std.specs.Prelude.{◌≡◌, ◌++◌, ◌∷◌, ◌&&◌, ◌||◌, [], bytes_eq, ℕ, List, map, is_some, option_map, IfOk};
 ghost use Rattle.ob_object.specs.Kinds.{has_values};
 ghost use Rattle.ob_site_rules.specs.Loading.{Part as SitePart, node_there, is_number_kind};
-ghost use Rattle.ob_roles.specs.Told.{part as site_part};
+ghost use Rattle.ob_roles.specs.SiteParts.{part as site_part};
 ghost use Rattle.ob_site_file.specs.Sought.{Sees, has_path, kind_under, or_this};
 
 use ob_object::Kind;

@@ -1,7 +1,7 @@
 //! What is fixed when a site is opened, and the logs of its histories.
 ghost use Rattle.std.specs.Prelude.{◌≡◌, ◌++◌, ◌∷◌, [], false, map, filter, None, option_map, IfOk};
 ghost use Rattle.ob_site_rules.specs.Loading.{about_texts, path_of, histories_in, root_lobby};
-ghost use Rattle.ob_roles.specs.Told.{part as site_part};
+ghost use Rattle.ob_roles.specs.SiteParts.{part as site_part};
 ghost use Rattle.ob_plain_state.specs.States.{entry_of, AreCounted};
 ghost use Rattle.ob_site_file.specs.Opened.{history_entry, whole_log, rules_at, subject_of, plan_with};
 

@@ -8,7 +8,7 @@ ghost use Rattle.ob_object.specs.declared.kind.Kind.TheVariants as kind;
 ghost use Rattle.ob_contracts.specs.Inherit.{slot_or_default};
 ghost use Rattle.ob_history.specs.declared.records.Record.{Record as Stored};
 ghost use Rattle.ob_site_rules.specs.Loading.{time_of, child_of, value_of_record, record_in, is_late, is_bad_item, after_item, bad_records, numbered, least};
-ghost use Rattle.ob_site_file.specs.Told.{record_by};
+ghost use Rattle.ob_site_file.specs.RulesAndRecords.{record_by};
 
 use crate::items::{Items, child_of};
 use ob_history::Record;

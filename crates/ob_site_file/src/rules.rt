@@ -9,7 +9,7 @@ ghost use Rattle.ob_site_rules.specs.Build.{Path};
 ghost use Rattle.ob_site_rules.specs.Writes.{number_in};
 ghost use Rattle.ob_site_rules.specs.Loading.{Part as SitePart, truth_in, child_of, own_number, source_ref, rule_from, rule_in, bad_rules, numbered, least};
 ghost use Rattle.ob_site_file.specs.Sought.{Sees};
-ghost use Rattle.ob_site_file.specs.Told.{rule_by, rule_at, num_kind, Has, IsNext};
+ghost use Rattle.ob_site_file.specs.RulesAndRecords.{rule_by, rule_at, num_kind, Has, IsNext};
 
 use crate::items::{Items, child_of};
 use crate::nodes::Nodes;

@@ -3,7 +3,7 @@ ghost use Rattle.std.specs.Prelude.{◌≡◌, codes, map, length};
 ghost use Rattle.std.specs.List.{filter_map};
 ghost use Rattle.ob_site_rules.specs.Writes.{stored_in};
 ghost use Rattle.ob_site_rules.specs.Loading.{record_in, records_of, capacity_of, histories_in, overfull, least};
-ghost use Rattle.ob_roles.specs.Told.{part as site_part};
+ghost use Rattle.ob_roles.specs.SiteParts.{part as site_part};
 
 use crate::histories::capacity_of;
 use crate::items::items_of;

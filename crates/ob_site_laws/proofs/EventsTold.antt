@@ -6,7 +6,7 @@ use Rattle.std.proofs.lemmas.Bool.Decides.{eqb_tells}
 use Rattle.std.proofs.lemmas.List.{length-reverse}
 use Rattle.ob_alarms.specs.Changes.{State as Board, alarm_of, is_open, turn, on_value, outside_of, current, on_ack, answered, acked_if_needed, raise, end, acknowledge, fresh, ended, acked, next_turn}
 use Rattle.ob_alarms.specs.Lists.{first_place, changed_at}
-use Rattle.ob_alarms.specs.Soundness.{At, AtMostOne, AreTold}
+use Rattle.ob_alarms.specs.Soundness.{At, AtMostOne, EventsShowAlarms}
 use Rattle.ob_alarms.specs.States.{is_in_alarm, is_acked, needs_ack}
 use Rattle.ob_alarms.specs.declared.alarm.Alarm.{Alarm}
 use Rattle.ob_alarms.specs.declared.alarm.Event.{Event}
@@ -56,7 +56,7 @@ one_raised rules rule value turn alarms none one j lt =
 raised_told : (b : Board) (rule : ℕ) (value : Num) (now : ℕ) → rule < length b.rules → current rule b.alarms ≡ None → TellsEvents b → TellsEvents (taken b (raise b rule value now))
 raised_told b rule value now lt none h = record {
   of_rules = all_more (IsOf b.rules) b.alarms (fresh rule value (next_turn b now)) h.of_rules lt;
-  told = subst (λ (es : List Event). AreTold (length b.rules) es (b.alarms ++ fresh rule value (next_turn b now) ∷ [])) (sym (newest_first b.events _))
+  told = subst (λ (es : List Event). EventsShowAlarms (length b.rules) es (b.alarms ++ fresh rule value (next_turn b now) ∷ [])) (sym (newest_first b.events _))
       (told_raised (length b.rules) (reverse b.events) b.alarms rule value now (length b.events) (length b.alarms + 1) (omega arith) (omega arith) (sym (length-reverse b.events)) h.told h.one);
   one = one_raised (length b.rules) rule value (next_turn b now) b.alarms none h.one;
 }
@@ -74,7 +74,7 @@ ended_told b rule number now is h =
     let x = found is_in_alarm b.alarms (number - 1) at.1 in
     record {
       of_rules = all_changed (IsOf b.rules) (number - 1) (ended (next_turn b now)) (λ a of. of) b.alarms h.of_rules;
-      told = subst (λ (es : List Event). AreTold (length b.rules) es (changed_at (number - 1) (ended (next_turn b now)) b.alarms)) (sym (newest_first b.events _))
+      told = subst (λ (es : List Event). EventsShowAlarms (length b.rules) es (changed_at (number - 1) (ended (next_turn b now)) b.alarms)) (sym (newest_first b.events _))
           (told_ended (length b.rules) (reverse b.events) b.alarms (number - 1) x.0 now (length b.events) number at.0 refl (sym (length-reverse b.events)) h.told h.one x.1 x.2);
       one = one_ended (length b.rules) (number - 1) x.0 (next_turn b now) b.alarms x.1 h.one;
     }
@@ -89,7 +89,7 @@ acked_told b number user now is h =
     let x = found (λ a. not (is_acked a)) b.alarms (number - 1) at.1 in
     record {
       of_rules = all_changed (IsOf b.rules) (number - 1) (acked (next_turn b now) user) (λ a of. of) b.alarms h.of_rules;
-      told = subst (λ (es : List Event). AreTold (length b.rules) es (changed_at (number - 1) (acked (next_turn b now) user) b.alarms)) (sym (newest_first b.events _))
+      told = subst (λ (es : List Event). EventsShowAlarms (length b.rules) es (changed_at (number - 1) (acked (next_turn b now) user) b.alarms)) (sym (newest_first b.events _))
           (told_acked (length b.rules) (reverse b.events) b.alarms (number - 1) x.0 user now (length b.events) number at.0 refl (sym (length-reverse b.events)) h.told h.one x.1 x.2);
       one = λ j lt. subst (λ (n : ℕ). n ≤ 1) (sym (same_count_changed (is_open j) (number - 1) (acked (next_turn b now) user) b.alarms x.0 x.1 refl)) (h.one j lt);
     }

@@ -10,7 +10,7 @@ use Rattle.ob_history.specs.declared.records.Record.{Record}
 use Rattle.ob_history.specs.Records.{is_before, is_after}
 use Rattle.ob_alarms.specs.AlarmObjects.{object_in, shown_alarm, shown_event, before_all, alarms_after}
 use Rattle.ob_alarms.specs.Changes.{State as Board, alarm_of, before, before_what}
-use Rattle.ob_alarms.specs.Soundness.{AreTold, Shows, turn_of}
+use Rattle.ob_alarms.specs.Soundness.{EventsShowAlarms, Shows, turn_of}
 use Rattle.ob_alarms.specs.declared.alarm.Alarm.{Alarm}
 use Rattle.ob_alarms.specs.declared.alarm.Event.{Event}
 use Rattle.ob_alarms.specs.declared.alarm.Turn.{Turn}
@@ -116,7 +116,7 @@ newest_timed b es e a events from at of = subst (λ (o : Option Object). HasTime
 abbrev telling : Board → List Alarm → List Event → Board
 telling b alarms es = record b { alarms = alarms; events = reverse es }
 
-told_timed : (b : Board) (es : List Event) (alarms : List Alarm) → AllByRecursion (λ a. IsOf b.rules a) alarms → AreTold (length b.rules) es alarms → AllTimed (event_objects (telling b alarms es))
+told_timed : (b : Board) (es : List Event) (alarms : List Alarm) → AllByRecursion (λ a. IsOf b.rules a) alarms → EventsShowAlarms (length b.rules) es alarms → AllTimed (event_objects (telling b alarms es))
 told_timed b [] alarms of told = tt
 told_timed b (e ∷ es) alarms of told =
     let there = shown_there e.what (turn_of e (length es)) (e.number - 1) alarms (slice_get alarms (e.number - 1)) told.1 in

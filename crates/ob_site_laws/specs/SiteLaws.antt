@@ -6,7 +6,7 @@ use Rattle.ob_machine.specs.declared.call.Entry.{Entry}
 use Rattle.ob_object.specs.Object.{Object}
 use Rattle.ob_history.specs.declared.records.Filter.{Filter}
 use Rattle.ob_alarms.specs.Changes.{State as Board}
-use Rattle.ob_alarms.specs.Soundness.{AreTold, AtMostOne}
+use Rattle.ob_alarms.specs.Soundness.{EventsShowAlarms, AtMostOne}
 use Rattle.ob_watching.specs.Asked.{Lists}
 use Rattle.ob_watching.specs.Sites.{Site}
 use Rattle.ob_watching.specs.Tables.{lookup}
@@ -41,7 +41,7 @@ Call = Entry Request Object
 -- rule has two alarms in alarm.
 pub record TellsEvents (b : Board) : Type 0 where
   pub of_rules : AllByRecursion (λ a. a.rule < length b.rules) b.alarms
-  pub told : AreTold (length b.rules) (reverse b.events) b.alarms
+  pub told : EventsShowAlarms (length b.rules) (reverse b.events) b.alarms
   pub one : AtMostOne (length b.rules) b.alarms
 
 -- Numbers of watches rise and stay below the next one, no watch has an href twice, each history is within its capacity; and the

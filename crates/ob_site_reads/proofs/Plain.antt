@@ -18,7 +18,7 @@ use Rattle.ob_site_rules.specs.declared.plan.Plan.{Plan}
 use Rattle.ob_site_rules.specs.State.{State}
 use Rattle.ob_standing.specs.Contexts.{Context, comes_to, under}
 use Rattle.ob_shown_laws.specs.Changed.{is_watchable}
-use Rattle.ob_shown_laws.specs.Own.{dressed_own}
+use Rattle.ob_shown_laws.specs.Own.{derived_own}
 use Rattle.ob_tree.specs.Laid.{head_at}
 use Rattle.ob_tree.specs.Shown.{handed_at, part_at, standing_at}
 use Rattle.ob_shown_laws.specs.OwnTree.{own_shown_at}
@@ -41,12 +41,12 @@ effective_kind lib o implied over = refl
 -- what is shown of an own object is of its kind
 module _ (plan : Plan) (s : State) (n : ℕ) (o : Object) where
   abbrev shown_in : Option Object → Context → Option Object
-  shown_in part c = option_map (λ x. comes_to c (dressed_own plan s x)) part
+  shown_in part c = option_map (λ x. comes_to c (derived_own plan s x)) part
 
-  kind_of : (x : Object) (c : Context) → o ≡ comes_to c (dressed_own plan s x) → o.head.kind ≡ x.head.kind
+  kind_of : (x : Object) (c : Context) → o ≡ comes_to c (derived_own plan s x) → o.head.kind ≡ x.head.kind
   kind_of x c is =
       ap (λ (y : Object). y.head.kind) is
-      ∙ effective_kind c.library (dressed_own plan s x) c.implied c.over
+      ∙ effective_kind c.library (derived_own plan s x) c.implied c.over
       ∙ status_at plan s x.head (node_path x.head)
 
   by_head : (q : Option Head) → head_at n s.tree ≡ q → Some o ≡ own_shown_at plan s n → (h : Head) × (head_at n s.tree ≡ Some h) × (o.head.kind ≡ h.kind)
@@ -57,7 +57,7 @@ module _ (plan : Plan) (s : State) (n : ℕ) (o : Object) where
   by_head (Some h) is e =
       let part = part_there n s.tree h is in
       let c : Context = under (handed_at s.library n s.tree) h.name in
-      let shown : own_shown_at plan s n ≡ Some (comes_to c (dressed_own plan s part.0)) =
+      let shown : own_shown_at plan s n ≡ Some (comes_to c (derived_own plan s part.0)) =
       ap (λ (h : Option Head). option_and_then (shown_in (part_at n s.tree)) (option_map (λ h. under (handed_at s.library n s.tree) h.name) h)) is
       ∙ ap (λ (x : Option Object). shown_in x c) part.1 in
       (h, is, kind_of part.0 c (some_same (e ∙ shown)) ∙ ap (λ (h : Head). h.kind) part.2)

@@ -15,7 +15,7 @@ ghost use Rattle.ob_requests.specs.Calls.{found as found_of};
 
 use ob_contracts::Steps;
 use ob_object::{Kind, Obj};
-use ob_requests::{Found, WatchInItem, feed_with, is_of_watch, located};
+use ob_requests::{Found, WatchInItem, feed_with, is_of_watch, locate_path};
 use ob_site_places::computed_place;
 use ob_site_rules::{Fault, Plan, Resource};
 use ob_site_shown::shown_kind;
@@ -90,7 +90,7 @@ fn found_at<L: Ledger>(
 /// What an asked href names, where the watches of these numbers stand. An error only for want of memory.
 ///
 /// Source: oBIX 1.1, chapter 12 (Watch.add).
-pub fn found<L: Ledger>(
+pub fn resolve_item<L: Ledger>(
     alloc: Global,
     plan: &Plan,
     contents: &Contents,
@@ -104,7 +104,7 @@ pub fn found<L: Ledger>(
     if asked.0.as_str().len() > 1024 {
         return Ok(Found::Nothing(Fault::HrefTooLong));
     }
-    match located(alloc, plan, &asked.0)? {
+    match locate_path(alloc, plan, &asked.0)? {
         Some(path) => found_at(alloc, plan, contents, numbers, path, &asked.1, steps),
         None => Ok(Found::Nothing(Fault::NoSuchObject)),
     }

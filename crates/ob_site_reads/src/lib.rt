@@ -10,5 +10,5 @@ mod finding;
 mod objects;
 
 pub use feeds::{Since, count_at, feed_since, whole_feed};
-pub use finding::found;
+pub use finding::resolve_item;
 pub use objects::watched_node;

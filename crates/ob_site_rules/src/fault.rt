@@ -20,7 +20,9 @@ pub enum Fault {
     NotWritable,
     /// The value is of another kind.
     OtherKind,
+    /// The value is below the least one.
     BelowMin,
+    /// The value is above the greatest one.
     AboveMax,
     /// The enum's value isn't in its range.
     NotInRange,

@@ -6,9 +6,11 @@ use ob_values::{Text, Verb};
 ///
 /// Source: oBIX 1.1, chapter 10 (Networking): Read, Write and Invoke.
 pub struct Request {
+    /// Read, write, invoke or delete.
     pub verb: Verb,
     /// The href of the target, as it was asked.
     pub target: Text,
+    /// The input, if one came.
     pub body: Option<Obj>,
 }
 

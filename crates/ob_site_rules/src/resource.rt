@@ -6,11 +6,17 @@ use ob_values::Text;
 /// An alarm is told by its number.
 #[derive(Drop)]
 pub enum Resource {
+    /// The About object.
     About,
+    /// The op that takes a batch.
     Batch,
+    /// The watch service.
     Service,
+    /// The op of the watch service that makes a watch.
     Make,
+    /// The alarm of this number.
     AlarmAt(u64),
+    /// The op that acknowledges the alarm of this number.
     AckOf(u64),
     /// The op of the writable point at this path.
     WritePointOf(Text),
@@ -18,7 +24,10 @@ pub enum Resource {
     QueryOf(Text),
     /// The feed of the history at this path.
     FeedOf(Text),
+    /// The op of the alarm subject that asks for alarms.
     AlarmQuery,
+    /// The feed of the alarm subject.
     AlarmFeed,
+    /// A node, as it shows itself.
     Node(Obj),
 }

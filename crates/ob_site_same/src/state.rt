@@ -38,8 +38,8 @@ fn same_log(state: &State, other: &State, place: usize) -> bool
 fn same_logs(state: &State, other: &State) -> bool
     ensures { state.now.plan ≡ other.now.plan → IsTrue result ↔ (state.now.now.logs ≡ other.now.now.logs) }
 {
-    state.is_sound();
-    other.is_sound();
+    state.sound_law();
+    other.sound_law();
     if state.histories() != other.histories() {
         return false;
     }

@@ -24,7 +24,7 @@ use Rattle.ob_site_rules.specs.declared.plan.Plan.{Plan}
 use Rattle.ob_site_rules.specs.State.{Log, State, numbered_from}
 use Rattle.ob_site_state.specs.declared.change.Change.{Change}
 use Rattle.ob_site_state.specs.declared.change.Change.TheVariants as change
-use Rattle.ob_site_state.specs.Changes.{alarms_before, events_before, cut, with_log, undone, rewound, CanRewind, AreTold}
+use Rattle.ob_site_state.specs.Changes.{alarms_before, events_before, cut, with_log, undone, rewound, CanRewind, ChangesTell}
 use Rattle.ob_site_state.proofs.Rewinding.{set_to}
 use Rattle.ob_site_state.proofs.Noting.{head_there, head_set}
 use Rattle.ob_site_state.proofs.Places.{length-with_log}
@@ -83,7 +83,7 @@ parts_before (change.Event rule status ∷ cs) s = parts_before cs s
 parts_before (change.Contracts library ∷ cs) s = parts_before cs s
 
 -- statuses
-pub status_before : (plan : Plan) (j : ℕ) (cs : List Change) (s : State) → AreTold plan cs s
+pub status_before : (plan : Plan) (j : ℕ) (cs : List Change) (s : State) → ChangesTell plan cs s
     → status_of (numbered_from 0 plan.rules) (rewound cs s).alarms j ≡ unwrap_or (first_noted (status_noted j) cs) (status_of (numbered_from 0 plan.rules) s.alarms j)
 status_before plan j [] s told = refl
 status_before plan j (change.Slot id slot ∷ cs) s told = status_before plan j cs s told.1
@@ -144,7 +144,7 @@ cut_noted None l len e = refl
 cut_noted (Some m) l len e =
     ap (λ (k : List Record). let x : Log = record l { kept = k } in x) (take_twice len m l.kept (omega (arith, e, length-take m l.kept)))
 
-pub log_before : (plan : Plan) (place : ℕ) (l : Path × Log) (cs : List Change) (s : State) → AreTold plan cs s → slice_get s.logs place ≡ Some l
+pub log_before : (plan : Plan) (place : ℕ) (l : Path × Log) (cs : List Change) (s : State) → ChangesTell plan cs s → slice_get s.logs place ≡ Some l
     → (slice_get (rewound cs s).logs place ≡ Some (l.0, noted_log (first_noted (len_noted place) cs) l.1)) × IsWithin (first_noted (len_noted place) cs) l.1
 log_before plan place l [] s told e = (e, tt)
 log_before plan place l (change.Slot id slot ∷ cs) s told e = log_before plan place l cs s told.1 e
@@ -175,7 +175,7 @@ logs_before (change.Event rule status ∷ cs) s = logs_before cs s
 logs_before (change.Contracts library ∷ cs) s = logs_before cs s
 
 -- each note can be compared with what is there
-pub comparable : (plan : Plan) (cs : List Change) (s : State) → CanRewind cs s → AreTold plan cs s → AllByRecursion (IsComparable s) cs
+pub comparable : (plan : Plan) (cs : List Change) (s : State) → CanRewind cs s → ChangesTell plan cs s → AllByRecursion (IsComparable s) cs
 comparable plan [] s can told = tt
 comparable plan (change.Slot id slot ∷ cs) s can told = (
   (

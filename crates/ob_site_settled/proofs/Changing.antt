@@ -18,7 +18,7 @@ use Rattle.ob_shown_laws.specs.Changed.{differs}
 use Rattle.ob_shown_laws.specs.Looked.{IsLeft}
 use Rattle.ob_site_state.specs.declared.change.Change.{Change}
 use Rattle.ob_site_state.specs.declared.change.Change.TheVariants as change
-use Rattle.ob_site_state.specs.Changes.{rewound, CanRewind, AreTold}
+use Rattle.ob_site_state.specs.Changes.{rewound, CanRewind, ChangesTell}
 use Rattle.ob_site_state.specs.Kept.{keys, IsSoundFor}
 use Rattle.ob_site_settled.specs.Ending.{AreChanged}
 use Rattle.ob_site_settled.specs.Noted.{paths_of, looked_at}
@@ -184,7 +184,7 @@ all_own plan now (c ∷ cs) p noted all histories rules subject e =
     go false is behind = behind (in_either p (paths_of plan now c) (looked_at plan now cs) e is)
 
 -- so the numbers that are told are those of the changed nodes
-pub are_changed : (plan : Plan) (cs : List Change) (now : State) → CanRewind cs now → AreTold plan cs now → roll (rewound cs now) ≡ rewound cs now → IsSoundFor plan (rewound cs now)
+pub are_changed : (plan : Plan) (cs : List Change) (now : State) → CanRewind cs now → ChangesTell plan cs now → roll (rewound cs now) ≡ rewound cs now → IsSoundFor plan (rewound cs now)
     → keys now.logs ≡ map (λ h. h.0) plan.histories → Apart (map (λ h. h.0) plan.histories)
     → AreChanged plan (rewound cs now) (ended cs now) (numbers_told plan cs now)
 are_changed plan cs now can told rolled_before sound same apart = record {

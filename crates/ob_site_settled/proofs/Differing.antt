@@ -28,7 +28,7 @@ use Rattle.ob_shown_laws.specs.Alike.{DifferInValues}
 use Rattle.ob_shown_laws.specs.Changed.{differs, head_in, same_values, same_log, same_derived, start_slot, end_slot}
 use Rattle.ob_step_laws.specs.Defaults.{with_library}
 use Rattle.ob_site_state.specs.declared.change.Change.{Change}
-use Rattle.ob_site_state.specs.Changes.{cut, rewound, CanRewind, AreTold}
+use Rattle.ob_site_state.specs.Changes.{cut, rewound, CanRewind, ChangesTell}
 use Rattle.ob_site_state.specs.Kept.{keys, IsSoundFor}
 use Rattle.ob_site_state.proofs.Rewinding.{set_to}
 use Rattle.ob_site_state.proofs.Noting.{head_there}
@@ -212,7 +212,7 @@ count_differs plan cs now p = is_path p plan.subject && not (nat_eq (length (rew
 abbrev pub ended : List Change → State → State
 ended cs now = with_library (rewound cs now).library (roll now)
 
-pub own_differs : (plan : Plan) (cs : List Change) (now : State) → CanRewind cs now → AreTold plan cs now → IsSoundFor plan (rewound cs now)
+pub own_differs : (plan : Plan) (cs : List Change) (now : State) → CanRewind cs now → ChangesTell plan cs now → IsSoundFor plan (rewound cs now)
     → (p : Path) (n : ℕ) → place_of p (paths now.tree) ≡ Some n
     → differs plan (rewound cs now) (ended cs now) p ≡ any_of (slot_differs cs now n) (other_by plan cs now (rule_of plan p)) (log_differs cs now p) (count_differs plan cs now p)
 own_differs plan cs now can told sound p n here =
@@ -303,7 +303,7 @@ own_differs plan cs now can told sound p n here =
 abbrev pub log_other : ℕ → Log → Bool
 log_other len l = not (same_log (Some (cut len l)) (Some (rolled l)))
 
-pub log_sound : (plan : Plan) (cs : List Change) (now : State) → AreTold plan cs now → Apart (keys now.logs)
+pub log_sound : (plan : Plan) (cs : List Change) (now : State) → ChangesTell plan cs now → Apart (keys now.logs)
     → (i : ℕ) (l : Path × Log) (len : ℕ) → slice_get now.logs i ≡ Some l → first_noted (len_noted i) cs ≡ Some len
     → log_differs cs now l.0 ≡ log_other len l.1
 log_sound plan cs now told apart i l len here noted =
@@ -315,7 +315,7 @@ log_sound plan cs now told apart i l len here noted =
     was = (log_before plan i l cs now told here).0 ∙ ap (λ (o : Option ℕ). let x : Path × Log = (l.0, noted_log o l.1) in Some x) noted
 
 -- and there is such a note
-pub log_noted : (plan : Plan) (cs : List Change) (now : State) → AreTold plan cs now → roll (rewound cs now) ≡ rewound cs now
+pub log_noted : (plan : Plan) (cs : List Change) (now : State) → ChangesTell plan cs now → roll (rewound cs now) ≡ rewound cs now
     → (p : Path) → log_differs cs now p ≡ true
     → (i : ℕ) × (l : Path × Log) × (len : ℕ) × (slice_get now.logs i ≡ Some l) × (l.0 ≡ p) × (first_noted (len_noted i) cs ≡ Some len) × (log_other len l.1 ≡ true)
 log_noted plan cs now told rolled_before p differs = go (at p now.logs) refl

@@ -27,11 +27,11 @@ use Rattle.ob_site_rules.specs.declared.plan.Plan.{Plan}
 use Rattle.ob_site_rules.specs.State.{Log, State, rolled, roll}
 use Rattle.ob_shown_laws.specs.Alike.{DifferInValues}
 use Rattle.ob_shown_laws.specs.Changed.{differs, head_in, same_values, same_log}
-use Rattle.ob_ground.specs.Grounds.{Taught, AreTold as WordsAreTold}
+use Rattle.ob_ground.specs.Grounds.{Taught, WordsStand}
 use Rattle.ob_ground.proofs.Telling.{told_unset}
 use Rattle.ob_site_state.specs.declared.change.Change.{Change}
 use Rattle.ob_site_state.specs.declared.change.Change.TheVariants as change
-use Rattle.ob_site_state.specs.Changes.{cut, rewound, CanRewind, AreTold}
+use Rattle.ob_site_state.specs.Changes.{cut, rewound, CanRewind, ChangesTell}
 use Rattle.ob_site_state.specs.Kept.{Kept, keys, IsSoundFor}
 use Rattle.ob_site_settled.specs.declared.seen.Seen.{Seen}
 use Rattle.ob_site_settled.specs.Ending.{AreChanged}
@@ -76,7 +76,7 @@ none_noted xs i h so_far = sym so_far ∙ ap (first_noted library_noted) (drop_a
 
 -- Words that are told for the tree once the changes behind are taken back are told for the tree that is there: these change slots
 -- alone.
-tells_now : (cs : List Change) (s : State) (told : Taught) → WordsAreTold (rewound cs s).tree told → WordsAreTold s.tree told
+tells_now : (cs : List Change) (s : State) (told : Taught) → WordsStand (rewound cs s).tree told → WordsStand s.tree told
 tells_now [] s told t = t
 tells_now (change.Slot node slot ∷ cs) s told t = tells_now cs s told (told_unset slot node.number (rewound cs s).tree told t)
 tells_now (change.Records place len ∷ cs) s told t = tells_now cs s told t
@@ -88,7 +88,7 @@ can_drop zero xs s can = can
 can_drop (suc i) [] s can = can
 can_drop (suc i) (x ∷ xs) s can = can_drop i xs s can.1
 
-pub tells_here : (xs : List Change) (i : ℕ) (told : Taught) (c : Change) (s : State) → i < length xs → c ≡ get_or xs i c → c ≡ change.Contracts told → CanRewind xs s → WordsAreTold s.tree told
+pub tells_here : (xs : List Change) (i : ℕ) (told : Taught) (c : Change) (s : State) → i < length xs → c ≡ get_or xs i c → c ≡ change.Contracts told → CanRewind xs s → WordsStand s.tree told
 tells_here xs i told c s h is that can =
     let there : CanRewind (change.Contracts told ∷ drop (i + 1) xs) s =
     subst (λ (x : Change). CanRewind (x ∷ drop (i + 1) xs) s) that (subst (λ (l : List Change). CanRewind l s) (drop_item xs i c h is) (can_drop i xs s can)) in
@@ -103,7 +103,7 @@ library_stays xs i k h so_far before =
     ∙ ap (λ (o : Option Contracts). unwrap_or o k.now.library) (none_noted xs i h so_far))
 
 pub values_alone : (xs : List Change) (i : ℕ) (k : Kept) → length xs ≤ i → first_noted library_noted (drop i xs) ≡ first_noted library_noted xs → rewound xs k.now ≡ k.before
-    → CanRewind xs k.now → AreTold k.plan xs k.now → DifferInValues k.before (roll k.now)
+    → CanRewind xs k.now → ChangesTell k.plan xs k.now → DifferInValues k.before (roll k.now)
 values_alone xs i k h so_far before can told =
     let values = notes_are_values k.plan xs k.now can told in
     subst (λ (s : State). DifferInValues s (roll k.now)) before
@@ -283,7 +283,7 @@ told_all library plan s xs i so_far all h before =
     no_more [] = refl
     no_more (n ∷ ns) = ap (λ (l : List ℕ). n ∷ l) (no_more ns)
 
-pub can_compare : (plan : Plan) (xs : List Change) (s : State) → CanRewind xs s → AreTold plan xs s → All (IsComparable s) xs
+pub can_compare : (plan : Plan) (xs : List Change) (s : State) → CanRewind xs s → ChangesTell plan xs s → All (IsComparable s) xs
 can_compare plan xs s can told = All-from_recursion (IsComparable s) xs (comparable plan xs s can told)
 
 -- an object that is compared with itself under another slot
@@ -315,7 +315,7 @@ records_other s place len l log path is o there same test holds named found =
     ∙ ap (option_and_then (λ (x : Path × Log). only_if (not (same_log (Some (cut len x.1)) (Some (rolled x.1)))) (place_of x.0 (paths s.tree)))) (sym there)
 
 -- all together
-are_changed_nodes : (k : Kept) (xs : List Change) (library : Contracts) (ms ns : List ℕ) (o : Option ℕ) → rewound xs k.now ≡ k.before → CanRewind xs k.now → AreTold k.plan xs k.now
+are_changed_nodes : (k : Kept) (xs : List Change) (library : Contracts) (ms ns : List ℕ) (o : Option ℕ) → rewound xs k.now ≡ k.before → CanRewind xs k.now → ChangesTell k.plan xs k.now
     → roll k.before ≡ k.before → IsSoundFor k.plan k.before → keys k.now.logs ≡ map (λ h. h.0) k.plan.histories → Apart (map (λ h. h.0) k.plan.histories)
     → library ≡ k.before.library → ms ≡ all_told library k.plan k.now [] xs → o ≡ subject_told k.plan k.now (length k.before.alarms) → ns ≡ ms ++ option_to_list o
     → AreChanged k.plan k.before (ended_in_values k) ns
@@ -356,7 +356,7 @@ nodes_within k xs nodes before changed =
 same_library : (library : Contracts) (s : State) → library ≡ s.library → record s { library = library } ≡ s
 same_library library s e = ap (λ (l : Contracts). let t : State = record s { library = l } in t) e
 
-pub changed_nodes : (k : Kept) (xs : List Change) (library : Contracts) (ms : List ℕ) (nodes : List NodeId) (o : Option ℕ) → rewound xs k.now ≡ k.before → CanRewind xs k.now → AreTold k.plan xs k.now
+pub changed_nodes : (k : Kept) (xs : List Change) (library : Contracts) (ms : List ℕ) (nodes : List NodeId) (o : Option ℕ) → rewound xs k.now ≡ k.before → CanRewind xs k.now → ChangesTell k.plan xs k.now
     → roll k.before ≡ k.before → IsSoundFor k.plan k.before → keys k.now.logs ≡ map (λ h. h.0) k.plan.histories → Apart (map (λ h. h.0) k.plan.histories)
     → library ≡ k.before.library → ms ≡ all_told library k.plan k.now [] xs → o ≡ subject_told k.plan k.now (length k.before.alarms) → numbers nodes ≡ ms ++ option_to_list o
     → AreChanged k.plan k.before (ended_in_values k) (numbers nodes)

@@ -21,7 +21,7 @@ use Rattle.ob_tree.specs.Laid.{heads, heads_of, head_at, changed_in, changed, pa
 use Rattle.ob_tree.proofs.Changing.{got_left, got_right, length-heads}
 use Rattle.ob_site_state.specs.declared.change.Change.{Change}
 use Rattle.ob_site_state.specs.declared.change.Change.TheVariants as change
-use Rattle.ob_site_state.specs.Changes.{cut, with_log, undone, rewound, CanUndo, CanRewind, IsTold, AreTold}
+use Rattle.ob_site_state.specs.Changes.{cut, with_log, undone, rewound, CanUndo, CanRewind, IsTold, ChangesTell}
 use Rattle.ob_site_state.specs.Kept.{keys}
 use Rattle.ob_site_state.proofs.Rewinding.{set_to}
 use Rattle.ob_site_state.proofs.Places.{keys-with_log}
@@ -182,7 +182,7 @@ same_paths plan (change.Records place len) s t own logs = ap (λ (ps : List Path
 same_paths plan (change.Event rule status) s t own logs = refl
 same_paths plan (change.Contracts library) s t own logs = refl
 
-all_left : (plan : Plan) (cs : List Change) (s : State) → CanRewind cs s → AreTold plan cs s → (p : Path) → is_among p (looked_at plan s cs) ≡ false → IsLeft plan (rewound cs s) s p
+all_left : (plan : Plan) (cs : List Change) (s : State) → CanRewind cs s → ChangesTell plan cs s → (p : Path) → is_among p (looked_at plan s cs) ≡ false → IsLeft plan (rewound cs s) s p
 all_left plan [] s can told p e = (steps_leave plan).nothing s p
 all_left plan (c ∷ cs) s can told p e =
     let u : State = rewound cs s in

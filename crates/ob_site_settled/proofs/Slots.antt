@@ -16,7 +16,7 @@ use Rattle.ob_site_rules.specs.declared.plan.Plan.{Plan}
 use Rattle.ob_shown_laws.specs.Alike.{row, DifferInSlots, paths_of}
 use Rattle.ob_site_state.specs.declared.change.Change.{Change}
 use Rattle.ob_site_state.specs.declared.change.Change.TheVariants as change
-use Rattle.ob_site_state.specs.Changes.{rewound, IsNode, AreTold}
+use Rattle.ob_site_state.specs.Changes.{rewound, IsNode, ChangesTell}
 use Rattle.ob_site_state.proofs.Rewinding.{set_to}
 use Rattle.ob_site_settled.specs.Telling.{NotesAreValues}
 use Rattle.ob_site_settled.proofs.Notes.{got_map, keys_before}
@@ -95,7 +95,7 @@ slots_back_at : (slot : Slot) (n : ℕ) (o : Object) → IsNode n o → DifferIn
 slots_back_at slot zero o is = (refl, (λ no. absurd (node_has zero o is o.head refl no)), slots_itself o.inner, tt)
 slots_back_at slot (suc n) o is = (refl, (λ _. refl), slots_back slot n o.inner (λ h e. node_has (suc n) o is h e), tt)
 
-tree_before : (plan : Plan) (cs : List Change) (s : State) → AreTold plan cs s → DifferInSlots (row (rewound cs s).tree) (row s.tree)
+tree_before : (plan : Plan) (cs : List Change) (s : State) → ChangesTell plan cs s → DifferInSlots (row (rewound cs s).tree) (row s.tree)
 tree_before plan [] s told = slots_itself (row s.tree)
 tree_before plan (change.Slot id slot ∷ cs) s told =
     slots_then (row (changed (set_to slot) id.number (rewound cs s).tree)) (row (rewound cs s).tree) (row s.tree)

@@ -24,7 +24,7 @@ use Rattle.ob_site_rules.specs.Shown.{rule_of}
 use Rattle.ob_shown_laws.specs.Changed.{differs}
 use Rattle.ob_site_state.specs.declared.change.Change.{Change}
 use Rattle.ob_site_state.specs.declared.change.Change.TheVariants as change
-use Rattle.ob_site_state.specs.Changes.{rewound, IsNode, CanRewind, AreTold}
+use Rattle.ob_site_state.specs.Changes.{rewound, IsNode, CanRewind, ChangesTell}
 use Rattle.ob_site_state.specs.Kept.{keys, IsSoundFor}
 use Rattle.ob_site_settled.specs.Telling.{first_noted, slot_noted, len_noted, status_noted, is_first, other_slot_in, other_slot, other_records, is_rule, node_with, other_status, told_by, all_told, subject_told}
 use Rattle.ob_site_laws.proofs.Same.{tells_status}
@@ -212,7 +212,7 @@ abbrev pub numbers_told : Plan → List Change → State → List ℕ
 numbers_told plan cs now = all_told (rewound cs now).library plan now [] cs ++ option_to_list (subject_told plan now (length (rewound cs now).alarms))
 
 -- each own node that shows itself otherwise is among them
-pub complete : (plan : Plan) (cs : List Change) (now : State) → CanRewind cs now → AreTold plan cs now → roll (rewound cs now) ≡ rewound cs now → IsSoundFor plan (rewound cs now)
+pub complete : (plan : Plan) (cs : List Change) (now : State) → CanRewind cs now → ChangesTell plan cs now → roll (rewound cs now) ≡ rewound cs now → IsSoundFor plan (rewound cs now)
     → (p : Path) (n : ℕ) → place_of p (paths now.tree) ≡ Some n → differs plan (rewound cs now) (ended cs now) p ≡ true → Has n (numbers_told plan cs now)
 complete plan cs now can told rolled_before sound p n here otherwise =
     go
@@ -271,7 +271,7 @@ IsNoted s (change.Records place len) = Unit {0}
 IsNoted s (change.Event rule status) = Unit {0}
 IsNoted s (change.Contracts library) = Unit {0}
 
-pub nodes_noted : (plan : Plan) (cs : List Change) (s : State) → CanRewind cs s → AreTold plan cs s → AllByRecursion (IsNoted s) cs
+pub nodes_noted : (plan : Plan) (cs : List Change) (s : State) → CanRewind cs s → ChangesTell plan cs s → AllByRecursion (IsNoted s) cs
 nodes_noted plan [] s can told = tt
 nodes_noted plan (change.Slot id slot ∷ cs) s can told =
     ((told.0.0, ap (place_of told.0.0) (sym (paths_before cs s can.1)) ∙ told.0.1), nodes_noted plan cs s can.1 told.1)
@@ -284,7 +284,7 @@ all_of_option Q None ns one all = all
 all_of_option Q (Some n) ns one all = (one n refl, all)
 
 -- each number that is told is that of such a node
-pub all_other : (plan : Plan) (cs : List Change) (now : State) → CanRewind cs now → AreTold plan cs now → IsSoundFor plan (rewound cs now) → Apart (keys now.logs)
+pub all_other : (plan : Plan) (cs : List Change) (now : State) → CanRewind cs now → ChangesTell plan cs now → IsSoundFor plan (rewound cs now) → Apart (keys now.logs)
     → AllByRecursion (IsOther plan cs now) (numbers_told plan cs now)
 all_other plan cs now can told sound apart =
     all_both (IsOther plan cs now) (all_told library plan now [] cs) (option_to_list by_subject)

@@ -7,7 +7,7 @@ use Rattle.ob_shown_laws.specs.Looked.{IsLeft}
 use Rattle.ob_tree.specs.Laid.{paths}
 use Rattle.ob_site_state.specs.declared.change.Change.{Change}
 use Rattle.ob_site_state.specs.declared.change.Change.TheVariants as change
-use Rattle.ob_site_state.specs.Changes.{rewound, CanRewind, AreTold}
+use Rattle.ob_site_state.specs.Changes.{rewound, CanRewind, ChangesTell}
 use Rattle.ob_site_state.specs.Kept.{keys}
 
 -- The paths that a change is of: that of the node whose slot was set, or of the history that has a new record; with an alarm
@@ -26,6 +26,6 @@ looked_at plan s (c ∷ cs) = paths_of plan s c ++ looked_at plan s cs
 
 -- A step left every path alone but those that its notes are of: up to its end, at which histories drop their oldest records.
 abbrev pub NotesTell : Type 0
-NotesTell = (plan : Plan) (found : List Change) (s : State) → CanRewind found s → AreTold plan found s
+NotesTell = (plan : Plan) (found : List Change) (s : State) → CanRewind found s → ChangesTell plan found s
     → roll (rewound found s) ≡ rewound found s
     → (p : Path) → is_among p (looked_at plan s found) ≡ false → IsLeft plan (rewound found s) (roll s) p

@@ -7,7 +7,7 @@ use Rattle.ob_object.specs.Fits.{fits_slot}
 use Rattle.ob_object.specs.Object.{parts}
 use Rattle.ob_contracts.specs.Inherit.{Contracts, or_else, only_if}
 use Rattle.ob_standing.specs.Contexts.{Context}
-use Rattle.ob_ground.specs.Grounds.{Taught, AreTold as WordsAreTold}
+use Rattle.ob_ground.specs.Grounds.{Taught, WordsStand}
 use Rattle.ob_alarms.specs.States.{status_of}
 use Rattle.ob_alarms.specs.declared.alarm.Event.{Event}
 use Rattle.ob_alarms.specs.declared.alarm.What.{What}
@@ -25,7 +25,7 @@ use Rattle.ob_shown_laws.specs.Changed.{head_in, same_values, same_log}
 use Rattle.ob_step_laws.specs.Defaults.{with_library}
 use Rattle.ob_site_state.specs.declared.change.Change.{Change}
 use Rattle.ob_site_state.specs.declared.change.Change.TheVariants as change
-use Rattle.ob_site_state.specs.Changes.{cut, rewound, CanRewind, AreTold}
+use Rattle.ob_site_state.specs.Changes.{cut, rewound, CanRewind, ChangesTell}
 use Rattle.ob_site_state.specs.Kept.{Kept}
 
 -- what the first of the notes gives that has it
@@ -61,7 +61,7 @@ replaced_or (Some told) s = told.library
 -- the words that the library before tells are those of the objects that are there
 abbrev pub TellsOf : Option Taught → State → Type 0
 TellsOf None s = Unit {0}
-TellsOf (Some told) s = WordsAreTold s.tree told
+TellsOf (Some told) s = WordsStand s.tree told
 
 -- no earlier note is of the same object, history or rule: so the note tells what was before the step
 abbrev pub is_first : List Change → Change → Bool
@@ -159,5 +159,5 @@ IsComparable s (change.Contracts told) = Unit {0}
 
 -- Whatever a step does, but for another library it changes values alone: the slots of nodes, records and alarms.
 abbrev pub NotesAreValues : Type 0
-NotesAreValues = (plan : Plan) (found : List Change) (s : State) → CanRewind found s → AreTold plan found s
+NotesAreValues = (plan : Plan) (found : List Change) (s : State) → CanRewind found s → ChangesTell plan found s
     → DifferInValues (rewound found s) (with_library (rewound found s).library (roll s))

@@ -258,14 +258,17 @@ fn changed_subject(state: &State) -> Option<NodeId>
 /// may be there twice. An error only for want of memory.
 ///
 /// Source: oBIX 1.1, chapter 12 (Watch.pollChanges).
-pub fn changed<L: Ledger>(state: &State, steps: &mut Steps<L>) -> Result<Vec<NodeId>, AllocError>
+pub fn changed_nodes<L: Ledger>(
+    state: &State,
+    steps: &mut Steps<L>,
+) -> Result<Vec<NodeId>, AllocError>
     ensures changed { IfOk result (λ nodes. AreChanged state.now.plan state.now.before (ended_in_values state.now)
         (map (λ node. node.number) nodes.items)) }
     ensures values { IfOk result (λ nodes. DifferInValues state.now.before (roll state.now.now)
         → AreChanged state.now.plan state.now.before (roll state.now.now) (map (λ node. node.number) nodes.items)) }
     ensures within { IfOk result (λ nodes. All (λ node. node.number < parts state.now.now.tree) nodes.items) }
 {
-    state.is_sound();
+    state.sound_law();
     let replaced = library_replaced(state);
     let mut found = Vec::new(state.allocator());
     push_all(state, replaced, state.changes(), &mut found, steps)?;

@@ -12,7 +12,7 @@ mod seen;
 mod spans;
 mod values;
 
-pub use changes::changed;
+pub use changes::changed_nodes;
 pub use laws::{notes_are_values, notes_tell, steps_end, worked_rows, worlds_end};
 pub use noted::{changes_values, library_before};
 pub use spans::{Span, shows_other_span};

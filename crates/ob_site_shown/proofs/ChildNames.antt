@@ -13,7 +13,7 @@ use Rattle.ob_site_rules.specs.Shown.{derived, rule_of, with_roles, with_status,
 use Rattle.ob_site_rules.specs.State.{State}
 use Rattle.ob_site_rules.specs.declared.plan.Plan.{Plan}
 use Rattle.ob_standing.specs.Contexts.{Context, comes_to, sources_in}
-use Rattle.ob_shown_laws.specs.Own.{dressed_own}
+use Rattle.ob_shown_laws.specs.Own.{derived_own}
 use Rattle.ob_tree.specs.Children.{named_from, child_at}
 use Rattle.ob_tree.specs.Laid.{head_at, leaf}
 use Rattle.ob_tree.specs.Shown.{part_at, standing_at}
@@ -99,7 +99,7 @@ pub shows_names : (plan : Plan) (s : State) (k : ℕ) (c : Context) (own seen : 
 shows_names plan s k c own seen n stands lent sees =
     let part = part_there k s.tree own.head (leaf_there (head_at k s.tree) own lent) in
     let x : Object = part.0 in
-    let d : Object = dressed_own plan s x in
+    let d : Object = derived_own plan s x in
     let roles : List Object = derived plan s (node_path x.head) in
     let inner : List Object = listed (with_roles plan s x.inner) in
     let numbered : is_some (child_at k n s.tree) ≡ is_some (named n (children x)) =
@@ -113,7 +113,7 @@ shows_names plan s k c own seen n stands lent sees =
     ap (λ (os : List Object). is_some (overridden (Some n) os)) (sources_at plan s c x.head (node_path x.head))
     ∙ ap (λ (h : Head). is_some (overridden (Some n) (sources_in c h))) part.2
     ∙ sym (ap (λ (o : Object). is_some (named n (children o))) sees ∙ shown_names n c own ∙ no_own (head_at k s.tree) lent) in
-    ap₂ (λ (i : Option Context) (j : Option Object). option_map (λ (o : Object). is_some (child n o)) (option_and_then (λ c. option_map (λ o. comes_to c (dressed_own plan s o)) j) i)) (sym stands) part.1
+    ap₂ (λ (i : Option Context) (j : Option Object). option_map (λ (o : Object). is_some (child n o)) (option_and_then (λ c. option_map (λ o. comes_to c (derived_own plan s o)) j) i)) (sym stands) part.1
     ∙ ap (λ (b : Bool). Some b) (shown_names n c d ∙ ap₂ (λ (a b : Bool). a || b) owned inherited)
   where
     some_same : {a b : Object} → Some a ≡ Some b → a ≡ b

@@ -14,7 +14,7 @@ use Rattle.ob_site_rules.specs.declared.plan.Plan.{Plan}
 use Rattle.ob_standing.specs.Contexts.{Context, comes_to, under}
 use Rattle.ob_shown_laws.specs.Alike.{row}
 use Rattle.ob_shown_laws.specs.Changed.{PathsDiffer, head_in}
-use Rattle.ob_shown_laws.specs.Own.{dressed_own}
+use Rattle.ob_shown_laws.specs.Own.{derived_own}
 use Rattle.ob_tree.specs.Laid.{head_at, leaf as leaf_of, paths}
 use Rattle.ob_tree.specs.Paths.{place_of}
 use Rattle.ob_tree.specs.Shown.{effective_in, handed_at, standing_at}
@@ -72,11 +72,11 @@ pub own_shows : (plan : Plan) (s : State) (p : Path) (n : ℕ) (c : Context) (ow
 own_shows plan s p n c own differ here stands lent =
     let part = part_there n s.tree own.head (leaf_there (head_at n s.tree) own lent) in
     let x : Object = part.0 in (
-      comes_to c (dressed_own plan s x),
+      comes_to c (derived_own plan s x),
       (
         (own_trees_tell plan s).shows_own p n differ (sym here)
-            ∙ ap₂ (λ (i : Option Context) (j : Option Object). option_and_then (λ c. option_map (λ o. comes_to c (dressed_own plan s o)) j) i) (sym stands) part.1,
-        ap (λ (h : Head). leaf (target_head h)) (comes_head c (dressed_own plan s x))
+            ∙ ap₂ (λ (i : Option Context) (j : Option Object). option_and_then (λ c. option_map (λ o. comes_to c (derived_own plan s o)) j) i) (sym stands) part.1,
+        ap (λ (h : Head). leaf (target_head h)) (comes_head c (derived_own plan s x))
             ∙ ap leaf (status_at plan s c x.head (node_path x.head))
             ∙ ap (λ (h : Head). leaf (target_head (head_in c h))) part.2
             ∙ sym (ap (λ (h : Head). leaf (target_head h)) (comes_head c own)),

@@ -8,7 +8,7 @@ use Rattle.ob_site_rules.specs.Build.{Path}
 use Rattle.ob_site_rules.specs.declared.plan.Plan.{Plan}
 use Rattle.ob_site_rules.specs.Shown.{derived, rule_of, with_roles, with_status, with_status_at, with_status_by}
 use Rattle.ob_site_rules.specs.State.{State}
-use Rattle.ob_shown_laws.specs.Own.{dressed_own}
+use Rattle.ob_shown_laws.specs.Own.{derived_own}
 
 -- a head that is no node's, or whose path has no rule
 pub none_at : (plan : Plan) (s : State) (h : Head) → None ≡ node_path h → with_status plan s h ≡ h
@@ -33,7 +33,7 @@ none_inside : (plan : Plan) (s : State) (os : Objects) → length (listed os) �
 none_inside plan s none e = refl
 none_inside plan s (node h inner rest) e = absurd cc
 
-pub stays_so : (plan : Plan) (s : State) (o : Object) → length (children o) ≡ 0 → with_status plan s o.head ≡ o.head → derived plan s (node_path o.head) ≡ [] → dressed_own plan s o ≡ o
+pub stays_so : (plan : Plan) (s : State) (o : Object) → length (children o) ≡ 0 → with_status plan s o.head ≡ o.head → derived plan s (node_path o.head) ≡ [] → derived_own plan s o ≡ o
 stays_so plan s o empty status roles =
     ap₂ (λ (h : Head) (os : List Object). let x : Object = record { head = h; inner = in_row (listed (with_roles plan s o.inner) ++ os) } in x) status roles
     ∙ ap (λ (os : Objects). let x : Object = record { head = o.head; inner = os } in x) (none_inside plan s o.inner empty)

@@ -5,7 +5,7 @@ ghost use Rattle.ob_object.specs.Paths.{node_path};
 ghost use Rattle.ob_site_rules.specs.declared.plan.Plan.{Plan};
 ghost use Rattle.ob_site_rules.specs.State.{numbered_from};
 ghost use Rattle.ob_site_rules.specs.Shown.{derived as derived_by, rule_of, with_status};
-ghost use Rattle.ob_shown_laws.specs.Own.{dressed_own};
+ghost use Rattle.ob_shown_laws.specs.Own.{derived_own};
 ghost use Rattle.ob_plain_state.specs.States.{NamesAreFree};
 ghost use Rattle.ob_site_roles.specs.Roles.{AreRoles};
 ghost use Rattle.ob_site_state.specs.Contents.{state_in};
@@ -42,7 +42,7 @@ fn joined(mut first: Vec<Obj>, mut others: Vec<Obj>) -> Result<Vec<Obj>, AllocEr
 
 /// An own object with the status of each source in it, and behind the own children of each node those that its
 /// roles derive. An error only for want of memory.
-pub fn dress(
+pub fn with_derived(
     alloc: Global,
     plan: &Plan,
     contents: &Contents,
@@ -52,12 +52,12 @@ pub fn dress(
     requires roles { AreRoles contents.now.roles plan.now }
     requires histories { keys (state_in contents.now).logs ≡ map (λ h. h.0) plan.now.histories }
     requires free { NamesAreFree plan.now (state_in contents.now) (node object.now.head object.now.inner none) }
-    ensures { IfOk result (λ o. o ≡ dressed_own plan.now (state_in contents.now) object.now) }
+    ensures { IfOk result (λ o. o ≡ derived_own plan.now (state_in contents.now) object.now) }
 {
     let head = dressed_head(contents, object.head())?;
     let mut own = Vec::with_capacity(alloc, object.len())?;
     for child in object.children() {
-        own.push(dress(alloc, plan, contents, child)?)?;
+        own.push(with_derived(alloc, plan, contents, child)?)?;
     }
     let derived = derived(alloc, plan, contents, object.head().node_path())?;
     let all = joined(own, derived)?;
@@ -101,7 +101,7 @@ fn derives_none(
 fn stays(alloc: Global, plan: &Plan, contents: &Contents, object: &Obj) -> Result<bool, AllocError>
     requires roles { AreRoles contents.now.roles plan.now }
     requires histories { keys (state_in contents.now).logs ≡ map (λ h. h.0) plan.now.histories }
-    ensures { IfOk result (λ stays. stays ≡ true → dressed_own plan.now (state_in contents.now) object.now ≡ object.now) }
+    ensures { IfOk result (λ stays. stays ≡ true → derived_own plan.now (state_in contents.now) object.now ≡ object.now) }
 {
     if !object.is_empty() {
         return Ok(false);
@@ -112,8 +112,8 @@ fn stays(alloc: Global, plan: &Plan, contents: &Contents, object: &Obj) -> Resul
     derives_none(alloc, plan, contents, object.head())
 }
 
-/// The same as `dress`, of an object that stays where nothing is put to it.
-pub(crate) fn dress_own(
+/// The same as `with_derived`, of an object that stays where nothing is put to it.
+pub(crate) fn own_with_derived(
     alloc: Global,
     plan: &Plan,
     contents: &Contents,
@@ -123,12 +123,12 @@ pub(crate) fn dress_own(
     requires roles { AreRoles contents.now.roles plan.now }
     requires histories { keys (state_in contents.now).logs ≡ map (λ h. h.0) plan.now.histories }
     requires free { NamesAreFree plan.now (state_in contents.now) (node object.head object.inner none) }
-    ensures { IfOk result (λ o. o ≡ dressed_own plan.now (state_in contents.now) object) }
+    ensures { IfOk result (λ o. o ≡ derived_own plan.now (state_in contents.now) object) }
 {
     let same = stays(alloc, plan, contents, &object)?;
     if same {
         Ok(object)
     } else {
-        dress(alloc, plan, contents, &object)
+        with_derived(alloc, plan, contents, &object)
     }
 }

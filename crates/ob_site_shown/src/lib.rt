@@ -12,10 +12,10 @@ mod roles;
 mod shown;
 
 pub use children::shows_child;
-pub use dressing::dress;
+pub use dressing::with_derived;
 pub use heads::{own_kind, own_target, shown_kind};
 pub use logs::history_log;
 pub use owners::{begins_with, shown_derived};
 pub use parents::parent_path;
 pub use roles::derived;
-pub use shown::{dressed_part, shown_at, shown_own};
+pub use shown::{derived_part, shown_at, shown_own};

@@ -7,12 +7,12 @@ ghost use Rattle.ob_tree.specs.Laid.{paths};
 ghost use Rattle.ob_tree.specs.Paths.{place_of};
 ghost use Rattle.ob_site_rules.specs.Build.{Path};
 ghost use Rattle.ob_site_rules.specs.Shown.{shown};
-ghost use Rattle.ob_shown_laws.specs.Own.{dressed_own};
+ghost use Rattle.ob_shown_laws.specs.Own.{derived_own};
 ghost use Rattle.ob_shown_laws.specs.OwnTree.{own_shown_at};
 ghost use Rattle.ob_site_state.specs.Contents.{state_in};
 ghost use Rattle.ob_site_shown.specs.Readable.{IsReadable};
 
-use crate::dressing::dress_own;
+use crate::dressing::own_with_derived;
 use crate::owners::shown_derived;
 use ob_contracts::Steps;
 use ob_object::Obj;
@@ -25,7 +25,7 @@ use std::sync::ledger::Ledger;
 
 /// The own object of a number with all that is in it, with the status of each source and the children that roles
 /// derive. An error only for want of memory.
-pub fn dressed_part(
+pub fn derived_part(
     alloc: Global,
     plan: &Plan,
     contents: &Contents,
@@ -33,10 +33,10 @@ pub fn dressed_part(
 ) -> Result<Obj, AllocError>
     requires readable { IsReadable plan.now contents.now }
     requires within { node.number < parts contents.now.ground.tree.root }
-    ensures { IfOk result (λ o. Some o ≡ option_map (dressed_own plan.now (state_in contents.now)) (part_at node.number contents.now.ground.tree.root)) }
+    ensures { IfOk result (λ o. Some o ≡ option_map (derived_own plan.now (state_in contents.now)) (part_at node.number contents.now.ground.tree.root)) }
 {
     let own = contents.ground.tree().copy(alloc, node)?;
-    dress_own(alloc, plan, contents, own)
+    own_with_derived(alloc, plan, contents, own)
 }
 
 /// What is shown of the own object of a number where it stands: it and all in it, with statuses, derived children
@@ -57,7 +57,7 @@ pub fn shown_own<L: Ledger>(
     ensures shows { IfOk result (λ o. (p : Path) → place_of p (paths contents.now.ground.tree.root) ≡ Some node.number → shown plan.now (state_in contents.now) p ≡ Some o) }
     ensures steps { IfOk result (λ o. steps.new ≡ steps.old + depth_at node.number contents.now.ground.tree.root + min (parts o) (2 ^ 64 - 1)) }
 {
-    let dressed = dressed_part(alloc, plan, contents, node)?;
+    let dressed = derived_part(alloc, plan, contents, node)?;
     let standing = contents.ground.standing(node, steps);
     standing.whole(alloc, &dressed, steps)
 }

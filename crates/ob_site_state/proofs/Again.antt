@@ -7,8 +7,8 @@ use Rattle.ob_site_rules.specs.declared.plan.Plan.{Plan}
 use Rattle.ob_site_rules.specs.State.{State, roll}
 use Rattle.ob_site_state.specs.declared.change.Change.{Change}
 use Rattle.ob_site_state.specs.declared.change.Change.TheVariants as change
-use Rattle.ob_site_state.specs.Changes.{is_library, undone, rewound, CanUndo, CanRewind, IsTold, AreTold, IsNewest}
-use Rattle.ob_site_state.specs.Kept.{IsKept, IsSoundFor, LogsAreBy}
+use Rattle.ob_site_state.specs.Changes.{is_library, undone, rewound, CanUndo, CanRewind, IsTold, ChangesTell, IsNewest}
+use Rattle.ob_site_state.specs.Kept.{IsConsistentState, IsSoundFor, LogsAreBy}
 use Rattle.ob_site_state.proofs.Sound.{library_sound}
 
 abbrev with_library : Contracts → State → State
@@ -62,16 +62,16 @@ told_with plan (change.Event rule status) l s told =
     (told.0, told.1, record { event = newest.event; alarm = newest.alarm; last = newest.last; there = newest.there; of_rule = newest.of_rule; known = newest.known })
 told_with plan (change.Contracts library) l s told = tt
 
-all_told_with : (plan : Plan) (cs : List Change) (l : Contracts) (s : State) → AreTold plan cs s → AreTold plan cs (with_library l s)
+all_told_with : (plan : Plan) (cs : List Change) (l : Contracts) (s : State) → ChangesTell plan cs s → ChangesTell plan cs (with_library l s)
 all_told_with plan [] l s told = tt
 all_told_with plan (c ∷ cs) l s told =
     (subst (λ (x : State). IsTold plan c (undone c x) x) (sym (rewound_with cs l s)) (told_with plan c (before_all cs l) (rewound cs s) told.0), all_told_with plan cs l s told.1)
 
-pub library_again : (plan : Plan) (time : ℕ) (s t : State) (b : Board) (since : ℕ) (found : List Change) (new : Contracts) → IsKept plan time s b since found → list_any is_library found ≡ true
-    → t ≡ record s { library = new } → IsKept plan time t b since found
+pub library_again : (plan : Plan) (time : ℕ) (s t : State) (b : Board) (since : ℕ) (found : List Change) (new : Contracts) → IsConsistentState plan time s b since found → list_any is_library found ≡ true
+    → t ≡ record s { library = new } → IsConsistentState plan time t b since found
 library_again plan time s t b since found new k noted is =
     let e : rewound found (with_library new s) ≡ rewound found s = rewound_again found new s noted in
-    subst (λ (x : State). IsKept plan time x b since found) (sym is) (record {
+    subst (λ (x : State). IsConsistentState plan time x b since found) (sym is) (record {
       root = k.root;
       rules = k.rules;
       histories = k.histories;

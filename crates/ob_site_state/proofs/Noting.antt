@@ -22,12 +22,12 @@ use Rattle.ob_site_rules.specs.Writes.{events_ever, with_record}
 use Rattle.ob_history.specs.declared.records.Record.{Record}
 use Rattle.ob_times.specs.Times.{moment_instant}
 use Rattle.ob_tree.specs.declared.node.NodeId.{NodeId}
-use Rattle.ob_ground.specs.Grounds.{Taught, AreTold as WordsAreTold}
+use Rattle.ob_ground.specs.Grounds.{Taught, WordsStand}
 use Rattle.ob_site_state.specs.declared.change.Change.{Change}
 use Rattle.ob_site_state.specs.declared.change.Change.TheVariants as change
-use Rattle.ob_site_state.specs.Changes.{cut, undone, rewound, with_log, CanUndo, CanRewind, IsNode, IsTold, AreTold, AddsEvent}
-use Rattle.ob_site_state.specs.Kept.{Kept, keys, LogsAreBy, IsSoundFor, IsKept}
-use Rattle.ob_site_state.proofs.Rewinding.{set_to, set_back, rewound-append, CanRewind-append, AreTold-append}
+use Rattle.ob_site_state.specs.Changes.{cut, undone, rewound, with_log, CanUndo, CanRewind, IsNode, IsTold, ChangesTell, AddsEvent}
+use Rattle.ob_site_state.specs.Kept.{Kept, keys, LogsAreBy, IsSoundFor, IsConsistentState}
+use Rattle.ob_site_state.proofs.Rewinding.{set_to, set_back, rewound-append, CanRewind-append, ChangesTell-append}
 use Rattle.ob_site_state.proofs.Sound.{slot_sound, record_sound, library_sound, board_sound}
 use Rattle.ob_site_state.proofs.Times.{LogsAreBy-later}
 use Rattle.ob_site_state.proofs.Places.{keys-with_log, length-with_log, cut_back, record_told, recorded_by}
@@ -79,9 +79,9 @@ can_set_back o n old new g well e is h f =
     subst (λ (x : Head). IsTrue (fits_slot x.kind old)) (sym both) (subst (λ (x : Slot). IsTrue (fits_slot g.kind x)) is (own_fits o n g well e))
 
 -- A change that is noted.
-pub noted : (plan : Plan) (time : ℕ) (s t : State) (b c : Board) (since : ℕ) (found : List Change) (ch : Change) → IsKept plan time s b since found
+pub noted : (plan : Plan) (time : ℕ) (s t : State) (b c : Board) (since : ℕ) (found : List Change) (ch : Change) → IsConsistentState plan time s b since found
     → c.root ≡ b.root → c.rules ≡ b.rules → IsWellFormed t.tree → first_twice [] (paths t.tree) ≡ None → LogsAreBy time t.logs → keys t.logs ≡ keys s.logs → IsSoundFor plan t → CanUndo ch t → IsTold plan ch s t → undone ch t ≡ s
-    → IsKept plan time t c since (found ++ ch ∷ [])
+    → IsConsistentState plan time t c since (found ++ ch ∷ [])
 noted plan time s t b c since found ch k root rules well differ by same sound can told back =
     let e : rewound (found ++ ch ∷ []) t ≡ rewound found s = rewound-append found ch t ∙ ap (rewound found) back in record {
       root = root ∙ k.root;
@@ -94,7 +94,7 @@ noted plan time s t b c since found ch k root rules well differ by same sound ca
       sound = sound;
       later = k.later;
       can_rewind = CanRewind-append found ch t can (subst (λ (x : State). CanRewind found x) (sym back) k.can_rewind);
-      told = AreTold-append plan found ch t (subst (λ (x : State). IsTold plan ch x t) (sym back) told) (subst (λ (x : State). AreTold plan found x) (sym back) k.told);
+      told = ChangesTell-append plan found ch t (subst (λ (x : State). IsTold plan ch x t) (sym back) told) (subst (λ (x : State). ChangesTell plan found x) (sym back) k.told);
       in_time_before = subst (λ (x : State). LogsAreBy since x.logs) (sym e) k.in_time_before;
       rolled_before = subst (λ (x : State). roll x ≡ x) (sym e) k.rolled_before;
       sound_before = subst (λ (x : State). IsSoundFor plan x) (sym e) k.sound_before;
@@ -128,10 +128,10 @@ slot_back s t node old new within was is =
     ap (undone (change.Slot node old)) is
     ∙ ap (λ (o : Object). let x : State = record s { tree = o } in x) (set_back s.tree node.number there.0 old new there.1 same)
 
-pub slot_noted : (plan : Plan) (time : ℕ) (s t : State) (b c : Board) (since : ℕ) (found items : List Change) (node : NodeId) (old new : Slot) → IsKept plan time s b since found
+pub slot_noted : (plan : Plan) (time : ℕ) (s t : State) (b c : Board) (since : ℕ) (found items : List Change) (node : NodeId) (old new : Slot) → IsConsistentState plan time s b since found
     → c.root ≡ b.root → c.rules ≡ b.rules → IsNode node.number s.tree → node.number < parts s.tree → ((h : Head) → head_at node.number s.tree ≡ Some h → IsTrue (fits_slot h.kind new))
     → Some old ≡ option_map (λ (h : Head). h.slot) (head_at node.number s.tree) → t ≡ record s { tree = changed (set_to new) node.number s.tree } → items ≡ found ++ change.Slot node old ∷ []
-    → IsKept plan time t c since items
+    → IsConsistentState plan time t c since items
 slot_noted plan time s t b c since found items node old new k root rules there_is within fits was is all =
     let n : ℕ = node.number in
     let there = head_there s.tree n within in
@@ -142,7 +142,7 @@ slot_noted plan time s t b c since found items node old new k root rules there_i
       subst (λ (m : ℕ). n < m) (sym (parts-changed (set_to new) n s.tree)) within,
       can_set_back s.tree n old new there.0 k.well_formed there.1 same,
     ) in
-    subst (λ (l : List Change). IsKept plan time t c since l) (sym all)
+    subst (λ (l : List Change). IsConsistentState plan time t c since l) (sym all)
     (noted plan time s t b c since found (change.Slot node old) k root rules
     (subst (λ (x : State). IsWellFormed x.tree) (sym is) (well_set s.tree n new k.well_formed within fits))
     (subst (λ (x : State). first_twice [] (paths x.tree) ≡ None) (sym is) (ap (λ (ps : List (Option TreePath)). first_twice [] ps) (paths_stay s.tree n new within) ∙ k.differ))
@@ -159,12 +159,12 @@ pub record_back : (s t : State) (r : Record) (place len : ℕ) → Some len ≡ 
 record_back s t r place len was is =
     ap (undone (change.Records place len)) is ∙ ap (λ (ls : List (Path × Log)). let x : State = record s { logs = ls } in x) (cut_back r len place s.logs was)
 
-pub record_noted : (plan : Plan) (time : ℕ) (s t : State) (b c : Board) (since : ℕ) (found items : List Change) (r : Record) (place len : ℕ) → IsKept plan time s b since found
+pub record_noted : (plan : Plan) (time : ℕ) (s t : State) (b c : Board) (since : ℕ) (found items : List Change) (r : Record) (place len : ℕ) → IsConsistentState plan time s b since found
     → c.root ≡ b.root → c.rules ≡ b.rules → r.time ≡ moment_instant time → ((l : Path × Log) → slice_get s.logs place ≡ Some l → events_ever l.1 + 1 < 2 ^ 63) → place < length s.logs
     → Some len ≡ option_map (λ (l : Path × Log). length l.1.kept) (slice_get s.logs place) → t ≡ record s { logs = with_log (with_record r) place s.logs } → items ≡ found ++ change.Records place len ∷ []
-    → IsKept plan time t c since items
+    → IsConsistentState plan time t c since items
 record_noted plan time s t b c since found items r place len k root rules at more within was is all =
-    subst (λ (l : List Change). IsKept plan time t c since l) (sym all)
+    subst (λ (l : List Change). IsConsistentState plan time t c since l) (sym all)
     (noted plan time s t b c since found (change.Records place len) k root rules
     (subst (λ (x : State). IsWellFormed x.tree) (sym is) k.well_formed)
     (subst (λ (x : State). first_twice [] (paths x.tree) ≡ None) (sym is) k.differ)
@@ -176,11 +176,11 @@ record_noted plan time s t b c since found items r place len k root rules at mor
     (record_back s t r place len was is))
 
 -- an event
-pub event_noted : (plan : Plan) (time : ℕ) (s t : State) (b c a : Board) (since : ℕ) (found items : List Change) (rule : ℕ) (status : Status) → IsKept plan time s b since found
+pub event_noted : (plan : Plan) (time : ℕ) (s t : State) (b c a : Board) (since : ℕ) (found items : List Change) (rule : ℕ) (status : Status) → IsConsistentState plan time s b since found
     → c.root ≡ b.root → c.rules ≡ b.rules → t ≡ with_board s a → AddsEvent true s t → IsTold plan (change.Event rule status) s (with_board s a) → items ≡ found ++ change.Event rule status ∷ []
-    → IsKept plan time t c since items
+    → IsConsistentState plan time t c since items
 event_noted plan time s t b c a since found items rule status k root rules is adds told all =
-    subst (λ (l : List Change). IsKept plan time t c since l) (sym all)
+    subst (λ (l : List Change). IsConsistentState plan time t c since l) (sym all)
     (noted plan time s t b c since found (change.Event rule status) k root rules
     (subst (λ (x : State). IsWellFormed x.tree) (sym is) k.well_formed)
     (subst (λ (x : State). first_twice [] (paths x.tree) ≡ None) (sym is) k.differ)
@@ -194,7 +194,7 @@ pub before_as : (s t : State) (found items : List Change) (ch : Change) → undo
 before_as s t found items ch back all = ap (λ (l : List Change). rewound l t) all ∙ before_noted s t found ch back
 
 -- a later time
-pub begun : (plan : Plan) (time later : ℕ) (s : State) (b : Board) (since : ℕ) (found : List Change) → IsKept plan time s b since found → time ≤ later → IsKept plan later s b since found
+pub begun : (plan : Plan) (time later : ℕ) (s : State) (b : Board) (since : ℕ) (found : List Change) → IsConsistentState plan time s b since found → time ≤ later → IsConsistentState plan later s b since found
 begun plan time later s b since found k h = record {
   root = k.root;
   rules = k.rules;
@@ -243,8 +243,8 @@ rewound_differ [] s can differ = differ
 rewound_differ (c ∷ cs) s can differ = undone_differ c (rewound cs s) can.0 (rewound_differ cs s can.1 differ)
 
 -- All changes taken back.
-pub taken_back : (plan : Plan) (time : ℕ) (s t : State) (b c : Board) (since : ℕ) (found : List Change) → IsKept plan time s b since found
-    → c.root ≡ b.root → c.rules ≡ b.rules → t ≡ rewound found s → IsKept plan since t c since []
+pub taken_back : (plan : Plan) (time : ℕ) (s t : State) (b c : Board) (since : ℕ) (found : List Change) → IsConsistentState plan time s b since found
+    → c.root ≡ b.root → c.rules ≡ b.rules → t ≡ rewound found s → IsConsistentState plan since t c since []
 taken_back plan time s t b c since found k root rules is =
     let by : LogsAreBy since t.logs = subst (λ (x : State). LogsAreBy since x.logs) (sym is) k.in_time_before in record {
       root = root ∙ k.root;
@@ -264,9 +264,9 @@ taken_back plan time s t b c since found k root rules is =
     }
 
 -- The same state, with other room for alarms.
-pub kept_same : (plan : Plan) (time : ℕ) (s t : State) (b c : Board) (since : ℕ) (found : List Change) → IsKept plan time s b since found → c.root ≡ b.root → c.rules ≡ b.rules → t ≡ s → IsKept plan time t c since found
+pub kept_same : (plan : Plan) (time : ℕ) (s t : State) (b c : Board) (since : ℕ) (found : List Change) → IsConsistentState plan time s b since found → c.root ≡ b.root → c.rules ≡ b.rules → t ≡ s → IsConsistentState plan time t c since found
 kept_same plan time s t b c since found k root rules is =
-    subst (λ (x : State). IsKept plan time x c since found) (sym is) (record {
+    subst (λ (x : State). IsConsistentState plan time x c since found) (sym is) (record {
       root = root ∙ k.root;
       rules = rules ∙ k.rules;
       histories = k.histories;
@@ -287,15 +287,15 @@ kept_same plan time s t b c since found k root rules is =
 pub library_back : (s t : State) (old : Taught) (new : Contracts) → old.library ≡ s.library → t ≡ record s { library = new } → undone (change.Contracts old) t ≡ s
 library_back s t old new was is = ap (undone (change.Contracts old)) is ∙ ap (λ (l : Contracts). let x : State = record s { library = l } in x) was
 
-pub library_noted : (plan : Plan) (time : ℕ) (s t : State) (b : Board) (since : ℕ) (found items : List Change) (old : Taught) (new : Contracts) → IsKept plan time s b since found
-    → old.library ≡ s.library → WordsAreTold s.tree old → t ≡ record s { library = new } → items ≡ found ++ change.Contracts old ∷ [] → IsKept plan time t b since items
+pub library_noted : (plan : Plan) (time : ℕ) (s t : State) (b : Board) (since : ℕ) (found items : List Change) (old : Taught) (new : Contracts) → IsConsistentState plan time s b since found
+    → old.library ≡ s.library → WordsStand s.tree old → t ≡ record s { library = new } → items ≡ found ++ change.Contracts old ∷ [] → IsConsistentState plan time t b since items
 library_noted plan time s t b since found items old new k was told is all =
-    subst (λ (l : List Change). IsKept plan time t b since l) (sym all)
+    subst (λ (l : List Change). IsConsistentState plan time t b since l) (sym all)
     (noted plan time s t b b since found (change.Contracts old) k refl refl
     (subst (λ (x : State). IsWellFormed x.tree) (sym is) k.well_formed)
     (subst (λ (x : State). first_twice [] (paths x.tree) ≡ None) (sym is) k.differ)
     (subst (λ (x : State). LogsAreBy time x.logs) (sym is) k.in_time)
     (ap (λ (x : State). keys x.logs) is)
     (subst (λ (x : State). IsSoundFor plan x) (sym is) (library_sound plan s new k.sound))
-    (subst (λ (x : State). WordsAreTold x.tree old) (sym is) told) tt
+    (subst (λ (x : State). WordsStand x.tree old) (sym is) told) tt
     (library_back s t old new was is))

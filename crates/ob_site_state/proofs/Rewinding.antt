@@ -10,7 +10,7 @@ use Rattle.std.proofs.lemmas.Bool.{ltb-true, ltb-false}
 use Rattle.ob_site_rules.specs.declared.plan.Plan.{Plan}
 use Rattle.ob_site_rules.specs.State.{State}
 use Rattle.ob_site_state.specs.declared.change.Change.{Change}
-use Rattle.ob_site_state.specs.Changes.{undone, rewound, CanUndo, CanRewind, IsTold, AreTold}
+use Rattle.ob_site_state.specs.Changes.{undone, rewound, CanUndo, CanRewind, IsTold, ChangesTell}
 
 abbrev pub set_to : Slot → Head → Head
 set_to slot h = record h { slot = slot }
@@ -33,10 +33,10 @@ CanRewind-last (d ∷ cs) c s can =
     (rest.0, (subst (λ (t : State). CanUndo d t) (rewound-append cs c s) can.0, rest.1))
 
 -- what each tells, with one more
-pub AreTold-append : (plan : Plan) (cs : List Change) (c : Change) (s : State) → IsTold plan c (undone c s) s → AreTold plan cs (undone c s) → AreTold plan (cs ++ c ∷ []) s
-AreTold-append plan [] c s told rest = (told, rest)
-AreTold-append plan (d ∷ cs) c s told rest =
-    (subst (λ (t : State). IsTold plan d (undone d t) t) (sym (rewound-append cs c s)) rest.0, AreTold-append plan cs c s told rest.1)
+pub ChangesTell-append : (plan : Plan) (cs : List Change) (c : Change) (s : State) → IsTold plan c (undone c s) s → ChangesTell plan cs (undone c s) → ChangesTell plan (cs ++ c ∷ []) s
+ChangesTell-append plan [] c s told rest = (told, rest)
+ChangesTell-append plan (d ∷ cs) c s told rest =
+    (subst (λ (t : State). IsTold plan d (undone d t) t) (sym (rewound-append cs c s)) rest.0, ChangesTell-append plan cs c s told rest.1)
 
 -- a slot that is set and set back
 back_head : (h : Head) (old new : Slot) → h.slot ≡ old → set_to old (set_to new h) ≡ h

@@ -20,7 +20,7 @@ use Rattle.ob_site_state.specs.Changes.{cut, with_log, undone, rewound, settled_
 use Rattle.ob_site_state.proofs.Places.{length-with_log}
 use Rattle.std.proofs.lemmas.List.{take_more}
 use Rattle.ob_values.proofs.Bools.{neither}
-use Rattle.ob_site_state.specs.Kept.{Kept, keys, log_of, LogsAreBy, AreBy, IsSoundFor, IsKept}
+use Rattle.ob_site_state.specs.Kept.{Kept, keys, log_of, LogsAreBy, AreBy, IsSoundFor, IsConsistentState}
 use Rattle.ob_site_state.proofs.Sound.{rolls_sound}
 use Rattle.ob_site_state.proofs.Noting.{same_kept}
 
@@ -145,8 +145,8 @@ keys-rolled [] = refl
 keys-rolled (l ∷ ls) = ap (λ (ps : List Path). l.0 ∷ ps) (keys-rolled ls)
 
 -- What the parts of a state owe one another at the end of a step.
-pub committed : (plan : Plan) (time : ℕ) (s t : State) (b c : Board) (since : ℕ) (found : List Change) → IsKept plan time s b since found
-    → c.root ≡ b.root → c.rules ≡ b.rules → t ≡ roll s → IsKept plan time t c time []
+pub committed : (plan : Plan) (time : ℕ) (s t : State) (b c : Board) (since : ℕ) (found : List Change) → IsConsistentState plan time s b since found
+    → c.root ≡ b.root → c.rules ≡ b.rules → t ≡ roll s → IsConsistentState plan time t c time []
 committed plan time s t b c since found k root rules is =
     let by : LogsAreBy time t.logs = subst (λ (x : State). LogsAreBy time x.logs) (sym is) (rolled_by time s.logs k.in_time) in
     let sound : IsSoundFor plan t = subst (λ (x : State). IsSoundFor plan x) (sym is) (rolls_sound plan s k.sound) in record {

@@ -5,7 +5,7 @@ use Rattle.ob_object.specs.declared.head.Head.{Head}
 use Rattle.ob_object.specs.Fits.{fits_slot}
 use Rattle.ob_object.specs.Object.{Object, parts}
 use Rattle.ob_tree.specs.Paths.{place_of}
-use Rattle.ob_ground.specs.Grounds.{AreTold as WordsAreTold}
+use Rattle.ob_ground.specs.Grounds.{WordsStand}
 use Rattle.ob_tree.specs.Laid.{head_at, changed, paths}
 use Rattle.ob_alarms.specs.Lists.{changed_at}
 use Rattle.ob_alarms.specs.States.{status_of}
@@ -91,7 +91,7 @@ CanUndo (change.Slot node slot) s =
     (node.number < parts s.tree) × ((h : Head) → head_at node.number s.tree ≡ Some h → IsTrue (fits_slot h.kind slot))
 CanUndo (change.Records place len) s = place < length s.logs
 CanUndo (change.Event rule status) s = 0 < length s.events
-CanUndo (change.Contracts told) s = WordsAreTold s.tree told
+CanUndo (change.Contracts told) s = WordsStand s.tree told
 
 -- and so for each of them, once those behind it are taken back
 abbrev pub CanRewind : List Change → State → Type 0
@@ -124,9 +124,9 @@ IsTold plan (change.Event rule status) b s =
 IsTold plan (change.Contracts told) b s = Unit {0}
 
 -- and so each of them, of the state once those behind it are taken back
-abbrev pub AreTold : Plan → List Change → State → Type 0
-AreTold plan [] s = Unit {0}
-AreTold plan (c ∷ cs) s = IsTold plan c (undone c (rewound cs s)) (rewound cs s) × AreTold plan cs s
+abbrev pub ChangesTell : Plan → List Change → State → Type 0
+ChangesTell plan [] s = Unit {0}
+ChangesTell plan (c ∷ cs) s = IsTold plan c (undone c (rewound cs s)) (rewound cs s) × ChangesTell plan cs s
 
 -- the logs of which those that a change gave a record have dropped their oldest ones
 abbrev pub settled_by : Change → List (Path × Log) → List (Path × Log)

@@ -18,7 +18,7 @@ use Rattle.ob_consistent_laws.specs.Consistent.{IsConsistent}
 use Rattle.ob_shown_laws.specs.Alike.{row}
 use Rattle.ob_shown_laws.specs.Changed.{PathsDiffer}
 use Rattle.ob_site_state.specs.declared.change.Change.{Change}
-use Rattle.ob_site_state.specs.Changes.{rewound, CanRewind, AreTold}
+use Rattle.ob_site_state.specs.Changes.{rewound, CanRewind, ChangesTell}
 use Rattle.ob_site_state.specs.Roles.{RolesStand}
 
 -- a log, in which no room is counted
@@ -75,7 +75,7 @@ pub record IsSoundFor (plan : Plan) (s : State) : Type 0 where
 -- plan's histories, in their order, no two of which have one path; the own objects are well formed, and no two
 -- nodes have one path; no record is after the time; the state is sound for its plan; each change can be taken back, and tells what it
 -- should; and before the step no record was after the time before it, each log was within its capacity, and the state was sound.
-pub record IsKept (plan : Plan) (time : ℕ) (s : State) (board : Board) (since : ℕ) (found : List Change) : Type 0 where
+pub record IsConsistentState (plan : Plan) (time : ℕ) (s : State) (board : Board) (since : ℕ) (found : List Change) : Type 0 where
   pub root : board.root ≡ plan.root
   pub rules : board.rules ≡ numbered_from 0 plan.rules
   pub histories : keys s.logs ≡ map (λ h. h.0) plan.histories
@@ -86,7 +86,7 @@ pub record IsKept (plan : Plan) (time : ℕ) (s : State) (board : Board) (since 
   pub sound : IsSoundFor plan s
   pub later : since ≤ time
   pub can_rewind : CanRewind found s
-  pub told : AreTold plan found s
+  pub told : ChangesTell plan found s
   pub in_time_before : LogsAreBy since (rewound found s).logs
   pub rolled_before : roll (rewound found s) ≡ rewound found s
   pub sound_before : IsSoundFor plan (rewound found s)

@@ -5,7 +5,7 @@ use Rattle.ob_site_roles.specs.Roles.{AreRoles}
 use Rattle.ob_site_state.specs.declared.state.State.TheInside.{Inside}
 use Rattle.ob_site_state.specs.Changes.{rewound}
 use Rattle.ob_site_state.specs.Contents.{state_in}
-use Rattle.ob_site_state.specs.Kept.{Kept, IsKept}
+use Rattle.ob_site_state.specs.Kept.{Kept, IsConsistentState}
 use Rattle.ob_site_state.specs.Tallies.{count_at, growing_in, IsTallied}
 
 abbrev pub kept : Inside → Kept
@@ -19,10 +19,10 @@ kept a = record {
   steps = a.contents.ground.tree.steps;
 }
 
--- Its parts owe one another what `IsKept` says, its tally is that of its logs and counts the plan's histories that keep all
+-- Its parts owe one another what `IsConsistentState` says, its tally is that of its logs and counts the plan's histories that keep all
 -- their records, and its roles are those of its plan.
 pub record IsState (a : Inside) : Type 0 where
-  pub kept : IsKept a.plan a.time (state_in a.contents) a.contents.board a.since a.found.items
+  pub kept : IsConsistentState a.plan a.time (state_in a.contents) a.contents.board a.since a.found.items
   pub tallied : IsTallied a.tally (state_in a.contents).logs (rewound a.found.items (state_in a.contents)).logs
   pub growing : (p : Path) → count_at a.tally.growing p ≡ growing_in p a.plan.histories a.tally.capacities.items
   pub roles : AreRoles a.contents.roles a.plan

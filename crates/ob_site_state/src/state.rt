@@ -20,7 +20,7 @@ ghost use Rattle.ob_plain_state.specs.Fitting.{TakesIfRule};
 ghost use Rattle.ob_site_roles.specs.Roles.{recorders_of, AreRoles};
 ghost use Rattle.ob_site_state.specs.Recorded.{TakesRecord};
 ghost use Rattle.std.specs.List.{list_any};
-ghost use Rattle.ob_site_state.specs.Changes.{with_log, is_library, rewound, CanRewind, AreTold, IsNode, HasEvents};
+ghost use Rattle.ob_site_state.specs.Changes.{with_log, is_library, rewound, CanRewind, ChangesTell, IsNode, HasEvents};
 ghost use Rattle.ob_site_state.specs.Stamping.{stamped_by};
 ghost use Rattle.ob_site_state.specs.Kept.{keys, log_of, LogsAreBy, IsSoundFor};
 ghost use Rattle.ob_site_state.specs.Contents.{state_in};
@@ -224,7 +224,7 @@ impl State {
 
     /// The state now owes its plan nothing, no two nodes of its root have one path, those that roles derive among them,
     /// what roles name are own nodes, and the logs are those of the plan's histories, in their order.
-    pub fn is_sound(&self)
+    pub fn sound_law(&self)
         ensures sound { IsSoundFor self.now.plan self.now.now }
         ensures differ { first_twice [] (paths self.now.now.tree) ≡ None }
         ensures histories { keys self.now.now.logs ≡ map (λ h. h.0) self.now.plan.histories }
@@ -233,11 +233,11 @@ impl State {
         let _ = &self.time;
     }
 
-    /// What the step has changed so far, each as it was before, in order. `AreTold` says what each tells of the step.
+    /// What the step has changed so far, each as it was before, in order. `ChangesTell` says what each tells of the step.
     pub fn changes(&self) -> &[Change]
         ensures before { rewound result.now self.now.now ≡ self.now.before }
         ensures can { CanRewind result.now self.now.now }
-        ensures told { AreTold self.now.plan result.now self.now.now }
+        ensures told { ChangesTell self.now.plan result.now self.now.now }
         ensures rolled { roll self.now.before ≡ self.now.before }
         ensures sound { IsSoundFor self.now.plan self.now.before }
     {
@@ -406,7 +406,7 @@ impl State {
         ensures ok { OnOk result (self.new ≡ record self.old { now = record self.old.now { logs = recorded self.old.plan self.old.time source.now kind slot.now self.old.now.logs } }) }
         ensures err { OnErr result (self.new ≡ record self.old { now = self.new.now }) }
     {
-        self.is_sound();
+        self.sound_law();
         let count = self.recorders(source).len();
         for next in 0..count {
             let place = self.recorders(source)[next];

@@ -33,7 +33,7 @@ use Rattle.ob_watch.specs.Marks.{AreStampsPast}
 use Rattle.ob_watch.specs.Tables.{IsLease, Leased, Table, holding, is_over, lapsed_at, live, touched_at}
 use Rattle.ob_watch.proofs.LawLemmas.{items_agree, lapses_commute, reports_agree, tables_agree, Numbered}
 use Rattle.ob_site_watched.specs.Answers.{AllKnown, IsDone, IsReply}
-use Rattle.ob_site_watched.specs.Known.{AreKnown}
+use Rattle.ob_site_watched.specs.Known.{AreSoundItems}
 use Rattle.ob_site_watched.specs.Leaving.{is_add, leased_if, marks_after}
 
 -- what holds of all holds of one that is there, and of those that have not lapsed
@@ -90,11 +90,11 @@ module _ (plan : Plan) (c : Contents) where
   abbrev t : Stamped
   t = c.ground.tree
 
-  pub known_there : (now n : ℕ) (table : Table) (w : Leased) → AllKnown plan c table → lookup n (live now table.watches) ≡ Some w → AreKnown plan c w.items
+  pub known_there : (now n : ℕ) (table : Table) (w : Leased) → AllKnown plan c table → lookup n (live now table.watches) ≡ Some w → AreSoundItems plan c w.items
   known_there now n table w known there =
-      all_there (λ (v : Leased). AreKnown plan c v.items) n (live now table.watches) w (all_live (λ (v : Leased). AreKnown plan c v.items) now table.watches known) there
+      all_there (λ (v : Leased). AreSoundItems plan c v.items) n (live now table.watches) w (all_live (λ (v : Leased). AreSoundItems plan c v.items) now table.watches known) there
 
-  all_reported_flags : (items : List Item) → AreStampsPast t → AreKnown plan c items → map (reported m (state_in c)) (map (flags t) items) ≡ map (flags t) (map (reported_at t.steps) items)
+  all_reported_flags : (items : List Item) → AreStampsPast t → AreSoundItems plan c items → map (reported m (state_in c)) (map (flags t) items) ≡ map (flags t) (map (reported_at t.steps) items)
   all_reported_flags [] past known = refl
   all_reported_flags (i ∷ items) past known =
       ap (λ (f : ItemOf Text Text Filter). f ∷ map (reported m (state_in c)) (map (flags t) items)) ((reports_agree plan t).reports past (state_in c) i known.0.counted)
@@ -105,7 +105,7 @@ module _ (plan : Plan) (c : Contents) where
   leased_flags (Err fault) v = refl
 
   -- what is left of a watch
-  pub agrees : (now : ℕ) (ns : List ℕ) (op : WatchOperation) (w : Leased) → AreStampsPast t → AreKnown plan c w.items → is_add op ≡ false
+  pub agrees : (now : ℕ) (ns : List ℕ) (op : WatchOperation) (w : Leased) → AreStampsPast t → AreSoundItems plan c w.items → is_add op ≡ false
       → watch_after m (state_in c) ns (touched m now (flagged t w)) op ≡ option_map (flagged t) (marks_after c now op w)
   agrees now ns (Look part) w past known other = refl
   agrees now ns (Renew input) w past known other = leased_flags (lease_asked (state_in c) input) (touched_at now w)

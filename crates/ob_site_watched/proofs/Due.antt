@@ -22,7 +22,7 @@ use Rattle.ob_watch.specs.Flags.{flags, flag_of}
 use Rattle.ob_watch.specs.Items.{is_due}
 use Rattle.ob_watch.proofs.LawLemmas.{reports_agree}
 use Rattle.ob_site_watched.specs.Entries.{all_changes, all_readings, changes_in, reading_entry}
-use Rattle.ob_site_watched.specs.Known.{AreKnown, IsKnown}
+use Rattle.ob_site_watched.specs.Known.{AreSoundItems, IsSoundItem}
 
 -- a node that is found at a path is one of the tree
 pub placed_within : (o : Node) (p : Path) (n : ℕ) → place_of p (paths o) ≡ Some n → n < parts o
@@ -59,7 +59,7 @@ module _ (plan : Plan) where
   under_text s text path (Feed bounds given) = lists_under text path (m.gone s path - given) (filter (m.passes bounds) (since m s path given))
 
   -- an item that isn't due has no entry
-  pub nothing_due : (c : Contents) (i : Item) → IsKnown plan c i → is_due c.ground.tree i ≡ false → map entry (changes_in plan c i) ≡ []
+  pub nothing_due : (c : Contents) (i : Item) → IsSoundItem plan c i → is_due c.ground.tree i ≡ false → map entry (changes_in plan c i) ≡ []
   nothing_due c i known h = ap (map entry) ((reports_agree plan c.ground.tree).not_due (state_in c) i known.counted h)
 
   -- the entry of what is due
@@ -90,7 +90,7 @@ module _ (plan : Plan) where
       ∙ map-append entry (map (reading m (state_in c)) (map (flags c.ground.tree) (take k items))) (reading m (state_in c) (flags c.ground.tree i) ∷ [])
 
   -- where nothing is due, nothing has an entry
-  pub none_due : (c : Contents) (items : List Item) → AreKnown plan c items → list_any (is_due c.ground.tree) items ≡ false → all_changes plan c items ≡ []
+  pub none_due : (c : Contents) (items : List Item) → AreSoundItems plan c items → list_any (is_due c.ground.tree) items ≡ false → all_changes plan c items ≡ []
   none_due c [] known none = refl
   none_due c (i ∷ items) known none =
       let here : is_due c.ground.tree i ≡ false = (none_of (is_due c.ground.tree i) (list_any (is_due c.ground.tree) items) none).0 in

@@ -19,17 +19,17 @@ use Rattle.ob_watch.specs.Marks.{IsMarkPastBy}
 use Rattle.ob_watch.specs.Tables.{Leased, Table, new_watch, touched_at, with_new}
 use Rattle.ob_watch.proofs.LawLemmas.{counts_stay, Numbered}
 use Rattle.ob_site_watched.specs.Answers.{AllKnown}
-use Rattle.ob_site_watched.specs.Known.{AreKnown, IsPlacedBy}
+use Rattle.ob_site_watched.specs.Known.{AreSoundItems, IsPlacedBy}
 use Rattle.ob_site_watched.specs.Leaving.{leased_if, leaving, marks_after}
 use Rattle.ob_site_watched.proofs.Answering.{all_there}
 
 module _ (plan : Plan) (c : Contents) where
   abbrev Known : ℕ × Leased → Type 0
-  Known e = AreKnown plan c e.1.items
+  Known e = AreSoundItems plan c e.1.items
 
   abbrev LeftKnown : Option Leased → Type 0
   LeftKnown None = Unit {0}
-  LeftKnown (Some w) = AreKnown plan c w.items
+  LeftKnown (Some w) = AreSoundItems plan c w.items
 
   placed_reported : (root : Node) (path : Path) (steps : ℕ) (k : Tracked) → IsPlacedBy root path k → IsPlacedBy root path (reported_by steps k)
   placed_reported root path steps (kept.Object node mark) placed = placed
@@ -39,7 +39,7 @@ module _ (plan : Plan) (c : Contents) where
   past_reported steps (kept.Object node mark) = (let e : steps ≤ steps = omega arith in e)
   past_reported steps (kept.Feed bounds given total due) = record {}
 
-  reported_known : (items : List Item) → AreKnown plan c items → AreKnown plan c (map (reported_at c.ground.tree.steps) items)
+  reported_known : (items : List Item) → AreSoundItems plan c items → AreSoundItems plan c (map (reported_at c.ground.tree.steps) items)
   reported_known [] known = known
   reported_known (i ∷ items) known = (
     record {
@@ -50,19 +50,19 @@ module _ (plan : Plan) (c : Contents) where
     reported_known items known.1,
   )
 
-  some_known : (p : Item → Bool) (items : List Item) → AreKnown plan c items → AreKnown plan c (filter p items)
+  some_known : (p : Item → Bool) (items : List Item) → AreSoundItems plan c items → AreSoundItems plan c (filter p items)
   some_known p [] known = known
   some_known p (i ∷ items) known = go (p i) (some_known p items known.1)
     where
-      go : (b : Bool) → AreKnown plan c (filter p items) → AreKnown plan c (cond b (i ∷ filter p items) (filter p items))
+      go : (b : Bool) → AreSoundItems plan c (filter p items) → AreSoundItems plan c (cond b (i ∷ filter p items) (filter p items))
       go true rest = (known.0, rest)
       go false rest = rest
 
-  leased_known : (r : Result ℕ Fault) (w : Leased) → AreKnown plan c w.items → AreKnown plan c (leased_if r w).items
+  leased_known : (r : Result ℕ Fault) (w : Leased) → AreSoundItems plan c w.items → AreSoundItems plan c (leased_if r w).items
   leased_known (Ok lease) w known = known
   leased_known (Err fault) w known = known
 
-  marks_known : (now : ℕ) (op : WatchOperation) (w : Leased) → AreKnown plan c w.items → LeftKnown (marks_after c now op w)
+  marks_known : (now : ℕ) (op : WatchOperation) (w : Leased) → AreSoundItems plan c w.items → LeftKnown (marks_after c now op w)
   marks_known now (Look part) w known = known
   marks_known now (Renew input) w known = leased_known (lease_asked (state_in c) input) (touched_at now w) known
   marks_known now (Add asked) w known = known
@@ -80,11 +80,11 @@ module _ (plan : Plan) (c : Contents) where
       go true rest = rest
       go false rest = (known.0, rest)
 
-  pub one_known : (n : ℕ) (v : Leased) (ws : Numbered) → AreKnown plan c v.items → AllByRecursion Known ws → AllByRecursion Known (replace n (Some v) ws)
+  pub one_known : (n : ℕ) (v : Leased) (ws : Numbered) → AreSoundItems plan c v.items → AllByRecursion Known ws → AllByRecursion Known (replace n (Some v) ws)
   one_known n v [] own known = known
   one_known n v (w ∷ ws) own known = (go (w.0 == n), one_known n v ws own known.1)
     where
-      go : (b : Bool) → AreKnown plan c (let x : Leased = cond b v w.1 in x).items
+      go : (b : Bool) → AreSoundItems plan c (let x : Leased = cond b v w.1 in x).items
       go true = own
       go false = known.0
 
@@ -98,10 +98,10 @@ module _ (plan : Plan) (c : Contents) where
     where
       go : (o : Option Leased) → lookup n old.watches ≡ o → LeftKnown (option_and_then (marks_after c now op) o)
       go None e = record {}
-      go (Some w) e = marks_known now op w (all_there (λ (v : Leased). AreKnown plan c v.items) n old.watches w known e)
+      go (Some w) e = marks_known now op w (all_there (λ (v : Leased). AreSoundItems plan c v.items) n old.watches w known e)
 
 -- and so it is where a watch is made
-pushed_known : (plan : Plan) (c : Contents) (ws : Numbered) (n now : ℕ) → AllByRecursion (λ (e : ℕ × Leased). AreKnown plan c e.1.items) ws → AllByRecursion (λ (e : ℕ × Leased). AreKnown plan c e.1.items) (ws ++ (n, new_watch now) ∷ [])
+pushed_known : (plan : Plan) (c : Contents) (ws : Numbered) (n now : ℕ) → AllByRecursion (λ (e : ℕ × Leased). AreSoundItems plan c e.1.items) ws → AllByRecursion (λ (e : ℕ × Leased). AreSoundItems plan c e.1.items) (ws ++ (n, new_watch now) ∷ [])
 pushed_known plan c [] n now known = (record {}, record {})
 pushed_known plan c (w ∷ ws) n now known = (known.0, pushed_known plan c ws n now known.1)
 

@@ -34,7 +34,7 @@ use Rattle.ob_requests.specs.Calls.{firsts}
 use Rattle.ob_site_watched.specs.declared.offering.Offer.{Offer}
 use Rattle.ob_site_watched.specs.declared.offering.Offer.TheVariants as offer
 use Rattle.ob_site_watched.specs.Answers.{AllKnown, IsDone}
-use Rattle.ob_site_watched.specs.Known.{AreKnown, IsKnown}
+use Rattle.ob_site_watched.specs.Known.{AreSoundItems, IsSoundItem}
 use Rattle.ob_site_watched.specs.Entries.{reading_entry}
 use Rattle.ob_site_watched.specs.Offered.{IsOffered, refused_entry}
 use Rattle.ob_site_watched.specs.Putting.{HasAdded, HasPut, IsPlaced, entry_put, put_offer}
@@ -108,19 +108,19 @@ module _ (plan : Plan) (c : Contents) where
 
     -- ---- what is known of the items
 
-    one_item_known : (item : Item) (items : List Item) → IsKnown plan c item → AreKnown plan c items → AreKnown plan c (put_item item items)
+    one_item_known : (item : Item) (items : List Item) → IsSoundItem plan c item → AreSoundItems plan c items → AreSoundItems plan c (put_item item items)
     one_item_known item [] own known = (own, record {})
     one_item_known item (x ∷ xs) own known = go (bytes_eq x.text item.text) (one_item_known item xs own known.1)
       where
-        go : (b : Bool) → AreKnown plan c (put_item item xs) → AreKnown plan c (cond b (item ∷ xs) (x ∷ put_item item xs))
+        go : (b : Bool) → AreSoundItems plan c (put_item item xs) → AreSoundItems plan c (cond b (item ∷ xs) (x ∷ put_item item xs))
         go true rest = (own, known.1)
         go false rest = (known.0, rest)
 
-    one_offer_known : (a : Asked) (o : Offer) (w : Leased) → IsOffered plan c ns a o → AreKnown plan c w.items → AreKnown plan c (put_offer o w).items
+    one_offer_known : (a : Asked) (o : Offer) (w : Leased) → IsOffered plan c ns a o → AreSoundItems plan c w.items → AreSoundItems plan c (put_offer o w).items
     one_offer_known a (offer.Refused o) w is known = known
     one_offer_known a (offer.Item item) w is known = go (is_refused w item.text)
       where
-        go : (b : Bool) → AreKnown plan c (let v : Leased = cond b w (watching (put_item item w.items) w) in v).items
+        go : (b : Bool) → AreSoundItems plan c (let v : Leased = cond b w (watching (put_item item w.items) w) in v).items
         go true = known
         go false = one_item_known item w.items is.known known
 
@@ -149,7 +149,7 @@ module _ (plan : Plan) (c : Contents) where
       entries =
           ap₂ (λ (fs : List Node) (f : Node). fs ++ f ∷ []) has.entries (is_entry ∙ one_entry a o half is ∙ ap (λ (items : List Shown). entry (adds_of items a).1) has.items)
           ∙ sym (entries_push (map (flags t) w.items) asked a);
-      known = λ known. subst (λ (v : Leased). AreKnown plan c v.items) (sym is_left) (one_offer_known a o half is (has.known known));
+      known = λ known. subst (λ (v : Leased). AreSoundItems plan c v.items) (sym is_left) (one_offer_known a o half is (has.known known));
     }
 
     -- no entry has a name
@@ -195,7 +195,7 @@ module _ (plan : Plan) (c : Contents) where
 
   -- and what is known of all items is known again
   pub added_known : (now n : ℕ) (old mid new : Table) (asked : List Asked) (ns : List ℕ) (w : Leased) (o : Node) → lookup n old.watches ≡ Some w
-      → AllKnown plan c old → AreKnown plan c w.items → HasPut plan c ns asked n old mid o w
+      → AllKnown plan c old → AreSoundItems plan c w.items → HasPut plan c ns asked n old mid o w
       → new ≡ holding (at_number n (touched_at now) mid.watches) mid → AllKnown plan c new
   added_known now n old mid new asked ns w o there all known put touch =
       subst (AllKnown plan c) (sym (left_put now n w put.left old mid new there put.table touch))

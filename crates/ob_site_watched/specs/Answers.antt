@@ -19,11 +19,11 @@ use Rattle.ob_watch.specs.AsRules.{world_of}
 use Rattle.ob_watch.specs.Counted.{of_plan}
 use Rattle.ob_watch.specs.Flags.{flagged, flags_of}
 use Rattle.ob_watch.specs.Tables.{Leased, Table, lapsed_at, live, with_new}
-use Rattle.ob_site_watched.specs.Known.{AreKnown}
+use Rattle.ob_site_watched.specs.Known.{AreSoundItems}
 
 -- what is known of the items of each watch
 abbrev pub AllKnown : Plan → Contents → Table → Type 0
-AllKnown plan c table = AllByRecursion (λ e. AreKnown plan c e.1.items) table.watches
+AllKnown plan c table = AllByRecursion (λ e. AreSoundItems plan c e.1.items) table.watches
 
 -- the reply to an operation on a watch, among watches of these numbers
 abbrev pub IsReply : Plan → Contents → ℕ → List ℕ → ℕ → Leased → WatchOperation → Object → Type 0

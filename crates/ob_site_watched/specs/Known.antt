@@ -23,10 +23,10 @@ IsPlacedBy root path (kept.Object node mark) =
 IsPlacedBy root path (kept.Feed filter given total due) = Unit {0}
 
 -- an item names its node, has counted the events of its feed, and its mark is of no step to come
-pub record IsKnown (plan : Plan) (c : Contents) (i : Item) : Type 0 where
+pub record IsSoundItem (plan : Plan) (c : Contents) (i : Item) : Type 0 where
   pub placed : IsPlacedBy c.ground.tree.root i.path i.tracked
   pub counted : IsCounted plan (state_in c) i
   pub past : IsMarkPast c.ground.tree.steps i
 
-abbrev pub AreKnown : Plan → Contents → List Item → Type 0
-AreKnown plan c items = AllByRecursion (IsKnown plan c) items
+abbrev pub AreSoundItems : Plan → Contents → List Item → Type 0
+AreSoundItems plan c items = AllByRecursion (IsSoundItem plan c) items

@@ -18,12 +18,12 @@ use Rattle.ob_watch.specs.Counted.{of_plan}
 use Rattle.ob_watch.specs.Flags.{flags}
 use Rattle.ob_site_watched.specs.declared.offering.Offer.{Offer}
 use Rattle.ob_site_watched.specs.declared.offering.Offer.TheVariants as offer
-use Rattle.ob_site_watched.specs.Known.{IsKnown}
+use Rattle.ob_site_watched.specs.Known.{IsSoundItem}
 
 -- what adding what is found under a text is, whatever items there are: adding this item
 pub record IsItemFor (plan : Plan) (c : Contents) (text : Text) (f : SiteFound) (item : Item) : Type 0 where
   pub adds : (items : List (Flagged (of_plan plan))) → add_found (of_plan plan) (state_in c) items text f ≡ added (of_plan plan) (state_in c) items (flags c.ground.tree item)
-  pub known : IsKnown plan c item
+  pub known : IsSoundItem plan c item
 
 -- or leaving them, with this refusal
 abbrev pub IsRefusedFor : Plan → Contents → Text → SiteFound → Fault → Type 0

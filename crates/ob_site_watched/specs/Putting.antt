@@ -20,7 +20,7 @@ use Rattle.ob_watch.specs.Undo.{StillUndoes, Undo}
 use Rattle.ob_site_watched.specs.declared.offering.Offer.{Offer}
 use Rattle.ob_site_watched.specs.declared.offering.Offer.TheVariants as offer
 use Rattle.ob_site_watched.specs.Entries.{reading_entry}
-use Rattle.ob_site_watched.specs.Known.{AreKnown, IsPlacedBy}
+use Rattle.ob_site_watched.specs.Known.{AreSoundItems, IsPlacedBy}
 use Rattle.ob_site_watched.specs.Offered.{refused_entry}
 
 -- a watch with what is offered: as it was where the href is refused
@@ -58,7 +58,7 @@ pub record IsPut (plan : Plan) (c : Contents) (n : ℕ) (o : Offer) (old new : T
 pub record HasAdded (plan : Plan) (c : Contents) (ns : List ℕ) (asked : List Asked) (w left : Leased) (es : List Object) : Type 0 where
   pub items : map (flags c.ground.tree) left.items ≡ items_added (of_plan plan) (state_in c) ns (map (flags c.ground.tree) w.items) asked
   pub entries : es ≡ map entry (readings_added (of_plan plan) (state_in c) ns (map (flags c.ground.tree) w.items) asked)
-  pub known : AreKnown plan c w.items → AreKnown plan c left.items
+  pub known : AreSoundItems plan c w.items → AreSoundItems plan c left.items
 
 -- The same of all that is asked for, and the WatchOut of the entries.
 pub record ArePut (plan : Plan) (c : Contents) (ns : List ℕ) (asked : List Asked) (n : ℕ) (old new : Table) (undo undone : Undo) (result : Result Object AllocError) (w : Leased) : Type 0 where

@@ -7,7 +7,7 @@ ghost use Rattle.ob_watch.specs.Marks.{AreStampsPast};
 ghost use Rattle.ob_site_rules.specs.Replies.{content_object, entry};
 ghost use Rattle.ob_site_places.specs.Complete.{IsComplete};
 ghost use Rattle.ob_site_watched.specs.Entries.{all_changes, all_readings, changes_in, object_now, reading_entry};
-ghost use Rattle.ob_site_watched.specs.Known.{AreKnown, IsKnown, IsPlacedBy};
+ghost use Rattle.ob_site_watched.specs.Known.{AreSoundItems, IsSoundItem, IsPlacedBy};
 ghost use Rattle.ob_site_watched.specs.Polls.{item_steps, poll_steps, reading_steps, refresh_steps};
 
 use ob_contracts::Steps;
@@ -78,7 +78,7 @@ pub fn readings<L: Ledger>(
     steps: &mut Steps<L>,
 ) -> Result<Vec<Obj>, AllocError>
     requires complete { IsComplete plan.now contents.now }
-    requires known { AreKnown plan.now contents.now items.now }
+    requires known { AreSoundItems plan.now contents.now items.now }
     ensures entries { IfOk result (λ os. os.items ≡ all_readings plan.now contents.now items.now) }
     ensures steps { IfOk result (λ _. steps.new ≡ steps.old + refresh_steps plan.now (state_in contents.now) (map (flags contents.now.ground.tree) items.now)) }
 {
@@ -137,7 +137,7 @@ fn push_due<L: Ledger>(
     steps: &mut Steps<L>,
 ) -> Result<(), AllocError>
     requires complete { IsComplete plan.now contents.now }
-    requires known { IsKnown plan.now contents.now item.now }
+    requires known { IsSoundItem plan.now contents.now item.now }
     requires due { is_due contents.now.ground.tree item.now ≡ true }
     ensures entries { IfOk result (λ _. entries.new.items ≡ entries.old.items ++ map entry (changes_in plan.now contents.now item.now)) }
     ensures steps { IfOk result (λ _. steps.new ≡ steps.old + item_steps plan.now (state_in contents.now) item.now.path (flag_of contents.now.ground.tree item.now.tracked)) }
@@ -161,7 +161,7 @@ fn push_change<L: Ledger>(
     steps: &mut Steps<L>,
 ) -> Result<(), AllocError>
     requires complete { IsComplete plan.now contents.now }
-    requires known { IsKnown plan.now contents.now item.now }
+    requires known { IsSoundItem plan.now contents.now item.now }
     ensures entries { IfOk result (λ _. entries.new.items ≡ entries.old.items ++ map entry (changes_in plan.now contents.now item.now)) }
     ensures steps { IfOk result (λ _. steps.new ≡ steps.old + item_steps plan.now (state_in contents.now) item.now.path (flag_of contents.now.ground.tree item.now.tracked)) }
 {
@@ -184,7 +184,7 @@ pub fn changes<L: Ledger>(
     steps: &mut Steps<L>,
 ) -> Result<Vec<Obj>, AllocError>
     requires complete { IsComplete plan.now contents.now }
-    requires known { AreKnown plan.now contents.now items.now }
+    requires known { AreSoundItems plan.now contents.now items.now }
     ensures entries { IfOk result (λ os. os.items ≡ all_changes plan.now contents.now items.now) }
     ensures steps { IfOk result (λ _. steps.new ≡ steps.old + poll_steps plan.now (state_in contents.now) (map (flags contents.now.ground.tree) items.now)) }
 {
@@ -209,7 +209,7 @@ pub fn watch_changes<L: Ledger>(
 ) -> Result<Vec<Obj>, AllocError>
     requires complete { IsComplete plan.now contents.now }
     requires past { AreStampsPast contents.now.ground.tree }
-    requires known { AreKnown plan.now contents.now watch.now.items }
+    requires known { AreSoundItems plan.now contents.now watch.now.items }
     ensures entries { IfOk result (λ os. os.items ≡ all_changes plan.now contents.now watch.now.items) }
     ensures steps { IfOk result (λ _. steps.new ≡ steps.old + poll_steps plan.now (state_in contents.now) (map (flags contents.now.ground.tree) watch.now.items)) }
 {

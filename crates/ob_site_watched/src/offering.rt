@@ -12,7 +12,7 @@ use ob_marks_laws::watched_are_own;
 use ob_object::Obj;
 use ob_replies::{entry, refusal};
 use ob_requests::{Found, WatchInItem};
-use ob_site_reads::{count_at, found};
+use ob_site_reads::{count_at, resolve_item};
 use ob_site_rules::{Fault, Plan};
 use ob_site_state::Contents;
 use ob_values::Text;
@@ -81,7 +81,7 @@ pub(crate) fn offered<L: Ledger>(
     ensures { IfOk result (IsOffered plan.now contents.now numbers.now asked.now) }
 {
     watched_are_own();
-    let found = found(alloc, plan, contents, numbers, asked, steps)?;
+    let found = resolve_item(alloc, plan, contents, numbers, asked, steps)?;
     let text = asked.0.copy()?;
     match item_for(alloc, plan, contents, text, found)? {
         Ok(item) => Ok(Offer::Item(item)),

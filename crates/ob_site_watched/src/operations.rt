@@ -14,7 +14,7 @@ ghost use Rattle.ob_requests.specs.Calls.{lease_in};
 ghost use Rattle.ob_watch.specs.Marks.{AreStampsPast};
 ghost use Rattle.ob_site_rules.specs.Watched.{lease_asked};
 ghost use Rattle.ob_site_watched.specs.Entries.{all_changes, all_readings};
-ghost use Rattle.ob_site_watched.specs.Known.{AreKnown};
+ghost use Rattle.ob_site_watched.specs.Known.{AreSoundItems};
 ghost use Rattle.ob_site_watched.specs.Leaving.{Renews, is_add, leaving};
 ghost use Rattle.ob_site_watched.specs.Answers.{AllKnown, IsDone, IsReply};
 ghost use Rattle.ob_site_rules.specs.State.{State as SiteState};
@@ -69,7 +69,7 @@ fn poll<L: Ledger>(
 ) -> Result<Obj, AllocError>
     requires complete { IsComplete plan.now contents.now }
     requires past { AreStampsPast contents.now.ground.tree }
-    requires known { AreKnown plan.now contents.now watch.now.items }
+    requires known { AreSoundItems plan.now contents.now watch.now.items }
     ensures reply { IfOk result (λ o. o ≡ watch_out (all_changes plan.now contents.now watch.now.items)) }
     ensures steps { IfOk result (λ _. steps.new ≡ steps.old + poll_steps plan.now (state_in contents.now) (map (flags contents.now.ground.tree) watch.now.items)) }
 {
@@ -86,7 +86,7 @@ fn refresh<L: Ledger>(
     steps: &mut Steps<L>,
 ) -> Result<Obj, AllocError>
     requires complete { IsComplete plan.now contents.now }
-    requires known { AreKnown plan.now contents.now items.now }
+    requires known { AreSoundItems plan.now contents.now items.now }
     ensures reply { IfOk result (λ o. o ≡ watch_out (all_readings plan.now contents.now items.now)) }
     ensures steps { IfOk result (λ _. steps.new ≡ steps.old + refresh_steps plan.now (state_in contents.now) (map (flags contents.now.ground.tree) items.now)) }
 {
@@ -105,7 +105,7 @@ fn reply<L: Ledger>(
 ) -> Result<Obj, AllocError>
     requires complete { IsComplete plan.now contents.now }
     requires past { AreStampsPast contents.now.ground.tree }
-    requires known { AreKnown plan.now contents.now watch.now.items }
+    requires known { AreSoundItems plan.now contents.now watch.now.items }
     requires other { is_add (operation_of call.now.asks) ≡ false }
     ensures reply { IfOk result (λ o. (numbers : List ℕ) → IsReply plan.now contents.now call.now.moment numbers call.now.number watch.now (operation_of call.now.asks) o) }
     ensures steps { IfOk result (λ _. WatchTakes plan.now (state_in contents.now) (Some (flagged contents.now.ground.tree watch.now)) (operation_of call.now.asks) steps.old steps.new) }

@@ -19,8 +19,8 @@ use Rattle.ob_site_state.proofs.Named.{paths_with_slot}
 use Rattle.ob_site_writes.specs.Own.{DoneBy, IsPut, StopsBy, StopsPut, head_faults, head_makes, put_faults, put_makes}
 use Rattle.ob_site_writes.specs.Stops.{IsDone}
 use Rattle.ob_site_writes.specs.Targets.{IsTarget}
-use Rattle.ob_site_writes.specs.declared.stop.Stop.{Stop}
-use Rattle.ob_site_writes.specs.declared.stop.Stop.TheVariants.{Refused, Memory}
+use Rattle.ob_site_writes.specs.declared.not_done.NotDone.{NotDone}
+use Rattle.ob_site_writes.specs.declared.not_done.NotDone.TheVariants.{Refused, Memory}
 use Rattle.ob_site_writes.proofs.Targets.{target_told, value_told}
 
 -- a write moves no path
@@ -66,6 +66,6 @@ put_done k n p o body reply is done =
     let x = is.0 in
     (x, (is.1.0, subst (λ (m : State × Object). IsDone k n m reply) (makes_told k p o x is.1.1 body x ∙ sym (put_by k p o x is.1.1 body None done.0)) (done.1 x)))
 
-pub put_stops : (k n : Kept) (p : Path) (o : Object) (body : Option Object) (stop : Stop) → IsTarget k.plan k.now p o → StopsBy k n (put_faults k p o body) stop → StopsPut k n p body stop
+pub put_stops : (k n : Kept) (p : Path) (o : Object) (body : Option Object) (stop : NotDone) → IsTarget k.plan k.now p o → StopsBy k n (put_faults k p o body) stop → StopsPut k n p body stop
 put_stops k n p o body (Refused found) is stops = (stops.0, (is.0, (is.1.0, put_by k p o is.0 is.1.1 body (Some found) stops.1)))
 put_stops k n p o body Memory is stops = stops

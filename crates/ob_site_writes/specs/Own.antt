@@ -12,8 +12,8 @@ use Rattle.ob_site_rules.specs.Writes.{given_by, put, showing, target_fault, val
 use Rattle.ob_site_state.specs.Kept.{Kept}
 use Rattle.ob_site_writes.specs.Stops.{IsDone}
 use Rattle.ob_site_writes.specs.Targets.{IsRefused}
-use Rattle.ob_site_writes.specs.declared.stop.Stop.{Stop}
-use Rattle.ob_site_writes.specs.declared.stop.Stop.TheVariants.{Refused, Memory}
+use Rattle.ob_site_writes.specs.declared.not_done.NotDone.{NotDone}
+use Rattle.ob_site_writes.specs.declared.not_done.NotDone.TheVariants.{Refused, Memory}
 
 -- what is wrong with the value of a head for a node of which `o` is asked
 abbrev pub head_faults : Kept → Path → Object → Head → Option Fault
@@ -37,7 +37,7 @@ abbrev pub DoneBy : Kept → Kept → Option Fault → (Object → State × Obje
 DoneBy k n fault made reply = (fault ≡ None) × ((d : Object) → IsDone k n (made d) reply)
 
 -- a fault was found, and all stays as it is; or want of memory leaves all but the state now
-abbrev pub StopsBy : Kept → Kept → Option Fault → Stop → Type 0
+abbrev pub StopsBy : Kept → Kept → Option Fault → NotDone → Type 0
 StopsBy k n fault (Refused found) = (n ≡ k) × (fault ≡ Some found)
 StopsBy k n fault Memory = n ≡ record k { now = n.now }
 
@@ -46,6 +46,6 @@ abbrev pub IsPut : Kept → Kept → Path → Option Object → Object → Type 
 IsPut k n p body reply = (x : Object) × ((shown k.plan k.now p ≡ Some x) × IsDone k n (put k.plan k.now k.time p x body) reply)
 
 -- Something is shown at a path, and a Put to it is refused, and all stays as it is; or want of memory leaves all but the state now.
-abbrev pub StopsPut : Kept → Kept → Path → Option Object → Stop → Type 0
+abbrev pub StopsPut : Kept → Kept → Path → Option Object → NotDone → Type 0
 StopsPut k n p body (Refused fault) = (n ≡ k) × IsRefused k.plan k.now p (λ x. put k.plan k.now k.time p x body) fault
 StopsPut k n p body Memory = n ≡ record k { now = n.now }

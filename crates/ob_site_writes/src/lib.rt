@@ -4,18 +4,18 @@
 //! as it was; want of memory leaves all but the state now, so that `undo` gives that back.
 #![tactic(auto)]
 
+mod not_done;
 mod own;
 mod passing;
 mod putting;
 mod reading;
 mod refusing;
-mod stop;
 mod value;
 mod written;
 
+pub use not_done::NotDone;
 pub use own::put_own;
 pub use passing::passes;
 pub use putting::{put, write_by};
-pub use reading::{replied, shown};
+pub use reading::{reply_object, shown};
 pub use refusing::write_fault;
-pub use stop::Stop;

@@ -16,9 +16,9 @@ ghost use Rattle.ob_site_writes.specs.Own.{DoneBy, IsPut, StopsBy, StopsPut, hea
 ghost use Rattle.ob_site_writes.specs.Stops.{IsDone};
 ghost use Rattle.ob_site_writes.specs.Targets.{IsTarget};
 
+use crate::not_done::NotDone;
 use crate::putting::given_by;
 use crate::refusing::target_at;
-use crate::stop::Stop;
 use crate::value::{target_fault, value_fault};
 use ob_contracts::Steps;
 use ob_object::{Attributes, Obj, Slot};
@@ -26,7 +26,7 @@ use ob_replies::build::nameless;
 use ob_site_rules::Fault;
 use ob_site_shown::shown_own;
 use ob_site_state::State;
-use ob_site_written::written;
+use ob_site_written::write_if_changed;
 use ob_tree::NodeId;
 use ob_values::Text;
 use std::alloc::AllocError;
@@ -41,7 +41,7 @@ fn own_reply<L: Ledger>(
     requires { node.number < parts state.now.now.tree }
     ensures { IfOk result (λ reply. (p : Path) (d : Object) → place_of p (paths state.now.now.tree) ≡ Some node.number → reply ≡ reply_at state.now.plan state.now.now p d) }
 {
-    state.is_sound();
+    state.sound_law();
     let shown = shown_own(
         state.allocator(),
         state.plan(),
@@ -67,7 +67,7 @@ fn show_own<L: Ledger>(
     ensures ok { IfOk result (λ reply. (d : Object) → IsDone state.old state.new (showing state.old.plan path.now d (written state.old.plan state.old.time path.now own.now slot.now state.old.now)) reply) }
     ensures stays { state.new ≡ record state.old { now = state.new.now } }
 {
-    written(state, node, path, own.head(), slot)?;
+    write_if_changed(state, node, path, own.head(), slot)?;
     own_reply(state, node, steps)
 }
 
@@ -80,7 +80,7 @@ fn write_head<L: Ledger>(
     own: &Obj,
     new: &Attributes,
     steps: &mut Steps<L>,
-) -> Result<Obj, Stop>
+) -> Result<Obj, NotDone>
     requires place { place_of path.now (paths state.old.now.tree) ≡ Some node.number }
     requires asked { IsTarget state.old.plan state.old.now path.now own.now }
     requires values { has_values own.now.head.kind ≡ true }
@@ -88,9 +88,9 @@ fn write_head<L: Ledger>(
     ensures ok { IfOk result (DoneBy state.old state.new (head_faults state.old path.now own.now new.now) (head_makes state.old path.now own.now new.now)) }
     ensures stop { IfErr result (StopsBy state.old state.new (head_faults state.old path.now own.now new.now)) }
 {
-    state.is_sound();
+    state.sound_law();
     if let Some(fault) = value_fault(state, path, own, new, steps)? {
-        return Err(Stop::Refused(fault));
+        return Err(NotDone::Refused(fault));
     }
     let reply = show_own(state, node, path, own, new.slot(), steps)?;
     Ok(reply)
@@ -104,7 +104,7 @@ fn put_body<L: Ledger>(
     own: &Obj,
     body: &Obj,
     steps: &mut Steps<L>,
-) -> Result<Obj, Stop>
+) -> Result<Obj, NotDone>
     requires place { place_of path.now (paths state.old.now.tree) ≡ Some node.number }
     requires asked { IsTarget state.old.plan state.old.now path.now own.now }
     requires free { target_fault own.now.head ≡ None }
@@ -123,7 +123,7 @@ fn put_free<L: Ledger>(
     own: &Obj,
     body: Option<&Obj>,
     steps: &mut Steps<L>,
-) -> Result<Obj, Stop>
+) -> Result<Obj, NotDone>
     requires place { place_of path.now (paths state.old.now.tree) ≡ Some node.number }
     requires asked { IsTarget state.old.plan state.old.now path.now own.now }
     requires free { target_fault own.now.head ≡ None }
@@ -132,7 +132,7 @@ fn put_free<L: Ledger>(
 {
     match body {
         Some(body) => put_body(state, node, path, own, body, steps),
-        None => Err(Stop::Refused(Fault::OtherShape)),
+        None => Err(NotDone::Refused(Fault::OtherShape)),
     }
 }
 
@@ -144,14 +144,14 @@ fn put_node<L: Ledger>(
     own: &Obj,
     body: Option<&Obj>,
     steps: &mut Steps<L>,
-) -> Result<Obj, Stop>
+) -> Result<Obj, NotDone>
     requires place { place_of path.now (paths state.old.now.tree) ≡ Some node.number }
     requires asked { IsTarget state.old.plan state.old.now path.now own.now }
     ensures ok { IfOk result (DoneBy state.old state.new (put_faults state.old path.now own.now (option_copied body.entry)) (put_makes state.old path.now own.now (option_copied body.entry))) }
     ensures stop { IfErr result (StopsBy state.old state.new (put_faults state.old path.now own.now (option_copied body.entry))) }
 {
     match target_fault(own.head()) {
-        Some(fault) => Err(Stop::Refused(fault)),
+        Some(fault) => Err(NotDone::Refused(fault)),
         None => put_free(state, node, path, own, body, steps),
     }
 }
@@ -164,7 +164,7 @@ fn put_shown<L: Ledger>(
     own: &Obj,
     body: Option<&Obj>,
     steps: &mut Steps<L>,
-) -> Result<Option<Obj>, Stop>
+) -> Result<Option<Obj>, NotDone>
     requires place { place_of path.now (paths state.old.now.tree) ≡ Some node.number }
     requires asked { IsTarget state.old.plan state.old.now path.now own.now }
     ensures ok { IfOk result (λ done. MatchOption done (state.new ≡ state.old) (IsPut state.old state.new path.now (option_copied body.entry))) }
@@ -183,7 +183,7 @@ fn put_at<L: Ledger>(
     path: &Text,
     body: Option<&Obj>,
     steps: &mut Steps<L>,
-) -> Result<Option<Obj>, Stop>
+) -> Result<Option<Obj>, NotDone>
     requires { place_of path.now (paths state.old.now.tree) ≡ Some node.number }
     ensures ok { IfOk result (λ done. MatchOption done (state.new ≡ state.old) (IsPut state.old state.new path.now (option_copied body.entry))) }
     ensures stop { IfErr result (StopsPut state.old state.new path.now (option_copied body.entry)) }
@@ -203,7 +203,7 @@ pub fn put_own<L: Ledger>(
     path: &Text,
     body: Option<&Obj>,
     steps: &mut Steps<L>,
-) -> Result<Option<Obj>, Stop>
+) -> Result<Option<Obj>, NotDone>
     ensures ok { IfOk result (λ done. MatchOption done (state.new ≡ state.old) (IsPut state.old state.new path.now (option_copied body.entry))) }
     ensures stop { IfErr result (StopsPut state.old state.new path.now (option_copied body.entry)) }
 {

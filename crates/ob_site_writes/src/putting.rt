@@ -11,8 +11,8 @@ ghost use Rattle.ob_site_rules.specs.Writes.{written, overfills, records_from, v
 ghost use Rattle.ob_site_written.specs.Fitting.{CanBeWritten};
 ghost use Rattle.ob_site_writes.specs.Stops.{IsDone, Stops};
 
-use crate::reading::replied;
-use crate::stop::Stop;
+use crate::not_done::NotDone;
+use crate::reading::reply_object;
 use crate::value::{target_fault, value_fault};
 use crate::written::written_at;
 use ob_contracts::{Library, Steps, View};
@@ -38,7 +38,7 @@ fn show_written<L: Ledger>(
 {
     written_at(state, path, object.head(), slot)?;
     let default = object.copy()?;
-    replied(state, path, default, steps)
+    reply_object(state, path, default, steps)
 }
 
 /// Writes the value of a head to the object shown at a path, where nothing is wrong, and answers what is shown there
@@ -49,16 +49,16 @@ fn write_given<L: Ledger>(
     object: &Obj,
     new: &Attributes,
     steps: &mut Steps<L>,
-) -> Result<Obj, Stop>
+) -> Result<Obj, NotDone>
     requires shows { shown state.old.plan state.old.now path.now ≡ Some object.now }
     requires records { (history : Path) → records_from state.old.plan path.now history ≡ true → has_values object.now.head.kind ≡ true }
     requires held { has_values new.now.kind ≡ true → IsTrue (fits_slot new.now.kind new.now.slot) → IsTrue (holds_value new.now.kind new.now.slot) }
     ensures ok { IfOk result (IsDone state.old state.new (unless (value_fault state.old.plan state.old.now state.old.time path.now object.now.head new.now) state.old.now (showing state.old.plan path.now object.now (written state.old.plan state.old.time path.now object.now new.now.slot state.old.now)))) }
     ensures stop { IfErr result (Stops state.old state.new (unless (value_fault state.old.plan state.old.now state.old.time path.now object.now.head new.now) state.old.now (showing state.old.plan path.now object.now (written state.old.plan state.old.time path.now object.now new.now.slot state.old.now)))) }
 {
-    state.is_sound();
+    state.sound_law();
     if let Some(fault) = value_fault(state, path, object, new, steps)? {
-        return Err(Stop::Refused(fault));
+        return Err(NotDone::Refused(fault));
     }
     let reply = show_written(state, path, object, new.slot(), steps)?;
     Ok(reply)
@@ -88,7 +88,7 @@ pub fn write_by<L: Ledger>(
     object: &Obj,
     body: &Obj,
     steps: &mut Steps<L>,
-) -> Result<Obj, Stop>
+) -> Result<Obj, NotDone>
     requires shows { shown state.old.plan state.old.now path.now ≡ Some object.now }
     requires records { (history : Path) → records_from state.old.plan path.now history ≡ true → has_values object.now.head.kind ≡ true }
     ensures ok { IfOk result (IsDone state.old state.new (write_by state.old.plan state.old.now state.old.time path.now object.now None body.now)) }
@@ -108,16 +108,16 @@ pub fn put<L: Ledger>(
     object: &Obj,
     body: Option<&Obj>,
     steps: &mut Steps<L>,
-) -> Result<Obj, Stop>
+) -> Result<Obj, NotDone>
     requires { shown state.old.plan state.old.now path.now ≡ Some object.now }
     ensures ok { IfOk result (IsDone state.old state.new (put state.old.plan state.old.now state.old.time path.now object.now (option_copied body.entry))) }
     ensures stop { IfErr result (Stops state.old state.new (put state.old.plan state.old.now state.old.time path.now object.now (option_copied body.entry))) }
 {
     if let Some(fault) = target_fault(object.head()) {
-        return Err(Stop::Refused(fault));
+        return Err(NotDone::Refused(fault));
     }
     match body {
         Some(body) => write_by(state, path, object, body, steps),
-        None => Err(Stop::Refused(Fault::OtherShape)),
+        None => Err(NotDone::Refused(Fault::OtherShape)),
     }
 }

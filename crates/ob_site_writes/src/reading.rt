@@ -20,7 +20,7 @@ pub fn shown<L: Ledger>(
 ) -> Result<Option<Obj>, AllocError>
     ensures { IfOk result (λ o. o ≡ shown state.now.plan state.now.now path.now) }
 {
-    state.is_sound();
+    state.sound_law();
     shown_at(
         state.allocator(),
         state.plan(),
@@ -31,7 +31,7 @@ pub fn shown<L: Ledger>(
 }
 
 /// What is shown at a path, or else a given object; without its name. An error only for want of memory.
-pub fn replied<L: Ledger>(
+pub fn reply_object<L: Ledger>(
     state: &State,
     path: &Text,
     default: Obj,
@@ -39,7 +39,7 @@ pub fn replied<L: Ledger>(
 ) -> Result<Obj, AllocError>
     ensures { IfOk result (λ o. o ≡ reply_at state.now.plan state.now.now path.now default) }
 {
-    state.is_sound();
+    state.sound_law();
     reply_at(
         state.allocator(),
         state.plan(),

@@ -41,7 +41,7 @@ fn node_has<L: Ledger>(
 {
     match state.tree().get(range) {
         Some(node) => {
-            state.is_sound();
+            state.sound_law();
             shows_child(
                 state.allocator(),
                 state.plan(),
@@ -182,7 +182,7 @@ pub(crate) fn value_fault<L: Ledger>(
     if fault.is_some() {
         return Ok(fault);
     }
-    state.is_sound();
+    state.sound_law();
     if overfills(state, path, head, slot) {
         return Ok(Some(Fault::TooManyEntries));
     }

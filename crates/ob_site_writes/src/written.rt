@@ -8,7 +8,7 @@ ghost use Rattle.ob_site_written.specs.Fitting.{CanBeWritten};
 
 use ob_object::{Attributes, Slot};
 use ob_site_state::State;
-use ob_site_written::{same_slot, written};
+use ob_site_written::{same_slot, write_if_changed};
 use ob_values::Text;
 use std::alloc::AllocError;
 
@@ -29,7 +29,7 @@ fn written_derived(
     if same_slot(slot, head.slot()) {
         return Ok(());
     }
-    state.is_sound();
+    state.sound_law();
     state.record_all(path, head.kind(), slot)?;
     state.act(path, slot)
 }
@@ -49,7 +49,7 @@ pub(crate) fn written_at(
     ensures err { OnErr result (state.new ≡ record state.old { now = state.new.now }) }
 {
     match state.tree().get(path) {
-        Some(node) => written(state, node, path, head, slot),
+        Some(node) => write_if_changed(state, node, path, head, slot),
         None => written_derived(state, path, head, slot),
     }
 }

@@ -174,7 +174,7 @@ pub(crate) fn renew_library(state: &mut State, node: NodeId, path: &Text) -> Res
     ensures ok { OnOk result (state.new ≡ record state.old { now = record state.old.now { library = library_after path.now state.old.now.tree state.old.now.library } }) }
     ensures err { OnErr result (state.new ≡ state.old) }
 {
-    state.is_sound();
+    state.sound_law();
     match new_library(state.allocator(), state.tree(), node, path)? {
         Some(library) => state.set_library(library),
         None => Ok(()),

@@ -23,7 +23,7 @@ fn one_if(is_so: bool) -> u64
 fn growing(state: &State, source: &Text) -> u64
     ensures { result ≡ growing state.now.plan source.now state.now.now.logs }
 {
-    state.is_sound();
+    state.sound_law();
     state.growing(source)
 }
 
@@ -31,7 +31,7 @@ fn growing(state: &State, source: &Text) -> u64
 fn any_counted_out(state: &State, source: &Text) -> bool
     ensures { result ≡ any_counted_out state.now.plan source.now state.now.now.logs }
 {
-    state.is_sound();
+    state.sound_law();
     let recorders = state.recorders(source);
     for place in recorders {
         if state.events_ever(*place) >= 9_223_372_036_854_775_807 {
@@ -52,7 +52,7 @@ pub fn overfills(state: &State, path: &Text, head: &Attributes, slot: &Slot) -> 
     if same_slot(slot, head.slot()) {
         return false;
     }
-    state.is_sound();
+    state.sound_law();
     let is_event = state.would_act(path, slot);
     let more = growing(state, path).saturating_add(one_if(is_event));
     state.is_full(more) || any_counted_out(state, path)
@@ -62,7 +62,7 @@ pub fn overfills(state: &State, path: &Text, head: &Attributes, slot: &Slot) -> 
 pub fn ack_overfills(state: &State, number: u64) -> bool
     ensures { (user : Option (List ℕ)) → result ≡ is_over state.now.now.logs (acked (board state.now.plan state.now.now) number user state.now.time) }
 {
-    state.is_sound();
+    state.sound_law();
     let is_event = state.would_ack(number);
     state.is_full(one_if(is_event))
 }

@@ -33,7 +33,7 @@ pub fn write(
     ensures ok { OnOk result (state.new ≡ record state.old { now = write state.old.plan state.old.time path.now kind slot.now state.old.now }) }
     ensures err { OnErr result (state.new ≡ record state.old { now = state.new.now }) }
 {
-    state.is_sound();
+    state.sound_law();
     let copy = slot.copy()?;
     state.set_slot(node, copy)?;
     renew_library(state, node, path)?;
@@ -42,7 +42,7 @@ pub fn write(
 }
 
 /// Writes a value to the object of a head that is shown at a node, unless it is equal to the one that is shown.
-pub fn written(
+pub fn write_if_changed(
     state: &mut State,
     node: NodeId,
     path: &Text,
@@ -59,6 +59,6 @@ pub fn written(
     if same_slot(slot, head.slot()) {
         return Ok(());
     }
-    state.is_sound();
+    state.sound_law();
     write(state, node, path, head.kind(), slot)
 }

@@ -16,8 +16,8 @@ use Rattle.ob_super.specs.Turns.{Standing, Down, Up}
 use Rattle.ob_super.specs.Trees.{View, Entry, shown_in, shown_at, view_of, views_of, entry_at}
 use Rattle.ob_super.specs.Rounds.{Rounds, Stops, PutsHere, Sends, SendsIf, Puts, not_supported}
 use Rattle.ob_super.specs.Supervised.{no_such_object, refused_at, RepliesTo, ManyRounds, StopsAmong}
-use Rattle.ob_super.specs.Told as told
-use Rattle.ob_super.specs.Told.{Outside, Goes, Stands, StandAll, RoundsAll, PutsAll, ManyAll, RepliesOr, RepliesAll, AnswersAll}
+use Rattle.ob_super.specs.InHand as told
+use Rattle.ob_super.specs.InHand.{Outside, Goes, Stands, StandAll, RoundsAll, PutsAll, ManyAll, RepliesOr, RepliesAll, AnswersAll}
 use Rattle.ob_client.proofs.SessionLemmas.{never}
 use Rattle.ob_super.proofs.SuperLemmas.{told_before, part_less, goes_none, goes_then, held_stands}
 

@@ -19,8 +19,8 @@ use Rattle.ob_super.specs.Turns.{Standing, Down, Up, after}
 use Rattle.ob_super.specs.Trees.{Entry, entry_at}
 use Rattle.ob_super.specs.Rounds.{Stops, Lacks, BackForMemory, PutsHere, Sends, SendsIf, SendsTo, Puts, Ends}
 use Rattle.ob_super.specs.Supervised.{RepliesBy, LacksReply, Asked, RepliesTo, Supervises, StopsAmong, all_down}
-use Rattle.ob_super.specs.Told as told
-use Rattle.ob_super.specs.Told.{Outside, Goes, Stands, StandAll, EndsAll, ManyAll, AnswersAll, SupervisesAll, RunsAll, StopsAll}
+use Rattle.ob_super.specs.InHand as told
+use Rattle.ob_super.specs.InHand.{Outside, Goes, Stands, StandAll, EndsAll, ManyAll, AnswersAll, SupervisesAll, RunsAll, StopsAll}
 use Rattle.ob_super.proofs.SuperLemmas.{told_before, breaks_next_less, back_less, part_less, goes_none, goes_then}
 use Rattle.ob_super.proofs.AnswerLemmas.{rounds_less, many_less}
 

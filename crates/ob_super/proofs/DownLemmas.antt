@@ -14,7 +14,7 @@ use Rattle.ob_super.specs.declared.config_fault.ConfigFault.TheVariants.{Shape, 
 use Rattle.ob_parts.proofs.Earliest.{least_some}
 use Rattle.std.specs.declared.result.Result.TheVariants.{Err}
 use Rattle.ob_super.specs.Names.{are_apart, names}
-use Rattle.ob_super.specs.Told.{upstream, upstreams, AreDown, down, Configures}
+use Rattle.ob_super.specs.InHand.{upstream, upstreams, AreDown, down, Configures}
 
 same_all : {A : Type 0} (xs : List A) → map (λ x. x) xs ≡ xs
 same_all [] = refl

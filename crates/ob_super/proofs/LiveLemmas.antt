@@ -22,7 +22,7 @@ use Rattle.ob_super.specs.Turns.{Standing, Down, Up}
 use Rattle.ob_super.specs.Links.{HasSaid, IsBroken, is_fault, is_break}
 use Rattle.ob_super.specs.Rounds.{host, dial}
 use Rattle.ob_super.specs.Asking.{Answered, Broke, Brings, in_round, Opens, is_miss}
-use Rattle.ob_super.specs.Told.{Outside, Goes, Parts, Stands, IsLive, Follows, SendsOn, wire_of, polling, IsDown}
+use Rattle.ob_super.specs.InHand.{Outside, Goes, Parts, Stands, IsLive, Follows, SendsOn, wire_of, polling, IsDown}
 use Rattle.ob_client.proofs.SessionLemmas.{never}
 use Rattle.ob_super.proofs.SaidLemmas.{unasked}
 use Rattle.ob_super.proofs.OpenLemmas.{spoken_last}

@@ -18,7 +18,7 @@ use Rattle.ob_object.specs.Fits.{fits_name}
 use Rattle.ob_super.specs.Upstreams.{Upstream, is_name, is_letter}
 use Rattle.ob_super.specs.Trees.{View, subtree}
 use Rattle.ob_super.specs.Names.{are_apart, names}
-use Rattle.ob_super.specs.Told.{upstreams, upstream, view, views}
+use Rattle.ob_super.specs.InHand.{upstreams, upstream, view, views}
 
 -- the list of an upstream has its name
 list_name : (v : View) → (subtree v).head.name ≡ Some v.0.name

@@ -13,7 +13,7 @@ use Rattle.ob_asking.specs.Wires.{Wire}
 use Rattle.ob_asking.specs.declared.fault.Fault.{Fault}
 use Rattle.ob_super.specs.Upstreams.{Upstream}
 use Rattle.ob_super.specs.declared.asking.Watch.{Watch}
-use Rattle.ob_super.specs.Told as told
+use Rattle.ob_super.specs.InHand as told
 use Rattle.ob_super.specs.Calls.{Stage, Lobby, Service, Make, Adding, Said, said, asking, added, to_add, request_at, led, next, spoken}
 use Rattle.ob_super.specs.Turns.{is_polling}
 use Rattle.ob_super.specs.Links.{HasSaid, HasBroken}

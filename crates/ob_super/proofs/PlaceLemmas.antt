@@ -13,7 +13,7 @@ use Rattle.ob_watching.specs.WatchOuts.{Text, Held}
 use Rattle.ob_client.specs.Mirrors.{found}
 use Rattle.ob_super.specs.Upstreams.{Upstream}
 use Rattle.ob_super.specs.Trees.{Entry, list_at, object_at, object_path, the_entry, with_entry, entries_from, entry_in}
-use Rattle.ob_super.specs.Told.{IsBehind, HasEntry}
+use Rattle.ob_super.specs.InHand.{IsBehind, HasEntry}
 
 -- ---- what is behind a front
 

@@ -20,8 +20,8 @@ use Rattle.ob_super.specs.Turns.{Turn, Dialled, Reply, Broken, Standing, Down, U
 use Rattle.ob_super.specs.Trees.{Entry, placed, object_path, the_entry, entry_in, entry_at}
 use Rattle.ob_super.specs.Links.{IsBack, IsBroken}
 use Rattle.ob_super.specs.Rounds.{host, ComesBack, BreaksAt, BreaksNext, BackIfDown, AreBackAt, AreBack, Part, Rounded, PutsHere, Puts, Sends, Ends, upstream_down, not_supported}
-use Rattle.ob_super.specs.Told as told
-use Rattle.ob_super.specs.Told.{Outside, Goes, Stands, Follows, StandAll, RoundsAll, SendsOn, PutsTo, HasSent, MayPut, PutsOne, PutsAll, EndsAll, HasEntry}
+use Rattle.ob_super.specs.InHand as told
+use Rattle.ob_super.specs.InHand.{Outside, Goes, Stands, Follows, StandAll, RoundsAll, SendsOn, PutsTo, HasSent, MayPut, PutsOne, PutsAll, EndsAll, HasEntry}
 use Rattle.ob_client.proofs.SessionLemmas.{never}
 use Rattle.ob_super.proofs.SaidLemmas.{unasked}
 use Rattle.ob_super.proofs.PartLemmas.{said_back, broken_back}

@@ -16,7 +16,7 @@ use Rattle.ob_client.specs.Mirrors.{found}
 use Rattle.ob_super.specs.Trees.{bare, bare_one, root_path, list_at, object_path, Entry, the_entry, with_entry, entries_from, entry_in, objects, View, subtree, tree, with_children, has_href, shown_among, shown_in}
 use Rattle.ob_super.proofs.PlaceLemmas.{at_in, at_empty, left_at, get_same}
 use Rattle.ob_super.specs.declared.upstream.Followed.{Followed}
-use Rattle.ob_super.specs.Told.{entry_of, view, views, shown_over}
+use Rattle.ob_super.specs.InHand.{entry_of, view, views, shown_over}
 
 -- ---- without hrefs
 

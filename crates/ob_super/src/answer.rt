@@ -3,7 +3,7 @@ ghost use Rattle.std.specs.Prelude.{◌≡◌, IfOk, option_copied, unwrap_or, i
 ghost use Rattle.ob_values.specs.declared.verb.Verb.TheVariants.{Put};
 ghost use Rattle.ob_super.specs.Supervised.{no_such_object, refused_at};
 ghost use Rattle.ob_super.specs.Trees.{shown_in};
-ghost use Rattle.ob_super.specs.Told as told;
+ghost use Rattle.ob_super.specs.InHand as told;
 
 use crate::refusal::{no_such_object, not_supported};
 use crate::state::Super;

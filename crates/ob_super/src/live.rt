@@ -3,7 +3,7 @@ ghost use Rattle.std.specs.Prelude.{◌≡◌, List, None, IsSome, IfSome, IsOk,
 ghost use Rattle.ob_super.specs.Calls.{Call, put_on};
 ghost use Rattle.ob_super.specs.Rounds.{host};
 ghost use Rattle.ob_super.specs.Turns.{Standing, Down, Up};
-ghost use Rattle.ob_super.specs.Told as told;
+ghost use Rattle.ob_super.specs.InHand as told;
 
 use crate::asking::{call, open, poll};
 use crate::upstream::{Followed, Live, Upstream};

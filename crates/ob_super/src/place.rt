@@ -1,7 +1,7 @@
 //! The places of the tree.
 ghost use Rattle.std.specs.Prelude.{◌≡◌, IfOk, bytes_eq, decimal, option_map};
 ghost use Rattle.ob_super.specs.Trees.{list_at, object_at};
-ghost use Rattle.ob_super.specs.Told as told;
+ghost use Rattle.ob_super.specs.InHand as told;
 
 use itoa::Buffer;
 use ob_values::Text;

@@ -5,7 +5,7 @@ ghost use Rattle.ob_asking.specs.Places.{place_at};
 ghost use Rattle.ob_super.specs.Calls.{Call};
 ghost use Rattle.ob_super.specs.Trees.{object_at, entry_in, with_children, subtree, shown_among, shown_in};
 ghost use Rattle.ob_super.specs.Turns.{Up};
-ghost use Rattle.ob_super.specs.Told as told;
+ghost use Rattle.ob_super.specs.InHand as told;
 
 use crate::config::upstreams;
 use crate::config_fault::ConfigFault;

@@ -4,7 +4,7 @@ ghost use Rattle.ob_object.specs.Object.{children};
 ghost use Rattle.ob_watching.specs.WatchOuts.{without_name};
 ghost use Rattle.ob_super.specs.Names.{are_apart, names};
 ghost use Rattle.ob_super.specs.Trees.{bare_one, placed, list_head, subtree, tree};
-ghost use Rattle.ob_super.specs.Told as told;
+ghost use Rattle.ob_super.specs.InHand as told;
 
 use crate::place::{ROOT, list_path, object_path};
 use crate::upstream::{Followed, Upstream};

@@ -9,7 +9,7 @@ use Rattle.ob_server.specs.Answering.{AreAsked, ServesBy}
 use Rattle.ob_server.specs.declared.end.LinkEnd.{LinkEnd}
 use Rattle.ob_server.specs.declared.end.LinkEnd.TheVariants as ends
 use Rattle.ob_super.specs.declared.upstream.Followed.{Followed}
-use Rattle.ob_super.specs.Told.{Outside, upstreams, ManyAll, SupervisesAll, EndsAll}
+use Rattle.ob_super.specs.InHand.{Outside, upstreams, ManyAll, SupervisesAll, EndsAll}
 use Rattle.ob_super.proofs.ChainLemmas.{supervises_none, supervises_more, runs, stops}
 use Rattle.ob_supervising.specs.declared.supervising.Supervising.{Supervising}
 use Rattle.ob_supervising.specs.Supervising.{request_of, reply_of, all_asked, told_by, Asks, AnswersLink, SupervisesLink}

@@ -14,7 +14,7 @@ use Rattle.ob_server.specs.declared.end.LinkEnd.{LinkEnd}
 use Rattle.ob_server.specs.declared.end.LinkEnd.TheVariants as ends
 use Rattle.ob_super.specs.Upstreams.{Upstream}
 use Rattle.ob_super.specs.Supervised.{Asked}
-use Rattle.ob_super.specs.Told.{Outside, outside, asked, upstreams, AnswersAll, SupervisesAll, RunsAll, StopsAll}
+use Rattle.ob_super.specs.InHand.{Outside, outside, asked, upstreams, AnswersAll, SupervisesAll, RunsAll, StopsAll}
 use Rattle.ob_super.specs.declared.upstream.Followed.{Followed}
 use Rattle.ob_supervising.specs.declared.supervising.Supervising.{Supervising}
 

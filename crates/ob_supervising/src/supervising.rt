@@ -4,7 +4,7 @@ ghost use Rattle.std.specs.List.{AllByRecursion};
 ghost use Rattle.ob_io.specs.Links.{inlet};
 ghost use Rattle.ob_server.specs.Answered.{HasEndCause};
 ghost use Rattle.ob_server.specs.Complete.{ServesWhole};
-ghost use Rattle.ob_super.specs.Told as told;
+ghost use Rattle.ob_super.specs.InHand as told;
 ghost use Rattle.ob_supervising.specs.Supervising.{Asks, AnswersLink, SupervisesLink};
 
 use ob_io::{Dialer, Link, Ticker};

@@ -8,7 +8,7 @@ use Rattle.std.specs.List.{flat_map}
 use Rattle.ob_machine.specs.declared.call.Answer.{Answer}
 use Rattle.ob_machine.specs.declared.call.Entry.{Entry}
 use Rattle.ob_machine.specs.History.{entry, IsLegal}
-use Rattle.ob_turn.specs.declared.worker.Job.{Job}
+use Rattle.ob_turn.specs.declared.caller.Job.{Job}
 use Rattle.ob_turn.specs.Callers.{own}
 use Rattle.ob_turn.specs.Standing.{Standing, mine}
 use Rattle.ob_turn.specs.Work.{asked, call_for, Continues}

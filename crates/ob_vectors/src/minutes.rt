@@ -3,7 +3,7 @@ ghost use Rattle.std.specs.Prelude.{◌≡◌, IfOk};
 
 use crate::turns::at;
 use ob_times::Moment;
-use ob_turn::{Answer, Desk, Job, Machine, Pass, Worker};
+use ob_turn::{Answer, Caller, Desk, Job, Machine, Pass};
 use std::alloc::{AllocError, Global};
 use std::marker::Model;
 use std::sync::Wait;
@@ -78,16 +78,16 @@ fn stand_in_order(lines: &[Line], jobs: &[Job<Line, usize>]) -> bool {
     true
 }
 
-fn worker(
+fn caller(
     alloc: Global,
     pass: Pass<Minutes>,
     by: u64,
     count: u64,
-) -> Result<Worker<Minutes>, AllocError>
+) -> Result<Caller<Minutes>, AllocError>
     ensures { IfOk result (λ w. w.pass ≡ pass) }
 {
     let jobs = jobs_of(alloc, by, count)?;
-    Ok(Worker { pass, jobs })
+    Ok(Caller { pass, jobs })
 }
 
 // Tells how many jobs there were, and whether they stand in order.
@@ -120,26 +120,26 @@ pub(crate) fn tell_minutes<R: Threads + Wait + Sync + AllocGlobal>(
     let Ok((desk, mut pass)) = Desk::new(rt.alloc(), minutes) else {
         return Err(AllocError);
     };
-    let mut workers = Vec::with_capacity(rt.alloc(), 3)?;
+    let mut callers = Vec::with_capacity(rt.alloc(), 3)?;
     let one = pass.split(&desk, 1);
     let two = pass.split(&desk, 1);
     let three = pass.split(&desk, 1);
-    workers.push_reserved(worker(rt.alloc(), one, 1, count)?);
-    workers.push_reserved(worker(rt.alloc(), two, 2, count)?);
-    workers.push_reserved(worker(rt.alloc(), three, 3, count)?);
-    desk.run_workers(rt, workers.as_mut_slice());
-    let (Some(three), Some(two), Some(one)) = (workers.pop(), workers.pop(), workers.pop()) else {
-        return told.push_str("no workers");
+    callers.push_reserved(caller(rt.alloc(), one, 1, count)?);
+    callers.push_reserved(caller(rt.alloc(), two, 2, count)?);
+    callers.push_reserved(caller(rt.alloc(), three, 3, count)?);
+    desk.run_callers(rt, callers.as_mut_slice());
+    let (Some(three), Some(two), Some(one)) = (callers.pop(), callers.pop(), callers.pop()) else {
+        return told.push_str("no callers");
     };
-    let Worker {
+    let Caller {
         pass: one,
         jobs: first,
     } = one;
-    let Worker {
+    let Caller {
         pass: two,
         jobs: second,
     } = two;
-    let Worker {
+    let Caller {
         pass: three,
         jobs: third,
     } = three;

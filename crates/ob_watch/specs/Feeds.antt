@@ -31,7 +31,7 @@ abbrev pub AreFeedPlaces : Option (Vec ℕ) → List Item → Type 0
 AreFeedPlaces known items = IfSome known (λ places. places.items ≡ feed_places items)
 
 -- Each item stands under its own href, the items on feeds stand at their places, and those on objects have this mark.
-pub record AreKept (es : Entries) (known : Option (Vec ℕ)) (mark : Option ℕ) : Type 0 where
+pub record AreInPlace (es : Entries) (known : Option (Vec ℕ)) (mark : Option ℕ) : Type 0 where
   pub own : StandUnderOwn es
   pub feeds : AreFeedPlaces known (items_of es)
   pub marked : AreMarked mark (items_of es)

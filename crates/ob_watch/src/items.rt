@@ -47,14 +47,14 @@ impl Drop for Items {
 impl Model for Items {
     ghost use Rattle.std.specs.Prelude.{List};
     ghost use Rattle.ob_watch.specs.declared.item.Item.{Item};
-    ghost use Rattle.ob_watch.specs.Feeds.{AreKept};
+    ghost use Rattle.ob_watch.specs.Feeds.{AreInPlace};
     ghost use Rattle.ob_watch.specs.Held.{items_of};
 
     ghost Value = { List Item };
 
     ghost view = { λ m. items_of m.map.entries };
 
-    ghost invariant = { λ m. AreKept m.map.entries m.feeds m.mark };
+    ghost invariant = { λ m. AreInPlace m.map.entries m.feeds m.mark };
 }
 
 // Whether a text is one of these.

@@ -1,7 +1,7 @@
 use Rattle.std.proofs.Common.{List, ℕ, ap, sym, subst, ◌∙◌}
 use Rattle.std.specs.Prelude.{Err}
 use Rattle.ob_console.specs.Acks.{FindsTarget, leads_to, op_of}
-use Rattle.ob_console.specs.Told.{lines_of}
+use Rattle.ob_console.specs.InHand.{lines_of}
 use Rattle.ob_console.proofs.AckLemmas.{answered_as, at_target, refused}
 use Rattle.ob_console.proofs.ack_call.acknowledge.Goals as goal
 

@@ -1,5 +1,5 @@
 use Rattle.std.proofs.Common.{◌∙◌}
-use Rattle.ob_console.specs.Told as told
+use Rattle.ob_console.specs.InHand as told
 use Rattle.ob_console.specs.Boards.{alarm_of}
 use Rattle.ob_console.proofs.BoardLemmas.{event_put, known_alarm}
 use Rattle.ob_console.proofs.board.put_event.Goals as goal

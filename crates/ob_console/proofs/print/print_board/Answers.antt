@@ -1,6 +1,6 @@
 use Rattle.std.proofs.Common.{◌≡◌, List, ℕ, ◌++◌, ◌+◌, ap, ◌∙◌, take}
 use Rattle.ob_console.specs.Lines.{shows_text, board_text}
-use Rattle.ob_console.specs.Told as told
+use Rattle.ob_console.specs.InHand as told
 use Rattle.ob_console.proofs.LineLemmas.{text_more, text_same}
 use Rattle.ob_console.proofs.print.print_board.Goals.{in-Some+in_ok-put_line-in-Some, in-None}
 use Rattle.ob_console.proofs.print.print_board.Goals as goal

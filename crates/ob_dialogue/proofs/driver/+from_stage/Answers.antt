@@ -1,6 +1,6 @@
 use Rattle.std.proofs.Common.{refl, inl, inr}
 use Rattle.ob_dialogue.specs.Legs.{Failed, Cut}
-use Rattle.ob_dialogue.specs.Told as told
+use Rattle.ob_dialogue.specs.InHand as told
 use Rattle.ob_dialogue.proofs.TalkLemmas.{talks_once, talks_more}
 use Rattle.ob_dialogue.proofs.driver.+from_stage.Goals as goal
 

@@ -3,7 +3,7 @@ use Rattle.std.specs.Prelude.{option_map}
 use Rattle.ob_dialogue.specs.Plans.{Program, Place, place_at}
 use Rattle.ob_dialogue.specs.Stages.{Stage, Lobby}
 use Rattle.ob_dialogue.specs.Turns.{begins}
-use Rattle.ob_dialogue.specs.Told as told
+use Rattle.ob_dialogue.specs.InHand as told
 use Rattle.ob_dialogue.specs.declared.ending.Peer.TheVariants as peer
 use Rattle.ob_dialogue.proofs.CompleteLemmas.{completes_begun}
 use Rattle.ob_dialogue.proofs.TalkLemmas.{talks_none}

@@ -5,7 +5,7 @@ use Rattle.ob_io.specs.Links.{inlet, IsFresh}
 use Rattle.ob_http.proofs.RepliesLemmas.{start}
 use Rattle.ob_dialogue.specs.Legs.{had, Ended}
 use Rattle.ob_dialogue.specs.Plans.{host_field}
-use Rattle.ob_dialogue.specs.Told as told
+use Rattle.ob_dialogue.specs.InHand as told
 use Rattle.ob_dialogue.specs.declared.ending.Ending.TheVariants as ending
 use Rattle.ob_dialogue.proofs.LegLemmas.{leg_memory}
 use Rattle.ob_dialogue.proofs.TalkLemmas.{visits_none, visits_failed}

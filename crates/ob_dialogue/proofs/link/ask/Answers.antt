@@ -3,7 +3,7 @@ use Rattle.ob_http.specs.Asking.{request_text}
 use Rattle.ob_object.specs.Object.{Object}
 use Rattle.ob_client.specs.Sessions.{Asks, body_text}
 use Rattle.ob_client.proofs.SessionLemmas.{never}
-use Rattle.ob_dialogue.specs.Told as told
+use Rattle.ob_dialogue.specs.InHand as told
 use Rattle.ob_dialogue.proofs.ExchangeLemmas.{call_exchanges, call_goes_on, call_by_link, call_lived, ack_exchanges, ack_goes_on, ack_host, ack_later, ack_by_link, ack_lived}
 use Rattle.ob_dialogue.proofs.link.ask.Goals as goal
 

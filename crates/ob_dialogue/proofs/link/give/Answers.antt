@@ -1,5 +1,5 @@
 use Rattle.std.proofs.Common.{refl, subst, List, ℕ}
-use Rattle.ob_dialogue.specs.Told as told
+use Rattle.ob_dialogue.specs.InHand as told
 use Rattle.ob_dialogue.proofs.TurnLemmas.{gives_of, memory_no_link, memory_no_write}
 use Rattle.ob_dialogue.proofs.link.give.Goals as goal
 

@@ -1,4 +1,4 @@
-use Rattle.ob_dialogue.specs.Told as told
+use Rattle.ob_dialogue.specs.InHand as told
 use Rattle.ob_dialogue.proofs.StageLemmas.{taken_near}
 use Rattle.ob_dialogue.proofs.link.on_link.Goals as goal
 

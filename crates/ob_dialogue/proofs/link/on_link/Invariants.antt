@@ -1,7 +1,7 @@
 use Rattle.std.proofs.Common.{◌≡◌, ◌≤◌, false, Ok}
 use Rattle.ob_io.specs.Links.{inlet}
 use Rattle.ob_dialogue.specs.Legs.{Had, had, Leg, Pause}
-use Rattle.ob_dialogue.specs.Told as told
+use Rattle.ob_dialogue.specs.InHand as told
 use Rattle.ob_dialogue.proofs.StageLemmas.{stages_left}
 use Rattle.ob_dialogue.proofs.link.on_link.Given as goal
 

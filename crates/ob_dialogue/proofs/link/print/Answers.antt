@@ -1,6 +1,6 @@
 use Rattle.std.proofs.Common.{refl, sym, subst}
 use Rattle.ob_dialogue.specs.declared.link.Turned.{Turned}
-use Rattle.ob_dialogue.specs.Told as told
+use Rattle.ob_dialogue.specs.InHand as told
 use Rattle.ob_dialogue.proofs.TurnLemmas.{prints_cut, prints_reached, write_no_link}
 use Rattle.ob_dialogue.proofs.link.print.Goals as goal
 

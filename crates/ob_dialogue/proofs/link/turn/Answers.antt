@@ -1,4 +1,4 @@
-use Rattle.ob_dialogue.specs.Told as told
+use Rattle.ob_dialogue.specs.InHand as told
 use Rattle.ob_dialogue.proofs.TurnLemmas.{turn_over, turn_memory, turn_fault, turn_reply, turn_onward}
 use Rattle.ob_dialogue.proofs.link.turn.Goals as goal
 

@@ -11,4 +11,4 @@ pub returns-clause-serves : goal.returns-clause-serves
 returns-clause-serves g c =
     let served = c.serve_port-machine.ensures.serves in
     let is = c.into_kept.ensures ∙ served.2 in
-    (served.0, served.1, keeps_laws c.args.kept served.0 _ c.is_sound.ensures served.1.legal is, is)
+    (served.0, served.1, keeps_laws c.args.kept served.0 _ c.sound_law.ensures served.1.legal is, is)

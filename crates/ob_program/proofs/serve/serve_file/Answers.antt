@@ -9,7 +9,7 @@ pub returns-in-Ok-load : goal.returns-in-Ok-load
 returns-in-Ok-load g c =
     let file : Option (List ℕ) = g.F.Files.content c.args.files.now c.args.service.site.now in
     let opened = subst (λ (ns : Option (List ℕ)). IfSome file (λ whole. IsSite (site_bytes whole) c.in-Ok.boot ns c.in-Ok-load.field-0.site)) (sym c.as_ref.ensures.value) c.in-Ok-load.ensures.site in
-    comes_served _ _ _ _ _ _ _ _ file _ _ _ _ _ _ _ _ _ _ _ _ _ _ _ c.in-Ok.boot _ _ _ _ c.in-Ok.ensures.gave c.now.ensures.apart c.now.ensures.cause.later opened c.is_sound.ensures c.serve_site.ensures.1
+    comes_served _ _ _ _ _ _ _ _ file _ _ _ _ _ _ _ _ _ _ _ _ _ _ _ c.in-Ok.boot _ _ _ _ c.in-Ok.ensures.gave c.now.ensures.apart c.now.ensures.cause.later opened c.sound_law.ensures c.serve_site.ensures.1
 
 pub returns-in-Err : goal.returns-in-Err
 returns-in-Err g c =

@@ -1,4 +1,4 @@
-use Rattle.ob_super.specs.Told.{upstreams}
+use Rattle.ob_super.specs.InHand.{upstreams}
 use Rattle.ob_program.proofs.StdioLemmas.{served_cause, whole_at}
 use Rattle.ob_program.proofs.SuperLemmas.{comes_unfollowed, unfollowed_serves_none, unfollowed_cause}
 use Rattle.ob_program.proofs.supervise.serve_tree.Goals as goal

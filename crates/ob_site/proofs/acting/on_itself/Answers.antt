@@ -26,7 +26,7 @@ end_step-requires-clause-room g c = (kept_in c.args.state.now c.act.new.state c.
 
 pub end_step-requires-clause-given : goal.end_step-requires-clause-given
 end_step-requires-clause-given g c =
-    none_away c.steps_take_none_away.ensures c.args.state.now c.act.new.state c.args.watches.now (numbers_of (lapsed_at c.args.state.now.time c.args.watches.now).watches) c.args.request.now c.in_ok-reply.reply c.requires.begun c.is_sound.ensures.sound c.in_ok-reply.ensures.done
+    none_away c.steps_take_none_away.ensures c.args.state.now c.act.new.state c.args.watches.now (numbers_of (lapsed_at c.args.state.now.time c.args.watches.now).watches) c.args.request.now c.in_ok-reply.reply c.requires.begun c.sound_law.ensures.sound c.in_ok-reply.ensures.done
 
 pub returns-clause-done : goal.returns-clause-done
 returns-clause-done g c =

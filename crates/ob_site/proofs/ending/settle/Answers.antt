@@ -8,7 +8,7 @@ pub returns : goal.returns
 returns c =
     let k = c.args.state.now in
     let t = c.args.watches.now in
-    ended_by k c.stamp.new.self c.commit.new.self (map (λ node. node.number) c.args.nodes.now) t c.sweep.new.self c.tell.new.watches c.requires.kept c.requires.ends c.nodes_stay.ensures c.requires.given
+    ended_by k c.stamp.new.self c.commit.new.self (map (λ node. node.number) c.args.nodes.now) t c.sweep.new.self c.tell.new.watches c.requires.kept c.requires.ends c.nodes_stay_law.ensures c.requires.given
     (c.sweep.ensures ∙ ap (λ (now : ℕ). lapsed_at now t) c.time.ensures)
     (told_so k.plan k.before k.now c.args.news.now.events.items c.args.news.now.rolls.items c.sweep.new.self c.tell.new.watches c.feeds_are_told.ensures c.requires.news c.tell.ensures)
     c.stamp.ensures c.commit.ensures

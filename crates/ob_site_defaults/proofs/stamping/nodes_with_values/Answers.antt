@@ -10,6 +10,6 @@ use Rattle.ob_site_defaults.proofs.stamping.nodes_with_values.Goals as goal
 pub returns-clause-ends : goal.returns-clause-ends
 returns-clause-ends g c =
     let k = c.args.state.now in
-    IfOk-weaker c.changed.result (λ nodes. DifferInValues k.before (roll k.now) → AreChanged k.plan k.before (roll k.now) (map (λ node. node.number) nodes.items))
+    IfOk-weaker c.changed_nodes.result (λ nodes. DifferInValues k.before (roll k.now) → AreChanged k.plan k.before (roll k.now) (map (λ node. node.number) nodes.items))
     (λ nodes. EndsAll k (map (λ node. node.number) nodes.items))
-    (λ nodes is. values_end k (map (λ node. node.number) nodes.items) c.requires.values c.is_told.ensures.differ (is c.requires.values) c.requires.long) c.changed.ensures.values
+    (λ nodes is. values_end k (map (λ node. node.number) nodes.items) c.requires.values c.is_told.ensures.differ (is c.requires.values) c.requires.long) c.changed_nodes.ensures.values

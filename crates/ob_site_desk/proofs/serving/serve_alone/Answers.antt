@@ -4,4 +4,4 @@ use Rattle.ob_site_desk.proofs.serving.serve_alone.Goals as goal
 pub returns-clause-serves : goal.returns-clause-serves
 returns-clause-serves g c =
     let served = c.serve_alone.ensures.serves in
-    (served, keeps_watches c.args.site c.is_sound.ensures served.calls served.legal)
+    (served, keeps_watches c.args.site c.sound_law.ensures served.calls served.legal)

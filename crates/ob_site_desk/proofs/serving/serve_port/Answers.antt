@@ -9,4 +9,4 @@ serve_port-requires-send-M g c κs within = search (sendable, site_send)
 pub returns-clause-serves : goal.returns-clause-serves
 returns-clause-serves g c =
     let served = c.serve_port.ensures.serves in
-    (served.0, served.1, keeps_watches c.args.site c.is_sound.ensures served.0 served.1.legal, served.2)
+    (served.0, served.1, keeps_watches c.args.site c.sound_law.ensures served.0 served.1.legal, served.2)

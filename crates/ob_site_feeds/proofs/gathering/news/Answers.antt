@@ -24,7 +24,7 @@ returns c =
     let found = c.changes-changes.result.now in
     news_are k.plan k.now k.before found c.first_event-from.result c.put_records.new.events.items c.put_subject.new.events.items c.put_rolls.new.rolls.items
     c.changes-changes.ensures.before c.changes-changes.ensures.can c.changes-changes.ensures.told c.changes-changes.ensures.rolled
-    c.is_sound.ensures.sound c.is_sound.ensures.histories c.is_sound.ensures.apart c.first_event-from.ensures.value c.first_event-from.ensures.few
+    c.sound_law.ensures.sound c.sound_law.ensures.histories c.sound_law.ensures.apart c.first_event-from.ensures.value c.first_event-from.ensures.few
     (c.in_ok-put_records.ensures ∙ ap (λ (l : List FeedEvent). l ++ flat_map (note_events k.now.logs) found) c.new-news.ensures.events)
     c.in_ok-put_subject.ensures
     (c.in_ok-put_rolls.ensures ∙ ap (λ (l : List FeedRoll). l ++ flat_map (note_rolls k.now.logs) found) c.new-news.ensures.rolls)

@@ -1,5 +1,5 @@
 use Rattle.std.proofs.Common.{map}
-use Rattle.ob_roles.specs.Told.{part as site_part}
+use Rattle.ob_roles.specs.SiteParts.{part as site_part}
 use Rattle.ob_site_file.proofs.Worst.{worst_is}
 use Rattle.ob_site_file.proofs.bad.bad_part.Goals as goal
 

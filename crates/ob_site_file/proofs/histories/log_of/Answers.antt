@@ -3,7 +3,7 @@ use Rattle.std.specs.List.{filter_map}
 use Rattle.ob_history.specs.declared.records.Record.{Record}
 use Rattle.ob_object.specs.Object.{Object}
 use Rattle.ob_site_rules.specs.Loading.{capacity_of, items_of, record_in, records_of}
-use Rattle.ob_roles.specs.Told.{part as site_part}
+use Rattle.ob_roles.specs.SiteParts.{part as site_part}
 use Rattle.ob_site_rules.specs.State.{Log}
 use Rattle.ob_site_file.proofs.Rests.{filter_map-map}
 use Rattle.ob_site_file.proofs.histories.log_of.Goals as goal

@@ -1,4 +1,4 @@
-use Rattle.ob_roles.specs.Told.{part as site_part}
+use Rattle.ob_roles.specs.SiteParts.{part as site_part}
 use Rattle.ob_site_file.proofs.Listed.{ItemsLeft}
 use Rattle.ob_site_file.proofs.items.items_of.Given as goal
 

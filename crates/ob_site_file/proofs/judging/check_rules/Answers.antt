@@ -3,7 +3,7 @@ use Rattle.ob_object.specs.Object.{node, none}
 use Rattle.ob_site_rules.specs.declared.roles.Roles.{Roles}
 use Rattle.ob_site_rules.specs.Loading.{parts_of, bad_part}
 use Rattle.ob_site_rules.specs.Roles.{no_roles}
-use Rattle.ob_roles.specs.Told.{part as site_part}
+use Rattle.ob_roles.specs.SiteParts.{part as site_part}
 use Rattle.ob_site_file.specs.Numbers.{AreNumbered}
 use Rattle.ob_site_file.specs.Passes.{site_parts}
 use Rattle.ob_site_file.proofs.Worst.{root_numbered}

@@ -1,5 +1,5 @@
 use Rattle.std.proofs.Common.{map, take}
-use Rattle.ob_roles.specs.Told.{part as site_part}
+use Rattle.ob_roles.specs.SiteParts.{part as site_part}
 use Rattle.ob_site_file.specs.Sought.{Sees}
 use Rattle.ob_site_file.proofs.nodes.nodes_of.Given as goal
 

@@ -2,7 +2,7 @@ use Rattle.std.proofs.Common.{◌++◌, List, Option, codes, map, ap, ◌∙◌}
 use Rattle.std.specs.List.{filter_map}
 use Rattle.ob_object.specs.Object.{Object}
 use Rattle.ob_site_rules.specs.Loading.{Part, items_of, rule_in}
-use Rattle.ob_roles.specs.Told.{part as site_part}
+use Rattle.ob_roles.specs.SiteParts.{part as site_part}
 use Rattle.ob_site_file.specs.Opened.{rules_at}
 use Rattle.ob_site_file.proofs.Rests.{filter_map-map}
 use Rattle.ob_site_file.proofs.plan.put_subject_rules.Goals as goal

@@ -1,4 +1,4 @@
-use Rattle.ob_site_file.specs.Told.{rule_by}
+use Rattle.ob_site_file.specs.RulesAndRecords.{rule_by}
 use Rattle.ob_site_file.proofs.Ruled.{next_is}
 use Rattle.ob_site_file.proofs.rules.is_next.Goals as goal
 

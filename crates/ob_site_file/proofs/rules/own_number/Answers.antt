@@ -3,7 +3,7 @@ use Rattle.std.specs.Prelude.{IfSome, Option}
 use Rattle.ob_alarms.specs.declared.rule.Num.{Num}
 use Rattle.ob_object.specs.declared.head.Head.{Head}
 use Rattle.ob_site_rules.specs.Writes.{number_in}
-use Rattle.ob_site_file.specs.Told.{num_kind}
+use Rattle.ob_site_file.specs.RulesAndRecords.{num_kind}
 use Rattle.ob_site_file.proofs.Fits.{own_kind}
 use Rattle.ob_site_file.proofs.rules.own_number.Goals as goal
 

@@ -3,7 +3,7 @@ use Rattle.std.specs.Prelude.{Option}
 use Rattle.std.specs.List.{filter_map}
 use Rattle.ob_site_rules.specs.Writes.{stored_in}
 use Rattle.ob_site_rules.specs.Loading.{record_in, records_of, items_of}
-use Rattle.ob_roles.specs.Told.{part as site_part}
+use Rattle.ob_roles.specs.SiteParts.{part as site_part}
 use Rattle.ob_site_file.proofs.Rests.{filter_map-map}
 use Rattle.ob_site_file.proofs.stored.stored_in.Goals as goal
 

@@ -28,7 +28,7 @@ returns c = λ planned.
     let few : length (map second xs) ≤ c.loop-place.place = omega (arith, test, c.histories-place-end.ensures, length-map xs second) in
     let few_too : length (map second ys) ≤ c.loop-place.place = omega (arith, test, c.histories-place-end.ensures, c.histories.ensures, c.histories-2.ensures, c.if-histories.false, length-map ys second) in (
       λ _. alike_pairs xs ys
-          (c.is_sound.ensures.histories ∙ ap (λ (p : Plan). map (λ h. h.0) p.histories) planned ∙ sym c.is_sound-2.ensures.histories)
+          (c.sound_law.ensures.histories ∙ ap (λ (p : Plan). map (λ h. h.0) p.histories) planned ∙ sym c.sound_law-2.ensures.histories)
           (alike_all (map second xs) (map second ys) c.loop-place.place c.loop-place.invariant few few_too),
       λ _. refl,
     )

@@ -4,13 +4,13 @@ use Rattle.ob_object.specs.Object.{Object}
 use Rattle.ob_site_rules.specs.State.{State}
 use Rattle.ob_tree.specs.Shown.{standing_at}
 use Rattle.ob_tree.specs.Trees.{Stamped}
-use Rattle.ob_ground.specs.Grounds.{Taught, AreTold}
+use Rattle.ob_ground.specs.Grounds.{Taught, WordsStand}
 use Rattle.ob_site_settled.specs.Telling.{replaced_or, TellsOf}
 use Rattle.ob_site_settled.proofs.changes.standing_before.Goals as goal
 
 pub standing-requires-clause-told : goal.standing-requires-clause-told
 standing-requires-clause-told g c =
-    subst (λ (o : Object). AreTold o c.in-Some.told.now) (sym (ap (λ (t : Stamped). t.root) c.tree.ensures.value))
+    subst (λ (o : Object). WordsStand o c.in-Some.told.now) (sym (ap (λ (t : Stamped). t.root) c.tree.ensures.value))
     (subst (λ (t : Option Taught). TellsOf t c.args.state.now.now) (ap (λ r. option_copied r) c.in-Some.is) c.requires.told)
 
 pub returns-in-Some : goal.returns-in-Some

@@ -7,7 +7,7 @@ use Rattle.ob_site_rules.specs.Writes.{given_by}
 use Rattle.ob_site_rules.specs.declared.fault.Fault.{Fault}
 use Rattle.ob_site_rules.specs.declared.fault.Fault.TheVariants.{OtherShape}
 use Rattle.ob_site_writes.specs.Own.{DoneBy, StopsBy, head_faults, head_makes, put_faults, put_makes}
-use Rattle.ob_site_writes.specs.declared.stop.Stop.TheVariants.{Refused}
+use Rattle.ob_site_writes.specs.declared.not_done.NotDone.TheVariants.{Refused}
 use Rattle.ob_site_writes.proofs.own.put_free.Goals as goal
 
 pub returns-in-Some-clause-ok : goal.returns-in-Some-clause-ok

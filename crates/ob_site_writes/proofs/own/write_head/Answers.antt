@@ -33,7 +33,7 @@ show_own-requires-clause-can g c =
     subst (λ (y : Kind). has_values y ≡ true → IsTrue (holds_value y new.slot)) (kind ∙ own) (λ v. c.requires.held v (subst (λ (y : Kind). IsTrue (fits_slot y new.slot)) (sym kind) fits)) in
     subst (λ (s : Slot). CanBeWritten k.plan k.now p o.head.kind s) (sym c.slot.ensures)
     (subst (λ (y : Kind). CanBeWritten k.plan k.now p y new.slot) (sym own)
-    (can_be_written k.plan k.now p x new.slot c.is_sound.ensures.sound.consistent c.requires.asked.1.0 (subst (λ (y : Kind). IsTrue (fits_slot y new.slot)) own fits) (λ history has. ap has_values (sym own) ∙ c.requires.values) held))
+    (can_be_written k.plan k.now p x new.slot c.sound_law.ensures.sound.consistent c.requires.asked.1.0 (subst (λ (y : Kind). IsTrue (fits_slot y new.slot)) own fits) (λ history has. ap has_values (sym own) ∙ c.requires.values) held))
 
 pub returns-clause-ok : goal.returns-clause-ok
 returns-clause-ok g c =

@@ -7,7 +7,7 @@ use Rattle.ob_contracts.specs.Inherit.{Contracts, effective_of}
 use Rattle.ob_site_rules.specs.State.{State}
 use Rattle.ob_site_rules.specs.Writes.{value_fault, written, showing, unless, given_by, write_by}
 use Rattle.ob_site_writes.specs.Stops.{IsDone, Stops}
-use Rattle.ob_site_writes.specs.declared.stop.Stop.{Stop}
+use Rattle.ob_site_writes.specs.declared.not_done.NotDone.{NotDone}
 use Rattle.ob_site_writes.proofs.putting.write_by.Goals as goal
 
 pub returns-clause-ok : goal.returns-clause-ok

@@ -30,7 +30,7 @@ show_written-requires-clause-can g c =
     let kind : new.kind ≡ o.head.kind = one_kind new.kind o.head.kind (same_of (same_kind new.kind o.head.kind) found over right) in
     let held = subst (λ (x : Kind). has_values x ≡ true → IsTrue (fits_slot x new.slot) → IsTrue (holds_value x new.slot)) kind c.requires.held in
     subst (λ (s : Slot). CanBeWritten k.plan k.now p o.head.kind s) (sym c.slot.ensures)
-    (can_be_written k.plan k.now p o new.slot c.is_sound.ensures.sound.consistent c.requires.shows fits c.requires.records (λ v. held v fits))
+    (can_be_written k.plan k.now p o new.slot c.sound_law.ensures.sound.consistent c.requires.shows fits c.requires.records (λ v. held v fits))
 
 pub returns-clause-ok : goal.returns-clause-ok
 returns-clause-ok g c =

@@ -24,7 +24,7 @@ returns-in-Some g c =
     let here : Some number ≡ place_of r (paths k.now.tree) = c.in-Some.ensures.place ∙ ap (λ (t : Stamped). place_of r (paths t.root)) c.tree.ensures.value in
     IfOk-weaker c.shows_child.result (λ has. option_map (λ (o : Object). is_some (child n o)) (own_shown_at plan s number) ≡ Some has)
     (λ has. contract_of k.now.library r ≡ None → has ≡ has_child n (ranged k.plan k.now r))
-    (λ has is none. node_told k.plan plan k.now s r n number has c.plan.ensures c.contents.ensures.value c.is_sound.ensures.sound.paths_differ here is none) c.shows_child.ensures
+    (λ has is none. node_told k.plan plan k.now s r n number has c.plan.ensures c.contents.ensures.value c.sound_law.ensures.sound.paths_differ here is none) c.shows_child.ensures
 
 pub returns-in-None : goal.returns-in-None
 returns-in-None g c =

@@ -12,6 +12,6 @@ overfills-requires g c =
     let k = c.args.state.now in
     let slot = c.slot-slot.result.now in
     let o = c.args.object.now in
-    rule_takes k.plan k.now c.args.path.now c.requires.0 slot c.is_sound.ensures.sound.consistent c.requires.1.0
+    rule_takes k.plan k.now c.args.path.now c.requires.0 slot c.sound_law.ensures.sound.consistent c.requires.1.0
     (subst (λ (kind : Kind). IsTrue (fits_slot kind slot)) (sym (ap (λ (x : Object). x.head.kind) c.requires.1.1))
     (slot_fits k.plan k.now o.head slot (sym c.in_ok-fault.ensures ∙ sym (none_told c.in_ok-fault.fault (sym c.is_some.ensures ∙ c.if-is_some.false)))))

@@ -18,7 +18,7 @@ pub record_all-requires : goal.record_all-requires
 record_all-requires c =
     let k = c.args.state.now in
     let p = c.args.path.now in
-    let counts = room_counts k.plan k.now k.time p c.args.head.now c.args.slot.now c.is_sound.ensures.sound.consistent.counted (sym (ap (same_slot c.args.slot.now) c.slot.ensures) ∙ sym c.same_slot.ensures ∙ c.if-same_slot.false) c.requires.room in
+    let counts = room_counts k.plan k.now k.time p c.args.head.now c.args.slot.now c.sound_law.ensures.sound.consistent.counted (sym (ap (same_slot c.args.slot.now) c.slot.ensures) ∙ sym c.same_slot.ensures ∙ c.if-same_slot.false) c.requires.room in
     λ place l e has. (counts_more k.plan p k.now.logs place l counts e has, subst (λ (x : Kind). IsRecord (record { time = moment_instant k.time; kind = x; slot = c.args.slot.now })) (sym c.kind.ensures) (c.requires.can.is_record l.0 has k.time))
 
 pub returns-clause-ok : goal.returns-clause-ok

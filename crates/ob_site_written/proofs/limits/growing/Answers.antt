@@ -5,4 +5,4 @@ use Rattle.ob_site_written.proofs.limits.growing.Goals as goal
 pub returns : goal.returns
 returns c =
     let k = c.args.state.now in
-    c.growing.ensures ∙ growing_is k.plan c.args.source.now k.now.logs c.is_sound.ensures.apart c.is_sound.ensures.histories
+    c.growing.ensures ∙ growing_is k.plan c.args.source.now k.now.logs c.sound_law.ensures.apart c.sound_law.ensures.histories

@@ -61,4 +61,4 @@ returns-clause-ok c =
     let all = all_recorded p c.args.kind c.args.slot.now k c.renew_library.new.state c.record_all.new.self c.args.node.number c.in_ok-copy.copy is c.in_ok-record_all.ensures.ok in
     let after : Kept → Kept = λ x. record x { now = with_board x.now (board_after x.plan x.now x.time p c.args.slot.now) } in
     IfOk-weaker c.act.result (λ _. c.act.new.self ≡ after c.record_all.new.self) (λ _. c.act.new.self ≡ record k { now = write k.plan k.time p c.args.kind c.args.slot.now k.now })
-    (λ _ e. turned p c.args.kind c.args.slot.now k c.record_all.new.self c.act.new.self c.args.node.number c.in_ok-copy.copy c.in_ok-copy.ensures c.is_sound.ensures.differ c.requires.node all e) c.act.ensures.ok
+    (λ _ e. turned p c.args.kind c.args.slot.now k c.record_all.new.self c.act.new.self c.args.node.number c.in_ok-copy.copy c.in_ok-copy.ensures c.sound_law.ensures.differ c.requires.node all e) c.act.ensures.ok

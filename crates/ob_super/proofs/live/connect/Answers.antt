@@ -2,7 +2,7 @@ use Rattle.std.proofs.Common.{refl, sym, ap, subst, ◌∙◌, false, true}
 use Rattle.std.specs.Prelude.{unwrap_or}
 use Rattle.ob_io.specs.Links.{IsFresh}
 use Rattle.ob_super.specs.Rounds.{host}
-use Rattle.ob_super.specs.Told as told
+use Rattle.ob_super.specs.InHand as told
 use Rattle.ob_super.proofs.PartLemmas.{fresh_said}
 use Rattle.ob_super.proofs.LiveLemmas.{gained_dial, gains_same, gains_from, gains_to, parts_undialled, parts_unbegun_as, parts_opened, parts_unopened}
 use Rattle.ob_super.proofs.live.connect.Goals as goal

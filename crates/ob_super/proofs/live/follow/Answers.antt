@@ -1,5 +1,5 @@
 use Rattle.std.proofs.Common.{sym, subst}
-use Rattle.ob_super.specs.Told as told
+use Rattle.ob_super.specs.InHand as told
 use Rattle.ob_super.proofs.LiveLemmas.{follows_not}
 use Rattle.ob_super.proofs.live.follow.Goals as goal
 

@@ -1,5 +1,5 @@
 use Rattle.std.proofs.Common.{subst}
-use Rattle.ob_super.specs.Told as told
+use Rattle.ob_super.specs.InHand as told
 use Rattle.ob_super.proofs.LiveLemmas.{of_down, of_up}
 use Rattle.ob_super.proofs.live.next.Goals as goal
 

@@ -1,5 +1,5 @@
 use Rattle.ob_io.specs.Told.{Gains-none}
-use Rattle.ob_super.specs.Told as told
+use Rattle.ob_super.specs.InHand as told
 use Rattle.ob_super.proofs.LiveLemmas.{gains_same, parts_polled, parts_unpolled}
 use Rattle.ob_super.proofs.live.refresh.Goals as goal
 

@@ -2,7 +2,7 @@ use Rattle.std.proofs.Common.{refl, sym, ap, subst, ◌∙◌}
 use Rattle.std.specs.Option.{option_copied}
 use Rattle.ob_super.specs.Calls.{put_on}
 use Rattle.ob_super.specs.Turns.{Up}
-use Rattle.ob_super.specs.Told as told
+use Rattle.ob_super.specs.InHand as told
 use Rattle.ob_super.proofs.LiveLemmas.{gains_same, sends_answered_as, sends_broken}
 use Rattle.ob_super.proofs.live.send_put.Goals as goal
 

@@ -1,5 +1,5 @@
 use Rattle.std.proofs.Common.{sym, ap, subst}
-use Rattle.ob_super.specs.Told as told
+use Rattle.ob_super.specs.InHand as told
 use Rattle.ob_super.proofs.SuperLemmas.{ends_none, ends_more, ends_one, is_down}
 use Rattle.ob_super.proofs.supervisor.+end_over.Goals as goal
 

@@ -1,6 +1,6 @@
 use Rattle.std.proofs.Common.{◌∷◌, refl, sym, subst}
 use Rattle.std.specs.Option.{option_copied}
-use Rattle.ob_super.specs.Told as told
+use Rattle.ob_super.specs.InHand as told
 use Rattle.ob_super.proofs.SuperLemmas.{puts_none, puts_here, puts_past, puts_first, puts_none_here}
 use Rattle.ob_super.proofs.supervisor.+put_over.Goals as goal
 

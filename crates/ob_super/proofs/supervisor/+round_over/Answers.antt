@@ -1,5 +1,5 @@
 use Rattle.std.proofs.Common.{◌∷◌, sym, subst}
-use Rattle.ob_super.specs.Told as told
+use Rattle.ob_super.specs.InHand as told
 use Rattle.ob_super.proofs.SuperLemmas.{rounds_none, rounds_stop, rounds_more}
 use Rattle.ob_super.proofs.supervisor.+round_over.Goals as goal
 

@@ -1,5 +1,5 @@
 use Rattle.std.proofs.Common.{◌≡◌, map}
-use Rattle.ob_super.specs.Told.{down}
+use Rattle.ob_super.specs.InHand.{down}
 use Rattle.ob_super.proofs.supervisor.all_down.Given as goal
 
 abbrev pub invariant-loop-upstream : goal.invariant-loop-upstream

@@ -2,7 +2,7 @@ use Rattle.std.proofs.Common.{◌<◌, length, get_or, decimal, sym, ◌∙◌, 
 use Rattle.std.specs.Prelude.{bytes_eq, is_some}
 use Rattle.ob_watching.specs.WatchOuts.{Text}
 use Rattle.ob_client.specs.Mirrors.{found}
-use Rattle.ob_super.specs.Told as told
+use Rattle.ob_super.specs.InHand as told
 use Rattle.ob_super.proofs.PlaceLemmas.{at_none, place_here, place_skip, get_same, and_false, false_and}
 use Rattle.ob_super.proofs.supervisor.held_among.Goals as goal
 use Rattle.ob_super.proofs.supervisor.held_among.Goals.{else-is_number-via-then-is_number+else-holds, else-is_number-via-else-is_number}

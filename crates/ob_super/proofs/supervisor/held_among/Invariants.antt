@@ -1,6 +1,6 @@
 use Rattle.std.proofs.Common.{◌≡◌, drop}
 use Rattle.ob_super.specs.Trees.{entry_in}
-use Rattle.ob_super.specs.Told as told
+use Rattle.ob_super.specs.InHand as told
 use Rattle.ob_super.proofs.PlaceLemmas.{at_in}
 use Rattle.ob_super.proofs.supervisor.held_among.Given as goal
 

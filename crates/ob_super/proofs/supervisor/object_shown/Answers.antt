@@ -1,7 +1,7 @@
 use Rattle.std.proofs.Common.{sym, ap, ◌∙◌}
 use Rattle.std.specs.Prelude.{option_map}
 use Rattle.ob_super.specs.Trees.{Entry, entry_in}
-use Rattle.ob_super.specs.Told as told
+use Rattle.ob_super.specs.InHand as told
 use Rattle.ob_super.proofs.PlaceLemmas.{at_empty}
 use Rattle.ob_super.proofs.supervisor.object_shown.Goals as goal
 

@@ -4,7 +4,7 @@ use Rattle.std.specs.Option.{option_copied}
 use Rattle.ob_asking.specs.Places.{place_at}
 use Rattle.ob_super.specs.Calls.{put_on}
 use Rattle.ob_super.specs.Trees.{object_at, placed}
-use Rattle.ob_super.specs.Told as told
+use Rattle.ob_super.specs.InHand as told
 use Rattle.ob_super.proofs.SuperLemmas.{may_not, may_sent, may_broken, may_unsent_as}
 use Rattle.ob_super.proofs.PlaceLemmas.{href_at}
 use Rattle.ob_super.proofs.supervisor.put_at.Goals as goal

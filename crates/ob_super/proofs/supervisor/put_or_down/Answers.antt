@@ -2,7 +2,7 @@ use Rattle.std.proofs.Common.{sym, ap, subst, Err}
 use Rattle.std.specs.Option.{option_copied}
 use Rattle.ob_asking.specs.Places.{place_at}
 use Rattle.ob_super.specs.Trees.{object_at}
-use Rattle.ob_super.specs.Told as told
+use Rattle.ob_super.specs.InHand as told
 use Rattle.ob_super.proofs.SuperLemmas.{put_down, is_down}
 use Rattle.ob_super.proofs.supervisor.put_or_down.Goals as goal
 

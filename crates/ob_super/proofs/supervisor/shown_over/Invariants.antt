@@ -1,5 +1,5 @@
 use Rattle.std.proofs.Common.{◌≡◌, drop}
-use Rattle.ob_super.specs.Told as told
+use Rattle.ob_super.specs.InHand as told
 use Rattle.ob_super.proofs.supervisor.shown_over.Given as goal
 
 abbrev pub invariant-loop-followed : goal.invariant-loop-followed

@@ -1,6 +1,6 @@
 use Rattle.std.proofs.Common.{◌<◌, ◌≤◌, ◌+◌, length, sym, subst, ◌∙◌, arith}
 use Rattle.ob_object.specs.Object.{Object}
-use Rattle.ob_super.specs.Told as told
+use Rattle.ob_super.specs.InHand as told
 use Rattle.ob_super.proofs.TreeLemmas.{IsPut, put_none, put_some, put_all}
 use Rattle.ob_super.proofs.tree.push_held.Goals as goal
 use Rattle.ob_super.proofs.tree.push_held.Goals.{in-Some+in_ok-push_last, in_default}

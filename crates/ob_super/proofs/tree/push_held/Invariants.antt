@@ -1,4 +1,4 @@
-use Rattle.ob_super.specs.Told as told
+use Rattle.ob_super.specs.InHand as told
 use Rattle.ob_super.proofs.TreeLemmas.{IsPut}
 use Rattle.ob_super.proofs.tree.push_held.Given as goal
 

@@ -5,7 +5,7 @@ use Rattle.ob_watching.specs.WatchOuts.{Text}
 use Rattle.ob_object.specs.Object.{Object, none, empty_head, children}
 use Rattle.ob_object.specs.WellFormed.{is_taken}
 use Rattle.ob_super.specs.Trees.{subtree}
-use Rattle.ob_super.specs.Told as told
+use Rattle.ob_super.specs.InHand as told
 use Rattle.ob_super.proofs.NameLemmas.{list_free}
 use Rattle.ob_super.proofs.TreeLemmas.{tree_children, tree_more, tree_all}
 use Rattle.ob_super.proofs.tree.tree.Goals as goal

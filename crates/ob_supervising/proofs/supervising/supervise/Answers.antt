@@ -1,5 +1,5 @@
 use Rattle.ob_io.specs.Links.{inlet}
-use Rattle.ob_super.specs.Told as told
+use Rattle.ob_super.specs.InHand as told
 use Rattle.ob_supervising.proofs.SupervisingLemmas.{whole_run, stopped_run}
 use Rattle.ob_supervising.proofs.supervising.supervise.Goals as goal
 

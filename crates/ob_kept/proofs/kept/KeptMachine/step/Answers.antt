@@ -31,14 +31,14 @@ invariant_of-self-in-Ok g c =
     let opening = c.self.inside.opening.value in
     let since = d.moment c.self.inside.opened.value in
     let is = ap (λ (x : SiteState × Object). x.0) c.in-Ok.ensures.done in
-    let goes = step_goes opening since past now k l c.args.request.now c.args.moment d.is_told d.seen d.may_leave d.moment d.left_since c.is_sound.ensures c.self.invariant.1 c.in-Ok.ensures.keeps in (
+    let goes = step_goes opening since past now k l c.args.request.now c.args.moment d.is_told d.seen d.may_leave d.moment d.left_since c.sound_law.ensures c.self.invariant.1 c.in-Ok.ensures.keeps in (
       goes.full ∙ c.self.invariant.0,
       subst (λ (st : SiteState). st.world.next ≤ l.next) is goes.covers,
       λ told. told_as d.is_told d.seen d.may_leave d.moment d.left_since g.met.D.Device.counts_now opening since l
           (seen_in c.push.new.self.items) (past ++ now ∷ []) c.step_kept.new.self left
           (pushed c.self.inside.past.items c.push.new.self.items c.of.result now c.in_ok-push.ensures.items c.of.ensures) (sym is)
           (step_done d.is_told d.seen d.may_leave d.moment d.left_since g.met.D.Device.counts_now opening since
-          past now k c.if-self.false (c.self.invariant.2 told) told l c.args.request.now c.args.moment c.is_sound.ensures c.in-Ok.ensures.keeps),
+          past now k c.if-self.false (c.self.invariant.2 told) told l c.args.request.now c.args.moment c.sound_law.ensures c.in-Ok.ensures.keeps),
     )
 
 pub returns-in-Ok-clause-done : goal.returns-in-Ok-clause-done
@@ -52,7 +52,7 @@ returns-in-Ok-clause-done g c =
     let since = d.moment c.self.inside.opened.value in
     ap (λ (x : Keeping). kept_act x c.args.request.now c.args.moment) (sym c.self.view_is)
     ∙ acted_so opening since k l past (seen_in c.push.new.self.items) now c.step_kept.new.self c.args.request.now c.args.moment c.in-Ok.reply
-    (step_goes opening since past now k l c.args.request.now c.args.moment d.is_told d.seen d.may_leave d.moment d.left_since c.is_sound.ensures c.self.invariant.1 c.in-Ok.ensures.keeps)
+    (step_goes opening since past now k l c.args.request.now c.args.moment d.is_told d.seen d.may_leave d.moment d.left_since c.sound_law.ensures c.self.invariant.1 c.in-Ok.ensures.keeps)
     (pushed c.self.inside.past.items c.push.new.self.items c.of.result now c.in_ok-push.ensures.items c.of.ensures) c.in-Ok.ensures.done
 
 pub invariant_of-self-in-Err : goal.invariant_of-self-in-Err
@@ -67,7 +67,7 @@ invariant_of-self-in-Err g c =
     let since = d.moment c.self.inside.opened.value in
     let r = c.args.request.now in
     let asked = c.args.moment in
-    let which = step_stays opening since past now k l r asked d.is_told d.seen d.may_leave d.moment d.left_since c.is_sound.ensures c.self.invariant.1 c.in-Err.ensures.may_keep in
+    let which = step_stays opening since past now k l r asked d.is_told d.seen d.may_leave d.moment d.left_since c.sound_law.ensures c.self.invariant.1 c.in-Err.ensures.may_keep in
     let stays = taken_stays opening since past now k l r asked m c.self.invariant.0 c.take_full.ensures.taken which in
     let count : c.push.new.self.len ≡ length c.push.new.self.items = omega (arith, c.push.new.self.ok.0) in
     let back = ap seen_in (popped c.self.inside.past.items c.push.new.self.items c.pop.new.self.items c.of.result c.push.new.self.len c.in_ok-push.ensures.items count c.pop.ensures.rest) in
@@ -78,7 +78,7 @@ invariant_of-self-in-Err g c =
           (seen_in c.pop.new.self.items) past c.step_kept.new.self now back same
           (subst (λ (x : Recorder g.row.D.Denot). Told d.is_told d.seen d.may_leave d.moment d.left_since g.met.D.Device.counts_now opening since past now x) (sym c.take_full.ensures.taken)
           (step_refused d.is_told d.seen d.may_leave d.moment d.left_since g.met.D.Device.counts_now opening since
-          past now k c.if-self.false (c.self.invariant.2 told) told l r asked c.is_sound.ensures c.in-Err.ensures.may_keep)),
+          past now k c.if-self.false (c.self.invariant.2 told) told l r asked c.sound_law.ensures c.in-Err.ensures.may_keep)),
     )
 
 pub invariant_of-self-then-take_full : goal.invariant_of-self-then-take_full
@@ -93,7 +93,7 @@ invariant_of-self-then-take_full g c =
     let since = d.moment c.self.inside.opened.value in
     let r = c.args.request.now in
     let asked = c.args.moment in
-    let which = step_stays opening since past now k l r asked d.is_told d.seen d.may_leave d.moment d.left_since c.is_sound.ensures c.self.invariant.1 c.in-Err.ensures.may_keep in
+    let which = step_stays opening since past now k l r asked d.is_told d.seen d.may_leave d.moment d.left_since c.sound_law.ensures c.self.invariant.1 c.in-Err.ensures.may_keep in
     let stays = taken_stays opening since past now k l r asked m c.self.invariant.0 c.take_full.ensures.taken which in
     let count : c.push.new.self.len ≡ length c.push.new.self.items = omega (arith, c.push.new.self.ok.0) in
     let back = ap seen_in (popped c.self.inside.past.items c.push.new.self.items c.pop.new.self.items c.of.result c.push.new.self.len c.in_ok-push.ensures.items count c.pop.ensures.rest) in
@@ -104,7 +104,7 @@ invariant_of-self-then-take_full g c =
           (seen_in c.pop.new.self.items) past c.step_kept.new.self now back same
           (subst (λ (x : Recorder g.row.D.Denot). Told d.is_told d.seen d.may_leave d.moment d.left_since g.met.D.Device.counts_now opening since past now x) (sym c.take_full.ensures.taken)
           (step_refused d.is_told d.seen d.may_leave d.moment d.left_since g.met.D.Device.counts_now opening since
-          past now k c.if-self.false (c.self.invariant.2 told) told l r asked c.is_sound.ensures c.in-Err.ensures.may_keep)),
+          past now k c.if-self.false (c.self.invariant.2 told) told l r asked c.sound_law.ensures c.in-Err.ensures.may_keep)),
     )
 
 pub returns-then-take_full-clause-done : goal.returns-then-take_full-clause-done
@@ -119,7 +119,7 @@ returns-then-take_full-clause-done g c =
     let since = d.moment c.self.inside.opened.value in
     let r = c.args.request.now in
     let asked = c.args.moment in
-    let which = step_stays opening since past now k l r asked d.is_told d.seen d.may_leave d.moment d.left_since c.is_sound.ensures c.self.invariant.1 c.in-Err.ensures.may_keep in
+    let which = step_stays opening since past now k l r asked d.is_told d.seen d.may_leave d.moment d.left_since c.sound_law.ensures c.self.invariant.1 c.in-Err.ensures.may_keep in
     let stays = taken_stays opening since past now k l r asked m c.self.invariant.0 c.take_full.ensures.taken which in
     let count : c.push.new.self.len ≡ length c.push.new.self.items = omega (arith, c.push.new.self.ok.0) in
     let back = ap seen_in (popped c.self.inside.past.items c.push.new.self.items c.pop.new.self.items c.of.result c.push.new.self.len c.in_ok-push.ensures.items count c.pop.ensures.rest) in
@@ -144,7 +144,7 @@ returns-then-take_full-clause-refused g c =
     let since = d.moment c.self.inside.opened.value in
     let r = c.args.request.now in
     let asked = c.args.moment in
-    let which = step_stays opening since past now k l r asked d.is_told d.seen d.may_leave d.moment d.left_since c.is_sound.ensures c.self.invariant.1 c.in-Err.ensures.may_keep in
+    let which = step_stays opening since past now k l r asked d.is_told d.seen d.may_leave d.moment d.left_since c.sound_law.ensures c.self.invariant.1 c.in-Err.ensures.may_keep in
     let stays = taken_stays opening since past now k l r asked m c.self.invariant.0 c.take_full.ensures.taken which in
     let count : c.push.new.self.len ≡ length c.push.new.self.items = omega (arith, c.push.new.self.ok.0) in
     let back = ap seen_in (popped c.self.inside.past.items c.push.new.self.items c.pop.new.self.items c.of.result c.push.new.self.len c.in_ok-push.ensures.items count c.pop.ensures.rest) in
@@ -162,7 +162,7 @@ returns-else-take_full-clause-refused g c =
     let since = d.moment c.self.inside.opened.value in
     let r = c.args.request.now in
     let asked = c.args.moment in
-    let which = step_stays opening since past now k l r asked d.is_told d.seen d.may_leave d.moment d.left_since c.is_sound.ensures c.self.invariant.1 c.in-Err.ensures.may_keep in
+    let which = step_stays opening since past now k l r asked d.is_told d.seen d.may_leave d.moment d.left_since c.sound_law.ensures c.self.invariant.1 c.in-Err.ensures.may_keep in
     let stays = taken_stays opening since past now k l r asked m c.self.invariant.0 c.take_full.ensures.taken which in
     let count : c.push.new.self.len ≡ length c.push.new.self.items = omega (arith, c.push.new.self.ok.0) in
     let back = ap seen_in (popped c.self.inside.past.items c.push.new.self.items c.pop.new.self.items c.of.result c.push.new.self.len c.in_ok-push.ensures.items count c.pop.ensures.rest) in

@@ -3,7 +3,7 @@ use Rattle.ob_object.specs.declared.kind.Kind.{Kind}
 use Rattle.ob_object.specs.Paths.{node_path}
 use Rattle.ob_object.specs.Kinds.{has_values}
 use Rattle.ob_site_rules.specs.Loading.{is_number_kind}
-use Rattle.ob_roles.specs.Told.{part as site_part}
+use Rattle.ob_roles.specs.SiteParts.{part as site_part}
 use Rattle.ob_site_file.specs.Sought.{has_path, kind_under, or_this}
 use Rattle.ob_site_file.proofs.Seen.{sees_node, sees_inside, sees_nameless}
 use Rattle.ob_site_file.proofs.nodes.Nodes.put.Goals as goal

@@ -4,7 +4,7 @@ use Rattle.ob_site_rules.specs.State.{Log, State, roll}
 use Rattle.ob_site_state.specs.declared.change.Change.{Change}
 use Rattle.ob_site_state.specs.Changes.{settled_all, rewound}
 use Rattle.ob_site_state.specs.Contents.{state_in}
-use Rattle.ob_site_state.specs.Kept.{IsKept}
+use Rattle.ob_site_state.specs.Kept.{IsConsistentState}
 use Rattle.ob_site_state.specs.States.{kept}
 use Rattle.ob_site_state.specs.Tallies.{IsTallied}
 use Rattle.ob_site_state.proofs.Settling.{settles, committed, ended_as}
@@ -23,7 +23,7 @@ invariant_of-self c =
     ∙ ap (λ (l : List Change). let x : State = record s { logs = settled_all l s.logs } in x) c.deref.ensures.value
     ∙ ap (λ (ls : List (Path × Log)). let x : State = record s { logs = ls } in x) (settles a.found.items s c.self.invariant.kept.rolled_before) in record {
       kept =
-          subst (λ (l : List Change). IsKept a.plan a.time t c.settle.new.self.board a.time l) (sym c.clear.ensures.items)
+          subst (λ (l : List Change). IsConsistentState a.plan a.time t c.settle.new.self.board a.time l) (sym c.clear.ensures.items)
           (committed a.plan a.time s t a.contents.board c.settle.new.self.board a.since a.found.items c.self.invariant.kept rest.root rest.rules is);
       tallied =
           subst (λ (l : List Change). IsTallied (record a.tally { total_before = a.tally.total }) t.logs (rewound l t).logs) (sym c.clear.ensures.items)

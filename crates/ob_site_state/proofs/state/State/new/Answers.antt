@@ -4,7 +4,7 @@ use Rattle.ob_site_rules.specs.Build.{Path}
 use Rattle.ob_site_state.specs.declared.change.Change.{Change}
 use Rattle.ob_site_state.specs.Changes.{rewound}
 use Rattle.ob_site_state.specs.Contents.{state_in}
-use Rattle.ob_site_state.specs.Kept.{IsKept, entry_of}
+use Rattle.ob_site_state.specs.Kept.{IsConsistentState, entry_of}
 use Rattle.ob_site_state.specs.Tallies.{IsTallied, growing_in}
 use Rattle.ob_site_state.proofs.Growing.{beside_capacities}
 use Rattle.ob_site_state.proofs.state.State.new.Goals as goal
@@ -20,7 +20,7 @@ invariant_of-result c =
     let s = state_in c.args.contents in
     let tally = c.in_ok-tally.tally in record {
       kept =
-          subst (λ (l : List Change). IsKept c.args.plan c.args.time s c.args.contents.board c.args.time l) (sym c.new-2.ensures.items) (record {
+          subst (λ (l : List Change). IsConsistentState c.args.plan c.args.time s c.args.contents.board c.args.time l) (sym c.new-2.ensures.items) (record {
             root = c.requires.root;
             rules = c.requires.rules;
             histories = c.requires.histories;

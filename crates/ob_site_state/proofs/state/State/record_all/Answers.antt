@@ -24,7 +24,7 @@ record_copy-requires-clause-there c =
     let r : Record = record { time = moment_instant k.time; kind = c.args.kind; slot = c.args.slot.now } in
     let same : c.recorders.result.now ≡ ps = c.recorders.ensures ∙ ap (λ (x : Kept). recorders_of x.plan source) c.loop-next.invariant in
     let lt : n < length ps = subst (λ (qs : List ℕ). n < length qs) c.recorders-count.ensures c.loop-next-test.true in
-    let one = recorder k.plan source k.now.logs n p 0 c.is_sound.ensures.apart c.is_sound.ensures.histories lt (ap (λ (qs : List ℕ). get_or qs n 0) same) in
+    let one = recorder k.plan source k.now.logs n p 0 c.sound_law.ensures.apart c.sound_law.ensures.histories lt (ap (λ (qs : List ℕ). get_or qs n 0) same) in
     subst (λ (x : Kept). p < length x.now.logs) (sym c.loop-next.invariant) (omega (arith, one.within, length-with_logs (with_record r) (take n ps) k.now.logs))
 
 pub record_copy-requires-clause-counted : goal.record_copy-requires-clause-counted
@@ -37,7 +37,7 @@ record_copy-requires-clause-counted c = λ l e.
     let r : Record = record { time = moment_instant k.time; kind = c.args.kind; slot = c.args.slot.now } in
     let same : c.recorders.result.now ≡ ps = c.recorders.ensures ∙ ap (λ (x : Kept). recorders_of x.plan source) c.loop-next.invariant in
     let lt : n < length ps = subst (λ (qs : List ℕ). n < length qs) c.recorders-count.ensures c.loop-next-test.true in
-    let one = recorder k.plan source k.now.logs n p 0 c.is_sound.ensures.apart c.is_sound.ensures.histories lt (ap (λ (qs : List ℕ). get_or qs n 0) same) in
+    let one = recorder k.plan source k.now.logs n p 0 c.sound_law.ensures.apart c.sound_law.ensures.histories lt (ap (λ (qs : List ℕ). get_or qs n 0) same) in
     let there = sym (with_logs_below (with_record r) (take n ps) p k.now.logs one.below) ∙ sym (ap (λ (x : Kept). slice_get x.now.logs p) c.loop-next.invariant) ∙ e in
     (c.requires p l there (one.records l there)).0
 
@@ -50,7 +50,7 @@ record_copy-requires-clause-is_record c =
     let p = slice_index_or c.recorders.result.now n 0 in
     let same : c.recorders.result.now ≡ ps = c.recorders.ensures ∙ ap (λ (x : Kept). recorders_of x.plan source) c.loop-next.invariant in
     let lt : n < length ps = subst (λ (qs : List ℕ). n < length qs) c.recorders-count.ensures c.loop-next-test.true in
-    let one = recorder k.plan source k.now.logs n p 0 c.is_sound.ensures.apart c.is_sound.ensures.histories lt (ap (λ (qs : List ℕ). get_or qs n 0) same) in
+    let one = recorder k.plan source k.now.logs n p 0 c.sound_law.ensures.apart c.sound_law.ensures.histories lt (ap (λ (qs : List ℕ). get_or qs n 0) same) in
     let there = got_there k.now.logs p one.within in
     subst (λ (x : Kept). let r : Record = record { time = moment_instant x.time; kind = c.args.kind; slot = c.args.slot.now } in IsRecord r) (sym c.loop-next.invariant)
     (c.requires p there.0 there.1 (one.records there.0 there.1)).1
@@ -83,6 +83,6 @@ returns-clause-ok c =
     c.loop-next.invariant
     ∙ ap with (
     ap (λ (qs : List ℕ). with_logs (with_record r) qs k.now.logs) (take_all n ps end)
-    ∙ all_with_logs (is_of source) (λ l. records_from k.plan source l.0) (with_record r) k.plan.histories k.now.logs (length-beside k.plan k.now.logs c.is_sound.ensures.histories)
-    (beside_histories k.plan source k.now.logs c.is_sound.ensures.apart c.is_sound.ensures.histories)
+    ∙ all_with_logs (is_of source) (λ l. records_from k.plan source l.0) (with_record r) k.plan.histories k.now.logs (length-beside k.plan k.now.logs c.sound_law.ensures.histories)
+    (beside_histories k.plan source k.now.logs c.sound_law.ensures.apart c.sound_law.ensures.histories)
     )

@@ -3,7 +3,7 @@ use Rattle.ob_site_rules.specs.State.{State}
 use Rattle.ob_site_state.specs.declared.change.Change.{Change}
 use Rattle.ob_site_state.specs.Changes.{rewound}
 use Rattle.ob_site_state.specs.Contents.{state_in}
-use Rattle.ob_site_state.specs.Kept.{IsKept}
+use Rattle.ob_site_state.specs.Kept.{IsConsistentState}
 use Rattle.ob_site_state.specs.States.{kept}
 use Rattle.ob_site_state.specs.Tallies.{IsTallied}
 use Rattle.ob_site_state.proofs.Noting.{taken_back}
@@ -18,7 +18,7 @@ invariant_of-self c =
     let t = state_in c.take_all_back.new.self in
     let rest = c.take_all_back.ensures.rest in record {
       kept =
-          subst (λ (l : List Change). IsKept a.plan a.since t c.take_all_back.new.self.board a.since l) (sym c.take_all_back.ensures.none)
+          subst (λ (l : List Change). IsConsistentState a.plan a.since t c.take_all_back.new.self.board a.since l) (sym c.take_all_back.ensures.none)
           (taken_back a.plan a.time (state_in a.contents) t a.contents.board c.take_all_back.new.self.board a.since a.found.items c.self.invariant.kept rest.root rest.rules c.take_all_back.ensures.new);
       tallied =
           subst (λ (l : List Change). IsTallied (record a.tally { total = a.tally.total_before }) t.logs (rewound l t).logs) (sym c.take_all_back.ensures.none)

@@ -1,5 +1,5 @@
 use Rattle.std.specs.Option.{option_copied}
-use Rattle.ob_super.specs.Told as told
+use Rattle.ob_super.specs.InHand as told
 use Rattle.ob_super.proofs.AnswerLemmas.{answers}
 use Rattle.ob_super.proofs.state.Super.answer.Goals as goal
 

@@ -3,7 +3,7 @@ use Rattle.ob_super.specs.declared.upstream.Upstream.{Upstream}
 use Rattle.ob_super.specs.Names.{are_apart}
 use Rattle.ob_super.specs.Configs.{Judges}
 use Rattle.ob_super.specs.Upstreams.{configured, offences}
-use Rattle.ob_super.specs.Told.{upstream}
+use Rattle.ob_super.specs.InHand.{upstream}
 use Rattle.ob_super.proofs.DownLemmas.{new_ok, new_apart, new_err}
 use Rattle.ob_super.proofs.state.Super.new.Goals as goal
 

@@ -1,5 +1,5 @@
 use Rattle.std.proofs.Common.{ap, ◌∙◌, arith}
-use Rattle.ob_super.specs.Told as told
+use Rattle.ob_super.specs.InHand as told
 use Rattle.ob_super.proofs.NameLemmas.{apart_after}
 use Rattle.ob_super.proofs.state.Super.put.Goals as goal
 

@@ -1,7 +1,7 @@
 use Rattle.std.proofs.Common.{Ok, Option, subst}
 use Rattle.std.specs.Option.{option_copied}
 use Rattle.ob_object.specs.Object.{Object}
-use Rattle.ob_super.specs.Told as told
+use Rattle.ob_super.specs.InHand as told
 use Rattle.ob_super.proofs.AnswerLemmas.{replies_unput}
 use Rattle.ob_super.proofs.state.Super.put_reply.Goals as goal
 

@@ -1,7 +1,7 @@
 use Rattle.std.proofs.Common.{sym, subst}
 use Rattle.std.specs.Option.{option_copied}
 use Rattle.ob_values.specs.declared.verb.Verb.{Verb}
-use Rattle.ob_super.specs.Told as told
+use Rattle.ob_super.specs.InHand as told
 use Rattle.ob_super.proofs.AnswerLemmas.{replies_got, replies_post}
 use Rattle.ob_super.proofs.state.Super.reply.Goals as goal
 

@@ -1,5 +1,5 @@
 use Rattle.std.proofs.Common.{◌≡◌, ℕ, Ok, refl, subst, ◌∙◌, arith}
-use Rattle.ob_super.specs.Told as told
+use Rattle.ob_super.specs.InHand as told
 use Rattle.ob_super.proofs.AnswerLemmas.{many_none, many_more, many_stop}
 use Rattle.ob_super.proofs.state.Super.rounds.Goals as goal
 

@@ -3,7 +3,7 @@ use Rattle.std.specs.Prelude.{IfOk, bytes_eq}
 use Rattle.ob_client.proofs.TableLemmas.{bytes_eq_sym}
 use Rattle.ob_object.specs.Object.{Object}
 use Rattle.ob_super.specs.Trees.{root_path}
-use Rattle.ob_super.specs.Told as told
+use Rattle.ob_super.specs.InHand as told
 use Rattle.ob_super.proofs.TreeLemmas.{below_shown}
 use Rattle.ob_super.proofs.state.Super.shown.Goals as goal
 

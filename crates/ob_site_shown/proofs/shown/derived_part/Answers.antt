@@ -4,9 +4,9 @@ use Rattle.ob_shown_laws.specs.Alike.{row}
 use Rattle.ob_tree.specs.Shown.{part_at}
 use Rattle.ob_tree.specs.Trees.{Stamped}
 use Rattle.ob_site_shown.proofs.Frees.{free_part}
-use Rattle.ob_site_shown.proofs.shown.dressed_part.Goals as goal
+use Rattle.ob_site_shown.proofs.shown.derived_part.Goals as goal
 
-pub dress_own-requires-clause-free : goal.dress_own-requires-clause-free
-dress_own-requires-clause-free c =
+pub own_with_derived-requires-clause-free : goal.own_with_derived-requires-clause-free
+own_with_derived-requires-clause-free c =
     free_part c.args.plan.now (state_in c.args.contents.now) c.args.node.number (row c.args.contents.now.ground.tree.root) c.in_ok-own.own
     c.requires.readable.names_free (c.in_ok-own.ensures ∙ ap (λ (t : Stamped). part_at c.args.node.number t.root) c.tree.ensures)

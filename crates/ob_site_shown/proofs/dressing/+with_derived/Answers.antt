@@ -8,10 +8,10 @@ use Rattle.ob_site_rules.specs.Shown.{with_status}
 use Rattle.ob_plain_state.specs.States.{NamesAreFree}
 use Rattle.ob_site_state.specs.Contents.{state_in}
 use Rattle.ob_plain_state.proofs.Dresses.{dressed_children, dressed_differ, dressed_from, status_fits, child_free}
-use Rattle.ob_site_shown.proofs.dressing.+dress.Goals as goal
+use Rattle.ob_site_shown.proofs.dressing.+with_derived.Goals as goal
 
-pub dress-requires : goal.dress-requires
-dress-requires t c =
+pub with_derived-requires : goal.with_derived-requires
+with_derived-requires t c =
     let object = c.args.object.now in
     let at = c.loop-child.child-index in
     let x = c.child-item.result in

@@ -19,7 +19,7 @@ use Rattle.ob_dialogue.specs.Printing.{errs_text}
 use Rattle.ob_dialogue.specs.Stages as stages
 use Rattle.ob_dialogue.specs.Taking as taking
 use Rattle.ob_dialogue.specs.Legs as legs
-use Rattle.ob_dialogue.specs.declared.plan.Plan.{Plan}
+use Rattle.ob_dialogue.specs.declared.plan.DialoguePlan.{DialoguePlan}
 use Rattle.ob_dialogue.specs.declared.plan.Topic.{Topic}
 use Rattle.ob_dialogue.specs.declared.plan.Topic.TheVariants as topics
 use Rattle.ob_asking.specs.declared.place.Place.{Place}
@@ -43,7 +43,7 @@ abbrev pub watched : Topic → plans.Watched
 watched (topics.Watch hrefs) = plans.Hrefs hrefs.items
 watched (topics.Console subject ack user) = plans.Alarms subject ack user
 
-abbrev pub program : Plan → plans.Program
+abbrev pub program : DialoguePlan → plans.Program
 program p = record { url = p.url; watched = watched p.topic; polls = p.polls; retries = p.retries }
 
 abbrev pub ops : Ops → stages.Ops

@@ -1,4 +1,4 @@
-//! Jobs that are done under a pass, and workers that do theirs in threads of their own.
+//! Jobs that are done under a pass, and callers that do theirs in threads of their own.
 ghost use Rattle.std.specs.Prelude.{◌≡◌, ℕ, ◌<◌, length, All, slice_index_or};
 ghost use Rattle.ob_turn.specs.Work.{Worked};
 
@@ -19,7 +19,7 @@ pub struct Job<Q, P> {
 
 /// A pass, and the jobs to do under it.
 #[derive(Drop)]
-pub struct Worker<M: Machine> {
+pub struct Caller<M: Machine> {
     pub pass: Pass<M>,
     pub jobs: Vec<Job<M::Request, M::Reply>>,
 }
@@ -41,12 +41,12 @@ impl<M: Machine> Desk<M> {
         }
     }
 
-    // One worker does its jobs.
-    fn work<R: Wait>(&self, rt: &R, worker: &mut Worker<M>)
-        requires { worker.old.pass.table ≡ self.now.table }
-        ensures { Worked M.act self.now.opening worker.old.jobs.items worker.new.jobs.items worker.old.pass worker.new.pass }
+    // One caller does its jobs.
+    fn work<R: Wait>(&self, rt: &R, caller: &mut Caller<M>)
+        requires { caller.old.pass.table ≡ self.now.table }
+        ensures { Worked M.act self.now.opening caller.old.jobs.items caller.new.jobs.items caller.old.pass caller.new.pass }
     {
-        self.ask_all(rt, &mut worker.pass, worker.jobs.as_mut_slice());
+        self.ask_all(rt, &mut caller.pass, caller.jobs.as_mut_slice());
     }
 }
 
@@ -55,17 +55,17 @@ where
     M::Request: Send,
     M::Reply: Send,
 {
-    /// Each worker does its jobs in a thread of its own. The list is halved, and one half goes to a
-    /// new thread, until each thread has one worker.
-    pub fn run_workers<R: Threads + Wait + Sync>(&self, rt: &R, workers: &mut [Worker<M>])
-        requires { All (λ w. w.pass.table ≡ self.now.table) workers.old }
-        ensures { (k : ℕ) (d : Worker M M.Request M.Reply) → k < length workers.old → Worked M.act self.now.opening (slice_index_or workers.old k d).jobs.items (slice_index_or workers.new k d).jobs.items (slice_index_or workers.old k d).pass (slice_index_or workers.new k d).pass }
+    /// Each caller does its jobs in a thread of its own. The list is halved, and one half goes to a
+    /// new thread, until each thread has one caller.
+    pub fn run_callers<R: Threads + Wait + Sync>(&self, rt: &R, callers: &mut [Caller<M>])
+        requires { All (λ w. w.pass.table ≡ self.now.table) callers.old }
+        ensures { (k : ℕ) (d : Caller M M.Request M.Reply) → k < length callers.old → Worked M.act self.now.opening (slice_index_or callers.old k d).jobs.items (slice_index_or callers.new k d).jobs.items (slice_index_or callers.old k d).pass (slice_index_or callers.new k d).pass }
     {
-        if workers.is_empty() {
+        if callers.is_empty() {
             return;
         }
-        let threads = workers.len();
-        for_each_mut(rt, workers, threads, &|_, worker| self.work(rt, worker));
+        let threads = callers.len();
+        for_each_mut(rt, callers, threads, &|_, caller| self.work(rt, caller));
     }
 }
 
@@ -73,7 +73,7 @@ fn is_send<T: Send>() {}
 
 fn is_sync<T: Sync>() {}
 
-/// A desk, a pass and a worker may go to another thread, and several threads may call one desk, where
+/// A desk, a pass and a caller may go to another thread, and several threads may call one desk, where
 /// the machine, its requests and its replies may go to another thread.
 pub fn cross_threads<M: Machine + Send>()
 where
@@ -83,6 +83,6 @@ where
     is_send::<Desk<M>>();
     is_sync::<Desk<M>>();
     is_send::<Pass<M>>();
-    is_send::<Worker<M>>();
+    is_send::<Caller<M>>();
     is_send::<Job<M::Request, M::Reply>>();
 }
