@@ -9,7 +9,7 @@ use Rattle.ob_alarms.specs.Changes.{State as Board}
 use Rattle.ob_site_rules.specs.State.{State, board, roll, rolled, rolled_logs}
 use Rattle.ob_site_rules.specs.declared.plan.Plan.{Plan}
 use Rattle.ob_site_rules.specs.Writes.{stored, stored_logs, events_ever, is_over}
-use Rattle.ob_consistent_laws.specs.Opens as opens
+use Rattle.ob_step_laws.specs.Opens as opens
 use Rattle.ob_plain_state.specs.States as plain
 use Rattle.ob_client.specs.Mirrors.{most_missed}
 use Rattle.ob_client_laws.specs.Counting.{AreCounted, CountsStay, OpensCounted}

@@ -8,7 +8,7 @@ use Rattle.ob_site_rules.specs.Build.{Path}
 use Rattle.ob_site_rules.specs.declared.plan.Plan.{Plan}
 use Rattle.ob_site_rules.specs.State.{Log, State, board, rolled, rolled_logs, roll}
 use Rattle.ob_site_rules.specs.Writes.{stored, stored_in, stored_logs, events_ever, is_over}
-use Rattle.ob_consistent_laws.specs.Ordered.{OpensOrdered}
+use Rattle.ob_step_laws.specs.Ordered.{OpensOrdered}
 use Rattle.ob_client_laws.specs.Storing.{StoresFew, StoredStays, OpenedStoresFew}
 use Rattle.ob_values.proofs.Bools.{neither}
 use Rattle.ob_site_laws.proofs.Endless.{log}

@@ -6,7 +6,7 @@ use Rattle.ob_journal.specs.Journal.{Says, IsSettled, front}
 use Rattle.ob_object.specs.Object.{Object}
 use Rattle.ob_load.specs.Loads.{IsSite}
 use Rattle.ob_site_rules.specs.Opening.{opening}
-use Rattle.ob_consistent_laws.proofs.Begins.{begins}
+use Rattle.ob_step_laws.proofs.Begins.{begins}
 use Rattle.ob_record.specs.Blocks.{IsBlock}
 use Rattle.ob_record.specs.Legal.{left_by_told, left_by_entry, after_entries}
 use Rattle.ob_record.specs.declared.run.Entry.{Entry}

@@ -5,7 +5,7 @@ use Rattle.std.specs.List.{AllByRecursion}
 use Rattle.ob_object.specs.Object.{Object}
 use Rattle.ob_site_rules.specs.Loading.{Part, path_of, records_of, capacity_of}
 use Rattle.ob_site_rules.specs.Opening.{opening}
-use Rattle.ob_consistent_laws.proofs.Begins.{begins}
+use Rattle.ob_step_laws.proofs.Begins.{begins}
 use Rattle.ob_watching.specs.Watches.{Rises, Distinct}
 use Rattle.ob_site_laws.specs.SiteLaws.{TellsEvents, IsSoundSite, of_plan}
 use Rattle.ob_site_rules.specs.Build.{Path}

@@ -22,15 +22,15 @@ use Rattle.ob_site_rules.specs.Sites.{SiteState}
 use Rattle.ob_site_rules.specs.Roles.{no_roles, all_roles}
 use Rattle.ob_site_rules.specs.Opening.{standard_words}
 use Rattle.ob_site_rules.specs.Loading.{Part, row_of, kept_root, parts_of, path_of, histories_in, items_of, record_from, record_in, records_of, value_of_record, time_of, child_of, opened, ms_up, greatest}
-use Rattle.ob_consistent_laws.specs.Ordered.{IsBy, whole_log, whole_logs, opening_time}
-use Rattle.ob_consistent_laws.proofs.Lists.{each_first, each_second, each_more, each_map, each_filter, each_filter_map}
-use Rattle.ob_consistent_laws.proofs.Sound.{Sound, slot_fits, formed_sound, made_differ, made_sound}
-use Rattle.ob_consistent_laws.proofs.Rules.{InnerSound, items_sound, PartSound, parts_sound, FitsIfThere, child_fits}
-use Rattle.ob_consistent_laws.proofs.Records.{HasGood, records_good, rolled_kept, each_drop}
-use Rattle.ob_consistent_laws.proofs.Times.{not_after}
-use Rattle.ob_consistent_laws.proofs.Ordered.{opens_in_time, greatest_first}
-use Rattle.ob_consistent_laws.proofs.Begins.{Begins, begins, words_of}
-use Rattle.ob_consistent_laws.proofs.Inverted.{Opens}
+use Rattle.ob_step_laws.specs.Ordered.{IsBy, whole_log, whole_logs, opening_time}
+use Rattle.ob_step_laws.proofs.Lists.{each_first, each_second, each_more, each_map, each_filter, each_filter_map}
+use Rattle.ob_step_laws.proofs.Sound.{Sound, slot_fits, formed_sound, made_differ, made_sound}
+use Rattle.ob_step_laws.proofs.Rules.{InnerSound, items_sound, PartSound, parts_sound, FitsIfThere, child_fits}
+use Rattle.ob_step_laws.proofs.Records.{HasGood, records_good, rolled_kept, each_drop}
+use Rattle.ob_step_laws.proofs.Times.{not_after}
+use Rattle.ob_step_laws.proofs.Ordered.{opens_in_time, greatest_first}
+use Rattle.ob_step_laws.proofs.Begins.{Begins, begins, words_of}
+use Rattle.ob_step_laws.proofs.Inverted.{Opens}
 use Rattle.ob_opens_laws.specs.Records.{EachLog, HoldsRecords, HasRecords, OpensRecords}
 
 -- what a slot that fits a kind with values stands for is null or a value of it

@@ -21,17 +21,17 @@ use Rattle.ob_site_rules.specs.declared.roles.Roles.{Roles}
 use Rattle.ob_site_rules.specs.Roles.{no_roles, all_roles}
 use Rattle.ob_site_rules.specs.Opening.{standard_words}
 use Rattle.ob_site_rules.specs.Loading.{Part, row_of, kept_root, parts_of, path_of, listed_path, items_of, source_ref, node_there, is_number_kind, own_number, truth_in, child_of, rule_from, rule_on, rule_in, subjects, opened}
-use Rattle.ob_consistent_laws.specs.Laws.{row_paths}
-use Rattle.ob_consistent_laws.proofs.Lists.{each_flat_map, each_filter_map, each_more}
+use Rattle.ob_step_laws.specs.Laws.{row_paths}
+use Rattle.ob_step_laws.proofs.Lists.{each_flat_map, each_filter_map, each_more}
 use Rattle.ob_values.proofs.Bools.{or_true}
-use Rattle.ob_consistent_laws.proofs.OneKind.{among_append, listed_is}
+use Rattle.ob_step_laws.proofs.OneKind.{among_append, listed_is}
 use Rattle.ob_values.proofs.Lists.{bytes_itself}
-use Rattle.ob_consistent_laws.proofs.Kept.{part_paths, root_paths}
-use Rattle.ob_consistent_laws.proofs.Fit.{all_fit}
-use Rattle.ob_consistent_laws.proofs.Found.{IsNodeIf}
-use Rattle.ob_consistent_laws.proofs.Roled.{is_subject, IsPlaced, all_placed}
-use Rattle.ob_consistent_laws.proofs.Begins.{Begins, begins, words_of}
-use Rattle.ob_consistent_laws.proofs.Inverted.{Opens}
+use Rattle.ob_step_laws.proofs.Kept.{part_paths, root_paths}
+use Rattle.ob_step_laws.proofs.Fit.{all_fit}
+use Rattle.ob_step_laws.proofs.Found.{IsNodeIf}
+use Rattle.ob_step_laws.proofs.Roled.{is_subject, IsPlaced, all_placed}
+use Rattle.ob_step_laws.proofs.Begins.{Begins, begins, words_of}
+use Rattle.ob_step_laws.proofs.Inverted.{Opens}
 use Rattle.ob_opens_laws.specs.Roles.{OpensRoles}
 
 no_rule : (r : PointRule) → None ≡ Some r → ⊥

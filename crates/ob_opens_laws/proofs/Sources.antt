@@ -19,17 +19,17 @@ use Rattle.ob_site_rules.specs.declared.roles.Roles.{Roles}
 use Rattle.ob_site_rules.specs.Roles.{no_roles, all_roles}
 use Rattle.ob_site_rules.specs.Opening.{standard_words}
 use Rattle.ob_site_rules.specs.Loading.{Part, row_of, kept_root, kept_row, parts_of, paths_in, path_of, histories_in, source_ref, node_there, has_bad_source, has_bad_capacity, bad_history, bad_part, bad_records, items_of, taken_twice, opened}
-use Rattle.ob_consistent_laws.specs.Laws.{Apart, row_paths, kind_or_obj}
-use Rattle.ob_consistent_laws.proofs.Lists.{each_found}
+use Rattle.ob_step_laws.specs.Laws.{Apart, row_paths, kind_or_obj}
+use Rattle.ob_step_laws.proofs.Lists.{each_found}
 use Rattle.ob_values.proofs.Bools.{neither_left}
-use Rattle.ob_consistent_laws.proofs.Once.{taken_once}
-use Rattle.ob_consistent_laws.proofs.OneKind.{apart_are_of_one_kind}
-use Rattle.ob_consistent_laws.proofs.Walk.{root_kept}
-use Rattle.ob_consistent_laws.proofs.Kept.{root_apart}
-use Rattle.ob_consistent_laws.proofs.Rules.{IsKind, parts_kinds}
-use Rattle.ob_consistent_laws.proofs.Records.{none_if}
-use Rattle.ob_consistent_laws.proofs.Begins.{Begins, begins, words_of}
-use Rattle.ob_consistent_laws.proofs.Inverted.{Opens, all_good, first_none, second_none}
+use Rattle.ob_step_laws.proofs.Once.{taken_once}
+use Rattle.ob_step_laws.proofs.OneKind.{apart_are_of_one_kind}
+use Rattle.ob_step_laws.proofs.Walk.{root_kept}
+use Rattle.ob_step_laws.proofs.Kept.{root_apart}
+use Rattle.ob_step_laws.proofs.Rules.{IsKind, parts_kinds}
+use Rattle.ob_step_laws.proofs.Records.{none_if}
+use Rattle.ob_step_laws.proofs.Begins.{Begins, begins, words_of}
+use Rattle.ob_step_laws.proofs.Inverted.{Opens, all_good, first_none, second_none}
 use Rattle.ob_opens_laws.specs.Sources.{OpensSources}
 
 none_some : (p : Path) → None ≡ Some p → ⊥

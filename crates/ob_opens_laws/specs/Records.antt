@@ -8,7 +8,7 @@ use Rattle.ob_site_rules.specs.Build.{Path}
 use Rattle.ob_site_rules.specs.State.{Log, rolled_logs}
 use Rattle.ob_site_rules.specs.Sites.{SiteState}
 use Rattle.ob_site_rules.specs.Opening.{opening}
-use Rattle.ob_consistent_laws.specs.Ordered.{IsBy, opening_time}
+use Rattle.ob_step_laws.specs.Ordered.{IsBy, opening_time}
 
 -- a fact of each log
 abbrev pub EachLog : (Log → Type 0) → List (Path × Log) → Type 0

@@ -6,7 +6,7 @@ use Rattle.ob_site_rules.specs.State.{is_among}
 use Rattle.ob_site_rules.specs.Sites.{SiteState}
 use Rattle.ob_site_rules.specs.Opening.{opening}
 use Rattle.ob_site_rules.specs.Loading.{row_of}
-use Rattle.ob_consistent_laws.specs.Laws.{row_paths}
+use Rattle.ob_step_laws.specs.Laws.{row_paths}
 
 -- In each state that a document opens, the path of each rule's source and that of the alarm subject are paths of own nodes.
 abbrev pub OpensRoles : Type 0

@@ -8,8 +8,8 @@ use Rattle.ob_values.proofs.Lists.{some_same}
 use Rattle.ob_machine.specs.History.{after, IsLegal}
 use Rattle.ob_machine.proofs.HistoryLemmas.{after-snoc, legal_back}
 use Rattle.ob_object.specs.declared.head.Slot.{Slot}
-use Rattle.ob_consistent_laws.proofs.Opened.{opens_consistent, opens_counted}
-use Rattle.ob_consistent_laws.proofs.Apart.{opens_apart}
+use Rattle.ob_step_laws.proofs.Opened.{opens_consistent, opens_counted}
+use Rattle.ob_step_laws.proofs.Apart.{opens_apart}
 use Rattle.ob_step_laws.proofs.Opening.{opens_points}
 use Rattle.ob_schedule.specs.Forms.{is_written}
 use Rattle.ob_schedule_rules.specs.Merged.{post, IsPostOf, IsBootPost, IsBoot, AreMade, ArePosts, IsMerged}

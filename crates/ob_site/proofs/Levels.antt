@@ -8,7 +8,7 @@ use Rattle.ob_site_rules.specs.declared.roles.Roles.{Roles}
 use Rattle.ob_site_rules.specs.Loading.{kept_row, kept_root}
 use Rattle.ob_site_rules.specs.Opening.{opening, standard_words}
 use Rattle.ob_site_rules.specs.Roles.{all_roles, is_dropped, role_at}
-use Rattle.ob_consistent_laws.proofs.Begins.{Begins, begins, words_of}
+use Rattle.ob_step_laws.proofs.Begins.{Begins, begins, words_of}
 use Rattle.ob_site_rules.specs.Build.{Path, Text}
 use Rattle.ob_site_rules.specs.Sites.{SiteState}
 use Rattle.ob_site_watched.specs.Polls.{steps_for}

@@ -30,7 +30,7 @@ use Rattle.ob_tree.proofs.Leaves.{others_stay}
 use Rattle.ob_tree.proofs.Standing.{stands_for}
 use Rattle.ob_values.specs.declared.verb.Verb.{Verb}
 use Rattle.ob_values.specs.declared.verb.Verb.TheVariants.{Get}
-use Rattle.ob_consistent_laws.proofs.Unrolled.{as_many}
+use Rattle.ob_step_laws.proofs.Unrolled.{as_many}
 use Rattle.ob_watch.proofs.Unmaking.{false_true}
 use Rattle.ob_site.specs.Keeping.{IsChange}
 use Rattle.ob_site.specs.Noted.{is_slot_of, slot_or, slot_before, has_other_slot, is_otherwise}

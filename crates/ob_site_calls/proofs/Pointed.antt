@@ -9,7 +9,7 @@ use Rattle.ob_site_rules.specs.Shown.{shown}
 use Rattle.ob_site_rules.specs.Writes.{write_by}
 use Rattle.ob_site_rules.specs.Posts.{write_point}
 use Rattle.ob_plain_state.proofs.Points.{node_shown}
-use Rattle.ob_consistent_laws.specs.Consistent.{IsConsistent}
+use Rattle.ob_step_laws.specs.Consistent.{IsConsistent}
 
 pub not_hidden : (plan : Plan) (s : State) (p : Path) (r : Option Object) → IsConsistent plan s → is_among p plan.points ≡ true → r ≡ shown plan s p → r ≡ None → ⊥
 not_hidden plan s p r c among shows none =

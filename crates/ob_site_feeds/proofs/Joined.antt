@@ -19,7 +19,7 @@ use Rattle.ob_site_rules.specs.State.{Log, State, at, is_among, board, roll}
 use Rattle.ob_site_rules.specs.Watched.{events_at, gone_in, gone_at}
 use Rattle.ob_site_rules.specs.Writes.{events_ever}
 use Rattle.ob_plain_state.specs.States.{AreCounted}
-use Rattle.ob_consistent_laws.specs.Laws.{Apart}
+use Rattle.ob_step_laws.specs.Laws.{Apart}
 use Rattle.ob_shown_laws.specs.Alike.{row}
 use Rattle.ob_shown_laws.specs.Changed.{is_in}
 use Rattle.ob_shown_laws.proofs.Numbering.{number_there}

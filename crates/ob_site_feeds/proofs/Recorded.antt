@@ -12,7 +12,7 @@ use Rattle.ob_site_rules.specs.Posts.{kept_in, records_of}
 use Rattle.ob_site_rules.specs.declared.plan.Plan.{Plan}
 use Rattle.ob_site_rules.specs.State.{Log, State, at, is_among}
 use Rattle.ob_site_rules.specs.Watched.{gone_in}
-use Rattle.ob_consistent_laws.specs.Laws.{Apart}
+use Rattle.ob_step_laws.specs.Laws.{Apart}
 use Rattle.ob_values.proofs.Bools.{or_first, or_second}
 use Rattle.ob_site_laws.proofs.Growth.{Logs}
 use Rattle.ob_site_state.specs.declared.change.Change.{Change}

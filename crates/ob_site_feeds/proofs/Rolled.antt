@@ -16,7 +16,7 @@ use Rattle.ob_site_rules.specs.State.{Log, State, at, is_among, rolled, roll}
 use Rattle.ob_site_rules.specs.Watched.{gone_in, gone_at}
 use Rattle.ob_site_state.specs.declared.change.Change.{Change}
 use Rattle.ob_site_state.specs.declared.change.Change.TheVariants as change
-use Rattle.ob_consistent_laws.specs.Laws.{Apart}
+use Rattle.ob_step_laws.specs.Laws.{Apart}
 use Rattle.ob_site_state.specs.Changes.{cut, with_log, rewound, CanRewind, ChangesTell}
 use Rattle.ob_site_state.specs.Kept.{keys}
 use Rattle.ob_site_state.proofs.Noting.{got_there}

@@ -13,7 +13,7 @@ use Rattle.ob_site_rules.specs.Sites.{SiteState}
 use Rattle.ob_site_rules.specs.Writes.{site_contracts}
 use Rattle.ob_site_rules.specs.Opening.{standard_words}
 use Rattle.ob_site_rules.specs.Loading.{Part, path_of, capacity_of, records_of, histories_in, source_ref, items_of, rule_in, about_texts, root_lobby, kept_root, add_contracts, opened_by, LoadFault}
-use Rattle.ob_consistent_laws.specs.Ordered.{opening_time}
+use Rattle.ob_step_laws.specs.Ordered.{opening_time}
 use Rattle.ob_plain_state.specs.States.{entry_of, AreCounted}
 use Rattle.ob_site_file.specs.Passes.{site_roles, site_parts}
 use Rattle.ob_site_file.specs.declared.document.Opened.{Opened}

@@ -19,15 +19,15 @@ use Rattle.ob_site_laws.proofs.Rolling.{rolls_once}
 use Rattle.ob_site_rules.specs.Opening.{opening}
 use Rattle.ob_plain_state.specs.States.{AreCounted, entry_of}
 use Rattle.ob_plain_state.proofs.Keeping.{rolled_counted}
-use Rattle.ob_consistent_laws.specs.Consistent.{IsConsistent}
-use Rattle.ob_consistent_laws.specs.Laws.{Apart}
-use Rattle.ob_consistent_laws.specs.Opens.{IsOpened}
-use Rattle.ob_consistent_laws.specs.Ordered.{IsBy, IsOrdered}
-use Rattle.ob_consistent_laws.proofs.Opened.{opens_consistent}
-use Rattle.ob_consistent_laws.proofs.Ordered.{opens_ordered}
+use Rattle.ob_step_laws.specs.Consistent.{IsConsistent}
+use Rattle.ob_step_laws.specs.Laws.{Apart}
+use Rattle.ob_step_laws.specs.Opens.{IsOpened}
+use Rattle.ob_step_laws.specs.Ordered.{IsBy, IsOrdered}
+use Rattle.ob_step_laws.proofs.Opened.{opens_consistent}
+use Rattle.ob_step_laws.proofs.Ordered.{opens_ordered}
 use Rattle.ob_shown_laws.specs.Alike.{row}
 use Rattle.ob_shown_laws.specs.Changed.{PathsDiffer}
-use Rattle.ob_consistent_laws.proofs.Apart.{opens_apart}
+use Rattle.ob_step_laws.proofs.Apart.{opens_apart}
 use Rattle.ob_opens_laws.specs.Records.{EachLog}
 use Rattle.ob_opens_laws.proofs.Records.{opens_records}
 use Rattle.ob_opens_laws.proofs.Sources.{opens_sources}

@@ -3,7 +3,7 @@ use Rattle.std.proofs.Common.{◌≡◌, ℕ, List, [], ◌∷◌, ◌++◌, map
 use Rattle.ob_site_rules.specs.Build.{Path}
 use Rattle.ob_site_rules.specs.State.{Log}
 use Rattle.ob_site_rules.specs.Loading.{greatest}
-use Rattle.ob_consistent_laws.specs.Ordered.{moment_from, opening_time}
+use Rattle.ob_step_laws.specs.Ordered.{moment_from, opening_time}
 
 greatest-append : (n : ℕ) (xs ys : List ℕ) → greatest n (xs ++ ys) ≡ greatest (greatest n xs) ys
 greatest-append n [] ys = refl

@@ -13,7 +13,7 @@ use Rattle.ob_site_rules.specs.Loading.{listed_path, row_of}
 use Rattle.ob_tree.specs.Laid.{heads, paths}
 use Rattle.ob_tree.specs.Paths.{place_of, first_twice}
 use Rattle.ob_shown_laws.proofs.Places.{row_paths as tree_paths, paths_by_row, has, has-append}
-use Rattle.ob_consistent_laws.specs.Laws.{Apart, row_paths}
+use Rattle.ob_step_laws.specs.Laws.{Apart, row_paths}
 
 -- the paths that are there
 abbrev listed : List (Option Path) → List Path

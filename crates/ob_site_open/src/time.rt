@@ -1,7 +1,7 @@
 //! When a site is opened.
 ghost use Rattle.std.specs.Prelude.{◌≡◌, map, max};
 ghost use Rattle.ob_site_rules.specs.Loading.{greatest};
-ghost use Rattle.ob_consistent_laws.specs.Ordered.{moment_from, opening_time};
+ghost use Rattle.ob_step_laws.specs.Ordered.{moment_from, opening_time};
 ghost use Rattle.ob_plain_state.specs.States.{entry_of};
 
 use ob_history::Record;

@@ -9,7 +9,7 @@ use Rattle.ob_object.specs.Object.{Object}
 use Rattle.ob_tree.specs.Laid.{paths}
 use Rattle.ob_tree.specs.Paths.{place_of}
 use Rattle.ob_shown_laws.specs.Following.{AreNumbers}
-use Rattle.ob_consistent_laws.specs.Laws.{Apart}
+use Rattle.ob_step_laws.specs.Laws.{Apart}
 use Rattle.ob_site_rules.specs.Build.{Path}
 use Rattle.ob_site_rules.specs.declared.plan.Plan.{Plan}
 use Rattle.ob_site_rules.specs.declared.plan.PointRule.{PointRule}

@@ -17,7 +17,7 @@ use Rattle.ob_tree.specs.Paths.{place_of}
 use Rattle.ob_tree.specs.Shown.{handed_at, standing_at}
 use Rattle.ob_tree.proofs.Within.{place_within}
 use Rattle.ob_shown_laws.proofs.Owned.{own_trees_tell, own_trees_tell_changes}
-use Rattle.ob_consistent_laws.specs.Laws.{Apart}
+use Rattle.ob_step_laws.specs.Laws.{Apart}
 use Rattle.ob_site_rules.specs.Build.{Path, number_slot}
 use Rattle.ob_site_rules.specs.State.{Log, State, at, is_among, numbered_from, roll, rolled, rolled_logs}
 use Rattle.ob_site_rules.specs.declared.plan.Plan.{Plan}

@@ -21,7 +21,7 @@ use Rattle.ob_tree.specs.Paths.{place_of}
 use Rattle.ob_tree.specs.declared.node.NodeId.{NodeId}
 use Rattle.ob_tree.proofs.Within.{place_within}
 use Rattle.ob_shown_laws.specs.Following.{AreNumbers}
-use Rattle.ob_consistent_laws.specs.Laws.{Apart}
+use Rattle.ob_step_laws.specs.Laws.{Apart}
 use Rattle.ob_site_rules.specs.Build.{Path}
 use Rattle.ob_site_rules.specs.declared.plan.Plan.{Plan}
 use Rattle.ob_site_rules.specs.State.{Log, State, rolled, roll}

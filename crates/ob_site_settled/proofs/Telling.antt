@@ -14,7 +14,7 @@ use Rattle.ob_alarms.specs.States.{status_of}
 use Rattle.ob_tree.specs.Laid.{head_at, paths}
 use Rattle.ob_tree.specs.Paths.{place_of}
 use Rattle.ob_tree.specs.Shown.{standing_at}
-use Rattle.ob_consistent_laws.specs.Laws.{Apart}
+use Rattle.ob_step_laws.specs.Laws.{Apart}
 use Rattle.ob_site_rules.specs.Build.{Path}
 use Rattle.ob_site_rules.specs.State.{Log, State, numbered_from, roll}
 use Rattle.ob_site_rules.specs.declared.plan.Plan.{Plan}

@@ -4,7 +4,7 @@ use Rattle.std.specs.Prelude.{slice_get, option_and_then, find}
 use Rattle.std.specs.Str.{bytes_eq}
 use Rattle.std.proofs.lemmas.Slice.Eq.{bytes_eq-Decides}
 use Rattle.ob_values.proofs.Lists.{bytes_itself}
-use Rattle.ob_consistent_laws.specs.Laws.{Apart}
+use Rattle.ob_step_laws.specs.Laws.{Apart}
 use Rattle.ob_site_rules.specs.Build.{Path}
 use Rattle.ob_object.specs.Paths.{is_path}
 use Rattle.ob_site_rules.specs.State.{Log, at, is_among}

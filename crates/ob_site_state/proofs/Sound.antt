@@ -14,8 +14,8 @@ use Rattle.ob_site_rules.specs.State.{Log, State, with_board, roll}
 use Rattle.ob_site_rules.specs.Writes.{events_ever, with_record}
 use Rattle.ob_plain_state.specs.States.{AreCounted}
 use Rattle.ob_shown_laws.proofs.Bridging.{slot_is_set}
-use Rattle.ob_consistent_laws.proofs.Staying.{steps_stay_consistent}
-use Rattle.ob_consistent_laws.proofs.Paths.{steps_keep_paths}
+use Rattle.ob_step_laws.proofs.Staying.{steps_stay_consistent}
+use Rattle.ob_step_laws.proofs.Paths.{steps_keep_paths}
 use Rattle.ob_site_state.specs.Changes.{with_log, IsNode}
 use Rattle.ob_site_state.specs.Kept.{keys, IsSoundFor}
 use Rattle.ob_site_state.proofs.Rewinding.{set_to}

@@ -13,8 +13,8 @@ use Rattle.ob_site_rules.specs.Build.{Path}
 use Rattle.ob_site_rules.specs.declared.plan.Plan.{Plan}
 use Rattle.ob_site_rules.specs.State.{Log, State, numbered_from, roll}
 use Rattle.ob_site_rules.specs.Shown.{dressed}
-use Rattle.ob_consistent_laws.specs.Laws.{Apart}
-use Rattle.ob_consistent_laws.specs.Consistent.{IsConsistent}
+use Rattle.ob_step_laws.specs.Laws.{Apart}
+use Rattle.ob_step_laws.specs.Consistent.{IsConsistent}
 use Rattle.ob_shown_laws.specs.Alike.{row}
 use Rattle.ob_shown_laws.specs.Changed.{PathsDiffer}
 use Rattle.ob_site_state.specs.declared.change.Change.{Change}

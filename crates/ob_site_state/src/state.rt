@@ -14,7 +14,7 @@ ghost use Rattle.ob_site_rules.specs.Writes.{stored, events_ever, records_from, 
 ghost use Rattle.ob_object.specs.WellFormed.{IsWellFormed};
 ghost use Rattle.ob_tree.specs.Laid.{paths};
 ghost use Rattle.ob_tree.specs.Paths.{first_twice};
-ghost use Rattle.ob_consistent_laws.specs.Laws.{Apart};
+ghost use Rattle.ob_step_laws.specs.Laws.{Apart};
 ghost use Rattle.ob_site_rules.specs.Shown.{rule_of};
 ghost use Rattle.ob_plain_state.specs.Fitting.{TakesIfRule};
 ghost use Rattle.ob_site_roles.specs.Roles.{recorders_of, AreRoles};

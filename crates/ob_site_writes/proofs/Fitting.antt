@@ -28,7 +28,7 @@ use Rattle.ob_plain_state.specs.States.{limits_fit, rule_in}
 use Rattle.ob_plain_state.specs.Fitting.{TakesIfRule}
 use Rattle.ob_plain_state.proofs.ShownKinds.{shown_kind}
 use Rattle.ob_plain_state.proofs.Kept.{takes_too, nodes_take, some_rule, of_limits}
-use Rattle.ob_consistent_laws.specs.Consistent.{IsConsistent}
+use Rattle.ob_step_laws.specs.Consistent.{IsConsistent}
 use Rattle.ob_site_written.specs.Fitting.{CanBeWritten}
 
 takes_at : (plan : Plan) (p : Path) (k : Kind) (slot : Slot) (place : Option ℕ) → rule_of plan p ≡ place

@@ -4,7 +4,7 @@ use Rattle.std.specs.Prelude.{slice_get, option_to_list, filter, is_none, nat_le
 use Rattle.std.specs.List.{list_any}
 use Rattle.std.proofs.lemmas.List.{drop_more}
 use Rattle.std.proofs.lemmas.Bool.Decides.{nat_tests}
-use Rattle.ob_consistent_laws.specs.Laws.{Apart}
+use Rattle.ob_step_laws.specs.Laws.{Apart}
 use Rattle.ob_site_rules.specs.Build.{Path}
 use Rattle.ob_site_rules.specs.declared.plan.Plan.{Plan}
 use Rattle.ob_site_rules.specs.State.{Log}

@@ -21,18 +21,18 @@ use Rattle.ob_site_rules.specs.declared.roles.Roles.{Roles}
 use Rattle.ob_site_rules.specs.Roles.{no_roles, roles_there, holds_contracts, row_roles, all_roles, role_at}
 use Rattle.ob_site_rules.specs.Opening.{standard_words}
 use Rattle.ob_site_rules.specs.Loading.{Part, row_of, kept_root, kept_row, parts_of, paths_in, path_of, taken_twice, opened}
-use Rattle.ob_consistent_laws.specs.Laws.{Apart, row_paths, kind_or_obj}
-use Rattle.ob_consistent_laws.proofs.Lists.{each_two, each_more}
-use Rattle.ob_consistent_laws.proofs.Once.{taken_once}
-use Rattle.ob_consistent_laws.proofs.OneKind.{apart_are_of_one_kind}
-use Rattle.ob_consistent_laws.proofs.Walk.{Walks, each_part, root_kept}
-use Rattle.ob_consistent_laws.proofs.Kept.{root_apart}
-use Rattle.ob_consistent_laws.proofs.Fit.{all_fit, At, at_own, at_first, at_second, roles_count}
-use Rattle.ob_consistent_laws.proofs.Found.{IsNodeIf}
-use Rattle.ob_consistent_laws.proofs.Roled.{is_point, IsPlaced, all_placed}
-use Rattle.ob_consistent_laws.proofs.Rules.{IsKind, parts_kinds}
-use Rattle.ob_consistent_laws.proofs.Begins.{Begins, begins, words_of}
-use Rattle.ob_consistent_laws.proofs.Inverted.{Opens}
+use Rattle.ob_step_laws.specs.Laws.{Apart, row_paths, kind_or_obj}
+use Rattle.ob_step_laws.proofs.Lists.{each_two, each_more}
+use Rattle.ob_step_laws.proofs.Once.{taken_once}
+use Rattle.ob_step_laws.proofs.OneKind.{apart_are_of_one_kind}
+use Rattle.ob_step_laws.proofs.Walk.{Walks, each_part, root_kept}
+use Rattle.ob_step_laws.proofs.Kept.{root_apart}
+use Rattle.ob_step_laws.proofs.Fit.{all_fit, At, at_own, at_first, at_second, roles_count}
+use Rattle.ob_step_laws.proofs.Found.{IsNodeIf}
+use Rattle.ob_step_laws.proofs.Roled.{is_point, IsPlaced, all_placed}
+use Rattle.ob_step_laws.proofs.Rules.{IsKind, parts_kinds}
+use Rattle.ob_step_laws.proofs.Begins.{Begins, begins, words_of}
+use Rattle.ob_step_laws.proofs.Inverted.{Opens}
 use Rattle.ob_step_laws.specs.Opening.{OpensPoints}
 
 and_both : (a b c : Bool) → (a && (b && c)) ≡ true → b ≡ true

@@ -1,3 +1,9 @@
+pub mod Laws
+pub mod Consistent
+pub mod Opens
+pub mod Ordered
+pub mod Stays
+pub mod Apart
 pub mod Defaults
 pub mod Reaching
 pub mod Given

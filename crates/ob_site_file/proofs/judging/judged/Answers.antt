@@ -1,7 +1,7 @@
 use Rattle.std.proofs.Common.{◌≡◌, rules, ◌∙◌}
 use Rattle.ob_contracts.specs.Standard.{standard}
 use Rattle.ob_site_rules.specs.Writes.{site_contracts}
-use Rattle.ob_consistent_laws.proofs.Taking.{added_are_taken}
+use Rattle.ob_step_laws.proofs.Taking.{added_are_taken}
 use Rattle.ob_site_file.specs.Passes.{site_roles}
 use Rattle.ob_site_file.proofs.judging.judged.Goals as goal
 

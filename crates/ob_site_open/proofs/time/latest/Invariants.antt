@@ -1,6 +1,6 @@
 use Rattle.std.proofs.Common.{◌≡◌, drop, map}
 use Rattle.ob_site_rules.specs.Loading.{greatest}
-use Rattle.ob_consistent_laws.specs.Ordered.{moment_from}
+use Rattle.ob_step_laws.specs.Ordered.{moment_from}
 use Rattle.ob_site_open.proofs.time.latest.Given as goal
 
 abbrev pub invariant-loop-record : goal.invariant-loop-record

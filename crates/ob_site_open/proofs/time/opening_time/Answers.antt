@@ -2,7 +2,7 @@ use Rattle.std.proofs.Common.{◌≡◌, ◌+◌, List, suc, drop, map, drop-con
 use Rattle.ob_site_rules.specs.Build.{Path}
 use Rattle.ob_plain_state.specs.States.{entry_of}
 use Rattle.ob_site_rules.specs.Loading.{greatest}
-use Rattle.ob_consistent_laws.specs.Ordered.{moment_from, opening_time}
+use Rattle.ob_step_laws.specs.Ordered.{moment_from, opening_time}
 use Rattle.ob_plain_state.specs.declared.log.OpenedLog.{OpenedLog}
 use Rattle.ob_history.specs.declared.records.Record.{Record}
 use Rattle.ob_site_open.proofs.OpeningTime.{opens_later}

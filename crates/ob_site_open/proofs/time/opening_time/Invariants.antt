@@ -1,6 +1,6 @@
 use Rattle.std.proofs.Common.{◌≡◌, drop, map}
 use Rattle.ob_plain_state.specs.States.{entry_of}
-use Rattle.ob_consistent_laws.specs.Ordered.{opening_time}
+use Rattle.ob_step_laws.specs.Ordered.{opening_time}
 use Rattle.ob_site_open.proofs.time.opening_time.Given as goal
 
 abbrev pub invariant-loop-entry : goal.invariant-loop-entry

@@ -1,5 +1,0 @@
-use Rattle.ob_consistent_laws.proofs.Taking as taking
-use Rattle.ob_consistent_laws.proofs.added_are_taken.Goals as goal
-
-pub returns : goal.returns
-returns c = taking.added_are_taken

@@ -1,5 +1,0 @@
-use Rattle.ob_consistent_laws.proofs.OneKind as lemma
-use Rattle.ob_consistent_laws.proofs.apart_are_of_one_kind.Goals as goal
-
-pub returns : goal.returns
-returns c = lemma.apart_are_of_one_kind

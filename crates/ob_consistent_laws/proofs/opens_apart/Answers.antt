@@ -1,5 +1,0 @@
-use Rattle.ob_consistent_laws.proofs.Apart.{opens_apart}
-use Rattle.ob_consistent_laws.proofs.opens_apart.Goals as goal
-
-pub returns : goal.returns
-returns c = opens_apart

@@ -1,5 +1,0 @@
-use Rattle.ob_consistent_laws.proofs.Opened as lemma
-use Rattle.ob_consistent_laws.proofs.opens_counted.Goals as goal
-
-pub returns : goal.returns
-returns c = lemma.opens_counted
