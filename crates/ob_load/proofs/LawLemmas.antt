@@ -7,8 +7,8 @@ use Rattle.ob_xml.specs.declared.doc.Doc.{Doc}
 use Rattle.ob_site_rules.specs.Sites.{SiteState}
 use Rattle.ob_site_rules.specs.Loading as loading
 use Rattle.ob_site_rules.specs.Opening.{opening}
-use Rattle.ob_opens_laws.specs.Moments.{at_moment}
-use Rattle.ob_opens_laws.proofs.Moments.{opens_at_each}
+use Rattle.ob_opening_laws.specs.Moments.{at_moment}
+use Rattle.ob_opening_laws.proofs.Moments.{opens_at_each}
 use Rattle.ob_site_file.specs.Passes.{IsRefusal}
 use Rattle.ob_site_file.specs.declared.fault.LoadFault.{LoadFault}
 use Rattle.ob_site_file.specs.declared.fault.LoadFault.TheVariants.{Read, Document, RootHref, Href, Contract, PathTwice, Rule, Size, Memory}

@@ -5,8 +5,8 @@ use Rattle.ob_contracts.specs.Inherit.{contract_of, or_else}
 use Rattle.ob_object.specs.Object.{Object}
 use Rattle.ob_object.specs.Write.{verdict}
 use Rattle.ob_object.specs.declared.head.Head.{Head}
-use Rattle.ob_opens_laws.specs.Moments.{at_moment}
-use Rattle.ob_opens_laws.proofs.Moments.{shown_same}
+use Rattle.ob_opening_laws.specs.Moments.{at_moment}
+use Rattle.ob_opening_laws.proofs.Moments.{shown_same}
 use Rattle.ob_points.specs.Points.{point_at, passes}
 use Rattle.ob_schedule_rules.specs.Rules.{rules_of}
 use Rattle.ob_site_rules.specs.Build.{Path, Text}

@@ -8,8 +8,8 @@ use Rattle.ob_io.specs.Ticks.{last_moment}
 use Rattle.ob_load.specs.Loads.{IsSite, OpenedIsNotRefused, RefusesBytes, IsOutside}
 use Rattle.ob_object.specs.Object.{Object}
 use Rattle.ob_site_rules.specs.Opening.{opening}
-use Rattle.ob_opens_laws.specs.Moments.{at_moment}
-use Rattle.ob_opens_laws.proofs.Moments.{opens_at_each}
+use Rattle.ob_opening_laws.specs.Moments.{at_moment}
+use Rattle.ob_opening_laws.proofs.Moments.{opens_at_each}
 use Rattle.ob_schedule.specs.Forms.{offences, IsFile, IsFirstOffence}
 use Rattle.ob_schedule.specs.PointRules.{PointRules}
 use Rattle.ob_schedule.specs.Weeks.{Says}

@@ -14,7 +14,7 @@ use Rattle.ob_site_rules.specs.State.{Log, history_of, rolled, rolled_logs}
 use Rattle.ob_plain_state.specs.declared.log.OpenedLog.{OpenedLog}
 use Rattle.ob_plain_state.specs.States.{entry_of as opened_entry, log_of as opened_log}
 use Rattle.ob_site_state.specs.Tallies.{capacities_of}
-use Rattle.ob_opens_laws.specs.Records.{EachLog}
+use Rattle.ob_opening_laws.specs.Records.{EachLog}
 use Rattle.ob_site_file.proofs.Rests.{rest_more}
 use Rattle.ob_site_state.specs.Kept.{log_of}
 use Rattle.ob_site_open.specs.Logs.{stand_in, IsSettledBy}

@@ -28,10 +28,10 @@ use Rattle.ob_step_laws.proofs.Ordered.{opens_ordered}
 use Rattle.ob_shown_laws.specs.Alike.{row}
 use Rattle.ob_shown_laws.specs.Changed.{PathsDiffer}
 use Rattle.ob_step_laws.proofs.Apart.{opens_apart}
-use Rattle.ob_opens_laws.specs.Records.{EachLog}
-use Rattle.ob_opens_laws.proofs.Records.{opens_records}
-use Rattle.ob_opens_laws.proofs.Sources.{opens_sources}
-use Rattle.ob_opens_laws.proofs.Roles.{opens_roles}
+use Rattle.ob_opening_laws.specs.Records.{EachLog}
+use Rattle.ob_opening_laws.proofs.Records.{opens_records}
+use Rattle.ob_opening_laws.proofs.Sources.{opens_sources}
+use Rattle.ob_opening_laws.proofs.Roles.{opens_roles}
 use Rattle.ob_site_file.specs.Opened.{site_of, state_with}
 use Rattle.ob_site_file.specs.declared.document.Opened.{Opened}
 use Rattle.ob_site_state.specs.declared.contents.Contents.{Contents}

@@ -12,7 +12,7 @@ use Rattle.ob_site_state.specs.Kept.{AreBy, LogsAreBy}
 use Rattle.ob_step_laws.specs.Ordered.{IsBy}
 use Rattle.ob_step_laws.proofs.Lists.{each_more, each_two, each_map}
 use Rattle.ob_step_laws.proofs.Records.{order_drop, each_drop}
-use Rattle.ob_opens_laws.specs.Records.{EachLog, HoldsRecords, HasRecords}
+use Rattle.ob_opening_laws.specs.Records.{EachLog, HoldsRecords, HasRecords}
 use Rattle.ob_site_open.specs.Logs.{HasNanos, HaveNanos, IsSettledBy, CanStand}
 
 -- what a log keeps once it has rolled is the end of what it had

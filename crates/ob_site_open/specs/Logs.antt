@@ -7,7 +7,7 @@ use Rattle.ob_object.specs.declared.head.Slot.TheVariants.{Null}
 use Rattle.ob_history.specs.declared.records.Record.{Record}
 use Rattle.ob_history.specs.Records.{InOrder}
 use Rattle.ob_site_rules.specs.State.{Log}
-use Rattle.ob_opens_laws.specs.Records.{HoldsRecords}
+use Rattle.ob_opening_laws.specs.Records.{HoldsRecords}
 
 -- a record without a value at a time
 abbrev pub stand_in : Instant → Record

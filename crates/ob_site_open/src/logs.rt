@@ -8,7 +8,7 @@ ghost use Rattle.ob_site_rules.specs.Writes.{events_ever, with_record};
 ghost use Rattle.ob_site_state.specs.Kept.{entry_of, log_of};
 ghost use Rattle.ob_site_state.specs.Tallies.{capacities_of};
 ghost use Rattle.ob_plain_state.specs.States.{AreCounted, entry_of as opened_entry, log_of as opened_log};
-ghost use Rattle.ob_opens_laws.specs.Records.{EachLog};
+ghost use Rattle.ob_opening_laws.specs.Records.{EachLog};
 ghost use Rattle.ob_site_open.specs.Logs.{CanStand, HasNanos, HaveNanos, stand_in};
 
 use ob_history::{Log, Record};

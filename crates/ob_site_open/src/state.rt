@@ -9,7 +9,7 @@ ghost use Rattle.ob_plain_state.specs.States.{AreCounted, entry_of as opened_ent
 ghost use Rattle.ob_site_file.specs.Opened.{site_of};
 ghost use Rattle.ob_site_state.specs.Kept.{entry_of};
 ghost use Rattle.ob_site_state.specs.Tallies.{capacities_of};
-ghost use Rattle.ob_opens_laws.specs.Records.{EachLog};
+ghost use Rattle.ob_opening_laws.specs.Records.{EachLog};
 ghost use Rattle.ob_site_open.specs.Logs.{CanStand, HaveNanos};
 ghost use Rattle.ob_site_open.specs.Opens.{just_opened};
 

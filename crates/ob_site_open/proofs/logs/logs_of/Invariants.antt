@@ -1,7 +1,7 @@
 use Rattle.std.proofs.Common.{◌≡◌, map, take}
 use Rattle.ob_site_state.specs.Kept.{entry_of}
 use Rattle.ob_plain_state.proofs.Copies.{rolled_entry}
-use Rattle.ob_opens_laws.specs.Records.{EachLog}
+use Rattle.ob_opening_laws.specs.Records.{EachLog}
 use Rattle.ob_site_open.specs.Logs.{HaveNanos}
 use Rattle.ob_site_open.proofs.logs.logs_of.Given as goal
 

@@ -4,11 +4,11 @@
 //! Each function states a law by its contract and does nothing.
 #![tactic(auto)]
 
-ghost use Rattle.ob_opens_laws.specs.Moments.{OpensAtEach, RefusedAtEach};
-ghost use Rattle.ob_opens_laws.specs.Records.{OpensRecords};
-ghost use Rattle.ob_opens_laws.specs.Roles.{OpensRoles};
-ghost use Rattle.ob_opens_laws.specs.Sound.{OpensSound};
-ghost use Rattle.ob_opens_laws.specs.Sources.{OpensSources};
+ghost use Rattle.ob_opening_laws.specs.Moments.{OpensAtEach, RefusedAtEach};
+ghost use Rattle.ob_opening_laws.specs.Records.{OpensRecords};
+ghost use Rattle.ob_opening_laws.specs.Roles.{OpensRoles};
+ghost use Rattle.ob_opening_laws.specs.Sound.{OpensSound};
+ghost use Rattle.ob_opening_laws.specs.Sources.{OpensSources};
 
 /// The logs of the state that a well-formed document opens roll from logs of which nothing is gone, whose entries are records
 /// in order, and the time is the first moment that is neither before the boot nor before one of these.

@@ -31,7 +31,7 @@ use Rattle.ob_step_laws.proofs.Times.{not_after}
 use Rattle.ob_step_laws.proofs.Ordered.{opens_in_time, greatest_first}
 use Rattle.ob_step_laws.proofs.Begins.{Begins, begins, words_of}
 use Rattle.ob_step_laws.proofs.Inverted.{Opens}
-use Rattle.ob_opens_laws.specs.Records.{EachLog, HoldsRecords, HasRecords, OpensRecords}
+use Rattle.ob_opening_laws.specs.Records.{EachLog, HoldsRecords, HasRecords, OpensRecords}
 
 -- what a slot that fits a kind with values stands for is null or a value of it
 default_held : (k : Kind) → has_values k ≡ true → IsTrue (has_values k && holds_value k (slot_or_default k Absent))

@@ -13,7 +13,7 @@ use Rattle.ob_site_rules.specs.State.{Log, State, rolled, rolled_logs}
 use Rattle.ob_site_rules.specs.Shown.{shown_root}
 use Rattle.ob_site_rules.specs.Writes.{site_contracts}
 use Rattle.ob_site_rules.specs.Sites.{SiteState, site}
-use Rattle.ob_opens_laws.specs.Sound.{IsSoundIfOpen, OpensSound}
+use Rattle.ob_opening_laws.specs.Sound.{IsSoundIfOpen, OpensSound}
 use Rattle.ob_site_rules.specs.declared.roles.Roles.{Roles}
 use Rattle.ob_site_rules.specs.Roles.{no_roles, all_roles, worded_contracts}
 use Rattle.ob_hrefs.specs.Hrefs.{bad_href}

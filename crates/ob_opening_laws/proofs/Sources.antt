@@ -30,7 +30,7 @@ use Rattle.ob_step_laws.proofs.Rules.{IsKind, parts_kinds}
 use Rattle.ob_step_laws.proofs.Records.{none_if}
 use Rattle.ob_step_laws.proofs.Begins.{Begins, begins, words_of}
 use Rattle.ob_step_laws.proofs.Inverted.{Opens, all_good, first_none, second_none}
-use Rattle.ob_opens_laws.specs.Sources.{OpensSources}
+use Rattle.ob_opening_laws.specs.Sources.{OpensSources}
 
 none_some : (p : Path) → None ≡ Some p → ⊥
 none_some p e = cc

@@ -32,7 +32,7 @@ use Rattle.ob_step_laws.proofs.Found.{IsNodeIf}
 use Rattle.ob_step_laws.proofs.Roled.{is_subject, IsPlaced, all_placed}
 use Rattle.ob_step_laws.proofs.Begins.{Begins, begins, words_of}
 use Rattle.ob_step_laws.proofs.Inverted.{Opens}
-use Rattle.ob_opens_laws.specs.Roles.{OpensRoles}
+use Rattle.ob_opening_laws.specs.Roles.{OpensRoles}
 
 no_rule : (r : PointRule) → None ≡ Some r → ⊥
 no_rule r e = cc

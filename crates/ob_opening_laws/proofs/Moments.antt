@@ -18,7 +18,7 @@ use Rattle.ob_site_rules.specs.Sites.{SiteState}
 use Rattle.ob_site_rules.specs.Roles.{no_roles, all_roles, worded_contracts}
 use Rattle.ob_site_rules.specs.Opening.{standard_words, opening}
 use Rattle.ob_site_rules.specs.Loading.{LoadFault, Href, BadRule, Size, row_of, kept_root, parts_of, paths_in, taken_twice, bad_part, opened, or_twice, or_bad, within_size, opened_with, opened_by, opening_at, made_root, root_of, add_contracts}
-use Rattle.ob_opens_laws.specs.Moments.{at_moment, OpensAtEach, RefusedAtEach}
+use Rattle.ob_opening_laws.specs.Moments.{at_moment, OpensAtEach, RefusedAtEach}
 
 -- ---- what is shown
 

@@ -1,5 +1,0 @@
-use Rattle.ob_opens_laws.proofs.Moments.{opens_at_each}
-use Rattle.ob_opens_laws.proofs.opens_at_each.Goals as goal
-
-pub returns : goal.returns
-returns c = opens_at_each

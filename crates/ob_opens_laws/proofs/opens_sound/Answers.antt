@@ -1,5 +1,0 @@
-use Rattle.ob_opens_laws.proofs.Sound as sound
-use Rattle.ob_opens_laws.proofs.opens_sound.Goals as goal
-
-pub returns : goal.returns
-returns c = sound.opens_sound

@@ -1,5 +1,0 @@
-use Rattle.ob_opens_laws.proofs.Moments.{refused_at_each}
-use Rattle.ob_opens_laws.proofs.refused_at_each.Goals as goal
-
-pub returns : goal.returns
-returns c = refused_at_each
