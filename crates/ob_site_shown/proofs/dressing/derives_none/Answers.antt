@@ -8,5 +8,5 @@ use Rattle.ob_site_shown.proofs.dressing.derives_none.Goals as goal
 pub returns : goal.returns
 returns c = λ e.
     let items = c.in_ok-children.children.items in
-    let empty : length items ≡ 0 = sym (ap length c.as_slice.ensures) ∙ (Decides-eqb (length c.as_slice.result.now) 0).0 (sym c.is_empty.ensures ∙ e) in
+    let empty : length items ≡ 0 = sym (ap length c.as_slice.ensures.value) ∙ (Decides-eqb (length c.as_slice.result.now) 0).0 (sym c.is_empty.ensures ∙ e) in
     sym (c.in_ok-children.ensures ∙ ap (derived c.args.plan.now (state_in c.args.contents.now)) c.node_path.ensures) ∙ nothing_in items empty
