@@ -9,8 +9,8 @@ ghost use Rattle.ob_client_laws.specs.Counting.{CountsStay, OpensCounted};
 ghost use Rattle.ob_client_laws.specs.Hearing.{MirrorRefusesNone, MirrorsHold, MirrorsHoldAll};
 ghost use Rattle.ob_client_laws.specs.Storing.{OpenedStoresFew, StoredStays};
 
-use ob_step_laws as opened;
 use ob_site_laws::{sound_stays, watch_replay, watch_replay_whole};
+use ob_step_laws as opened;
 
 /// The events of each feed stay at most so many as a mirror counts, whatever is asked of the site.
 pub fn counts_stay()
