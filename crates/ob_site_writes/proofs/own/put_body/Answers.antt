@@ -8,7 +8,7 @@ use Rattle.ob_site_rules.specs.State.{State}
 use Rattle.ob_site_rules.specs.Writes.{given_by}
 use Rattle.ob_site_rules.specs.declared.fault.Fault.{Fault}
 use Rattle.ob_site_writes.specs.Own.{DoneBy, StopsBy, head_faults, head_makes}
-use Rattle.ob_site_writes.proofs.Own.{free_has}
+use Rattle.ob_site_writes.proofs.OwnNodes.{free_has}
 use Rattle.ob_site_writes.proofs.own.put_body.Goals as goal
 
 pub write_head-requires-clause-values : goal.write_head-requires-clause-values

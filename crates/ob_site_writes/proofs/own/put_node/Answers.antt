@@ -1,7 +1,7 @@
 use Rattle.std.proofs.Common.{◌≡◌, Some, refl, sym, ap, ◌∙◌}
 use Rattle.std.specs.Option.{option_copied}
 use Rattle.ob_site_rules.specs.Writes.{target_fault}
-use Rattle.ob_site_writes.proofs.Own.{target_first}
+use Rattle.ob_site_writes.proofs.OwnNodes.{target_first}
 use Rattle.ob_site_writes.proofs.own.put_node.Goals as goal
 
 pub returns-in-Some-clause-stop : goal.returns-in-Some-clause-stop

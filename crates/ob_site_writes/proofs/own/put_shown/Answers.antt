@@ -1,5 +1,5 @@
 use Rattle.std.specs.Option.{option_copied}
-use Rattle.ob_site_writes.proofs.Own.{put_done, put_stops}
+use Rattle.ob_site_writes.proofs.OwnNodes.{put_done, put_stops}
 use Rattle.ob_site_writes.proofs.own.put_shown.Goals as goal
 
 pub returns-in-Ok-clause-ok : goal.returns-in-Ok-clause-ok

@@ -10,7 +10,7 @@ use Rattle.ob_site_rules.specs.Writes.{showing, written}
 use Rattle.ob_site_state.specs.Kept.{Kept}
 use Rattle.ob_site_written.proofs.Taking.{node_within}
 use Rattle.ob_site_writes.specs.Stops.{IsDone}
-use Rattle.ob_site_writes.proofs.Own.{paths_written}
+use Rattle.ob_site_writes.proofs.OwnNodes.{paths_written}
 use Rattle.ob_site_writes.proofs.own.show_own.Goals as goal
 
 pub own_reply-requires : goal.own_reply-requires
