@@ -3,4 +3,4 @@ pub mod Fitting
 pub mod Ranged
 pub mod Refused
 pub mod Targets
-mod Own
+mod OwnNodes
