@@ -17,7 +17,7 @@ use Rattle.ob_site_rules.specs.Shown.{shown}
 use Rattle.ob_site_rules.specs.Locating.{locate}
 use Rattle.ob_site_rules.specs.declared.resource.Resource.{Resource}
 use Rattle.ob_site_rules.specs.declared.resource.Resource.TheVariants.{Node}
-use Rattle.ob_site_rules.specs.Places.{computed_places}
+use Rattle.ob_site_rules.specs.Places.{computed_places, place_at}
 use Rattle.ob_site_rules.specs.Posts.{write_point}
 use Rattle.ob_site_rules.specs.Writes.{write_by}
 use Rattle.ob_site_rules.specs.Actions.{act_at, act_located, item_on}
