@@ -1,12 +1,11 @@
 -- What an own node refuses by its own head, whatever is in it, and what is done of it.
-use Rattle.std.proofs.Common.{◌≡◌, ℕ, cond, List, Option, Some, None, option_map, refl, sym, ap₂, ◌∙◌, subst}
+use Rattle.std.proofs.Common.{◌≡◌, ℕ, Option, Some, None, option_map, refl, sym, ap₂, ◌∙◌}
 use Rattle.std.specs.Prelude.{Result, Ok, Err, IfOk, MatchOption}
 use Rattle.ob_values.specs.declared.verb.Verb.{Verb}
 use Rattle.ob_values.specs.declared.verb.Verb.TheVariants.{Post, Put}
 use Rattle.ob_object.specs.declared.kind.Kind.{Kind}
 use Rattle.ob_object.specs.Object.{Object}
 use Rattle.ob_contracts.specs.Inherit.{or_else}
-use Rattle.ob_site_rules.specs.declared.request.Request.{Request}
 use Rattle.ob_site_rules.specs.Build.{Path}
 use Rattle.ob_site_rules.specs.declared.fault.Fault.{Fault}
 use Rattle.ob_site_rules.specs.declared.fault.Fault.TheVariants.{NotSupported}
@@ -14,17 +13,14 @@ use Rattle.ob_site_rules.specs.Faults.{err}
 use Rattle.ob_site_rules.specs.declared.plan.Plan.{Plan}
 use Rattle.ob_site_rules.specs.State.{State, at}
 use Rattle.ob_site_rules.specs.Shown.{shown}
-use Rattle.ob_site_rules.specs.Locating.{locate}
 use Rattle.ob_site_rules.specs.declared.resource.Resource.{Resource}
 use Rattle.ob_site_rules.specs.declared.resource.Resource.TheVariants.{Node}
 use Rattle.ob_site_rules.specs.Places.{computed_places, place_at}
 use Rattle.ob_site_rules.specs.Posts.{write_point}
 use Rattle.ob_site_rules.specs.Writes.{write_by}
-use Rattle.ob_site_rules.specs.Actions.{act_at, act_located, item_on}
-use Rattle.ob_requests.proofs.Requests.{act_done, item_done}
+use Rattle.ob_site_rules.specs.Actions.{act_at}
 use Rattle.ob_site_state.specs.Kept.{Kept}
 use Rattle.ob_site_writes.specs.Own.{IsPut, StopsPut}
-use Rattle.ob_site_writes.specs.Stops.{IsDone, Stops}
 use Rattle.ob_site_writes.specs.Targets.{IsRefused}
 use Rattle.ob_site_writes.specs.declared.not_done.NotDone.{NotDone}
 use Rattle.ob_site_writes.specs.declared.not_done.NotDone.TheVariants.{Refused, Memory}
@@ -51,29 +47,6 @@ pub refused_there : (plan : Plan) (s : State) (now : ℕ) (p : Path) (verb : Ver
     → at p (computed_places plan s) ≡ None → IsRefusedThere plan s now p verb body fault
 refused_there plan s now p verb body fault is free =
     (is.0, (placed plan s p is.0 free is.1.0, is.1.1))
-
-pub item_refused : (plan : Plan) (s : State) (ns : List ℕ) (now : ℕ) (r : Request) (p : Path) (fault : Fault) → IsRefusedThere plan s now p r.verb r.body fault → item_on plan s ns now r (Some p) ≡ (s, err fault)
-item_refused plan s ns now r p fault there = item_done plan s ns now r p (Node there.0) there.1.0 refl ∙ there.1.1
-
-pub act_refused : (plan : Plan) (s : State) (ns : List ℕ) (now : ℕ) (r : Request) (p : Path) (fault : Fault) → IsRefusedThere plan s now p r.verb r.body fault
-    → act_located locate plan s ns now r (Some p) ≡ (s, err fault)
-act_refused plan s ns now r p fault there = act_done locate plan s ns now r p (Node there.0) there.1.0 refl ∙ there.1.1
-
--- what is done there is done
-pub item_done_there : (k n : Kept) (ns : List ℕ) (r : Request) (p : Path) (reply : Object) → IsDoneThere k n p r.verb r.body reply → IsDone k n (item_on k.plan k.now ns k.time r (Some p)) reply
-item_done_there k n ns r p reply there = subst (λ (m : State × Object). IsDone k n m reply) (sym (item_done k.plan k.now ns k.time r p (Node there.0) there.1.0 refl)) there.1.1
-
-pub act_done_there : (k n : Kept) (ns : List ℕ) (r : Request) (p : Path) (reply : Object) → IsDoneThere k n p r.verb r.body reply → IsDone k n (act_located locate k.plan k.now ns k.time r (Some p)) reply
-act_done_there k n ns r p reply there = subst (λ (m : State × Object). IsDone k n m reply) (sym (act_done locate k.plan k.now ns k.time r p (Node there.0) there.1.0 refl)) there.1.1
-
--- and what stops there stops
-pub item_stops : (k n : Kept) (ns : List ℕ) (r : Request) (p : Path) (stop : NotDone) → StopsThere k n p r.verb r.body stop → Stops k n (item_on k.plan k.now ns k.time r (Some p)) stop
-item_stops k n ns r p (Refused fault) stops = (stops.0, item_refused k.plan k.now ns k.time r p fault stops.1)
-item_stops k n ns r p Memory stops = stops
-
-pub act_stops : (k n : Kept) (ns : List ℕ) (r : Request) (p : Path) (stop : NotDone) → StopsThere k n p r.verb r.body stop → Stops k n (act_located locate k.plan k.now ns k.time r (Some p)) stop
-act_stops k n ns r p (Refused fault) stops = (stops.0, act_refused k.plan k.now ns k.time r p fault stops.1)
-act_stops k n ns r p Memory stops = stops
 
 -- a Put to what is shown at a path that no computed one is
 pub put_placed : (k n : Kept) (p : Path) (body : Option Object) (reply : Object) → at p (computed_places k.plan k.now) ≡ None → IsPut k n p body reply → IsDoneThere k n p Put body reply
