@@ -14,7 +14,7 @@ pub mod Sound
 pub mod Stepped
 pub mod Counts
 pub mod Keeping
-pub mod Reads
+pub mod QuietReads
 pub mod Crossing
 mod OwnAt
 mod BareNodes

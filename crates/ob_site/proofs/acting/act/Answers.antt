@@ -17,5 +17,5 @@ returns-clause-done g c =
     let r = c.args.request.now in
     let made : List ℕ → Option Path → State × Object = λ ns p. act_located locate k.plan k.now ns k.time r p in
     let numbers = c.in_ok-numbers.ensures k.plan k.now k.time c.args.path.now in
-    IfOk-weaker c.act_by.result (IsDone k n (made c.in_ok-numbers.numbers.items c.args.path.now)) (IsDone k n (act_itself locate k.plan k.now (numbers_of (lapsed_at k.time c.args.watches.now).watches) r k.time))
-    (λ o done. subst (λ (m : State × Object). IsDone k n m o) (numbers ∙ ap (made (numbers_of (lapsed_at k.time c.args.watches.now).watches)) c.requires) done) c.act_by.ensures.done
+    IfOk-weaker c.act_by.result (IsDone k n (made c.deref.result.now c.args.path.now)) (IsDone k n (act_itself locate k.plan k.now (numbers_of (lapsed_at k.time c.args.watches.now).watches) r k.time))
+    (λ o done. subst (λ (m : State × Object). IsDone k n m o) (ap (λ (ns : List ℕ). made ns c.args.path.now) c.deref.ensures.value ∙ numbers ∙ ap (made (numbers_of (lapsed_at k.time c.args.watches.now).watches)) c.requires) done) c.act_by.ensures.done

@@ -5,7 +5,7 @@ use Rattle.ob_watching.specs.Tables.{numbers_of}
 use Rattle.ob_watch.specs.Tables.{lapsed_at}
 use Rattle.ob_site.proofs.Acted.{acted_so, kept_in, none_away, stays_by}
 use Rattle.ob_site.proofs.Keeping.{change_so, may_change_so, read_keeps, whatever_err}
-use Rattle.ob_site.proofs.Reads.{read_so}
+use Rattle.ob_site.proofs.QuietReads.{read_so}
 use Rattle.ob_site.proofs.acting.on_itself.Goals as goal
 
 pub returns-then-is_read-clause-done : goal.returns-then-is_read-clause-done
