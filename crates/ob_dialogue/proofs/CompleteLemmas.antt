@@ -14,7 +14,7 @@ use Rattle.ob_http.specs.Replies.{never_last, Replied, AreFirstReplies}
 use Rattle.ob_http.specs.Stream.{End, resting, faulted}
 use Rattle.ob_http.proofs.RepliesLemmas.{reply_framing}
 use Rattle.ob_http.proofs.StreamLemmas.{framed_unique, end_stays}
-use Rattle.ob_dialogue.specs.Plans.{Program}
+use Rattle.ob_dialogue.specs.Plans.{DialoguePlan}
 use Rattle.ob_dialogue.specs.Stages.{Lobby, Service, Make, Subject, Adding, Acking, Polling, Mending, Deleting, Over}
 use Rattle.ob_dialogue.specs.Taking.{taken}
 use Rattle.ob_dialogue.specs.Turns.{Reached, on_links, after, IsAsking, AreAnswers, polls}
@@ -51,7 +51,7 @@ OneDocument = (bytes : List ℕ) (ns other : Option (List ℕ)) (o p : Object) �
 
 -- behind these of a link's replies one more comes, which has the status 200 and spells an object, and the dialogue goes on to
 -- its end; or it has come there
-pub record GoesOn (p : Program) (at : Reached) (rs all : List Response) : Type 0 where
+pub record GoesOn (p : DialoguePlan) (at : Reached) (rs all : List Response) : Type 0 where
   pub next : Response
   pub later : List Response
   pub is : all ≡ rs ++ next ∷ later
@@ -62,17 +62,17 @@ pub record GoesOn (p : Program) (at : Reached) (rs all : List Response) : Type 0
   pub replies : List Object
   pub over : after p at replies ≡ Ok Over
 
-abbrev IsOnWay : Program → Reached → List Response → List Response → Type 0
+abbrev IsOnWay : DialoguePlan → Reached → List Response → List Response → Type 0
 IsOnWay p at rs all = (at ≡ Ok Over) ⊎ GoesOn p at rs all
 
-not_over : (p : Program) (f : Peer) (os : List Object) → after p (Err f) os ≡ Ok Over → ⊥
+not_over : (p : DialoguePlan) (f : Peer) (os : List Object) → after p (Err f) os ≡ Ok Over → ⊥
 not_over p f os e = let wrong : (let at : Reached = Err f in at) ≡ Ok Over = e in cc
 
 asks_nothing : IsAsking (Ok Over) → ⊥
 asks_nothing h = never h
 
 module _ (one : OneDocument) where
-  led : (p : Program) (at : Reached) (first later : List Response) (os : List Object) (rs more : List Response) (replies : List Object) → AreReplies first os → after p at os ≡ Ok Over
+  led : (p : DialoguePlan) (at : Reached) (first later : List Response) (os : List Object) (rs more : List Response) (replies : List Object) → AreReplies first os → after p at os ≡ Ok Over
       → AreReplies rs replies → AreAnswers p at replies → first ++ later ≡ rs ++ more → IsOnWay p (after p at replies) rs (first ++ later)
   led p at [] later [] [] more [] are over came answers same = inl over
   led p at [] later [] (r ∷ rs) more (o ∷ replies) are over came answers same = absurd (asked at over answers)
@@ -120,7 +120,7 @@ module _ (one : OneDocument) where
 -- ---- one link
 
 -- the bytes that were taken from a link, and those that are left in it
-module _ (one : OneDocument) (verdict : OneVerdict) (so : IsJudgedSo) (p : Program) (at : Reached) (bytes left : List ℕ) (s : LeadOn p at (bytes ++ left)) (replies : List Object) (answers : AreAnswers p at replies) where
+module _ (one : OneDocument) (verdict : OneVerdict) (so : IsJudgedSo) (p : DialoguePlan) (at : Reached) (bytes left : List ℕ) (s : LeadOn p at (bytes ++ left)) (replies : List Object) (answers : AreAnswers p at replies) where
   on_way : (e : Ending) → (c : Came bytes [] replies e) → IsOnWay p (after p at replies) c.rs (s.first ++ s.later)
   on_way e c =
       let begun = c.first left (s.first ++ s.later) s.end s.framed in
@@ -187,7 +187,7 @@ no_break e (inl d) b = let wrong : ending.Done ≡ ending.Peer peer.Ended = sym 
 no_break e (inr m) b = let wrong : ending.Memory ≡ ending.Peer peer.Ended = sym m ∙ b in cc
 
 -- a link that had no fault, as its visit tells
-module _ (one : OneDocument) (verdict : OneVerdict) (so : IsJudgedSo) (p : Program) (at : Reached) (v : Visit) (s : LeadOn p at (v.taken ++ v.left)) (reads : v.reads ≡ 0) (writes : v.writes ≡ 0) (replies : List Object) (answers : AreAnswers p at replies) where
+module _ (one : OneDocument) (verdict : OneVerdict) (so : IsJudgedSo) (p : DialoguePlan) (at : Reached) (v : Visit) (s : LeadOn p at (v.taken ++ v.left)) (reads : v.reads ≡ 0) (writes : v.writes ≡ 0) (replies : List Object) (answers : AreAnswers p at replies) where
   no_fault : (v.reads ≢ 0) ⊎ (v.writes ≢ 0) → ⊥
   no_fault (inl r) = r reads
   no_fault (inr w) = w writes
@@ -218,7 +218,7 @@ module _ (one : OneDocument) (verdict : OneVerdict) (so : IsJudgedSo) (p : Progr
 -- ---- all links
 
 module _ (one : OneDocument) (verdict : OneVerdict) (so : IsJudgedSo) where
-  links_end : (Told : Type 0) (p : Program) (retries : ℕ) (at : Reached) (ls : List (List Object)) (vs : List Visit) (e : Ending) → AreLinks Told p retries at ls vs e → Told → AreServed p at vs
+  links_end : (Told : Type 0) (p : DialoguePlan) (retries : ℕ) (at : Reached) (ls : List (List Object)) (vs : List Visit) (e : Ending) → AreLinks Told p retries at ls vs e → Told → AreServed p at vs
       → (e ≡ ending.Link → ⊥) → (e ≡ ending.Write → ⊥) → (e ≡ ending.Done) ⊎ (e ≡ ending.Memory)
   links_end Told p retries at (os ∷ []) [] e h told served link write = elim h.1 [
     | inl l ↦ absurd (link l)
@@ -239,7 +239,7 @@ module _ (one : OneDocument) (verdict : OneVerdict) (so : IsJudgedSo) where
       (λ f. quiet (link f)) (λ f. still (write f))
 
 -- so does one that begins here, with what its dialer and its sink told
-pub completes_begun : DialoguesComplete → (p : Program) (retries : ℕ) (at from : Reached) (dials dials' : Option (List Dial)) (visits visits' : Option (List Visit)) (held held' : Option (List ℕ)) (e : Ending) (faults faults' writes writes' : ℕ) (rose : Bool) → at ≡ from
+pub completes_begun : DialoguesComplete → (p : DialoguePlan) (retries : ℕ) (at from : Reached) (dials dials' : Option (List Dial)) (visits visits' : Option (List Visit)) (held held' : Option (List ℕ)) (e : Ending) (faults faults' writes writes' : ℕ) (rose : Bool) → at ≡ from
     → TalksFrom p retries from (outside dials visits held) (outside dials' visits' held') e
     → (e ≡ ending.Link → Rose faults faults' × (rose ≡ true)) → (e ≡ ending.Write → Rose writes writes') → Completes p at visits visits' faults faults' writes writes' e
 completes_begun law p retries at from dials dials' visits visits' held held' e faults faults' writes writes' rose same talks link write =

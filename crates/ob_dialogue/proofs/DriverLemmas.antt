@@ -7,7 +7,7 @@ use Rattle.ob_io.specs.Links.{IsFresh}
 use Rattle.ob_io.specs.Told.{Gains}
 use Rattle.ob_http.specs.Replies.{AreTaken}
 use Rattle.ob_watching.specs.WatchOuts.{Text}
-use Rattle.ob_dialogue.specs.Plans.{Program, host_of, port_in, host_field}
+use Rattle.ob_dialogue.specs.Plans.{DialoguePlan, host_of, port_in, host_field}
 use Rattle.ob_dialogue.specs.Stages.{Stage}
 use Rattle.ob_dialogue.specs.Links.{outside}
 use Rattle.ob_dialogue.specs.Legs.{Pause, ending_of, Had, Leg, Visits}
@@ -15,7 +15,7 @@ use Rattle.ob_dialogue.specs.declared.ending.Ending.TheVariants as ending
 use Rattle.ob_dialogue.proofs.TalkLemmas.{is_link, visits_had}
 
 -- the dialogue on a link to this host, which was given back
-pub visits_link : (p : Program) (mends : Bool) (s : Stage) (host : Text) (dials dialled dials' : Option (List Dial)) (visits mid visits' : Option (List Visit)) (h i : Had) (pause : Pause) (d : Dial) (v : Visit)
+pub visits_link : (p : DialoguePlan) (mends : Bool) (s : Stage) (host : Text) (dials dialled dials' : Option (List Dial)) (visits mid visits' : Option (List Visit)) (h i : Had) (pause : Pause) (d : Dial) (v : Visit)
     (reads writes reads' writes' : ℕ) → host ≡ host_field p.url → Leg p host mends (Ok s) h i pause
     → IsFresh h.inlet.taken h.sent reads writes → AreTaken [] [] h.kept
     → (ending_of pause ≡ ending.Link → Rose reads reads' ⊎ Rose writes writes')

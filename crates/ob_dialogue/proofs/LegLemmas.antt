@@ -13,7 +13,7 @@ use Rattle.ob_client.proofs.SessionLemmas.{never}
 use Rattle.ob_client.specs.declared.call_fault.CallFault.TheVariants as fault
 use Rattle.ob_asking.specs.Wires.{text_of}
 use Rattle.ob_asking.proofs.WireLemmas.{front_along, front_behind, first_of_taken, first_more, whole_sent}
-use Rattle.ob_dialogue.specs.Plans.{Program, Request}
+use Rattle.ob_dialogue.specs.Plans.{DialoguePlan, Request}
 use Rattle.ob_dialogue.specs.Stages.{Stage, Over, Lobby, Service, Make, Subject, Adding, Acking, Polling, Mending, Deleting, request_at}
 use Rattle.ob_dialogue.specs.Taking.{taken}
 use Rattle.ob_dialogue.specs.Turns.{Reached, asked, shown, after, IsAsking, AreAnswers, with_request}
@@ -30,15 +30,15 @@ none_front xs = (xs, refl)
 
 -- ---- what is asked and printed
 
-pub shown_none : (p : Program) (at : Reached) → shown p at [] ≡ []
+pub shown_none : (p : DialoguePlan) (at : Reached) → shown p at [] ≡ []
 shown_none p (Ok s) = refl
 shown_none p (Err e) = refl
 
-pub answers_none : (p : Program) (at : Reached) → AreAnswers p at []
+pub answers_none : (p : DialoguePlan) (at : Reached) → AreAnswers p at []
 answers_none p (Ok s) = tt
 answers_none p (Err e) = tt
 
-pub after_none : (p : Program) (at : Reached) → after p at [] ≡ at
+pub after_none : (p : DialoguePlan) (at : Reached) → after p at [] ≡ at
 after_none p (Ok s) = refl
 after_none p (Err e) = refl
 
@@ -101,7 +101,7 @@ came_none stream more before kept e t next = record {
 -- ---- one link
 
 -- the dialogue ends without a further call
-still : (p : Program) (host : Text) (mends : Bool) (at : Reached) (h : Had) (e : Ending) → (e ≡ ending.Done → [] ≡ texts host (asked p at []))
+still : (p : DialoguePlan) (host : Text) (mends : Bool) (at : Reached) (h : Had) (e : Ending) → (e ≡ ending.Done → [] ≡ texts host (asked p at []))
     → EndsAt at e → (is_break e ≡ true → ⊥) → IsQuiet e → not_the_end e → Leg p host mends at h h (Ended e)
 still p host mends at h e whole ends unbroken quiet going = record {
   replies = [];
@@ -122,7 +122,7 @@ still p host mends at h e whole ends unbroken quiet going = record {
   at_end = λ f. absurd (going f);
 }
 
-pub leg_memory : (p : Program) (host : Text) (mends : Bool) (at : Reached) (h : Had) → Leg p host mends at h h (Ended ending.Memory)
+pub leg_memory : (p : DialoguePlan) (host : Text) (mends : Bool) (at : Reached) (h : Had) → Leg p host mends at h h (Ended ending.Memory)
 leg_memory p host mends at h =
     still p host mends at h ending.Memory (λ e. absurd (let g : ending.Memory ≡ ending.Done = e in cc)) tt (λ b. never b) (λ stream rs. tt)
     (λ e. let g : ending.Memory ≡ ending.Peer peer.Ended = e in cc)
@@ -139,24 +139,24 @@ over_of (Polling w) e = never (sym (ap is_some e))
 over_of (Mending w) e = never (sym (ap is_some e))
 over_of (Deleting w) e = never (sym (ap is_some e))
 
-pub leg_done : (p : Program) (host : Text) (mends : Bool) (s : Stage) (h : Had) → request_at s ≡ None → Leg p host mends (Ok s) h h (Ended ending.Done)
+pub leg_done : (p : DialoguePlan) (host : Text) (mends : Bool) (s : Stage) (h : Had) → request_at s ≡ None → Leg p host mends (Ok s) h h (Ended ending.Done)
 leg_done p host mends s h none =
     still p host mends (Ok s) h ending.Done (λ e. sym (ap (λ r. texts host (with_request r [])) none)) (ap (λ (x : Stage). let at : Reached = Ok x in at) (over_of s none)) (λ b. never b) (λ stream rs. tt)
     (λ e. let g : ending.Done ≡ ending.Peer peer.Ended = e in cc)
 
 -- a reply is an err, or of a wrong form
-pub leg_err : (p : Program) (host : Text) (mends : Bool) (o : Object) (h : Had) → Leg p host mends (Err (peer.Err o)) h h (Ended (ending.Peer (peer.Err o)))
+pub leg_err : (p : DialoguePlan) (host : Text) (mends : Bool) (o : Object) (h : Had) → Leg p host mends (Err (peer.Err o)) h h (Ended (ending.Peer (peer.Err o)))
 leg_err p host mends o h =
     still p host mends (Err (peer.Err o)) h (ending.Peer (peer.Err o)) (λ e. refl) refl (λ b. never b) (λ stream rs. tt)
     (λ e. let g : ending.Peer (peer.Err o) ≡ ending.Peer peer.Ended = e in cc)
 
-pub leg_shape : (p : Program) (host : Text) (mends : Bool) (h : Had) → Leg p host mends (Err peer.Shape) h h (Ended (ending.Peer peer.Shape))
+pub leg_shape : (p : DialoguePlan) (host : Text) (mends : Bool) (h : Had) → Leg p host mends (Err peer.Shape) h h (Ended (ending.Peer peer.Shape))
 leg_shape p host mends h =
     still p host mends (Err peer.Shape) h (ending.Peer peer.Shape) (λ e. refl) refl (λ b. never b) (λ stream rs. tt)
     (λ e. let g : ending.Peer peer.Shape ≡ ending.Peer peer.Ended = e in cc)
 
 -- a call gave no object
-pub leg_fault : (p : Program) (host : Text) (mends : Bool) (s : Stage) (q : Request) (h i : Had) (f : CallFault) (pause : Pause) → request_at s ≡ Some q
+pub leg_fault : (p : DialoguePlan) (host : Text) (mends : Bool) (s : Stage) (q : Request) (h i : Had) (f : CallFault) (pause : Pause) → request_at s ≡ Some q
     → Asks {T = Object} h.sent i.sent (text_of host q) (Err f) → Reads Answers h.inlet i.inlet h.kept i.kept (Err f) → i.printed ≡ h.printed
     → ending_of pause ≡ ended_by f → Goes mends (Ok s) pause → Leg p host mends (Ok s) h i pause
 leg_fault p host mends s q h i f pause is asks reads quiet ends goes = record {
@@ -195,7 +195,7 @@ came_more stream first more before kept o os e (r, taken, gives) rest =
     }
 
 -- a whole turn, and what the link had behind it
-pub leg_more : (p : Program) (host : Text) (mends : Bool) (s : Stage) (q : Request) (o : Object) (h i j k : Had) (pause : Pause) (next : Reached) (lines : List ℕ) → request_at s ≡ Some q
+pub leg_more : (p : DialoguePlan) (host : Text) (mends : Bool) (s : Stage) (q : Request) (o : Object) (h i j k : Had) (pause : Pause) (next : Reached) (lines : List ℕ) → request_at s ≡ Some q
     → Asks h.sent i.sent (text_of host q) (Ok o) → Reads Answers h.inlet i.inlet h.kept i.kept (Ok o)
     → (taken p s o).next ≡ next → (taken p s o).lines ≡ lines → Gains h.printed lines j.printed → j.sent ≡ i.sent → j.inlet ≡ i.inlet → j.kept ≡ i.kept
     → Leg p host mends next j k pause → Leg p host mends (Ok s) h k pause
@@ -229,7 +229,7 @@ leg_more p host mends s q o h i j k pause next lines is asks reads is_next is_li
     }
 
 -- a call gave an object, and no more than a front of what it gives was printed
-pub leg_cut : (p : Program) (host : Text) (mends : Bool) (s : Stage) (q : Request) (o : Object) (h i j : Had) (e : Ending) (text : List ℕ) → request_at s ≡ Some q
+pub leg_cut : (p : DialoguePlan) (host : Text) (mends : Bool) (s : Stage) (q : Request) (o : Object) (h i j : Had) (e : Ending) (text : List ℕ) → request_at s ≡ Some q
     → Asks h.sent i.sent (text_of host q) (Ok o) → Reads Answers h.inlet i.inlet h.kept i.kept (Ok o)
     → Gains h.printed text j.printed → IsFront text (taken p s o).lines → j.sent ≡ i.sent → j.inlet ≡ i.inlet
     → (e ≡ ending.Write) ⊎ (e ≡ ending.Memory) → Leg p host mends (Ok s) h j (Ended e)

@@ -8,7 +8,7 @@ use Rattle.ob_io.specs.Links.{IsFresh}
 use Rattle.ob_io.specs.Told.{Gains, IsFront, Gains-none, Gains-then}
 use Rattle.ob_object.specs.Object.{Object}
 use Rattle.ob_http.specs.Replies.{AreTaken}
-use Rattle.ob_dialogue.specs.Plans.{Program, host_of, port_in, host_field}
+use Rattle.ob_dialogue.specs.Plans.{DialoguePlan, host_of, port_in, host_field}
 use Rattle.ob_dialogue.specs.Stages.{Stage}
 use Rattle.ob_dialogue.specs.Turns.{Reached, Turn, Reply, Broken, in_front, on_links, asked, shown, after, polls, resumed, lines}
 use Rattle.ob_dialogue.specs.Links.{texts, Came, is_printed, IsLink, AreLinks, AreOf, counted, dialled, Outside, outside, TalksFrom}
@@ -32,7 +32,7 @@ told_all (Some us) (Some ys) more xs none gained is =
 pub rose_some : (old new n : ℕ) → old ≡ 0 → Rose old new → n ≡ new → n ≢ 0
 rose_some old new n none rose is = λ e. omega (arith, none, rose, is, e)
 
-module _ (p : Program) (mends : Bool) (at : Reached) (old new : Had) (pause : Pause) (leg : Leg p (host_field p.url) mends at old new pause)
+module _ (p : DialoguePlan) (mends : Bool) (at : Reached) (old new : Had) (pause : Pause) (leg : Leg p (host_field p.url) mends at old new pause)
     (reads writes reads' writes' : ℕ) (fresh : IsFresh old.inlet.taken old.sent reads writes) (kept : AreTaken [] [] old.kept)
     (link : ending_of pause ≡ ending.Link → Rose reads reads' ⊎ Rose writes writes') where
   pub is_link : (v : Visit) → IsVisit v new.inlet.left new.inlet.taken new.sent reads' writes' → IsLink p at leg.replies (ending_of pause) v
@@ -59,7 +59,7 @@ none_dialled : (d : Dial) → d.failed ≡ true → dialled (d ∷ []) ≡ 0
 none_dialled d is = ap (λ b. counted b 0) is
 
 -- nothing was dialled, for want of memory
-pub visits_none : (p : Program) (mends : Bool) (s : Stage) (o : Outside) → Visits p mends s o o (Ended ending.Memory)
+pub visits_none : (p : DialoguePlan) (mends : Bool) (s : Stage) (o : Outside) → Visits p mends s o o (Ended ending.Memory)
 visits_none p mends s o = record {
   replies = [];
   visits = [];
@@ -76,7 +76,7 @@ visits_none p mends s o = record {
 }
 
 -- the dial failed
-pub visits_failed : (p : Program) (mends : Bool) (s : Stage) (dials dials' : Option (List Dial)) (visits visits' : Option (List Visit)) (held : Option (List ℕ)) (d : Dial)
+pub visits_failed : (p : DialoguePlan) (mends : Bool) (s : Stage) (dials dials' : Option (List Dial)) (visits visits' : Option (List Visit)) (held : Option (List ℕ)) (d : Dial)
     → Gains dials (d ∷ []) dials' → d.failed ≡ true → d.host ≡ host_of p.url → d.port ≡ port_in p.url → visits' ≡ visits
     → Visits p mends s (outside dials visits held) (outside dials' visits' held) (Ended ending.Link)
 visits_failed p mends s dials dials' visits visits' held d gained failed host port same = record {
@@ -95,7 +95,7 @@ visits_failed p mends s dials dials' visits visits' held d gained failed host po
 }
 
 -- a link was had
-pub visits_had : (p : Program) (mends : Bool) (s : Stage) (dials dials' : Option (List Dial)) (visits mid visits' : Option (List Visit)) (h i : Had) (pause : Pause) (d : Dial) (v : Visit)
+pub visits_had : (p : DialoguePlan) (mends : Bool) (s : Stage) (dials dials' : Option (List Dial)) (visits mid visits' : Option (List Visit)) (h i : Had) (pause : Pause) (d : Dial) (v : Visit)
     → (leg : Leg p (host_field p.url) mends (Ok s) h i pause) → (IsSome visits' → IsLink p (Ok s) leg.replies (ending_of pause) v)
     → Gains dials (d ∷ []) dials' → d.failed ≡ false → d.host ≡ host_of p.url → d.port ≡ port_in p.url → mid ≡ visits → Gains mid (v ∷ []) visits'
     → Visits p mends s (outside dials visits h.printed) (outside dials' visits' i.printed) pause
@@ -121,7 +121,7 @@ still_told u None more gained is = never is
 still_told None (Some vs) more gained is = absurd gained
 still_told (Some us) (Some vs) more gained is = refl
 
-lines_one : (p : Program) (at : Reached) (os : List Object) → lines p at (os ∷ []) ≡ shown p at os
+lines_one : (p : DialoguePlan) (at : Reached) (os : List Object) → lines p at (os ∷ []) ≡ shown p at os
 lines_one p at os = append-nil (shown p at os)
 
 ended_is : (a b : Ending) → Ended a ≡ Ended b → a ≡ b
@@ -135,7 +135,7 @@ some_retries : (retries : ℕ) → nat_lt 0 retries ≡ true → 0 < retries
 some_retries zero e = never e
 some_retries (suc n) e = omega arith
 
-one_link : (Told : Type 0) (p : Program) (retries : ℕ) (at : Reached) (os : List Object) (vs : List Visit) (e : Ending)
+one_link : (Told : Type 0) (p : DialoguePlan) (retries : ℕ) (at : Reached) (os : List Object) (vs : List Visit) (e : Ending)
     → HasOne Told p (nat_lt 0 retries) at os vs (Ended e) → AreLinks Told p retries at (os ∷ []) vs e
 one_link Told p retries at os [] e (none, which) = (none, elim which [ inl l ↦ inl (ended_is e ending.Link l) | inr m ↦ inr (inl (ended_is e ending.Memory m)) ])
 one_link Told p retries at os (v ∷ []) e (goes, ends, answered, link) =
@@ -152,11 +152,11 @@ on_more : (os : List Object) (ts : List Turn) → on_links (map (λ o. Reply o) 
 on_more [] ts = refl
 on_more (o ∷ os) ts = ap (in_front o) (on_more os ts)
 
-lines_of_one : (p : Program) (at : Reached) (os : List Object) → lines p at (on_links (map (λ o. Reply o) os)) ≡ shown p at os
+lines_of_one : (p : DialoguePlan) (at : Reached) (os : List Object) → lines p at (on_links (map (λ o. Reply o) os)) ≡ shown p at os
 lines_of_one p at os = ap (lines p at) (on_one os) ∙ lines_one p at os
 
 -- the dialogue ended on the first link
-pub talks_once : (p : Program) (retries : ℕ) (s : Stage) (old new : Outside) (e : Ending) → Visits p (nat_lt 0 retries) s old new (Ended e) → TalksFrom p retries (Ok s) old new e
+pub talks_once : (p : DialoguePlan) (retries : ℕ) (s : Stage) (old new : Outside) (e : Ending) → Visits p (nat_lt 0 retries) s old new (Ended e) → TalksFrom p retries (Ok s) old new e
 talks_once p retries s old new e v = record {
   turns = map (λ o. Reply o) v.replies;
   visits = v.visits;
@@ -173,7 +173,7 @@ talks_once p retries s old new e v = record {
   whole = λ b. v.all b ∙ sym (lines_of_one p (Ok s) v.replies);
 }
 
-are_of_then : (p : Program) (ds es : List Dial) → AreOf p ds → AreOf p es → AreOf p (ds ++ es)
+are_of_then : (p : DialoguePlan) (ds es : List Dial) → AreOf p ds → AreOf p es → AreOf p (ds ++ es)
 are_of_then p [] es a b = b
 are_of_then p (d ∷ ds) es a b = (a.0, are_of_then p ds es a.1 b)
 
@@ -210,7 +210,7 @@ not_mending e t pause is which = elim which [
   | inr c ↦ (let g : Ended e ≡ Cut t = sym is ∙ c in cc)
 ]
 
-more_links : (Told Told' : Type 0) (down : Told' → Told) (p : Program) (retries : ℕ) (at : Reached) (os : List Object) (vs ws : List Visit) (links : List (List Object)) (e : Ending) (pause : Pause) (t : Stage)
+more_links : (Told Told' : Type 0) (down : Told' → Told) (p : DialoguePlan) (retries : ℕ) (at : Reached) (os : List Object) (vs ws : List Visit) (links : List (List Object)) (e : Ending) (pause : Pause) (t : Stage)
     → IsMending pause t → HasOne Told p (nat_lt 0 retries) at os vs pause → AreLinks Told' p (retries - 1) (Ok t) links ws e → AreLinks Told' p retries at (os ∷ links) (vs ++ ws) e
 more_links Told Told' down p retries at os [] ws links e pause t which (none, why) are =
     absurd (elim why [ inl l ↦ not_mending ending.Link t pause l which | inr m ↦ not_mending ending.Memory t pause m which ])
@@ -231,7 +231,7 @@ more_links Told Told' down p retries at os (v ∷ []) ws (ps ∷ links) e pause 
 more_links Told Told' down p retries at os (v ∷ (w ∷ vs)) ws links e pause t which one are = absurd one
 
 -- a poll was broken on the first link, and this is what came behind it
-pub talks_more : (p : Program) (retries : ℕ) (s t : Stage) (old mid new : Outside) (pause : Pause) (e : Ending) → IsMending pause t → Visits p (nat_lt 0 retries) s old mid pause
+pub talks_more : (p : DialoguePlan) (retries : ℕ) (s t : Stage) (old mid new : Outside) (pause : Pause) (e : Ending) → IsMending pause t → Visits p (nat_lt 0 retries) s old mid pause
     → TalksFrom p (retries - 1) (Ok t) mid new e → TalksFrom p retries (Ok s) old new e
 talks_more p retries s t old mid new pause e which v rest =
     let resumes : resumed (after p (Ok s) v.replies) ≡ Ok t = resumed_at v.visits v.one in
@@ -262,7 +262,7 @@ talks_more p retries s t old mid new pause e which v rest =
     resumed_at (w ∷ (x ∷ vs)) one = absurd one
 
 -- nothing was dialled
-pub talks_none : (p : Program) (retries : ℕ) (at : Reached) (o : Outside) (e : Ending) → (e ≡ ending.Memory) ⊎ ((e ≡ ending.Peer peer.Shape) × (at ≡ Err peer.Shape)) → TalksFrom p retries at o o e
+pub talks_none : (p : DialoguePlan) (retries : ℕ) (at : Reached) (o : Outside) (e : Ending) → (e ≡ ending.Memory) ⊎ ((e ≡ ending.Peer peer.Shape) × (at ≡ Err peer.Shape)) → TalksFrom p retries at o o e
 talks_none p retries at o e which = record {
   turns = [];
   visits = [];

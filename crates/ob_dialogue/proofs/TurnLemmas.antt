@@ -7,7 +7,7 @@ use Rattle.ob_client.specs.declared.call_fault.CallFault.{CallFault}
 use Rattle.ob_client.specs.declared.call_fault.CallFault.TheVariants as faults
 use Rattle.ob_io.specs.declared.traits.Failed.{Failed}
 use Rattle.std.specs.Prelude.{IsSome}
-use Rattle.ob_dialogue.specs.Plans.{Program, Request}
+use Rattle.ob_dialogue.specs.Plans.{DialoguePlan, Request}
 use Rattle.ob_dialogue.specs.Stages.{Stage, request_at}
 use Rattle.ob_dialogue.specs.Taking.{Taken, taken}
 use Rattle.ob_dialogue.specs.Legs.{Pause, Ended, ending_of, ended_by, Goes, Had, had, Leg}
@@ -30,19 +30,19 @@ asks_some (Some q) r is = refl
 abbrev pub at_sink : Wire → Option (List ℕ) → Had
 at_sink w printed = had w.inlet w.sent w.kept printed
 
-pub turn_over : (p : Program) (host : Text) (mends : Bool) (s : Stage) (w w' : Wire) (pr : Option (List ℕ)) → request_at s ≡ None → w' ≡ w → Leg p host mends (Ok s) (at_sink w pr) (at_sink w' pr) (Ended ending.Done)
+pub turn_over : (p : DialoguePlan) (host : Text) (mends : Bool) (s : Stage) (w w' : Wire) (pr : Option (List ℕ)) → request_at s ≡ None → w' ≡ w → Leg p host mends (Ok s) (at_sink w pr) (at_sink w' pr) (Ended ending.Done)
 turn_over p host mends s w w' pr none same =
     subst (λ (x : Wire). Leg p host mends (Ok s) (at_sink w pr) (at_sink x pr) (Ended ending.Done)) (sym same) (leg_done p host mends s (at_sink w pr) none)
 
-pub turn_memory : (p : Program) (host : Text) (mends : Bool) (s : Stage) (w w' : Wire) (pr : Option (List ℕ)) → w' ≡ w → Leg p host mends (Ok s) (at_sink w pr) (at_sink w' pr) (Ended ending.Memory)
+pub turn_memory : (p : DialoguePlan) (host : Text) (mends : Bool) (s : Stage) (w w' : Wire) (pr : Option (List ℕ)) → w' ≡ w → Leg p host mends (Ok s) (at_sink w pr) (at_sink w' pr) (Ended ending.Memory)
 turn_memory p host mends s w w' pr same =
     subst (λ (x : Wire). Leg p host mends (Ok s) (at_sink w pr) (at_sink x pr) (Ended ending.Memory)) (sym same) (leg_memory p host mends (Ok s) (at_sink w pr))
 
-pub turn_fault : (p : Program) (host : Text) (mends : Bool) (s : Stage) (w w' : Wire) (pr : Option (List ℕ)) (f : CallFault) (pause : Pause) → Faulted host s w w' f → ending_of pause ≡ ended_by f → Goes mends (Ok s) pause
+pub turn_fault : (p : DialoguePlan) (host : Text) (mends : Bool) (s : Stage) (w w' : Wire) (pr : Option (List ℕ)) (f : CallFault) (pause : Pause) → Faulted host s w w' f → ending_of pause ≡ ended_by f → Goes mends (Ok s) pause
     → Leg p host mends (Ok s) (at_sink w pr) (at_sink w' pr) pause
 turn_fault p host mends s w w' pr f pause call ends goes = leg_fault p host mends s call.request (at_sink w pr) (at_sink w' pr) f pause call.is call.asks call.reads refl ends goes
 
-pub turn_reply : (p : Program) (host : Text) (mends : Bool) (s : Stage) (w w' : Wire) (pr pr' : Option (List ℕ)) (o : Object) (result : Turned) → Called host s w w' o → Gives pr pr' p s o result
+pub turn_reply : (p : DialoguePlan) (host : Text) (mends : Bool) (s : Stage) (w w' : Wire) (pr pr' : Option (List ℕ)) (o : Object) (result : Turned) → Called host s w w' o → Gives pr pr' p s o result
     → Turns p host mends s (at_sink w pr) (at_sink w' pr') result
 turn_reply p host mends s w w' pr pr' o (turns.Next t) call gives = λ end q leg.
     leg_more p host mends s call.request o (at_sink w pr) (at_sink w' pr) (at_sink w' pr') end q (Ok (stage t)) (taken p s o).lines call.is call.asks call.reads gives.is refl gives.gained refl refl refl leg
@@ -67,7 +67,7 @@ turn_reply p host mends s w w' pr pr' o (turns.Paused (pauses.Failed t)) call gi
 turn_reply p host mends s w w' pr pr' o (turns.Paused (pauses.Cut t)) call gives = absurd gives
 
 -- a stage that comes next is one to which the reply leads
-pub turn_onward : (p : Program) (host : Text) (s : Stage) (w w' : Wire) (pr pr' : Option (List ℕ)) (o : Object) (result : Turned) → Called host s w w' o → Gives pr pr' p s o result → GoesOn p s result
+pub turn_onward : (p : DialoguePlan) (host : Text) (s : Stage) (w w' : Wire) (pr pr' : Option (List ℕ)) (o : Object) (result : Turned) → Called host s w w' o → Gives pr pr' p s o result → GoesOn p s result
 turn_onward p host s w w' pr pr' o (turns.Next t) call gives = (asks_some (request_at s) call.request call.is, (o, gives.is))
 turn_onward p host s w w' pr pr' o (turns.Paused q) call gives = tt
 
@@ -96,7 +96,7 @@ prints_reached old new t u bytes (turns.Paused (pauses.Cut s)) sends is r = absu
 
 -- ---- what a reply gives
 
-gives_printed : (old new : Option (List ℕ)) (p : Program) (s : Stage) (o : Object) (result : Turned) → Prints old new (taken p s o) result → Gives old new p s o result
+gives_printed : (old new : Option (List ℕ)) (p : DialoguePlan) (s : Stage) (o : Object) (result : Turned) → Prints old new (taken p s o) result → Gives old new p s o result
 gives_printed old new p s o (turns.Next t) h = h
 gives_printed old new p s o (turns.Paused (pauses.Ended (ending.Peer (peer.Err e)))) h = h
 gives_printed old new p s o (turns.Paused (pauses.Ended (ending.Peer peer.Shape))) h = h
@@ -111,7 +111,7 @@ gives_printed old new p s o (turns.Paused (pauses.Ended ending.Link)) h = absurd
 gives_printed old new p s o (turns.Paused (pauses.Failed t)) h = absurd h
 gives_printed old new p s o (turns.Paused (pauses.Cut t)) h = absurd h
 
-pub gives_of : (old new : Option (List ℕ)) (p : Program) (s : Stage) (o : Object) (t : Taken) (result : Turned) → t ≡ taken p s o → Prints old new t result → Gives old new p s o result
+pub gives_of : (old new : Option (List ℕ)) (p : DialoguePlan) (s : Stage) (o : Object) (t : Taken) (result : Turned) → t ≡ taken p s o → Prints old new t result → Gives old new p s o result
 gives_of old new p s o t result is prints = gives_printed old new p s o result (subst (λ (x : Taken). Prints old new x result) is prints)
 
 -- ---- faults

@@ -39,32 +39,18 @@ use Rattle.ob_dialogue.specs.declared.link.Turned.TheVariants as turns
 abbrev pub post : Text → Option Object → plans.Request
 post target body = record { verb = Post; target = target; body = body }
 
-abbrev pub watched : Topic → plans.Watched
-watched (topics.Watch hrefs) = plans.Hrefs hrefs.items
-watched (topics.Console subject ack user) = plans.Alarms subject ack user
-
-abbrev pub program : DialoguePlan → plans.Program
-program p = record { url = p.url; watched = watched p.topic; polls = p.polls; retries = p.retries }
-
-abbrev pub ops : Ops → stages.Ops
-ops o = record { add = o.add; changes = o.changes; refresh = o.refresh; delete = o.delete }
-
-abbrev pub ops_from : Option Place → Option Place → Option (Option Place) → Option Place → Option stages.Ops
-ops_from add changes refresh delete =
-    stages.ops_from add changes refresh delete
-
 -- where a broken poll is mended
 abbrev pub mending : Ops → Text
 mending o = (unwrap_or o.refresh o.changes).target
 
 abbrev pub watching : Watching → stages.Watching
-watching w = record { ops = ops w.ops; asked = w.asked.items; held = w.mirror.held; polled = w.polled }
+watching w = record { ops = w.ops; asked = w.asked.items; held = w.mirror.held; polled = w.polled }
 
 abbrev pub stage : Stage → stages.Stage
 stage (at.Lobby p) = stages.Lobby p
 stage (at.Service p) = stages.Service p
 stage (at.Make p) = stages.Make p
-stage (at.Subject o p) = stages.Subject (ops o) p
+stage (at.Subject o p) = stages.Subject o p
 stage (at.Add w) = stages.Adding (watching w)
 stage (at.Ack w target user) = stages.Acking (watching w) target user
 stage (at.Poll w) = stages.Polling (watching w)
@@ -146,7 +132,7 @@ abbrev pub AreEntries : Object → List Object → Type 0
 AreEntries reply entries = (os : List Object) → entries_once reply ≡ Some os → entries ≡ os
 
 -- their errs on lines, as they are printed
-abbrev pub AreErrs : plans.Watched → Object → List ℕ → Type 0
+abbrev pub AreErrs : Topic → Object → List ℕ → Type 0
 AreErrs watched reply text = (os : List Object) → entries_once reply ≡ Some os → text ≡ errs_text watched reply
 
 abbrev pub pause : Pause → legs.Pause
@@ -160,13 +146,13 @@ PauseIsLive (pauses.Failed s) = IsLive s
 PauseIsLive (pauses.Cut s) = IsLive s
 
 -- What a turn leaves: whatever the dialogue does on the link from the next stage on, it did from this one on; or it paused.
-abbrev pub Turns : plans.Program → Text → Bool → stages.Stage → legs.Had → legs.Had → Turned → Type 0
+abbrev pub Turns : DialoguePlan → Text → Bool → stages.Stage → legs.Had → legs.Had → Turned → Type 0
 Turns p host mends s old new (turns.Next t) =
     (end : legs.Had) (q : legs.Pause) → legs.Leg p host mends (Ok (stage t)) new end q → legs.Leg p host mends (Ok s) old end q
 Turns p host mends s old new (turns.Paused q) = legs.Leg p host mends (Ok s) old new (pause q)
 
 -- a stage that comes next is one to which a reply leads
-abbrev pub GoesOn : plans.Program → stages.Stage → Turned → Type 0
+abbrev pub GoesOn : DialoguePlan → stages.Stage → Turned → Type 0
 GoesOn p s (turns.Next t) = IsSome (stages.request_at s) × ((o : Object) × ((taking.taken p s o).next ≡ Ok (stage t)))
 GoesOn p s (turns.Paused q) = Unit {0}
 
@@ -218,7 +204,7 @@ Reaches next (turns.Paused (pauses.Ended (endings.Peer peers.Shape))) = next ≡
 Reaches next (turns.Paused _) = ⊥
 
 -- the same of what a reply gives; without memory nothing is printed
-abbrev pub Gives : Option (List ℕ) → Option (List ℕ) → plans.Program → stages.Stage → Object → Turned → Type 0
+abbrev pub Gives : Option (List ℕ) → Option (List ℕ) → DialoguePlan → stages.Stage → Object → Turned → Type 0
 Gives old new p s o (turns.Paused (pauses.Ended endings.Memory)) = new ≡ old
 Gives old new p s o result = Prints old new (taking.taken p s o) result
 

@@ -10,7 +10,7 @@ use Rattle.ob_http.specs.Replies.{AreTaken}
 use Rattle.ob_watching.specs.WatchOuts.{Text}
 use Rattle.ob_client.specs.declared.call_fault.CallFault.{CallFault}
 use Rattle.ob_client.specs.declared.call_fault.CallFault.TheVariants as fault
-use Rattle.ob_dialogue.specs.Plans.{Program}
+use Rattle.ob_dialogue.specs.Plans.{DialoguePlan}
 use Rattle.ob_dialogue.specs.Stages.{Stage}
 use Rattle.ob_dialogue.specs.Turns.{Reached, asked, shown, after, AreAnswers, polls, resumed}
 use Rattle.ob_dialogue.specs.Links.{texts, Came, EndsAt, is_break, is_printed, IsLink, AreOf, dialled, Outside}
@@ -47,7 +47,7 @@ abbrev pub had : Inlet → Option (List ℕ) → List ℕ → Option (List ℕ) 
 had inlet sent kept printed = record { inlet = inlet; sent = sent; kept = kept; printed = printed }
 
 -- What was asked, read and printed on a link from here on, up to this pause.
-pub record Leg (p : Program) (host : Text) (mends : Bool) (at : Reached) (old new : Had) (pause : Pause) : Type 0 where
+pub record Leg (p : DialoguePlan) (host : Text) (mends : Bool) (at : Reached) (old new : Had) (pause : Pause) : Type 0 where
   pub replies : List Object
   pub written : List ℕ
   pub wrote : Gains old.sent written new.sent
@@ -77,7 +77,7 @@ ended_by fault.Memory = ending.Memory
 ended_by fault.Dead = ending.Memory
 
 -- What came of the one link that was dialled: it came back; or there was none.
-abbrev pub HasOne : Type 0 → Program → Bool → Reached → List Object → List Visit → Pause → Type 0
+abbrev pub HasOne : Type 0 → DialoguePlan → Bool → Reached → List Object → List Visit → Pause → Type 0
 HasOne Told p mends at replies [] pause = (replies ≡ []) × ((pause ≡ Ended ending.Link) ⊎ (pause ≡ Ended ending.Memory))
 HasOne Told p mends at replies (v ∷ []) pause =
     Goes mends (after p at replies) pause × EndsAt (after p at replies) (ending_of pause) × AreAnswers p at replies
@@ -85,7 +85,7 @@ HasOne Told p mends at replies (v ∷ []) pause =
 HasOne Told p mends at replies _ pause = ⊥
 
 -- what a dialogue did on a link that was dialled, up to this pause
-pub record Visits (p : Program) (mends : Bool) (s : Stage) (old new : Outside) (pause : Pause) : Type 0 where
+pub record Visits (p : DialoguePlan) (mends : Bool) (s : Stage) (old new : Outside) (pause : Pause) : Type 0 where
   pub replies : List Object
   pub visits : List Visit
   pub dials : List Dial

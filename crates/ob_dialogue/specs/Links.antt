@@ -7,7 +7,7 @@ use Rattle.ob_http.specs.Reply.{Response}
 -- the texts of requests, and the objects of replies
 pub use Rattle.ob_asking.specs.Wires.{texts, AreReplies}
 use Rattle.ob_asking.specs.Wires.{ComesWith, ComesRefused, GoesWrong, EndsThere, Comes}
-use Rattle.ob_dialogue.specs.Plans.{Program, host_of, port_in, host_field}
+use Rattle.ob_dialogue.specs.Plans.{DialoguePlan, host_of, port_in, host_field}
 use Rattle.ob_dialogue.specs.Stages.{Over}
 use Rattle.ob_dialogue.specs.Turns.{Reached, Turn, on_links, asked, after, IsAsking, AreAnswers, polls, resumed, lines}
 use Rattle.ob_dialogue.specs.declared.ending.Peer.TheVariants as peer
@@ -57,7 +57,7 @@ is_printed ending.Memory = false
 is_printed _ = true
 
 -- a link that came back: what was written to it and taken from it, and its faults
-pub record IsLink (p : Program) (at : Reached) (replies : List Object) (e : Ending) (v : Visit) : Type 0 where
+pub record IsLink (p : DialoguePlan) (at : Reached) (replies : List Object) (e : Ending) (v : Visit) : Type 0 where
   pub front : IsFront v.written (texts (host_field p.url) (asked p at replies))
   pub whole : e ≡ ending.Done → v.written ≡ texts (host_field p.url) (asked p at replies)
   pub came : Came v.taken [] replies e
@@ -65,7 +65,7 @@ pub record IsLink (p : Program) (at : Reached) (replies : List Object) (e : Endi
   pub failed : e ≡ ending.Link → (v.reads ≢ 0) ⊎ (v.writes ≢ 0)
 
 -- the last link
-pub record IsLast (Told : Type 0) (p : Program) (retries : ℕ) (at : Reached) (replies : List Object) (v : Visit) (e : Ending) : Type 0 where
+pub record IsLast (Told : Type 0) (p : DialoguePlan) (retries : ℕ) (at : Reached) (replies : List Object) (v : Visit) (e : Ending) : Type 0 where
   pub answered : AreAnswers p at replies
   pub ends : EndsAt (after p at replies) e
   -- a poll is broken for good only where no more are to be mended
@@ -73,7 +73,7 @@ pub record IsLast (Told : Type 0) (p : Program) (retries : ℕ) (at : Reached) (
   pub link : Told → IsLink p at replies e v
 
 -- a link on which a poll was broken that is mended on the next one
-pub record IsMended (Told : Type 0) (p : Program) (retries : ℕ) (at : Reached) (replies : List Object) (v : Visit) : Type 0 where
+pub record IsMended (Told : Type 0) (p : DialoguePlan) (retries : ℕ) (at : Reached) (replies : List Object) (v : Visit) : Type 0 where
   pub some : 0 < retries
   pub answered : AreAnswers p at replies
   pub polled : polls (after p at replies) ≡ true
@@ -88,7 +88,7 @@ HasNoLink at replies e =
 
 -- These replies came on these links, of which each but the last broke at a poll, so many of which are mended. A last one may
 -- be lacking.
-abbrev pub AreLinks : Type 0 → Program → ℕ → Reached → List (List Object) → List Visit → Ending → Type 0
+abbrev pub AreLinks : Type 0 → DialoguePlan → ℕ → Reached → List (List Object) → List Visit → Ending → Type 0
 AreLinks Told p retries at (os ∷ []) [] e = HasNoLink at os e
 AreLinks Told p retries at (os ∷ []) (v ∷ []) e = IsLast Told p retries at os v e
 AreLinks Told p retries at (os ∷ (ps ∷ links)) (v ∷ vs) e =
@@ -96,7 +96,7 @@ AreLinks Told p retries at (os ∷ (ps ∷ links)) (v ∷ vs) e =
 AreLinks Told p retries at _ _ e = ⊥
 
 -- each dial is of the URL's host and port
-abbrev pub AreOf : Program → List Dial → Type 0
+abbrev pub AreOf : DialoguePlan → List Dial → Type 0
 AreOf p [] = Unit {0}
 AreOf p (d ∷ ds) = ((d.host ≡ host_of p.url) × (d.port ≡ port_in p.url)) × AreOf p ds
 
@@ -115,7 +115,7 @@ pub record Outside : Type 0 where
   pub visits : Option (List Visit)
   pub held : Option (List ℕ)
 
-pub record TalksFrom (p : Program) (retries : ℕ) (at : Reached) (old new : Outside) (e : Ending) : Type 0 where
+pub record TalksFrom (p : DialoguePlan) (retries : ℕ) (at : Reached) (old new : Outside) (e : Ending) : Type 0 where
   -- the turns that were had
   pub turns : List Turn
   -- the links that came back, as many as were dialled, each at the URL's host and port

@@ -9,7 +9,8 @@ use Rattle.ob_client.specs.Mirrors.{events_under}
 use Rattle.ob_client.specs.Shown.{shown}
 use Rattle.ob_console.specs.Boards.{Line, board_of}
 use Rattle.ob_console.specs.Lines.{board_text}
-use Rattle.ob_dialogue.specs.Plans.{Watched, Hrefs, Alarms}
+use Rattle.ob_dialogue.specs.Plans.{Topic}
+use Rattle.ob_dialogue.specs.declared.plan.Topic.TheVariants as topics
 use Rattle.ob_dialogue.specs.Stages.{Watching}
 
 -- an object on a line
@@ -33,9 +34,9 @@ abbrev pub board_in : Watching → Option (List Line)
 board_in w = board_of (events_of w.asked w.held)
 
 -- under a heading: the items, or the board
-abbrev pub body_text : Watched → Watching → Option (List ℕ)
-body_text (Hrefs hrefs) w = Some (items_text w.held)
-body_text (Alarms subject ack user) w = option_map board_text (board_in w)
+abbrev pub body_text : Topic → Watching → Option (List ℕ)
+body_text (topics.Watch hrefs) w = Some (items_text w.held)
+body_text (topics.Console subject ack user) w = option_map board_text (board_in w)
 
 abbrev pub add_heading : List ℕ
 add_heading = codes "# add\n"
@@ -44,6 +45,6 @@ abbrev pub poll_heading : ℕ → List ℕ
 poll_heading k = codes "# " ++ (decimal k ++ codes "\n")
 
 -- the errs of an add, which stand behind the items alone
-abbrev pub errs_text : Watched → Object → List ℕ
-errs_text (Hrefs hrefs) reply = lines_of (filter is_err (unwrap_or (entries_once reply) []))
-errs_text (Alarms subject ack user) reply = []
+abbrev pub errs_text : Topic → Object → List ℕ
+errs_text (topics.Watch hrefs) reply = lines_of (filter is_err (unwrap_or (entries_once reply) []))
+errs_text (topics.Console subject ack user) reply = []

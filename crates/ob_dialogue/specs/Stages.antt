@@ -6,16 +6,11 @@ use Rattle.ob_object.specs.Object.{Object}
 use Rattle.ob_watching.specs.WatchOuts.{Text, Held}
 use Rattle.ob_client.specs.Mirrors.{Asks, replied}
 use Rattle.ob_console.specs.Acks.{ack_in}
-use Rattle.ob_dialogue.specs.Plans.{Program, Place, Request, child_place}
+use Rattle.ob_dialogue.specs.Plans.{DialoguePlan, Place, Request, child_place}
 -- what is asked of a watch
 pub use Rattle.ob_asking.specs.Watches.{watch_in, get}
-
 -- the ops of a watch that are called; the refresh where broken polls are mended
-pub record Ops : Type 0 where
-  pub add : Place
-  pub changes : Place
-  pub refresh : Option Place
-  pub delete : Place
+pub use Rattle.ob_dialogue.specs.declared.stage.Ops.{Ops}
 
 -- a watch: its ops, the hrefs that are added, what is held of it, and how many polls were answered
 pub record Watching : Type 0 where
@@ -88,7 +83,7 @@ polled w asked reply =
     record { ops = w.ops; asked = w.asked; held = replied asked reply w.held; polled = w.polled + 1 }
 
 -- a further poll, or the end
-abbrev pub onward : Program → Watching → Stage
+abbrev pub onward : DialoguePlan → Watching → Stage
 onward p w = cond (nat_lt w.polled p.polls) (Polling w) (Deleting w)
 
 -- the request is a poll, or a refresh in place of one

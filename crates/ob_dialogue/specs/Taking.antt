@@ -9,7 +9,8 @@ use Rattle.ob_watching.specs.WatchOuts.{Text}
 use Rattle.ob_client.specs.Entries.{is_err, entries_once}
 use Rattle.ob_client.specs.Mirrors.{all_follow}
 use Rattle.ob_console.specs.Acks.{op_of, leads_to}
-use Rattle.ob_dialogue.specs.Plans.{Program, Watched, Hrefs, Alarms, Place, place_at, child_place}
+use Rattle.ob_dialogue.specs.Plans.{DialoguePlan, Topic, Place, place_at, child_place}
+use Rattle.ob_dialogue.specs.declared.plan.Topic.TheVariants as topics
 use Rattle.ob_dialogue.specs.Stages.{Ops, Watching, Stage, Lobby, Service, Make, Subject, Adding, Acking, Polling, Mending, Deleting, Over, ops_of, begun, told, polled, onward}
 use Rattle.ob_dialogue.specs.Printing.{body_text, board_in, add_heading, poll_heading, errs_text}
 use Rattle.ob_dialogue.specs.declared.ending.Peer.{Peer}
@@ -29,10 +30,10 @@ abbrev pub silent : Option Stage → Taken
 silent next = record { lines = []; next = or_shape next }
 
 -- once the watch is made: the hrefs are added, or the subject is asked for
-abbrev pub to_watch : Parts → Watched → Option Ops → Option Stage
+abbrev pub to_watch : Parts → Topic → Option Ops → Option Stage
 to_watch url watched None = None
-to_watch url (Hrefs hrefs) (Some ops) = Some (Adding (begun ops hrefs))
-to_watch url (Alarms subject ack user) (Some ops) = option_map (λ place. Subject ops place) (place_at url subject)
+to_watch url (topics.Watch hrefs) (Some ops) = Some (Adding (begun ops hrefs))
+to_watch url (topics.Console subject ack user) (Some ops) = option_map (λ place. Subject ops place) (place_at url subject)
 
 -- the feed is added under the path to which its href leads
 abbrev pub to_feed : Ops → Option Place → Option Stage
@@ -47,10 +48,10 @@ abbrev pub ack_target : Watching → Text → Option Text
 ack_target w href = option_and_then (λ board. where_led (leads_to w.ops.add.url (op_of board href))) (board_in w)
 
 -- behind the add: the acknowledgement, if one is wanted
-abbrev pub acked : Program → Watched → Watching → Option Stage
-acked p (Hrefs hrefs) w = Some (onward p w)
-acked p (Alarms subject None user) w = Some (onward p w)
-acked p (Alarms subject (Some href) user) w = option_map (λ target. Acking w target user) (ack_target w href)
+abbrev pub acked : DialoguePlan → Topic → Watching → Option Stage
+acked p (topics.Watch hrefs) w = Some (onward p w)
+acked p (topics.Console subject None user) w = Some (onward p w)
+acked p (topics.Console subject (Some href) user) w = option_map (λ target. Acking w target user) (ack_target w href)
 
 -- under a heading what is held, and behind it the next stage
 abbrev pub printed : List ℕ → List ℕ → Option (List ℕ) → Option Stage → Taken
@@ -64,19 +65,19 @@ has_entries reply = is_some (entries_once reply)
 abbrev pub follows_all : Watching → Object → Bool
 follows_all w reply = option_map_or (λ os. all_follow w.held os) (entries_once reply) false
 
-abbrev pub on_add : Program → Watching → Object → Taken
+abbrev pub on_add : DialoguePlan → Watching → Object → Taken
 on_add p w reply =
     let next : Watching = told w (Add []) reply in
-    printed add_heading (errs_text p.watched reply) (body_text p.watched next) (acked p p.watched next)
+    printed add_heading (errs_text p.topic reply) (body_text p.topic next) (acked p p.topic next)
 
-abbrev pub on_poll : Program → Watching → Taken
-on_poll p w = printed (poll_heading w.polled) [] (body_text p.watched w) (Some (onward p w))
+abbrev pub on_poll : DialoguePlan → Watching → Taken
+on_poll p w = printed (poll_heading w.polled) [] (body_text p.topic w) (Some (onward p w))
 
 -- what a reply that is no err gives at a stage
-abbrev pub taken_at : Program → Stage → Object → Taken
+abbrev pub taken_at : DialoguePlan → Stage → Object → Taken
 taken_at p (Lobby place) o = silent (option_map Service (child_place place.url o (codes "watchService")))
 taken_at p (Service place) o = silent (option_map Make (child_place place.url o (codes "make")))
-taken_at p (Make place) o = silent (to_watch p.url p.watched (ops_of (nat_lt 0 p.retries) place.url o))
+taken_at p (Make place) o = silent (to_watch p.url p.topic (ops_of (nat_lt 0 p.retries) place.url o))
 taken_at p (Subject ops place) o = silent (to_feed ops (child_place place.url o (codes "feed")))
 taken_at p (Adding w) o = cond (has_entries o) (on_add p w o) (silent None)
 taken_at p (Acking w target user) o = silent (Some (onward p w))
@@ -86,5 +87,5 @@ taken_at p (Deleting w) o = silent (Some Over)
 taken_at p Over o = silent (Some Over)
 
 -- what a reply gives at a stage; an err ends the dialogue
-unfoldable pub taken : Program → Stage → Object → Taken
+unfoldable pub taken : DialoguePlan → Stage → Object → Taken
 taken p s o = cond (is_err o) (record { lines = []; next = Err (peer.Err o) }) (taken_at p s o)

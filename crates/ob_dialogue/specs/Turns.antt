@@ -1,7 +1,7 @@
 -- Dialogues: what is asked on each link and what is printed, computed from the turns that were had.
 use Rattle.std.specs.Prelude.{ℕ, Bool, false, List, [], ◌∷◌, ◌++◌, IsSome, Option, Some, None, Result, Ok, Err}
 use Rattle.ob_object.specs.Object.{Object}
-use Rattle.ob_dialogue.specs.Plans.{Program, Place, Request, place_at}
+use Rattle.ob_dialogue.specs.Plans.{DialoguePlan, Place, Request, place_at}
 use Rattle.ob_dialogue.specs.Stages.{Stage, Lobby, request_at, is_poll, mended}
 use Rattle.ob_dialogue.specs.Taking.{taken, or_shape}
 use Rattle.ob_dialogue.specs.declared.ending.Peer.{Peer}
@@ -26,7 +26,7 @@ abbrev pub Reached : Type 0
 Reached = Result Stage Peer
 
 -- a dialogue begins with the lobby
-abbrev pub begins : Program → Reached
+abbrev pub begins : DialoguePlan → Reached
 begins p = or_shape (lobby (place_at p.url []))
   where
     lobby : Option Place → Option Stage
@@ -40,19 +40,19 @@ with_request (Some request) requests = request ∷ requests
 -- ---- on one link
 
 -- what is asked where these replies come; the last request has no reply yet
-abbrev pub asked : Program → Reached → List Object → List Request
+abbrev pub asked : DialoguePlan → Reached → List Object → List Request
 asked p (Err fault) replies = []
 asked p (Ok s) [] = with_request (request_at s) []
 asked p (Ok s) (o ∷ replies) = with_request (request_at s) (asked p (taken p s o).next replies)
 
 -- what is printed
-abbrev pub shown : Program → Reached → List Object → List ℕ
+abbrev pub shown : DialoguePlan → Reached → List Object → List ℕ
 shown p (Err fault) replies = []
 shown p (Ok s) [] = []
 shown p (Ok s) (o ∷ replies) = (taken p s o).lines ++ shown p (taken p s o).next replies
 
 -- how far it comes
-abbrev pub after : Program → Reached → List Object → Reached
+abbrev pub after : DialoguePlan → Reached → List Object → Reached
 after p (Err fault) replies = Err fault
 after p (Ok s) [] = Ok s
 after p (Ok s) (o ∷ replies) = after p (taken p s o).next replies
@@ -63,7 +63,7 @@ IsAsking (Ok s) = IsSome (request_at s)
 IsAsking (Err fault) = ⊥
 
 -- each reply is one to a request
-abbrev pub AreAnswers : Program → Reached → List Object → Type 0
+abbrev pub AreAnswers : DialoguePlan → Reached → List Object → Type 0
 AreAnswers p (Err fault) [] = Unit {0}
 AreAnswers p (Err fault) (o ∷ replies) = ⊥
 AreAnswers p (Ok s) [] = Unit {0}
@@ -82,11 +82,11 @@ resumed (Ok s) = Ok (mended s)
 resumed (Err fault) = Err fault
 
 -- what is asked on each link
-abbrev pub asks : Program → Reached → List (List Object) → List (List Request)
+abbrev pub asks : DialoguePlan → Reached → List (List Object) → List (List Request)
 asks p at [] = []
 asks p at (replies ∷ links) = asked p at replies ∷ asks p (resumed (after p at replies)) links
 
 -- what is printed on all of them
-abbrev pub lines : Program → Reached → List (List Object) → List ℕ
+abbrev pub lines : DialoguePlan → Reached → List (List Object) → List ℕ
 lines p at [] = []
 lines p at (replies ∷ links) = shown p at replies ++ lines p (resumed (after p at replies)) links

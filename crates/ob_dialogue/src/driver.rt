@@ -28,7 +28,7 @@ fn on_dialled<W: Dialer, K: Sink>(
     mends: bool,
 ) -> Pause
     requires { told.IsLive stage }
-    ensures visits { Visits (told.program plan.now) mends (told.stage stage)
+    ensures visits { Visits plan.now mends (told.stage stage)
         (outside (W.dials dialer.old) (W.visits dialer.old) (K.held sink.old))
         (outside (W.dials dialer.new) (W.visits dialer.new) (K.held sink.new)) (told.pause result) }
     ensures live { told.PauseIsLive result }
@@ -64,7 +64,7 @@ fn from_stage<W: Dialer, K: Sink>(
     retries: u64,
 ) -> Ending
     requires { told.IsLive stage }
-    ensures talks { TalksFrom (told.program plan.now) retries (Ok (told.stage stage))
+    ensures talks { TalksFrom plan.now retries (Ok (told.stage stage))
         (outside (W.dials dialer.old) (W.visits dialer.old) (K.held sink.old))
         (outside (W.dials dialer.new) (W.visits dialer.new) (K.held sink.new)) result }
     ensures later { (W.faults dialer.old ≤ W.faults dialer.new) × (K.faults sink.old ≤ K.faults sink.new) }
@@ -88,10 +88,10 @@ pub fn converse<W: Dialer, K: Sink>(
     dialer: &mut W,
     sink: &mut K,
 ) -> Ending
-    ensures talks { TalksFrom (told.program plan.now) plan.now.retries (begins (told.program plan.now))
+    ensures talks { TalksFrom plan.now plan.now.retries (begins plan.now)
         (outside (W.dials dialer.old) (W.visits dialer.old) (K.held sink.old))
         (outside (W.dials dialer.new) (W.visits dialer.new) (K.held sink.new)) result }
-    ensures complete { Completes (told.program plan.now) (begins (told.program plan.now))
+    ensures complete { Completes plan.now (begins plan.now)
         (W.visits dialer.old) (W.visits dialer.new) (W.faults dialer.old) (W.faults dialer.new) (K.faults sink.old) (K.faults sink.new) result }
     ensures later { (W.faults dialer.old ≤ W.faults dialer.new) × (K.faults sink.old ≤ K.faults sink.new) }
     ensures link { result ≡ ending.Link → Rose (W.faults dialer.old) (W.faults dialer.new) × (W.rose dialer.new ≡ true) }

@@ -18,4 +18,4 @@ mod taking;
 pub use driver::converse;
 pub use ending::{Ending, Peer, frame_word};
 pub use laws::completes;
-pub use plan::{DialoguePlan, Topic};
+pub use plan::{DialoguePlan, Hrefs, Topic};

@@ -80,7 +80,7 @@ fn err_lines(alloc: Global, entries: &[Obj]) -> Result<Vec<u8>, AllocError>
 
 /// The lines that stand behind the items of an add: of the errs of the reply, where items are printed.
 pub(crate) fn errs(alloc: Global, topic: &Topic, reply: &Obj) -> Result<Vec<u8>, AllocError>
-    ensures { IfOk result (λ text. told.AreErrs (told.watched topic.now) reply.now text.items) }
+    ensures { IfOk result (λ text. told.AreErrs topic.now reply.now text.items) }
 {
     match topic {
         Topic::Watch { hrefs: _ } => err_lines(alloc, entries(reply)),
@@ -126,7 +126,7 @@ pub(crate) fn body(
     topic: &Topic,
     watching: &Watching,
 ) -> Result<Option<Vec<u8>>, AllocError>
-    ensures { IfOk result (λ text. option_map told.bytes text ≡ body_text (told.watched topic.now) (told.watching watching.now)) }
+    ensures { IfOk result (λ text. option_map told.bytes text ≡ body_text topic.now (told.watching watching.now)) }
 {
     match topic {
         Topic::Watch { hrefs: _ } => {

@@ -165,7 +165,7 @@ fn give<K: Sink>(
     sink: &mut K,
 ) -> Turned
     requires { told.IsLive stage }
-    ensures gives { told.Gives (K.held sink.old) (K.held sink.new) (told.program plan.now) (told.stage stage) reply result }
+    ensures gives { told.Gives (K.held sink.old) (K.held sink.new) plan.now (told.stage stage) reply result }
     ensures live { told.TurnedIsLive result }
     ensures later { K.faults sink.old ≤ K.faults sink.new }
     ensures sink { told.TurnsBySink result → Rose (K.faults sink.old) (K.faults sink.new) }
@@ -191,7 +191,7 @@ fn turn<L: Link, K: Sink>(
 ) -> Turned
     requires live { told.IsLive stage }
     requires alive { session.old.is_dead ≡ false }
-    ensures turns { told.Turns (told.program plan.now) session.old.host mends (told.stage stage)
+    ensures turns { told.Turns plan.now session.old.host mends (told.stage stage)
         (had (inlet (L.left session.old.link) (L.taken session.old.link)) (L.held session.old.link) session.old.framer (K.held sink.old))
         (had (inlet (L.left session.new.link) (L.taken session.new.link)) (L.held session.new.link) session.new.framer (K.held sink.new))
         result }
@@ -203,7 +203,7 @@ fn turn<L: Link, K: Sink>(
     ensures link { told.TurnsByLink result → Rose (L.read_faults session.old.link) (L.read_faults session.new.link)
         ⊎ Rose (L.write_faults session.old.link) (L.write_faults session.new.link) }
     ensures sink { told.TurnsBySink result → Rose (K.faults sink.old) (K.faults sink.new) }
-    ensures onward { told.GoesOn (told.program plan.now) (told.stage stage) result }
+    ensures onward { told.GoesOn plan.now (told.stage stage) result }
 {
     match ask(alloc, &stage, session) {
         Exchange::Over => Turned::Paused(Pause::Ended(Ending::Done)),
@@ -224,7 +224,7 @@ pub(crate) fn on_link<L: Link, K: Sink>(
 ) -> Pause
     requires live { told.IsLive stage }
     requires alive { session.old.is_dead ≡ false }
-    ensures leg { Leg (told.program plan.now) session.old.host mends (Ok (told.stage stage))
+    ensures leg { Leg plan.now session.old.host mends (Ok (told.stage stage))
         (had (inlet (L.left session.old.link) (L.taken session.old.link)) (L.held session.old.link) session.old.framer (K.held sink.old))
         (had (inlet (L.left session.new.link) (L.taken session.new.link)) (L.held session.new.link) session.new.framer (K.held sink.new))
         (told.pause result) }

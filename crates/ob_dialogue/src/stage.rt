@@ -1,6 +1,6 @@
 //! How far a dialogue has come.
 ghost use Rattle.std.specs.Prelude.{◌≡◌, ◌<◌, ◌^◌, IfOk, option_map, unwrap_or, [], true, false};
-ghost use Rattle.ob_dialogue.specs.Stages.{ops_of, refresh_in, begun, onward, mended};
+ghost use Rattle.ob_dialogue.specs.Stages.{ops_of, ops_from, refresh_in, begun, onward, mended};
 ghost use Rattle.ob_dialogue.specs.Plans.{place_at};
 ghost use Rattle.ob_dialogue.specs.InHand as told;
 
@@ -123,7 +123,7 @@ pub(crate) fn ops_of(
     base: &Base,
     watch: &Obj,
 ) -> Result<Option<Ops>, AllocError>
-    ensures { IfOk result (λ o. option_map told.ops o ≡ ops_of mends base.now watch.now) }
+    ensures { IfOk result (λ o. o ≡ ops_of mends base.now watch.now) }
 {
     let add = child_place(alloc, base, watch, "add")?;
     let changes = child_place(alloc, base, watch, "pollChanges")?;
@@ -139,7 +139,7 @@ fn put_together(
     refresh: Option<Option<Place>>,
     delete: Option<Place>,
 ) -> Option<Ops>
-    ensures { option_map told.ops result ≡ told.ops_from add changes refresh delete }
+    ensures { result ≡ ops_from add changes refresh delete }
 {
     Some(Ops {
         add: add?,
@@ -151,7 +151,7 @@ fn put_together(
 
 /// A watch of which nothing is held yet.
 pub(crate) fn begun(alloc: Global, ops: Ops, asked: Vec<Text>) -> Watching
-    ensures value { told.watching result ≡ begun (told.ops ops) asked.items }
+    ensures value { told.watching result ≡ begun ops asked.items }
     ensures live { result.mirror.stale ≡ false }
 {
     Watching {
@@ -165,7 +165,7 @@ pub(crate) fn begun(alloc: Global, ops: Ops, asked: Vec<Text>) -> Watching
 /// The stage behind an answered add or poll: a further poll, or the end.
 pub(crate) fn onward(plan: &DialoguePlan, watching: Watching) -> Stage
     requires { watching.mirror.stale ≡ false }
-    ensures value { told.stage result ≡ onward (told.program plan.now) (told.watching watching) }
+    ensures value { told.stage result ≡ onward plan.now (told.watching watching) }
     ensures live { told.IsLive result }
 {
     if watching.polled < plan.polls {

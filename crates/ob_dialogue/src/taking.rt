@@ -87,7 +87,7 @@ fn to_make(place: Option<Place>) -> Option<Stage>
 
 // The subject is asked for.
 fn to_subject(ops: Ops, place: Option<Place>) -> Option<Stage>
-    ensures value { option_map told.stage result ≡ option_map (stages.Subject (told.ops ops)) place }
+    ensures value { option_map told.stage result ≡ option_map (stages.Subject ops) place }
     ensures live { told.OptionIsLive result }
 {
     match place {
@@ -102,7 +102,7 @@ fn to_watch(
     plan: &DialoguePlan,
     ops: Option<Ops>,
 ) -> Result<Option<Stage>, AllocError>
-    ensures value { IfOk result (λ s. option_map told.stage s ≡ to_watch plan.now.url (told.watched plan.now.topic) (option_map told.ops ops)) }
+    ensures value { IfOk result (λ s. option_map told.stage s ≡ to_watch plan.now.url plan.now.topic ops) }
     ensures live { IfOk result (λ s. told.OptionIsLive s) }
 {
     let Some(ops) = ops else {
@@ -110,7 +110,7 @@ fn to_watch(
     };
     match &plan.topic {
         Topic::Watch { hrefs } => {
-            let asked = copies(alloc, hrefs)?;
+            let asked = copies(alloc, hrefs.as_slice())?;
             Ok(Some(Stage::Add(begun(alloc, ops, asked))))
         }
         Topic::Console {
@@ -126,7 +126,7 @@ fn to_watch(
 
 // The subject's feed is added.
 fn to_feed(alloc: Global, ops: Ops, feed: Option<Place>) -> Result<Option<Stage>, AllocError>
-    ensures value { IfOk result (λ s. option_map told.stage s ≡ to_feed (told.ops ops) feed) }
+    ensures value { IfOk result (λ s. option_map told.stage s ≡ to_feed ops feed) }
     ensures live { IfOk result (λ s. told.OptionIsLive s) }
 {
     let Some(feed) = feed else {
@@ -182,7 +182,7 @@ fn acked(
     watching: Watching,
 ) -> Result<Option<Stage>, AllocError>
     requires { watching.mirror.stale ≡ false }
-    ensures value { IfOk result (λ s. option_map told.stage s ≡ acked (told.program plan.now) (told.watched plan.now.topic) (told.watching watching)) }
+    ensures value { IfOk result (λ s. option_map told.stage s ≡ acked plan.now plan.now.topic (told.watching watching)) }
     ensures live { IfOk result (λ s. told.OptionIsLive s) }
 {
     match &plan.topic {
@@ -251,7 +251,7 @@ fn added(
     errs: Vec<u8>,
 ) -> Result<Outcome, AllocError>
     requires { watching.mirror.stale ≡ false }
-    ensures value { IfOk result (λ t. told.taken t ≡ printed add_heading errs.items (body_text (told.watched plan.now.topic) (told.watching watching)) (acked (told.program plan.now) (told.watched plan.now.topic) (told.watching watching))) }
+    ensures value { IfOk result (λ t. told.taken t ≡ printed add_heading errs.items (body_text plan.now.topic (told.watching watching)) (acked plan.now plan.now.topic (told.watching watching))) }
     ensures live { IfOk result (λ t. told.NextIsLive t.next) }
 {
     let heading = add_heading(alloc)?;
@@ -268,7 +268,7 @@ fn on_add(
     reply: Obj,
 ) -> Result<Outcome, AllocError>
     requires { watching.mirror.stale ≡ false }
-    ensures value { IfOk result (λ t. told.taken t ≡ taken_at (told.program plan.now) (stages.Adding (told.watching watching)) reply) }
+    ensures value { IfOk result (λ t. told.taken t ≡ taken_at plan.now (stages.Adding (told.watching watching)) reply) }
     ensures live { IfOk result (λ t. told.NextIsLive t.next) }
 {
     let errs = errs(alloc, &plan.topic, &reply)?;
@@ -282,7 +282,7 @@ fn on_add(
 // A poll was answered.
 fn on_poll(alloc: Global, plan: &DialoguePlan, watching: Watching) -> Result<Outcome, AllocError>
     requires { watching.mirror.stale ≡ false }
-    ensures value { IfOk result (λ t. told.taken t ≡ on_poll (told.program plan.now) (told.watching watching)) }
+    ensures value { IfOk result (λ t. told.taken t ≡ on_poll plan.now (told.watching watching)) }
     ensures live { IfOk result (λ t. told.NextIsLive t.next) }
 {
     let heading = poll_heading(alloc, watching.polled)?;
@@ -300,7 +300,7 @@ fn on_changes(
 ) -> Result<Outcome, AllocError>
     requires live { watching.mirror.stale ≡ false }
     requires few { watching.polled + 1 < 2 ^ 64 }
-    ensures value { IfOk result (λ t. told.taken t ≡ taken_at (told.program plan.now) (stages.Polling (told.watching watching)) reply) }
+    ensures value { IfOk result (λ t. told.taken t ≡ taken_at plan.now (stages.Polling (told.watching watching)) reply) }
     ensures live { IfOk result (λ t. told.NextIsLive t.next) }
 {
     if has_taken(watching.mirror.on_changes(reply))? {
@@ -319,7 +319,7 @@ fn on_refresh(
     reply: Obj,
 ) -> Result<Outcome, AllocError>
     requires { watching.polled + 1 < 2 ^ 64 }
-    ensures value { IfOk result (λ t. told.taken t ≡ taken_at (told.program plan.now) (stages.Mending (told.watching watching)) reply) }
+    ensures value { IfOk result (λ t. told.taken t ≡ taken_at plan.now (stages.Mending (told.watching watching)) reply) }
     ensures live { IfOk result (λ t. told.NextIsLive t.next) }
 {
     if has_taken(watching.mirror.on_refresh(reply))? {
@@ -362,7 +362,7 @@ fn on_service(alloc: Global, place: Place, reply: Obj) -> Result<Outcome, AllocE
 
 // The ops of a watch that came from a place.
 fn ops_in(alloc: Global, mends: bool, place: Place, watch: Obj) -> Result<Option<Ops>, AllocError>
-    ensures { IfOk result (λ o. option_map told.ops o ≡ ops_of mends place.url watch) }
+    ensures { IfOk result (λ o. o ≡ ops_of mends place.url watch) }
 {
     ops_of(alloc, mends, &place.url, &watch)
 }
@@ -374,7 +374,7 @@ fn on_make(
     place: Place,
     reply: Obj,
 ) -> Result<Outcome, AllocError>
-    ensures value { IfOk result (λ t. told.taken t ≡ taken_at (told.program plan.now) (stages.Make place) reply) }
+    ensures value { IfOk result (λ t. told.taken t ≡ taken_at plan.now (stages.Make place) reply) }
     ensures live { IfOk result (λ t. told.NextIsLive t.next) }
 {
     let ops = ops_in(alloc, plan.retries > 0, place, reply)?;
@@ -384,7 +384,7 @@ fn on_make(
 
 // The alarm subject came.
 fn on_subject(alloc: Global, ops: Ops, place: Place, reply: Obj) -> Result<Outcome, AllocError>
-    ensures value { IfOk result (λ t. told.taken t ≡ silent (to_feed (told.ops ops) (child_place place.url reply (codes "feed")))) }
+    ensures value { IfOk result (λ t. told.taken t ≡ silent (to_feed ops (child_place place.url reply (codes "feed")))) }
     ensures live { IfOk result (λ t. told.NextIsLive t.next) }
 {
     let feed = leads_on(alloc, place, reply, "feed")?;
@@ -400,7 +400,7 @@ fn taken_at(
     reply: Obj,
 ) -> Result<Outcome, AllocError>
     requires { told.IsLive stage }
-    ensures value { IfOk result (λ t. told.taken t ≡ taken_at (told.program plan.now) (told.stage stage) reply) }
+    ensures value { IfOk result (λ t. told.taken t ≡ taken_at plan.now (told.stage stage) reply) }
     ensures live { IfOk result (λ t. told.NextIsLive t.next) }
 {
     match stage {
@@ -426,7 +426,7 @@ pub(crate) fn taken(
     reply: Obj,
 ) -> Result<Outcome, AllocError>
     requires { told.IsLive stage }
-    ensures value { IfOk result (λ t. told.taken t ≡ taken (told.program plan.now) (told.stage stage) reply) }
+    ensures value { IfOk result (λ t. told.taken t ≡ taken plan.now (told.stage stage) reply) }
     ensures live { IfOk result (λ t. told.NextIsLive t.next) }
 {
     if reply.kind().same(Kind::Err) {

@@ -1,6 +1,6 @@
 -- How a dialogue with a server ends.
 use Rattle.std.proofs.Common.{◌≡◌, ℕ, true, refl, sym, ◌∙◌, List, Option}
-use Rattle.ob_dialogue.specs.Plans.{Program}
+use Rattle.ob_dialogue.specs.declared.plan.DialoguePlan.{DialoguePlan}
 use Rattle.ob_dialogue.specs.Turns.{begins}
 use Rattle.ob_dialogue.specs.Links.{TalksFrom, outside}
 use Rattle.ob_dialogue.specs.Completes.{Completes}
@@ -29,7 +29,7 @@ write_failed endings.Write e = refl
 write_failed endings.Memory e = cc
 
 -- the dialogue came to this ending, which is the exit
-pub client_ran : (p : Program) (held held' : Option (List ℕ)) (writes writes' : ℕ) (d d' : Dialled) (e e' : ErrorsTold) (ending : Ending) (exit : Exit) → exit ≡ exit_of_dialogue ending
+pub client_ran : (p : DialoguePlan) (held held' : Option (List ℕ)) (writes writes' : ℕ) (d d' : Dialled) (e e' : ErrorsTold) (ending : Ending) (exit : Exit) → exit ≡ exit_of_dialogue ending
     → TalksFrom p p.retries (begins p) (outside d.dials d.visits held) (outside d'.dials d'.visits held') ending
     → (ending ≡ endings.Link → Rose d.faults d'.faults × (d'.rose ≡ true)) → (ending ≡ endings.Write → Rose writes writes')
     → Completes p (begins p) d.visits d'.visits d.faults d'.faults writes writes' ending

@@ -2,7 +2,7 @@
 use Rattle.std.specs.Prelude.{◌≡◌, ℕ, Bool, true, List, Option, Some, None}
 use Rattle.ob_command.specs.Command as commands
 use Rattle.ob_command.specs.Command.{Command}
-use Rattle.ob_dialogue.specs.Plans.{Program, Hrefs, Alarms}
+use Rattle.ob_dialogue.specs.declared.plan.Topic.TheVariants as topics
 use Rattle.ob_io.specs.Ticks.{Pace}
 use Rattle.ob_io.specs.Visits.{Visit}
 use Rattle.ob_program.specs.declared.exit.Exit.{Exit}
@@ -48,9 +48,9 @@ module _ {V : Type 0} (told : Type 0) (seen : V → List ℕ) (may_leave : V →
   Ran content files files' v v' s s' p p' d d' t t' e e' (commands.check file) exit =
       CheckRan (content file) files files' s.held s'.held s.writes s'.writes e e' exit
   Ran content files files' v v' s s' p p' d d' t t' e e' (commands.watch url hrefs polls retries) exit =
-      ClientRan (record { url = url; watched = Hrefs hrefs; polls = polls; retries = retries }) s.held s'.held s.writes s'.writes d d' e e' exit
+      ClientRan (record { url = url; topic = topics.Watch hrefs; polls = polls; retries = retries }) s.held s'.held s.writes s'.writes d d' e e' exit
   Ran content files files' v v' s s' p p' d d' t t' e e' (commands.console url subject polls ack user) exit =
-      ClientRan (record { url = url; watched = Alarms subject ack user; polls = polls; retries = 0 }) s.held s'.held s.writes s'.writes d d' e e' exit
+      ClientRan (record { url = url; topic = topics.Console subject ack user; polls = polls; retries = 0 }) s.held s'.held s.writes s'.writes d d' e e' exit
   Ran content files files' v v' s s' p p' d d' t t' e e' (commands.storm asked) exit =
       StormRan asked s.held s'.held s.writes s'.writes e e' exit
   Ran content files files' v v' s s' p p' d d' t t' e e' (commands.supervise config rounds) exit =

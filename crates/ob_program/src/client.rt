@@ -1,6 +1,5 @@
 //! `watch` and `console`: dialogues with a server.
 ghost use Rattle.std.specs.Prelude.{◌≡◌, IfOk};
-ghost use Rattle.ob_dialogue.specs.InHand.{program};
 ghost use Rattle.ob_program.specs.Client.{watched, alarms, exit_of_dialogue, ClientRan};
 ghost use Rattle.ob_program.specs.Outside.{dialled};
 ghost use Rattle.ob_program.specs.Telling.{errors_told};
@@ -9,13 +8,13 @@ ghost use Rattle.ob_program.specs.Words.{dialogue_words};
 use crate::exit::Exit;
 use crate::telling::tell;
 use ob_command::{Console, Watch};
-use ob_dialogue::{DialoguePlan, Ending, Topic, converse};
+use ob_dialogue::{DialoguePlan, Ending, Hrefs, Topic, converse};
 use ob_io::{Dialer, Sink};
 use std::alloc::{AllocError, Global};
 
 /// What is to be done for a watch.
 pub(crate) fn watch_plan(watch: Watch) -> DialoguePlan
-    ensures { program result ≡ watched watch }
+    ensures { result ≡ watched watch }
 {
     let Watch {
         url,
@@ -25,7 +24,9 @@ pub(crate) fn watch_plan(watch: Watch) -> DialoguePlan
     } = watch;
     DialoguePlan {
         url,
-        topic: Topic::Watch { hrefs },
+        topic: Topic::Watch {
+            hrefs: Hrefs::of(hrefs),
+        },
         polls,
         retries,
     }
@@ -33,7 +34,7 @@ pub(crate) fn watch_plan(watch: Watch) -> DialoguePlan
 
 /// What is to be done for a console.
 pub(crate) fn console_plan(console: Console) -> DialoguePlan
-    ensures { program result ≡ alarms console }
+    ensures { result ≡ alarms console }
 {
     let Console {
         url,
@@ -81,7 +82,7 @@ pub(crate) fn run_client<W: Dialer, K: Sink, E: Sink>(
     sink: &mut K,
     errors: &mut E,
 ) -> Exit
-    ensures { ClientRan (program plan) (K.held sink.old) (K.held sink.new) (K.faults sink.old) (K.faults sink.new)
+    ensures { ClientRan plan (K.held sink.old) (K.held sink.new) (K.faults sink.old) (K.faults sink.new)
         (dialled (W.dials dialer.old) (W.visits dialer.old) (W.rose dialer.old) (W.faults dialer.old))
         (dialled (W.dials dialer.new) (W.visits dialer.new) (W.rose dialer.new) (W.faults dialer.new))
         (errors_told (E.held errors.old) (E.faults errors.old)) (errors_told (E.held errors.new) (E.faults errors.new)) result }

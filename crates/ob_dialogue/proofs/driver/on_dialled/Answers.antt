@@ -17,12 +17,12 @@ returns-in_default-clause-visits g c = visits_none _ _ _ _
 
 pub returns-in_default-dial-clause-visits : goal.returns-in_default-dial-clause-visits
 returns-in_default-dial-clause-visits g c =
-    visits_failed (told.program c.args.plan.now) c.args.mends (told.stage c.args.stage) _ _ _ _ (g.K.Sink.held c.args.sink.now) _
+    visits_failed c.args.plan.now c.args.mends (told.stage c.args.stage) _ _ _ _ (g.K.Sink.held c.args.sink.now) _
     c.in_default-dial.ensures.dials refl c.host.ensures (ap (λ o. unwrap_or o 0) c.port.ensures) c.in_default-dial.ensures.apart
 
 pub returns-in-Err-clause-visits : goal.returns-in-Err-clause-visits
 returns-in-Err-clause-visits g c =
-    let p = told.program c.args.plan.now in
+    let p = c.args.plan.now in
     let link = c.in-Err.link in
     let here = had (inlet (g.W.L.Link.left link) (g.W.L.Link.taken link)) (g.W.L.Link.held link) [] (g.K.Sink.held c.args.sink.now) in
     let fresh = subst (λ x. IsFresh (g.W.L.Link.taken x) (g.W.L.Link.held x) (g.W.L.Link.read_faults x) (g.W.L.Link.write_faults x)) (sym c.in-Err.ensures) c.in-Ok-dial.ensures.fresh in
@@ -33,7 +33,7 @@ returns-in-Err-clause-visits g c =
 
 pub returns-clause-visits : goal.returns-clause-visits
 returns-clause-visits g c =
-    let p = told.program c.args.plan.now in
+    let p = c.args.plan.now in
     let s = c.in-Ok-new.session in
     let t = c.on_link-pause.new.session in
     let visits = c.back-2.ensures.visit in

@@ -5,7 +5,7 @@ use Rattle.ob_dialogue.proofs.link.give.Goals as goal
 
 pub returns-in-Ok-clause-gives : goal.returns-in-Ok-clause-gives
 returns-in-Ok-clause-gives g c =
-    gives_of (g.K.Sink.held c.args.sink.now) (g.K.Sink.held c.print.new.sink) (told.program c.args.plan.now) (told.stage c.args.stage) c.args.reply (told.taken c.in-Ok.outcome) c.print.result c.in-Ok.ensures.value
+    gives_of (g.K.Sink.held c.args.sink.now) (g.K.Sink.held c.print.new.sink) c.args.plan.now (told.stage c.args.stage) c.args.reply (told.taken c.in-Ok.outcome) c.print.result c.in-Ok.ensures.value
     (subst (λ (l : List ℕ). told.Prints (g.K.Sink.held c.args.sink.now) (g.K.Sink.held c.print.new.sink) (told.step l c.in-Ok.outcome.next) c.print.result) c.deref.ensures.value c.print.ensures.prints)
 
 pub returns-in-Err-clause-gives : goal.returns-in-Err-clause-gives

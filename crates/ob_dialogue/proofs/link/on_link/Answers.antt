@@ -5,4 +5,4 @@ use Rattle.ob_dialogue.proofs.link.on_link.Goals as goal
 pub turns-smaller : goal.turns-smaller
 turns-smaller g c =
     let on = c.in-Next.ensures.onward in
-    taken_near (told.program c.args.plan.now) (told.stage c.turns.stage) on.1.0 (told.stage c.in-Next.next) on.0 on.1.1
+    taken_near c.args.plan.now (told.stage c.turns.stage) on.1.0 (told.stage c.in-Next.next) on.0 on.1.1
