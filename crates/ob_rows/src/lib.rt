@@ -4,7 +4,7 @@
 mod table;
 mod words;
 
-pub use table::{Asked, Table, Tally, asked_of, push_meant, run};
+pub use table::{Row, Table, Tally, asked_of, push_meant, run};
 pub use words::{
     named_part, number_at, push_bytes, push_number, push_words, split_bar, split_word, text_of,
     word_at,

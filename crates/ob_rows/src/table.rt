@@ -10,7 +10,7 @@ use std::{fs, io};
 
 /// What a row asks: its left side.
 #[derive(Clone, Copy)]
-pub struct Asked<'a> {
+pub struct Row<'a> {
     /// The left side as it is written.
     pub text: &'a str,
     /// The bytes that it stands for.
@@ -22,7 +22,7 @@ pub trait Table {
     /// Writes into `told`, which is empty, what comes out of a row.
     ///
     /// `AllocError` only for want of memory.
-    fn answer(&mut self, alloc: Global, asked: Asked, told: &mut String) -> Result<(), AllocError>;
+    fn answer(&mut self, alloc: Global, asked: Row, told: &mut String) -> Result<(), AllocError>;
 }
 
 // The bytes that a symbol stands for, if it is one.
@@ -173,7 +173,7 @@ fn answer<T: Table>(
 ) -> Result<(), AllocError> {
     let mut bytes = Vec::new(alloc);
     push_meant(&mut bytes, text)?;
-    let asked = Asked {
+    let asked = Row {
         text,
         bytes: bytes.as_slice(),
     };

@@ -2,7 +2,7 @@
 use ob_alarms::{AckResult, Alarms, Event, Num, Rule, Turned, What};
 use ob_encoding::encode;
 use ob_object::{Obj, Status};
-use ob_rows::{Asked, Table, number_at, push_number, push_words, text_of, word_at};
+use ob_rows::{Row, Table, number_at, push_number, push_words, text_of, word_at};
 use ob_times::Moment;
 use ob_values::{Dec, Text, read_dec};
 use std::alloc::{AllocError, Global};
@@ -209,7 +209,7 @@ fn made(alloc: Global, needs_ack: bool) -> Result<Option<Alarms>, AllocError> {
 }
 
 impl Table for Boards {
-    fn answer(&mut self, alloc: Global, asked: Asked, told: &mut String) -> Result<(), AllocError> {
+    fn answer(&mut self, alloc: Global, asked: Row, told: &mut String) -> Result<(), AllocError> {
         if word_at(asked.text, 0) == "board" {
             self.alarms = made(alloc, word_at(asked.text, 1) == "acknowledged")?;
             return told.push_str("made");

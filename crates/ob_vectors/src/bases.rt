@@ -1,6 +1,6 @@
 //! Bases: the parts of each, and what is joined to it.
 use ob_href::{Base, HrefFault};
-use ob_rows::{Asked, Table, push_number, push_words};
+use ob_rows::{Row, Table, push_number, push_words};
 use std::alloc::{AllocError, Global};
 
 /// A base, and an href that is joined to it where one stands behind a blank.
@@ -45,7 +45,7 @@ fn tell_joined(
 }
 
 impl Table for Bases {
-    fn answer(&mut self, alloc: Global, asked: Asked, told: &mut String) -> Result<(), AllocError> {
+    fn answer(&mut self, alloc: Global, asked: Row, told: &mut String) -> Result<(), AllocError> {
         match asked.text.split_once(' ') {
             Some((base, href)) => tell_joined(&Base::new(alloc, base), href, told),
             None => tell_either(&Base::new(alloc, asked.text), told),

@@ -1,5 +1,5 @@
 //! Dates: their Julian day numbers at noon, and whether jiff has them.
-use ob_rows::{Asked, Table};
+use ob_rows::{Row, Table};
 use ob_values::{CivilDate, read_abstime};
 use std::alloc::{AllocError, Global};
 
@@ -13,7 +13,7 @@ const SECONDS_OF_A_DAY: i64 = 86_400;
 pub(crate) struct Days;
 
 impl Table for Days {
-    fn answer(&mut self, _: Global, asked: Asked, told: &mut String) -> Result<(), AllocError> {
+    fn answer(&mut self, _: Global, asked: Row, told: &mut String) -> Result<(), AllocError> {
         let Ok(instant) = read_abstime(asked.bytes) else {
             return told.push_str("no instant");
         };
@@ -43,7 +43,7 @@ fn is_as_jiff_has_it(year: i16, month: u8, day: u8) -> bool {
 pub(crate) struct Calendars;
 
 impl Table for Calendars {
-    fn answer(&mut self, _: Global, asked: Asked, told: &mut String) -> Result<(), AllocError> {
+    fn answer(&mut self, _: Global, asked: Row, told: &mut String) -> Result<(), AllocError> {
         let Ok(year) = asked.text.parse::<i16>() else {
             return told.push_str("no year");
         };

@@ -3,7 +3,7 @@ use ob_contracts::Library;
 use ob_documents::read;
 use ob_encoding::{Part, PartFault, encode, read_known, read_part, read_words, write};
 use ob_object::{Kind, Words};
-use ob_rows::{Asked, Table, push_number, push_words, text_of};
+use ob_rows::{Row, Table, push_number, push_words, text_of};
 use ob_scan::{RawFault, expand, plain};
 use ob_values::{Text, Value};
 use ob_xml::Doc;
@@ -152,7 +152,7 @@ fn is_so(alloc: Global, question: &str) -> bool {
 }
 
 impl Table for Calls {
-    fn answer(&mut self, alloc: Global, asked: Asked, told: &mut String) -> Result<(), AllocError> {
+    fn answer(&mut self, alloc: Global, asked: Row, told: &mut String) -> Result<(), AllocError> {
         let (what, _) = asked.text.split_once(' ').unwrap_or((asked.text, ""));
         let place = what.len().saturating_add(1);
         let (_, bytes) = asked.bytes.split_at_checked(place).unwrap_or((b"", b""));

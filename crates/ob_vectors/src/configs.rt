@@ -2,7 +2,7 @@
 use crate::spelled::object;
 use ob_io::MemLink;
 use ob_object::Obj;
-use ob_rows::{Asked, Table, number_at, text_of};
+use ob_rows::{Row, Table, number_at, text_of};
 use ob_super::{ConfigFault, Super};
 use std::alloc::{AllocError, Global};
 
@@ -46,7 +46,7 @@ fn tell_text(alloc: Global, text: &str, told: &mut String) -> Result<(), AllocEr
 }
 
 impl Table for Configs {
-    fn answer(&mut self, alloc: Global, asked: Asked, told: &mut String) -> Result<(), AllocError> {
+    fn answer(&mut self, alloc: Global, asked: Row, told: &mut String) -> Result<(), AllocError> {
         if !asked.text.starts_with("many ") {
             return tell_text(alloc, text_of(asked.bytes), told);
         }

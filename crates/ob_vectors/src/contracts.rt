@@ -5,7 +5,7 @@ use crate::spelled::{object, push_object};
 use crate::views::shows;
 use ob_contracts::{LibFault, Library, Steps, effective, view};
 use ob_object::{Kind, Obj, Words};
-use ob_rows::{Asked, Table, split_bar, split_word};
+use ob_rows::{Row, Table, split_bar, split_word};
 use ob_values::Text;
 use std::alloc::{AllocError, Global};
 use std::marker::Brand;
@@ -217,7 +217,7 @@ impl Contracts {
 }
 
 impl Table for Contracts {
-    fn answer(&mut self, alloc: Global, asked: Asked, told: &mut String) -> Result<(), AllocError> {
+    fn answer(&mut self, alloc: Global, asked: Row, told: &mut String) -> Result<(), AllocError> {
         let (word, said) = split_word(asked.text);
         match word {
             "standard" => tell_contract(alloc, &self.library, said, told),

@@ -1,6 +1,6 @@
 //! Documents: what each text is refused for and where, or the canonical text of what it spells.
 use crate::spelled::push_object;
-use ob_rows::{Asked, Table};
+use ob_rows::{Row, Table};
 use ob_xml::{Decoder, Doc, Refused};
 use std::alloc::{AllocError, Global};
 
@@ -63,7 +63,7 @@ fn told_by_bytes(alloc: Global, text: &[u8]) -> Result<String, AllocError> {
 pub(crate) struct Documents;
 
 impl Table for Documents {
-    fn answer(&mut self, alloc: Global, asked: Asked, told: &mut String) -> Result<(), AllocError> {
+    fn answer(&mut self, alloc: Global, asked: Row, told: &mut String) -> Result<(), AllocError> {
         tell(alloc, read(alloc, &[asked.bytes]), told)?;
         let by_bytes = told_by_bytes(alloc, asked.bytes)?;
         if by_bytes.as_str() == told.as_str() {

@@ -2,7 +2,7 @@
 use crate::words::time_at;
 use ob_history::{Filter, read_filter};
 use ob_object::{Kind, Obj, Slot};
-use ob_rows::{Asked, Table, push_number, word_at};
+use ob_rows::{Row, Table, push_number, word_at};
 use ob_values::{Text, Value};
 use std::alloc::{AllocError, Global};
 
@@ -66,7 +66,7 @@ fn read(alloc: Global, row: &str) -> Option<Filter> {
 }
 
 impl Table for Filters {
-    fn answer(&mut self, alloc: Global, asked: Asked, told: &mut String) -> Result<(), AllocError> {
+    fn answer(&mut self, alloc: Global, asked: Row, told: &mut String) -> Result<(), AllocError> {
         let Some(filter) = read(alloc, asked.text) else {
             return told.push_str("no filter");
         };

@@ -1,7 +1,7 @@
 //! When weekly schedules fire, and what is in force.
 use jiff::tz::TimeZone;
 use ob_object::{Kind, Slot};
-use ob_rows::{Asked, Table, number_at, split_word};
+use ob_rows::{Row, Table, number_at, split_word};
 use ob_times::Moment;
 use ob_values::{Text, Value};
 use ob_weekly::{Entry, Firing, Schedule, Schedules};
@@ -110,7 +110,7 @@ fn moment_at(text: &str, place: usize) -> Option<Moment> {
 }
 
 impl Table for Firings {
-    fn answer(&mut self, alloc: Global, asked: Asked, told: &mut String) -> Result<(), AllocError> {
+    fn answer(&mut self, alloc: Global, asked: Row, told: &mut String) -> Result<(), AllocError> {
         let (_, said) = split_word(asked.text);
         let (_, said) = split_word(said);
         let (zone, said) = split_word(said);

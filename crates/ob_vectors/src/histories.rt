@@ -2,7 +2,7 @@
 use crate::words::time_at;
 use ob_history::{Filter, Log, Record};
 use ob_object::{Kind, Slot};
-use ob_rows::{Asked, Table, number_at, push_number, word_at};
+use ob_rows::{Row, Table, number_at, push_number, word_at};
 use ob_values::{Abstime, Value};
 use std::alloc::{AllocError, Global};
 
@@ -97,7 +97,7 @@ fn tell_lengths(log: &Log, told: &mut String) -> Result<(), AllocError> {
 }
 
 impl Table for Histories {
-    fn answer(&mut self, alloc: Global, asked: Asked, told: &mut String) -> Result<(), AllocError> {
+    fn answer(&mut self, alloc: Global, asked: Row, told: &mut String) -> Result<(), AllocError> {
         let log = &mut self.log;
         match word_at(asked.text, 0) {
             "log" => {

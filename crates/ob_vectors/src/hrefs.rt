@@ -2,7 +2,7 @@
 //! server goes by many names.
 use crate::bases::fault_word;
 use ob_href::{Base, HrefFault, Path, locate, resolve};
-use ob_rows::{Asked, Table};
+use ob_rows::{Row, Table};
 use std::alloc::{AllocError, Global};
 
 /// Hrefs, resolved and located.
@@ -27,7 +27,7 @@ impl Hrefs {
 }
 
 impl Table for Hrefs {
-    fn answer(&mut self, alloc: Global, asked: Asked, told: &mut String) -> Result<(), AllocError> {
+    fn answer(&mut self, alloc: Global, asked: Row, told: &mut String) -> Result<(), AllocError> {
         let Ok(text) = std::str::from_utf8(asked.bytes) else {
             return told.push_str("no text");
         };

@@ -4,9 +4,7 @@ ghost use Rattle.std.specs.Prelude.{[]};
 use ob_journal::{
     AppendFault, Device, DeviceFault, Extent, Journal, MemDevice, NoJournal, Sized, find, repair,
 };
-use ob_rows::{
-    Asked, Table, number_at, push_bytes, push_meant, push_number, push_words, split_word,
-};
+use ob_rows::{Row, Table, number_at, push_bytes, push_meant, push_number, push_words, split_word};
 use std::alloc::{AllocError, Global};
 
 const FOREVER: u64 = 1 << 40;
@@ -225,7 +223,7 @@ fn tell_append(alloc: Global, said: &str, told: &mut String) -> Result<(), Alloc
 }
 
 impl Table for Journals {
-    fn answer(&mut self, alloc: Global, asked: Asked, told: &mut String) -> Result<(), AllocError> {
+    fn answer(&mut self, alloc: Global, asked: Row, told: &mut String) -> Result<(), AllocError> {
         let (word, said) = split_word(asked.text);
         match word {
             "open" => tell_opened(alloc, said, told),

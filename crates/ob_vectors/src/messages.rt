@@ -3,7 +3,7 @@ use crate::streams::fault_word;
 use ob_http::{
     FrameFault, Reply, ReplyFramer, StatusLine, refusal_bytes, write_answer, write_request,
 };
-use ob_rows::{Asked, Table, push_number, push_words, text_of};
+use ob_rows::{Row, Table, push_number, push_words, text_of};
 use ob_values::{Text, Verb};
 use std::alloc::{AllocError, Global};
 
@@ -41,7 +41,7 @@ fn tell_pieces(
 }
 
 impl Table for Replies {
-    fn answer(&mut self, alloc: Global, asked: Asked, told: &mut String) -> Result<(), AllocError> {
+    fn answer(&mut self, alloc: Global, asked: Row, told: &mut String) -> Result<(), AllocError> {
         let mut framer = ReplyFramer::new(alloc)?;
         tell_pieces(told, &mut framer, asked.bytes)
     }
@@ -105,7 +105,7 @@ fn first_word(text: &str) -> (&str, &str) {
 }
 
 impl Table for Messages {
-    fn answer(&mut self, alloc: Global, asked: Asked, told: &mut String) -> Result<(), AllocError> {
+    fn answer(&mut self, alloc: Global, asked: Row, told: &mut String) -> Result<(), AllocError> {
         let (what, rest) = first_word(asked.text);
         let (word, rest) = first_word(rest);
         match what {

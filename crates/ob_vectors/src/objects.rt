@@ -1,7 +1,7 @@
 //! Objects: what the calls that make and change them answer, and trees as large as a document may make them.
 use ob_encoding::encode;
 use ob_object::{Attributes, Facets, Kind, Obj, PushFault, Slot, Words, WriteFault, check_write};
-use ob_rows::{Asked, Table, push_number};
+use ob_rows::{Row, Table, push_number};
 use ob_values::{Text, Value};
 use std::alloc::{AllocError, Global};
 
@@ -226,7 +226,7 @@ fn tell_parts(object: &Obj, told: &mut String) -> Result<(), AllocError> {
 }
 
 impl Table for Objects {
-    fn answer(&mut self, alloc: Global, asked: Asked, told: &mut String) -> Result<(), AllocError> {
+    fn answer(&mut self, alloc: Global, asked: Row, told: &mut String) -> Result<(), AllocError> {
         let (what, rest) = asked.text.split_once(' ').unwrap_or((asked.text, ""));
         let count = rest.parse().unwrap_or(0);
         match what {

@@ -1,6 +1,6 @@
 //! The objects in memory that stand for the outside: pieces, and calls that fail.
 use ob_io::{Files, MemFiles, MemSink, MemSource, NamedFile, Sink, Source, write_all};
-use ob_rows::{Asked, Table, push_number, push_words, text_of};
+use ob_rows::{Row, Table, push_number, push_words, text_of};
 use std::alloc::{AllocError, Global};
 
 /// `reads` are of a source of `abcde` in pieces of three whose call 1 fails, each into the same four bytes; `writes` go to a sink
@@ -78,7 +78,7 @@ fn read_files(alloc: Global, told: &mut String) -> Result<(), AllocError> {
 }
 
 impl Table for Outside {
-    fn answer(&mut self, alloc: Global, asked: Asked, told: &mut String) -> Result<(), AllocError> {
+    fn answer(&mut self, alloc: Global, asked: Row, told: &mut String) -> Result<(), AllocError> {
         match asked.text {
             "reads" => read_source(alloc, told),
             "writes" => write_sink(alloc, told),

@@ -1,6 +1,6 @@
 //! Documents in pieces, and large ones: wherever a text is cut, the same is told of it.
 use crate::documents::{read, read_by, tell};
-use ob_rows::{Asked, Table, split_word};
+use ob_rows::{Row, Table, split_word};
 use ob_xml::{Decoder, Refused, Why};
 use std::alloc::{AllocError, Global};
 
@@ -113,13 +113,13 @@ fn tell_children(alloc: Global, text: &[u8], told: &mut String) -> Result<(), Al
 }
 
 // What a row says behind its first word, as bytes.
-fn behind<'a>(asked: &Asked<'a>, word: &str) -> &'a [u8] {
+fn behind<'a>(asked: &Row<'a>, word: &str) -> &'a [u8] {
     let (_, said) = asked.bytes.split_at(asked.bytes.len().min(word.len() + 1));
     said
 }
 
 impl Table for Pieces {
-    fn answer(&mut self, alloc: Global, asked: Asked, told: &mut String) -> Result<(), AllocError> {
+    fn answer(&mut self, alloc: Global, asked: Row, told: &mut String) -> Result<(), AllocError> {
         let (word, _) = split_word(asked.text);
         let bytes = behind(&asked, word);
         match word {

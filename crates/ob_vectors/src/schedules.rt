@@ -7,7 +7,7 @@ ghost use Rattle.ob_object.specs.Fits.{fits_value};
 use crate::firings::tell_firings;
 use crate::spelled::{object, push_object};
 use ob_object::{Kind, Obj, Slot};
-use ob_rows::{Asked, Table};
+use ob_rows::{Row, Table};
 use ob_schedule::{Points, ScheduleFault, read_schedules};
 use ob_times::Moment;
 use ob_values::{Text, Value};
@@ -110,7 +110,7 @@ fn tell(alloc: Global, schedules: &Schedules, told: &mut String) -> Result<(), A
 }
 
 impl Table for ScheduleFiles {
-    fn answer(&mut self, alloc: Global, asked: Asked, told: &mut String) -> Result<(), AllocError> {
+    fn answer(&mut self, alloc: Global, asked: Row, told: &mut String) -> Result<(), AllocError> {
         let Some(root) = object(alloc, asked.text) else {
             return told.push_str("no document");
         };

@@ -1,6 +1,6 @@
 //! Streams of requests: what is framed of them, whole and in pieces.
 use ob_http::{Asked as Request, FrameFault, Framer, Media, Seen};
-use ob_rows::{Asked, Table, number_at, push_number, push_words, text_of};
+use ob_rows::{Row, Table, number_at, push_number, push_words, text_of};
 use std::alloc::{AllocError, Global};
 
 // A request, whoever holds its bytes.
@@ -241,7 +241,7 @@ fn is_same(alloc: Global, way: Way, stream: &[u8], told: &mut String) -> Result<
 pub(crate) struct Heads;
 
 impl Table for Heads {
-    fn answer(&mut self, alloc: Global, asked: Asked, told: &mut String) -> Result<(), AllocError> {
+    fn answer(&mut self, alloc: Global, asked: Row, told: &mut String) -> Result<(), AllocError> {
         framed(alloc, Way::Whole, asked.bytes, told)?;
         is_same(alloc, Way::Bytes, asked.bytes, told)?;
         Ok(())
@@ -254,7 +254,7 @@ impl Table for Heads {
 pub(crate) struct Limits;
 
 impl Table for Limits {
-    fn answer(&mut self, alloc: Global, asked: Asked, told: &mut String) -> Result<(), AllocError> {
+    fn answer(&mut self, alloc: Global, asked: Row, told: &mut String) -> Result<(), AllocError> {
         let first = number_at(asked.text, 1).unwrap_or(0);
         let second = number_at(asked.text, 2).unwrap_or(0);
         if let Some(head) = asked.bytes.strip_prefix(b"twice ".as_slice()) {
@@ -274,7 +274,7 @@ impl Table for Limits {
 pub(crate) struct Streams;
 
 impl Table for Streams {
-    fn answer(&mut self, alloc: Global, asked: Asked, told: &mut String) -> Result<(), AllocError> {
+    fn answer(&mut self, alloc: Global, asked: Row, told: &mut String) -> Result<(), AllocError> {
         let stream = asked.bytes;
         framed(alloc, Way::Pieces(0, stream.len()), stream, told)?;
         is_same(alloc, Way::Lent, stream, told)?;

@@ -1,7 +1,7 @@
 //! A supervisor over links in memory: what it shows, what it replies, and what it asks on each link.
 use crate::spelled::{object, push_object};
 use ob_io::{Fresh, MemDialer, MemLink};
-use ob_rows::{Asked, Table, split_word, text_of};
+use ob_rows::{Row, Table, split_word, text_of};
 use ob_super::Super;
 use std::alloc::{AllocError, Global};
 
@@ -180,7 +180,7 @@ impl Supers {
 }
 
 impl Table for Supers {
-    fn answer(&mut self, alloc: Global, asked: Asked, told: &mut String) -> Result<(), AllocError> {
+    fn answer(&mut self, alloc: Global, asked: Row, told: &mut String) -> Result<(), AllocError> {
         let (word, said) = split_word(asked.text);
         match word {
             "begin" => {

@@ -1,5 +1,5 @@
 //! Values: what each text is read as, and what is printed of it.
-use ob_rows::{Asked, Table};
+use ob_rows::{Row, Table};
 use ob_values::{
     Abstime, CivilDate, Dec, Reltime, Text, TextFault, TimeOfDay, Value, ValueFault, print_value,
     read_abstime, read_bool, read_date, read_dec, read_int, read_reltime, read_time,
@@ -158,7 +158,7 @@ fn tell_when(reading: Reading, bytes: &[u8], told: &mut String) -> Result<(), Al
 }
 
 impl Table for Reading {
-    fn answer(&mut self, alloc: Global, asked: Asked, told: &mut String) -> Result<(), AllocError> {
+    fn answer(&mut self, alloc: Global, asked: Row, told: &mut String) -> Result<(), AllocError> {
         match *self {
             Reading::Text => tell_text(told, &Text::from_utf8(alloc, asked.bytes), asked.bytes),
             reading => tell_value(reading, asked.bytes, told),

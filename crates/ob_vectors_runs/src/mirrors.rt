@@ -3,7 +3,7 @@ use ob_client::{Mirror, MirrorFault};
 use ob_documents::read;
 use ob_encoding::encode;
 use ob_object::Obj;
-use ob_rows::{Asked, Table, push_bytes, push_number, split_word};
+use ob_rows::{Row, Table, push_bytes, push_number, split_word};
 use ob_values::Text;
 use std::alloc::{AllocError, Global};
 
@@ -116,7 +116,7 @@ impl Mirrors {
 }
 
 impl Table for Mirrors {
-    fn answer(&mut self, alloc: Global, asked: Asked, told: &mut String) -> Result<(), AllocError> {
+    fn answer(&mut self, alloc: Global, asked: Row, told: &mut String) -> Result<(), AllocError> {
         let (call, said) = split_word(asked.text);
         match call {
             "new" => {

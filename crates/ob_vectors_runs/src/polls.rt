@@ -8,7 +8,7 @@ use ob_client::{CallFault, Session};
 use ob_documents::read;
 use ob_io::MemLink;
 use ob_object::Obj;
-use ob_rows::{Asked, Table, Tally, asked_of, split_word, text_of};
+use ob_rows::{Row, Table, Tally, asked_of, split_word, text_of};
 use ob_values::{Text, Verb};
 use std::alloc::{AllocError, Global};
 use std::rt::Files;
@@ -231,7 +231,7 @@ impl<'a> Polls<'a> {
             }
             "add" | "changes" | "refresh" => self.poll(rt, is_first, word, said, told),
             _ => {
-                let asked = Asked {
+                let asked = Row {
                     text: row,
                     bytes: row.as_bytes(),
                 };

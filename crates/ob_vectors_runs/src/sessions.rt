@@ -4,7 +4,7 @@ use ob_client::{CallFault, Session};
 use ob_encoding::encode;
 use ob_io::MemLink;
 use ob_object::Obj;
-use ob_rows::{Asked, Table, push_bytes, split_word};
+use ob_rows::{Row, Table, push_bytes, split_word};
 use ob_values::{Text, Verb};
 use std::alloc::{AllocError, Global};
 
@@ -80,7 +80,7 @@ fn tell_session(alloc: Global, link: MemLink, told: &mut String) -> Result<(), A
 }
 
 impl Table for Sessions {
-    fn answer(&mut self, alloc: Global, asked: Asked, told: &mut String) -> Result<(), AllocError> {
+    fn answer(&mut self, alloc: Global, asked: Row, told: &mut String) -> Result<(), AllocError> {
         let link = link_of(alloc, asked.text)?;
         tell_session(alloc, link, told)
     }

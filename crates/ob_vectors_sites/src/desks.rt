@@ -4,7 +4,7 @@ ghost use Rattle.ob_site_laws.specs.SiteLaws.{IsSoundSite};
 
 use crate::requests::{numbered, request, tell_reply};
 use crate::sites::open;
-use ob_rows::{Asked, Table, split_bar};
+use ob_rows::{Row, Table, split_bar};
 use ob_site::{Machine, Site};
 use ob_site_desk::{ask, open_desk};
 use ob_site_rules::Request;
@@ -151,7 +151,7 @@ impl<'a, R: Wait> Desks<'a, R> {
 }
 
 impl<R: Wait + AllocGlobal> Table for Desks<'_, R> {
-    fn answer(&mut self, alloc: Global, asked: Asked, told: &mut String) -> Result<(), AllocError> {
+    fn answer(&mut self, alloc: Global, asked: Row, told: &mut String) -> Result<(), AllocError> {
         let Some(site) = open(alloc, self.sites, "nested") else {
             return told.push_str("no site");
         };

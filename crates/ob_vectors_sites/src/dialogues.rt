@@ -4,7 +4,7 @@ use crate::requests::numbered;
 use crate::sites::{Opening, load_site};
 use ob_io::MemLink;
 use ob_load::Loaded;
-use ob_rows::{Asked, Table, push_bytes, text_of};
+use ob_rows::{Row, Table, push_bytes, text_of};
 use ob_server::serve_alone;
 use ob_times::Moment;
 use std::alloc::{AllocError, Global};
@@ -129,7 +129,7 @@ impl<R: Wait> Dialogues<'_, R> {
 }
 
 impl<R: Wait> Table for Dialogues<'_, R> {
-    fn answer(&mut self, alloc: Global, asked: Asked, told: &mut String) -> Result<(), AllocError> {
+    fn answer(&mut self, alloc: Global, asked: Row, told: &mut String) -> Result<(), AllocError> {
         let row = text_of(asked.bytes);
         if let Some(name) = row.strip_prefix("open ") {
             return told.push_str(self.open(name));

@@ -4,7 +4,7 @@ ghost use Rattle.std.specs.Prelude.{ℕ, ⊤};
 use crate::requests::{request, tell_reply};
 use crate::sites::open;
 use ob_object::Obj;
-use ob_rows::{Asked, Table, text_of};
+use ob_rows::{Row, Table, text_of};
 use ob_site::{Keeper, Site};
 use ob_site_rules::Request;
 use ob_times::Moment;
@@ -134,7 +134,7 @@ impl<'a> Kept<'a> {
 }
 
 impl Table for Kept<'_> {
-    fn answer(&mut self, alloc: Global, asked: Asked, told: &mut String) -> Result<(), AllocError> {
+    fn answer(&mut self, alloc: Global, asked: Row, told: &mut String) -> Result<(), AllocError> {
         let row = text_of(asked.bytes);
         if let Some(name) = row.strip_prefix("open ") {
             return told.push_str(self.open(alloc, name));

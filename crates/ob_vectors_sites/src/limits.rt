@@ -1,6 +1,6 @@
 //! Sites at their limits: what is asked of them many times.
 use crate::requests::Requests;
-use ob_rows::{Asked, Table, split_word};
+use ob_rows::{Row, Table, split_word};
 use std::alloc::{AllocError, Global};
 
 /// Rows of `Requests`, each behind a number: it is asked so often, and told is what comes out the last time.
@@ -19,9 +19,9 @@ impl<'a> Limits<'a> {
 }
 
 impl Table for Limits<'_> {
-    fn answer(&mut self, alloc: Global, asked: Asked, told: &mut String) -> Result<(), AllocError> {
+    fn answer(&mut self, alloc: Global, asked: Row, told: &mut String) -> Result<(), AllocError> {
         let (count, row) = split_word(asked.text);
-        let asked = Asked {
+        let asked = Row {
             text: row,
             bytes: row.as_bytes(),
         };

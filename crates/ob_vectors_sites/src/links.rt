@@ -2,7 +2,7 @@
 use crate::sites::{Opening, load_site, opening_of};
 use ob_io::{MemLink, Ticker};
 use ob_load::Loaded;
-use ob_rows::{Asked, Table, number_at, push_bytes};
+use ob_rows::{Row, Table, number_at, push_bytes};
 use ob_server::{LinkEnd, serve_alone};
 use ob_times::Moment;
 use std::alloc::{AllocError, Global};
@@ -115,7 +115,7 @@ impl<R: Wait> Links<'_, R> {
         told.push_str(other.as_str())
     }
 
-    fn tell(&self, alloc: Global, asked: Asked, told: &mut String) -> Result<(), AllocError> {
+    fn tell(&self, alloc: Global, asked: Row, told: &mut String) -> Result<(), AllocError> {
         let piece = number_at(asked.text, 0).unwrap_or(1) as usize;
         let input = input_of(asked.bytes);
         let mut failing = Vec::new(alloc);
@@ -130,7 +130,7 @@ impl<R: Wait> Links<'_, R> {
 }
 
 impl<R: Wait> Table for Links<'_, R> {
-    fn answer(&mut self, alloc: Global, asked: Asked, told: &mut String) -> Result<(), AllocError> {
+    fn answer(&mut self, alloc: Global, asked: Row, told: &mut String) -> Result<(), AllocError> {
         match asked.text.strip_prefix("open ") {
             Some(name) => told.push_str(self.open(name)),
             None => self.tell(alloc, asked, told),

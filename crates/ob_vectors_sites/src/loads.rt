@@ -1,7 +1,7 @@
 //! Site files: what they open, or why they open nothing.
 use crate::sites::load_site;
 use ob_load::LoadFault;
-use ob_rows::{Asked, Table};
+use ob_rows::{Row, Table};
 use ob_times::Moment;
 use std::alloc::{AllocError, Global};
 
@@ -10,7 +10,7 @@ use std::alloc::{AllocError, Global};
 pub(crate) struct Loads;
 
 impl Table for Loads {
-    fn answer(&mut self, alloc: Global, asked: Asked, told: &mut String) -> Result<(), AllocError> {
+    fn answer(&mut self, alloc: Global, asked: Row, told: &mut String) -> Result<(), AllocError> {
         let Some(boot) = Moment::new(1_767_600_000_000) else {
             return Ok(());
         };

@@ -5,7 +5,7 @@ use crate::audits::{
 use crate::dialogue::Dialogue;
 use crate::sites::{Opening, site_of};
 use ob_record::{Run, read_record, record_run};
-use ob_rows::{Asked, Table, asked_of, push_meant, split_word, text_of};
+use ob_rows::{Row, Table, asked_of, push_meant, split_word, text_of};
 use ob_site::Site;
 use ob_times::Moment;
 use std::alloc::{AllocError, Global};
@@ -167,7 +167,7 @@ impl<'a> Records<'a> {
 }
 
 impl Table for Records<'_> {
-    fn answer(&mut self, alloc: Global, asked: Asked, told: &mut String) -> Result<(), AllocError> {
+    fn answer(&mut self, alloc: Global, asked: Row, told: &mut String) -> Result<(), AllocError> {
         let dialogue = self.dialogue(alloc, asked.text)?;
         tell(alloc, &mut self.firsts, &dialogue, told)
     }

@@ -3,7 +3,7 @@ use crate::sites::open;
 use ob_documents::read;
 use ob_encoding::encode;
 use ob_object::Obj;
-use ob_rows::{Asked, Table, push_bytes, split_word, text_of};
+use ob_rows::{Row, Table, push_bytes, split_word, text_of};
 use ob_site::{Machine, Site};
 use ob_site_rules::Request;
 use ob_times::Moment;
@@ -138,7 +138,7 @@ impl<'a> Requests<'a> {
 }
 
 impl Table for Requests<'_> {
-    fn answer(&mut self, alloc: Global, asked: Asked, told: &mut String) -> Result<(), AllocError> {
+    fn answer(&mut self, alloc: Global, asked: Row, told: &mut String) -> Result<(), AllocError> {
         let row = text_of(asked.bytes);
         if let Some(name) = row.strip_prefix("open ") {
             return told.push_str(self.open(alloc, name));

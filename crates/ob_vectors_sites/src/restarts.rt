@@ -4,7 +4,7 @@ use crate::sites::{Opening, files_of, opening_of};
 use ob_journal::MemDevice;
 use ob_kept::{Kept, reopen};
 use ob_object::Obj;
-use ob_rows::{Asked, Table, text_of};
+use ob_rows::{Row, Table, text_of};
 use ob_site::{Machine, Site};
 use ob_site_rules::Request;
 use ob_times::Moment;
@@ -274,7 +274,7 @@ impl<'a> Restarts<'a> {
 }
 
 impl Table for Restarts<'_> {
-    fn answer(&mut self, alloc: Global, asked: Asked, told: &mut String) -> Result<(), AllocError> {
+    fn answer(&mut self, alloc: Global, asked: Row, told: &mut String) -> Result<(), AllocError> {
         let row = text_of(asked.bytes);
         if let Some(name) = row.strip_prefix("open ") {
             return told.push_str(self.open(alloc, name));

@@ -2,7 +2,7 @@
 use crate::requests::{numbered, request};
 use crate::sites::{Opening, site_of};
 use ob_object::Obj;
-use ob_rows::{Asked, Table};
+use ob_rows::{Row, Table};
 use ob_site::{Machine, Site};
 use ob_site_rules::Request;
 use ob_times::Moment;
@@ -139,7 +139,7 @@ impl Sizes {
 }
 
 impl Table for Sizes {
-    fn answer(&mut self, alloc: Global, asked: Asked, told: &mut String) -> Result<(), AllocError> {
+    fn answer(&mut self, alloc: Global, asked: Row, told: &mut String) -> Result<(), AllocError> {
         if let Some(said) = asked.text.strip_prefix("open ") {
             return told.push_str(self.open(alloc, said));
         }
