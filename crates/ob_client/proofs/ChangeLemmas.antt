@@ -10,7 +10,7 @@ use Rattle.ob_object.specs.declared.kind.Kind.{Kind}
 use Rattle.ob_object.specs.declared.kind.Kind.TheVariants as kind
 use Rattle.ob_object.specs.Kinds.{same_kind}
 use Rattle.ob_object.specs.Object.{Object}
-use Rattle.ob_watching.specs.Asked.{Shows, Refuses}
+use Rattle.ob_watching.specs.Operations.{Shows, Refuses}
 use Rattle.ob_watching.specs.Replay.{continued, change, take_added, changed_by, added_by}
 use Rattle.ob_watching.specs.Tables.{put, is_among}
 use Rattle.ob_watching.specs.WatchOuts.{Text, Held, without_href, content_if, entry_read}

@@ -9,7 +9,7 @@ use Rattle.std.specs.Map.{lookup}
 use Rattle.ob_object.specs.declared.kind.Kind.TheVariants as kind
 use Rattle.ob_object.specs.Object.{Object, children}
 use Rattle.ob_object.specs.WellFormed.{named}
-use Rattle.ob_watching.specs.Asked.{Add, PollChanges, PollRefresh}
+use Rattle.ob_watching.specs.Operations.{Add, PollChanges, PollRefresh}
 use Rattle.ob_watching.specs.Replay.{changed_by, added_by, replay_heard}
 use Rattle.ob_watching.specs.WatchOuts.{Text, Held, Heard, is_of_kind, items_of, entries_of, heard_entries, entry_read}
 use Rattle.ob_client.specs.Entries.{text_of, each_once, if_once, entries_once}

@@ -9,7 +9,7 @@ use Rattle.ob_object.specs.declared.kind.Kind.TheVariants as kind
 use Rattle.ob_object.specs.Kinds.{same_kind}
 use Rattle.ob_object.specs.Object.{Object, none, in_row, children, listed-in_row}
 use Rattle.ob_object.specs.WellFormed.{named}
-use Rattle.ob_watching.specs.Asked.{Shows, Lists, Refuses}
+use Rattle.ob_watching.specs.Operations.{Shows, Lists, Refuses}
 use Rattle.ob_watching.specs.Replay.{continued}
 use Rattle.ob_watching.specs.WatchOuts.{Text, Held, without_name, without_href, dropped_in, number_in, feed_read, content_if, entry_read}
 use Rattle.ob_client.specs.Entries.{is_feed, is_err, text_of}

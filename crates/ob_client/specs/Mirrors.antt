@@ -12,7 +12,7 @@ use Rattle.ob_object.specs.declared.head.Slot.{Slot}
 use Rattle.ob_object.specs.declared.head.Slot.TheVariants.{Is}
 use Rattle.ob_object.specs.Object.{Object, children}
 use Rattle.ob_object.specs.WellFormed.{named}
-use Rattle.ob_watching.specs.Asked.{Operation, Add, Remove, PollChanges, PollRefresh, Lists, Nothing}
+use Rattle.ob_watching.specs.Operations.{Operation, Add, Remove, PollChanges, PollRefresh, Lists, Nothing}
 use Rattle.ob_watching.specs.Replay.{replay_heard}
 use Rattle.ob_watching.specs.WatchOuts.{Text, Held, is_of_kind, heard}
 use Rattle.ob_client.specs.Entries.{is_feed, text_of, entries_once}

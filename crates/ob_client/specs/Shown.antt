@@ -6,7 +6,7 @@ use Rattle.ob_values.specs.declared.value.Value.TheVariants as value
 use Rattle.ob_object.specs.declared.kind.Kind.TheVariants as kind
 use Rattle.ob_object.specs.declared.head.Slot.TheVariants.{Is}
 use Rattle.ob_object.specs.Object.{Object, none, empty_head, in_row}
-use Rattle.ob_watching.specs.Asked.{ContentOf, Shows, Lists, Refuses}
+use Rattle.ob_watching.specs.Operations.{ContentOf, Shows, Lists, Refuses}
 use Rattle.ob_watching.specs.WatchOuts.{Text, Held}
 
 abbrev pub Content : Type 0

@@ -11,7 +11,7 @@ use Rattle.ob_object.specs.declared.kind.Kind.TheVariants as kind
 use Rattle.ob_object.specs.Object.{Object, none, children, listed-in_row}
 use Rattle.ob_object.specs.WellFormed.{has_name, named}
 use Rattle.ob_alarms.specs.Changes.{State as Board}
-use Rattle.ob_watching.specs.Asked.{Shows, Lists, Refuses}
+use Rattle.ob_watching.specs.Operations.{Shows, Lists, Refuses}
 use Rattle.ob_watching.specs.Replay.{continued, change, changed_by}
 use Rattle.ob_watching.specs.Tables.{put, is_among}
 use Rattle.ob_watching.specs.Watches.{Object as ObjectItem, Feed as FeedItem, Tracked, Item, Reading, since, lists_some, changes_of, changes}

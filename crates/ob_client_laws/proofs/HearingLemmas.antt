@@ -7,7 +7,7 @@ use Rattle.ob_machine.specs.declared.call.Answer.{Answer}
 use Rattle.ob_machine.specs.declared.call.Answer.TheVariants.{Done, NoMemory}
 use Rattle.ob_object.specs.declared.kind.Kind.TheVariants as kind
 use Rattle.ob_object.specs.Object.{Object}
-use Rattle.ob_watching.specs.Asked.{Look, Renew, Add, Remove, PollChanges, PollRefresh, Delete, Refuse, Values, Nothing, Other}
+use Rattle.ob_watching.specs.Operations.{Look, Renew, Add, Remove, PollChanges, PollRefresh, Delete, Refuse, Values, Nothing, Other}
 use Rattle.ob_watching.specs.Clients.{calls, call_of, replayed, replay, replay_call}
 use Rattle.ob_watching.specs.Clients as clients
 use Rattle.ob_watching.specs.Laws.{IsRead}

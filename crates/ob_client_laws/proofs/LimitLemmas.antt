@@ -16,7 +16,7 @@ use Rattle.ob_alarms.specs.States.{needs_ack, is_acked}
 use Rattle.ob_machine.specs.History.{left_by, after}
 use Rattle.ob_machine.specs.declared.call.Answer.{Answer}
 use Rattle.ob_machine.specs.declared.call.Answer.TheVariants.{Done, NoMemory}
-use Rattle.ob_watching.specs.Asked.{Target, Itself, Nowhere, NewWatch, OneWatch, Told, Refused}
+use Rattle.ob_watching.specs.Operations.{Target, Itself, Nowhere, NewWatch, OneWatch, Told, Refused}
 use Rattle.ob_watching.specs.Tables.{lookup, numbers_of}
 use Rattle.ob_watching.specs.Watches.{first_lease, World, Watch, begun, made, is_full, on_watch, acted, Reply}
 use Rattle.ob_site_rules.specs.declared.request.Request.{Request}

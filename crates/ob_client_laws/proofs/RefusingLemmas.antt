@@ -10,7 +10,7 @@ use Rattle.ob_machine.specs.declared.call.Answer.TheVariants.{Done, NoMemory}
 use Rattle.ob_machine.proofs.HistoryLemmas.{legal_front, legal_back}
 use Rattle.ob_object.specs.declared.kind.Kind.TheVariants as kind
 use Rattle.ob_object.specs.Object.{Object, listed-in_row}
-use Rattle.ob_watching.specs.Asked.{Look, Renew, Add, Remove, PollChanges, PollRefresh, Delete, Refuse, Target, Itself, Nowhere, NewWatch, OneWatch, Values, Other, GivesOut}
+use Rattle.ob_watching.specs.Operations.{Look, Renew, Add, Remove, PollChanges, PollRefresh, Delete, Refuse, Target, Itself, Nowhere, NewWatch, OneWatch, Values, Other, GivesOut}
 use Rattle.ob_watching.specs.Clients.{calls, call_of, replayed, replay, replay_call, watched}
 use Rattle.ob_watching.specs.Clients as clients
 use Rattle.ob_watching.specs.Laws.{IsMake, IsRead, Begins, Ends, Holds, HoldsAll, whole_at, HadEvent}

@@ -6,7 +6,7 @@ use Rattle.ob_values.proofs.Bools.{neither_left, neither_right}
 use Rattle.ob_values.proofs.Lists.{all_both}
 use Rattle.ob_object.specs.Object.{Object}
 use Rattle.ob_history.specs.declared.records.Filter.{Filter}
-use Rattle.ob_watching.specs.Asked.{Refuses, Found, ObjectAt, FeedAt, NotFound}
+use Rattle.ob_watching.specs.Operations.{Refuses, Found, ObjectAt, FeedAt, NotFound}
 use Rattle.ob_watching.specs.Tables.{is_among}
 use Rattle.ob_watching.specs.Watches.{max_items, Object as ObjectItem, Feed as FeedItem, Tracked, Item, Reading, count, since, reading, lists_some, changes_of, changes, put_item, has_text, added, add_found, readings_added, firsts, Distinct}
 use Rattle.ob_watching.specs.WatchOuts.{Text}

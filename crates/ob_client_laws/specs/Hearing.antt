@@ -6,7 +6,7 @@ use Rattle.ob_machine.specs.declared.call.Answer.{Answer}
 use Rattle.ob_machine.specs.declared.call.Answer.TheVariants.{Done, NoMemory}
 use Rattle.ob_object.specs.declared.kind.Kind.TheVariants as kind
 use Rattle.ob_object.specs.Object.{Object}
-use Rattle.ob_watching.specs.Asked.{Add, Remove, PollChanges, PollRefresh, OneWatch}
+use Rattle.ob_watching.specs.Operations.{Add, Remove, PollChanges, PollRefresh, OneWatch}
 use Rattle.ob_watching.specs.Clients.{calls, watched}
 use Rattle.ob_watching.specs.Clients as clients
 use Rattle.ob_watching.specs.Laws.{IsRead, Begins, Ends, HoldsAll, EachExact, KeepsItem, HadEvent, whole_at}

@@ -3,7 +3,7 @@ ghost use Rattle.std.specs.Prelude.{◌≡◌, [], ◌∷◌, Ok, IfOk, codes};
 ghost use Rattle.std.specs.Option.{option_copied};
 ghost use Rattle.ob_object.specs.Object.{empty_head};
 ghost use Rattle.ob_console.specs.Acks.{op_of, leads_to, fault_of, FindsTarget, user_child, ack_in, CallsAck, Acknowledges, answer_as, standing};
-ghost use Rattle.ob_console.specs.InHand as told;
+ghost use Rattle.ob_console.specs.InHand as in_hand;
 ghost use Rattle.ob_io.specs.Links.{inlet};
 
 use crate::board::Board;
@@ -45,7 +45,7 @@ impl From<AllocError> for AckFault {
 
 // The href of the op `ack`.
 fn op_of<'a>(board: &'a Board, href: &str) -> Option<&'a Text>
-    ensures { option_copied result ≡ op_of (told.lines_of board.now) href.now }
+    ensures { option_copied result ≡ op_of (in_hand.lines_of board.now) href.now }
 {
     match board.alarm(href) {
         Some(alarm) => alarm.ack.as_ref(),
@@ -56,7 +56,7 @@ fn op_of<'a>(board: &'a Board, href: &str) -> Option<&'a Text>
 /// Where the op `ack` of an alarm of the board is called. NoSuch where the board has no such alarm with one; Origin where
 /// its href is refused against the base.
 pub fn ack_target(alloc: Global, base: &Base, board: &Board, href: &str) -> Result<Path, AckFault>
-    ensures { FindsTarget (leads_to base.now (op_of (told.lines_of board.now) href.now)) result }
+    ensures { FindsTarget (leads_to base.now (op_of (in_hand.lines_of board.now) href.now)) result }
 {
     let Some(op) = op_of(board, href) else {
         return Err(AckFault::NoSuch);
@@ -156,7 +156,7 @@ pub fn acknowledge<L: Link>(
     href: &Text,
     user: &Text,
 ) -> Result<Obj, AckFault>
-    ensures { Acknowledges (leads_to base.now (op_of (told.lines_of board.now) href.now)) user.now
+    ensures { Acknowledges (leads_to base.now (op_of (in_hand.lines_of board.now) href.now)) user.now
         (standing (L.held session.old.link) (inlet (L.left session.old.link) (L.taken session.old.link)) (L.read_faults session.old.link) (L.write_faults session.old.link) session.old.host session.old.framer session.old.is_dead)
         (standing (L.held session.new.link) (inlet (L.left session.new.link) (L.taken session.new.link)) (L.read_faults session.new.link) (L.write_faults session.new.link) session.new.host session.new.framer session.new.is_dead)
         result }

@@ -3,7 +3,7 @@ ghost use Rattle.std.specs.Prelude.{◌≡◌, IfOk, codes, option_map, option_a
 ghost use Rattle.std.specs.Option.{option_copied};
 ghost use Rattle.ob_console.specs.Alarms.{if_kind, child_of, is_given, instant_in, or_null, source_of, time_of, in_alarm, value_of, acking, acking_by, state_of, shows, shows_by, child};
 ghost use Rattle.ob_console.specs.Boards.{alarm_of};
-ghost use Rattle.ob_console.specs.InHand as told;
+ghost use Rattle.ob_console.specs.InHand as in_hand;
 
 use ob_object::{Kind, Obj, Slot, Status};
 use ob_values::{Abstime, Text, Value};
@@ -138,7 +138,7 @@ fn href_of(object: Option<&Obj>) -> Option<&Text>
 }
 
 fn acking_by<'a>(event: &'a Obj, op: &'a Obj) -> Option<Acking<'a>>
-    ensures { option_map told.acking result ≡ acking_by event.now op.now }
+    ensures { option_map in_hand.acking result ≡ acking_by event.now op.now }
 {
     let Some(href) = href_of(if_kind(Kind::Op, op)) else {
         return None;
@@ -153,7 +153,7 @@ fn acking_by<'a>(event: &'a Obj, op: &'a Obj) -> Option<Acking<'a>>
 }
 
 fn acking_of(event: &Obj) -> Option<Acking<'_>>
-    ensures { option_map told.acking result ≡ acking event.now (child (codes "ack") event.now) }
+    ensures { option_map in_hand.acking result ≡ acking event.now (child (codes "ack") event.now) }
 {
     match event.child("ack") {
         Some(op) => acking_by(event, op),
@@ -200,7 +200,7 @@ fn put_together(
     value: &Slot,
     acking: Acking<'_>,
 ) -> Result<Alarm, AllocError>
-    ensures { IfOk result (λ a. told.shown a ≡ shows_by source.now time in_alarm (or_null value.now) (told.acking acking.entry)) }
+    ensures { IfOk result (λ a. in_hand.shown a ≡ shows_by source.now time in_alarm (or_null value.now) (in_hand.acking acking.entry)) }
 {
     let state = state_of(in_alarm, acking.waits);
     let value = or_null(value)?;
@@ -217,7 +217,7 @@ fn put_together(
 
 /// What is shown of an event that is an alarm, apart from its href.
 pub(crate) fn shown(event: &Obj) -> Result<Option<Alarm>, AllocError>
-    ensures { IfOk result (λ a. option_map told.shown a ≡ shows event.now) }
+    ensures { IfOk result (λ a. option_map in_hand.shown a ≡ shows event.now) }
 {
     let Some(source) = source_of(event) else {
         return Ok(None);
@@ -247,7 +247,7 @@ pub(crate) struct Named<'a> {
 
 /// The alarm that an event tells of, if it is one.
 pub(crate) fn alarm_of(event: &Obj) -> Result<Option<Named<'_>>, AllocError>
-    ensures { IfOk result (λ a. option_map told.line a ≡ alarm_of event.now) }
+    ensures { IfOk result (λ a. option_map in_hand.line a ≡ alarm_of event.now) }
 {
     let Some(object) = if_kind(Kind::Obj, event) else {
         return Ok(None);

@@ -2,7 +2,7 @@
 ghost use Rattle.std.specs.Prelude.{◌≡◌, ◌==◌, IfOk, length, option_map, slice_get};
 ghost use Rattle.ob_console.specs.Boards.{Puts, line_at};
 ghost use Rattle.ob_console.specs.Making.{Makes};
-ghost use Rattle.ob_console.specs.InHand as told;
+ghost use Rattle.ob_console.specs.InHand as in_hand;
 
 use crate::alarm::{Alarm, Named, alarm_of};
 use indexmap::IndexMap;
@@ -43,7 +43,7 @@ impl From<AllocError> for BoardFault {
 
 // Puts what an event tells of an alarm in its place or last; false where it is no alarm.
 fn put_event(alloc: Global, alarms: &mut Alarms, event: &Obj) -> Result<bool, AllocError>
-    ensures { IfOk result (λ is. Puts (told.lines_in alarms.old) (told.lines_in alarms.new) event.now is) }
+    ensures { IfOk result (λ is. Puts (in_hand.lines_in alarms.old) (in_hand.lines_in alarms.new) event.now is) }
 {
     let Some(named) = alarm_of(event)? else {
         return Ok(false);
@@ -72,28 +72,28 @@ impl Board {
 
     /// The alarm of an href.
     pub fn alarm(&self, href: &str) -> Option<&Alarm>
-        ensures { option_map (λ a. told.shown a.now) result ≡ option_map (λ l. l.value) (line_at href.now (told.lines_of self.now)) }
+        ensures { option_map (λ a. in_hand.shown a.now) result ≡ option_map (λ l. l.value) (line_at href.now (in_hand.lines_of self.now)) }
     {
         self.alarms.get(href)
     }
 
     /// The number of alarms.
     pub fn len(&self) -> usize
-        ensures { result ≡ length (told.lines_of self.now) }
+        ensures { result ≡ length (in_hand.lines_of self.now) }
     {
         self.alarms.len()
     }
 
     /// Whether there is no alarm.
     pub fn is_empty(&self) -> bool
-        ensures { result ≡ (length (told.lines_of self.now) == 0) }
+        ensures { result ≡ (length (in_hand.lines_of self.now) == 0) }
     {
         self.alarms.len() == 0
     }
 
     /// The alarm at a place, from 0.
     pub fn at(&self, place: usize) -> Option<&Alarm>
-        ensures { option_map (λ a. told.shown a.now) result ≡ option_map (λ l. l.value) (slice_get (told.lines_of self.now) place) }
+        ensures { option_map (λ a. in_hand.shown a.now) result ≡ option_map (λ l. l.value) (slice_get (in_hand.lines_of self.now) place) }
     {
         match self.alarms.get_index(place) {
             Some((_, alarm)) => Some(alarm),

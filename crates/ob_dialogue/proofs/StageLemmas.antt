@@ -3,7 +3,7 @@ use Rattle.std.proofs.Common.{◌≡◌, ℕ, ◌+◌, ◌-◌, ◌<◌, Bool, t
 use Rattle.std.specs.Prelude.{IsSome, option_map, codes, nat_lt}
 use Rattle.std.proofs.lemmas.Bool.{ltb-true}
 use Rattle.ob_object.specs.Object.{Object}
-use Rattle.ob_watching.specs.Asked.{Add, PollChanges, PollRefresh}
+use Rattle.ob_watching.specs.Operations.{Add, PollChanges, PollRefresh}
 use Rattle.ob_client.specs.Entries.{is_err}
 use Rattle.ob_dialogue.specs.Plans.{DialoguePlan, Topic, Place, place_at, child_place}
 use Rattle.ob_dialogue.specs.declared.plan.Topic.TheVariants as topics

@@ -4,7 +4,7 @@ use Rattle.std.specs.Option.{option_map_or}
 use Rattle.url.specs.Parts.{Parts}
 use Rattle.ob_console.specs.declared.ack_call.AckFault.{AckFault}
 use Rattle.ob_object.specs.Object.{Object}
-use Rattle.ob_watching.specs.Asked.{Add, PollChanges, PollRefresh}
+use Rattle.ob_watching.specs.Operations.{Add, PollChanges, PollRefresh}
 use Rattle.ob_watching.specs.WatchOuts.{Text}
 use Rattle.ob_client.specs.Entries.{is_err, entries_once}
 use Rattle.ob_client.specs.Mirrors.{all_follow}

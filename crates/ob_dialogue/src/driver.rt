@@ -5,7 +5,7 @@ ghost use Rattle.ob_dialogue.specs.Turns.{begins};
 ghost use Rattle.ob_dialogue.specs.Links.{TalksFrom, outside};
 ghost use Rattle.ob_dialogue.specs.Completes.{Completes};
 ghost use Rattle.ob_dialogue.specs.Legs.{Visits};
-ghost use Rattle.ob_dialogue.specs.InHand as told;
+ghost use Rattle.ob_dialogue.specs.InHand as in_hand;
 ghost use Rattle.ob_dialogue.specs.declared.ending.Ending.TheVariants as ending;
 
 use crate::ending::{Ending, Peer};
@@ -27,14 +27,14 @@ fn on_dialled<W: Dialer, K: Sink>(
     sink: &mut K,
     mends: bool,
 ) -> Pause
-    requires { told.IsLive stage }
-    ensures visits { Visits plan.now mends (told.stage stage)
+    requires { in_hand.IsLive stage }
+    ensures visits { Visits plan.now mends (in_hand.stage stage)
         (outside (W.dials dialer.old) (W.visits dialer.old) (K.held sink.old))
-        (outside (W.dials dialer.new) (W.visits dialer.new) (K.held sink.new)) (told.pause result) }
-    ensures live { told.PauseIsLive result }
+        (outside (W.dials dialer.new) (W.visits dialer.new) (K.held sink.new)) (in_hand.pause result) }
+    ensures live { in_hand.PauseIsLive result }
     ensures later { (W.faults dialer.old ≤ W.faults dialer.new) × (K.faults sink.old ≤ K.faults sink.new) }
-    ensures link { told.IsLinkFault result → Rose (W.faults dialer.old) (W.faults dialer.new) × (W.rose dialer.new ≡ true) }
-    ensures sink { told.IsSinkFault result → Rose (K.faults sink.old) (K.faults sink.new) }
+    ensures link { in_hand.IsLinkFault result → Rose (W.faults dialer.old) (W.faults dialer.new) × (W.rose dialer.new ≡ true) }
+    ensures sink { in_hand.IsSinkFault result → Rose (K.faults sink.old) (K.faults sink.new) }
 {
     let Ok(host) = host_field(alloc, &plan.url) else {
         return Pause::Ended(Ending::Memory);
@@ -63,8 +63,8 @@ fn from_stage<W: Dialer, K: Sink>(
     sink: &mut K,
     retries: u64,
 ) -> Ending
-    requires { told.IsLive stage }
-    ensures talks { TalksFrom plan.now retries (Ok (told.stage stage))
+    requires { in_hand.IsLive stage }
+    ensures talks { TalksFrom plan.now retries (Ok (in_hand.stage stage))
         (outside (W.dials dialer.old) (W.visits dialer.old) (K.held sink.old))
         (outside (W.dials dialer.new) (W.visits dialer.new) (K.held sink.new)) result }
     ensures later { (W.faults dialer.old ≤ W.faults dialer.new) × (K.faults sink.old ≤ K.faults sink.new) }

@@ -3,7 +3,7 @@ ghost use Rattle.std.specs.Prelude.{◌≡◌, ◌++◌, IfOk, OnOk, filter, opt
 ghost use Rattle.ob_client.specs.Entries.{is_err};
 ghost use Rattle.ob_console.specs.InHand as boards;
 ghost use Rattle.ob_dialogue.specs.Printing.{line, lines_of, items_text, events_of, board_in, body_text, add_heading, poll_heading};
-ghost use Rattle.ob_dialogue.specs.InHand as told;
+ghost use Rattle.ob_dialogue.specs.InHand as in_hand;
 
 use crate::plan::Topic;
 use crate::stage::Watching;
@@ -57,7 +57,7 @@ fn items(alloc: Global, mirror: &Mirror) -> Result<Vec<u8>, AllocError>
 
 // The entries of a WatchOut.
 fn entries(reply: &Obj) -> &[Obj]
-    ensures { told.AreEntries reply.now result.now }
+    ensures { in_hand.AreEntries reply.now result.now }
 {
     match reply.child("values") {
         Some(values) => values.children(),
@@ -80,7 +80,7 @@ fn err_lines(alloc: Global, entries: &[Obj]) -> Result<Vec<u8>, AllocError>
 
 /// The lines that stand behind the items of an add: of the errs of the reply, where items are printed.
 pub(crate) fn errs(alloc: Global, topic: &Topic, reply: &Obj) -> Result<Vec<u8>, AllocError>
-    ensures { IfOk result (λ text. told.AreErrs topic.now reply.now text.items) }
+    ensures { IfOk result (λ text. in_hand.AreErrs topic.now reply.now text.items) }
 {
     match topic {
         Topic::Watch { hrefs: _ } => err_lines(alloc, entries(reply)),
@@ -104,7 +104,7 @@ fn events_in(watching: &Watching) -> &[Obj]
 
 // What the making of a board answers. An error only for want of memory.
 fn made(answer: Result<Board, BoardFault>) -> Result<Option<Board>, AllocError>
-    ensures { told.Makes answer result }
+    ensures { in_hand.Makes answer result }
 {
     match answer {
         Ok(board) => Ok(Some(board)),
@@ -115,7 +115,7 @@ fn made(answer: Result<Board, BoardFault>) -> Result<Option<Board>, AllocError>
 
 /// The board of the feed that was added; None where an event is no alarm.
 pub(crate) fn board_in(alloc: Global, watching: &Watching) -> Result<Option<Board>, AllocError>
-    ensures { IfOk result (λ board. option_map boards.lines_of board ≡ board_in (told.watching watching.now)) }
+    ensures { IfOk result (λ board. option_map boards.lines_of board ≡ board_in (in_hand.watching watching.now)) }
 {
     made(Board::of(alloc, events_in(watching)))
 }
@@ -126,7 +126,7 @@ pub(crate) fn body(
     topic: &Topic,
     watching: &Watching,
 ) -> Result<Option<Vec<u8>>, AllocError>
-    ensures { IfOk result (λ text. option_map told.bytes text ≡ body_text topic.now (told.watching watching.now)) }
+    ensures { IfOk result (λ text. option_map in_hand.bytes text ≡ body_text topic.now (in_hand.watching watching.now)) }
 {
     match topic {
         Topic::Watch { hrefs: _ } => {

@@ -5,7 +5,7 @@ ghost use Rattle.ob_io.specs.Links.{inlet};
 ghost use Rattle.ob_client.specs.declared.call_fault.CallFault.TheVariants as calls;
 ghost use Rattle.ob_dialogue.specs.Legs.{Goes, Leg, had, ending_of, ended_by};
 ghost use Rattle.ob_dialogue.specs.Exchanges.{Exchanges, Replied, FailedByLink, WasAlive, gave, wire};
-ghost use Rattle.ob_dialogue.specs.InHand as told;
+ghost use Rattle.ob_dialogue.specs.InHand as in_hand;
 
 use crate::ending::{Ending, Peer};
 use crate::plan::DialoguePlan;
@@ -53,11 +53,11 @@ pub(crate) enum Turned {
 
 // What a fault of a call makes of a stage.
 fn broken(stage: Stage, fault: CallFault, mends: bool) -> Pause
-    requires live { told.IsLive stage }
+    requires live { in_hand.IsLive stage }
     requires alive { fault ≢ calls.Dead }
-    ensures ends { ending_of (told.pause result) ≡ ended_by fault }
-    ensures goes { Goes mends (Ok (told.stage stage)) (told.pause result) }
-    ensures live { told.PauseIsLive result }
+    ensures ends { ending_of (in_hand.pause result) ≡ ended_by fault }
+    ensures goes { Goes mends (Ok (in_hand.stage stage)) (in_hand.pause result) }
+    ensures live { in_hand.PauseIsLive result }
 {
     let can_mend = mends && is_poll(&stage);
     match fault {
@@ -96,7 +96,7 @@ fn gave(answer: Result<Obj, CallFault>) -> Exchange
 // Asks what comes next, and reads the reply.
 fn ask<L: Link>(alloc: Global, stage: &Stage, session: &mut Session<L>) -> Exchange
     requires { session.old.is_dead ≡ false }
-    ensures exchanges { Exchanges session.old.host (told.stage stage.now)
+    ensures exchanges { Exchanges session.old.host (in_hand.stage stage.now)
         (wire (inlet (L.left session.old.link) (L.taken session.old.link)) (L.held session.old.link) session.old.framer)
         (wire (inlet (L.left session.new.link) (L.taken session.new.link)) (L.held session.new.link) session.new.framer)
         result }
@@ -122,11 +122,11 @@ fn ask<L: Link>(alloc: Global, stage: &Stage, session: &mut Session<L>) -> Excha
 
 // The dialogue goes on, or the other side ended it.
 fn reached(next: Result<Stage, Peer>) -> Turned
-    requires { told.NextIsLive next }
-    ensures reaches { told.Reaches (told.reached next) result }
-    ensures live { told.TurnedIsLive result }
-    ensures link { told.TurnsByLink result → ⊥ }
-    ensures sink { told.TurnsBySink result → ⊥ }
+    requires { in_hand.NextIsLive next }
+    ensures reaches { in_hand.Reaches (in_hand.reached next) result }
+    ensures live { in_hand.TurnedIsLive result }
+    ensures link { in_hand.TurnsByLink result → ⊥ }
+    ensures sink { in_hand.TurnsBySink result → ⊥ }
 {
     match next {
         Ok(stage) => Turned::Next(stage),
@@ -136,19 +136,19 @@ fn reached(next: Result<Stage, Peer>) -> Turned
 
 // The sink failed.
 fn cut_off(_next: Result<Stage, Peer>) -> Turned
-    ensures { told.IsCutOff result }
+    ensures { in_hand.IsCutOff result }
 {
     Turned::Paused(Pause::Ended(Ending::Write))
 }
 
 // Prints what a reply gives.
 fn print<K: Sink>(sink: &mut K, lines: &[u8], next: Result<Stage, Peer>) -> Turned
-    requires { told.NextIsLive next }
-    ensures prints { told.Prints (K.held sink.old) (K.held sink.new) (told.step lines.now next) result }
-    ensures live { told.TurnedIsLive result }
+    requires { in_hand.NextIsLive next }
+    ensures prints { in_hand.Prints (K.held sink.old) (K.held sink.new) (in_hand.step lines.now next) result }
+    ensures live { in_hand.TurnedIsLive result }
     ensures later { K.faults sink.old ≤ K.faults sink.new }
-    ensures sink { told.TurnsBySink result → Rose (K.faults sink.old) (K.faults sink.new) }
-    ensures link { told.TurnsByLink result → ⊥ }
+    ensures sink { in_hand.TurnsBySink result → Rose (K.faults sink.old) (K.faults sink.new) }
+    ensures link { in_hand.TurnsByLink result → ⊥ }
 {
     match write_all(sink, lines) {
         Ok(()) => reached(next),
@@ -164,12 +164,12 @@ fn give<K: Sink>(
     reply: Obj,
     sink: &mut K,
 ) -> Turned
-    requires { told.IsLive stage }
-    ensures gives { told.Gives (K.held sink.old) (K.held sink.new) plan.now (told.stage stage) reply result }
-    ensures live { told.TurnedIsLive result }
+    requires { in_hand.IsLive stage }
+    ensures gives { in_hand.Gives (K.held sink.old) (K.held sink.new) plan.now (in_hand.stage stage) reply result }
+    ensures live { in_hand.TurnedIsLive result }
     ensures later { K.faults sink.old ≤ K.faults sink.new }
-    ensures sink { told.TurnsBySink result → Rose (K.faults sink.old) (K.faults sink.new) }
-    ensures link { told.TurnsByLink result → ⊥ }
+    ensures sink { in_hand.TurnsBySink result → Rose (K.faults sink.old) (K.faults sink.new) }
+    ensures link { in_hand.TurnsByLink result → ⊥ }
 {
     match taken(alloc, plan, stage, reply) {
         Ok(outcome) => {
@@ -189,21 +189,21 @@ fn turn<L: Link, K: Sink>(
     sink: &mut K,
     mends: bool,
 ) -> Turned
-    requires live { told.IsLive stage }
+    requires live { in_hand.IsLive stage }
     requires alive { session.old.is_dead ≡ false }
-    ensures turns { told.Turns plan.now session.old.host mends (told.stage stage)
+    ensures turns { in_hand.Turns plan.now session.old.host mends (in_hand.stage stage)
         (had (inlet (L.left session.old.link) (L.taken session.old.link)) (L.held session.old.link) session.old.framer (K.held sink.old))
         (had (inlet (L.left session.new.link) (L.taken session.new.link)) (L.held session.new.link) session.new.framer (K.held sink.new))
         result }
-    ensures live { told.TurnedIsLive result }
-    ensures alive { told.IsNext result → session.new.is_dead ≡ false }
+    ensures live { in_hand.TurnedIsLive result }
+    ensures alive { in_hand.IsNext result → session.new.is_dead ≡ false }
     ensures host { session.new.host ≡ session.old.host }
     ensures later { (L.read_faults session.old.link ≤ L.read_faults session.new.link)
         × (L.write_faults session.old.link ≤ L.write_faults session.new.link) × (K.faults sink.old ≤ K.faults sink.new) }
-    ensures link { told.TurnsByLink result → Rose (L.read_faults session.old.link) (L.read_faults session.new.link)
+    ensures link { in_hand.TurnsByLink result → Rose (L.read_faults session.old.link) (L.read_faults session.new.link)
         ⊎ Rose (L.write_faults session.old.link) (L.write_faults session.new.link) }
-    ensures sink { told.TurnsBySink result → Rose (K.faults sink.old) (K.faults sink.new) }
-    ensures onward { told.GoesOn plan.now (told.stage stage) result }
+    ensures sink { in_hand.TurnsBySink result → Rose (K.faults sink.old) (K.faults sink.new) }
+    ensures onward { in_hand.GoesOn plan.now (in_hand.stage stage) result }
 {
     match ask(alloc, &stage, session) {
         Exchange::Over => Turned::Paused(Pause::Ended(Ending::Done)),
@@ -222,17 +222,17 @@ pub(crate) fn on_link<L: Link, K: Sink>(
     sink: &mut K,
     mends: bool,
 ) -> Pause
-    requires live { told.IsLive stage }
+    requires live { in_hand.IsLive stage }
     requires alive { session.old.is_dead ≡ false }
-    ensures leg { Leg plan.now session.old.host mends (Ok (told.stage stage))
+    ensures leg { Leg plan.now session.old.host mends (Ok (in_hand.stage stage))
         (had (inlet (L.left session.old.link) (L.taken session.old.link)) (L.held session.old.link) session.old.framer (K.held sink.old))
         (had (inlet (L.left session.new.link) (L.taken session.new.link)) (L.held session.new.link) session.new.framer (K.held sink.new))
-        (told.pause result) }
-    ensures live { told.PauseIsLive result }
+        (in_hand.pause result) }
+    ensures live { in_hand.PauseIsLive result }
     ensures later { K.faults sink.old ≤ K.faults sink.new }
-    ensures link { told.IsLinkFault result → Rose (L.read_faults session.old.link) (L.read_faults session.new.link)
+    ensures link { in_hand.IsLinkFault result → Rose (L.read_faults session.old.link) (L.read_faults session.new.link)
         ⊎ Rose (L.write_faults session.old.link) (L.write_faults session.new.link) }
-    ensures sink { told.IsSinkFault result → Rose (K.faults sink.old) (K.faults sink.new) }
+    ensures sink { in_hand.IsSinkFault result → Rose (K.faults sink.old) (K.faults sink.new) }
 {
     let mut stage = stage;
     'turns: loop {

@@ -2,7 +2,7 @@
 ghost use Rattle.std.specs.Prelude.{◌≡◌, Some, IfOk};
 ghost use Rattle.ob_dialogue.specs.Stages.{get, request_at};
 ghost use Rattle.ob_dialogue.specs.Stages as stages;
-ghost use Rattle.ob_dialogue.specs.InHand as told;
+ghost use Rattle.ob_dialogue.specs.InHand as in_hand;
 
 use crate::stage::{Stage, Watching};
 use ob_asking::{Place, Request, watch_in};
@@ -22,7 +22,7 @@ fn get(place: &Place) -> Result<Option<Request>, AllocError>
 }
 
 fn post(target: &Text, body: Option<Obj>) -> Result<Option<Request>, AllocError>
-    ensures { IfOk result (λ r. r ≡ Some (told.post target.now body)) }
+    ensures { IfOk result (λ r. r ≡ Some (in_hand.post target.now body)) }
 {
     let target = target.copy()?;
     Ok(Some(Request {
@@ -34,7 +34,7 @@ fn post(target: &Text, body: Option<Obj>) -> Result<Option<Request>, AllocError>
 
 // The hrefs are added.
 fn add(alloc: Global, watching: &Watching) -> Result<Option<Request>, AllocError>
-    ensures { IfOk result (λ r. r ≡ request_at (stages.Adding (told.watching watching.now))) }
+    ensures { IfOk result (λ r. r ≡ request_at (stages.Adding (in_hand.watching watching.now))) }
 {
     let input = watch_in(alloc, &watching.asked)?;
     post(&watching.ops.add.target, Some(input))
@@ -42,8 +42,8 @@ fn add(alloc: Global, watching: &Watching) -> Result<Option<Request>, AllocError
 
 /// What is asked next by a call of the session; None at the end. An error only for want of memory.
 pub(crate) fn request_at(alloc: Global, stage: &Stage) -> Result<Option<Request>, AllocError>
-    requires { told.IsCalled stage.now }
-    ensures { IfOk result (λ r. r ≡ request_at (told.stage stage.now)) }
+    requires { in_hand.IsCalled stage.now }
+    ensures { IfOk result (λ r. r ≡ request_at (in_hand.stage stage.now)) }
 {
     match stage {
         Stage::Lobby(place) => get(place),

@@ -2,7 +2,7 @@
 ghost use Rattle.std.specs.Prelude.{◌≡◌, ◌<◌, ◌^◌, IfOk, option_map, unwrap_or, [], true, false};
 ghost use Rattle.ob_dialogue.specs.Stages.{ops_of, ops_from, refresh_in, begun, onward, mended};
 ghost use Rattle.ob_dialogue.specs.Plans.{place_at};
-ghost use Rattle.ob_dialogue.specs.InHand as told;
+ghost use Rattle.ob_dialogue.specs.InHand as in_hand;
 
 use crate::plan::DialoguePlan;
 use ob_asking::{Place, child_place, place_at};
@@ -79,7 +79,7 @@ impl Drop for Watching {
 impl Ops {
     /// Where a broken poll is mended.
     pub(crate) fn mending(&self) -> &Text
-        ensures { result.now ≡ told.mending self.now }
+        ensures { result.now ≡ in_hand.mending self.now }
     {
         match &self.refresh {
             Some(place) => &place.target,
@@ -90,7 +90,7 @@ impl Ops {
 
 /// The first stage: the lobby is asked for.
 pub(crate) fn first(alloc: Global, plan: &DialoguePlan) -> Result<Option<Stage>, AllocError>
-    ensures { IfOk result (λ s. option_map told.stage s ≡ told.lobby (place_at plan.now.url [])) }
+    ensures { IfOk result (λ s. option_map in_hand.stage s ≡ in_hand.lobby (place_at plan.now.url [])) }
 {
     match place_at(alloc, &plan.url, "")? {
         Some(place) => Ok(Some(Stage::Lobby(place))),
@@ -151,7 +151,7 @@ fn put_together(
 
 /// A watch of which nothing is held yet.
 pub(crate) fn begun(alloc: Global, ops: Ops, asked: Vec<Text>) -> Watching
-    ensures value { told.watching result ≡ begun ops asked.items }
+    ensures value { in_hand.watching result ≡ begun ops asked.items }
     ensures live { result.mirror.stale ≡ false }
 {
     Watching {
@@ -165,8 +165,8 @@ pub(crate) fn begun(alloc: Global, ops: Ops, asked: Vec<Text>) -> Watching
 /// The stage behind an answered add or poll: a further poll, or the end.
 pub(crate) fn onward(plan: &DialoguePlan, watching: Watching) -> Stage
     requires { watching.mirror.stale ≡ false }
-    ensures value { told.stage result ≡ onward plan.now (told.watching watching) }
-    ensures live { told.IsLive result }
+    ensures value { in_hand.stage result ≡ onward plan.now (in_hand.watching watching) }
+    ensures live { in_hand.IsLive result }
 {
     if watching.polled < plan.polls {
         Stage::Poll(watching)
@@ -177,9 +177,9 @@ pub(crate) fn onward(plan: &DialoguePlan, watching: Watching) -> Stage
 
 /// The stage in which a broken poll is mended.
 pub(crate) fn mended(stage: Stage) -> Stage
-    requires { told.IsLive stage }
-    ensures value { told.stage result ≡ mended (told.stage stage) }
-    ensures live { told.IsLive result }
+    requires { in_hand.IsLive stage }
+    ensures value { in_hand.stage result ≡ mended (in_hand.stage stage) }
+    ensures live { in_hand.IsLive result }
 {
     match stage {
         Stage::Poll(mut watching) => {
@@ -192,7 +192,7 @@ pub(crate) fn mended(stage: Stage) -> Stage
 
 /// Whether a poll is asked, or a refresh in place of one.
 pub(crate) fn is_poll(stage: &Stage) -> bool
-    ensures { result ≡ told.is_poll stage.now }
+    ensures { result ≡ in_hand.is_poll stage.now }
 {
     matches!(stage, Stage::Poll(_) | Stage::Mend(_))
 }

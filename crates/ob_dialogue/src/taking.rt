@@ -5,7 +5,7 @@ ghost use Rattle.ob_dialogue.specs.Printing.{add_heading, body_text};
 ghost use Rattle.ob_dialogue.specs.Stages as stages;
 ghost use Rattle.ob_dialogue.specs.Stages.{ops_of};
 ghost use Rattle.ob_dialogue.specs.Taking.{silent, to_watch, to_feed, ack_target, acked, printed, taken, taken_at, on_poll};
-ghost use Rattle.ob_dialogue.specs.InHand as told;
+ghost use Rattle.ob_dialogue.specs.InHand as in_hand;
 
 use crate::ending::Peer;
 use crate::lines::{add_heading, board_in, body, errs, poll_heading};
@@ -27,9 +27,9 @@ pub(crate) struct Outcome {
 
 // These lines are printed; without a next stage the reply's form is wrong.
 fn behind(lines: Vec<u8>, next: Option<Stage>) -> Outcome
-    requires { told.OptionIsLive next }
-    ensures value { told.taken result ≡ told.behind lines.items (option_map told.stage next) }
-    ensures live { told.NextIsLive result.next }
+    requires { in_hand.OptionIsLive next }
+    ensures value { in_hand.taken result ≡ in_hand.behind lines.items (option_map in_hand.stage next) }
+    ensures live { in_hand.NextIsLive result.next }
 {
     match next {
         Some(stage) => Outcome {
@@ -45,9 +45,9 @@ fn behind(lines: Vec<u8>, next: Option<Stage>) -> Outcome
 
 // Nothing is printed.
 fn silent(alloc: Global, next: Option<Stage>) -> Outcome
-    requires { told.OptionIsLive next }
-    ensures value { told.taken result ≡ silent (option_map told.stage next) }
-    ensures live { told.NextIsLive result.next }
+    requires { in_hand.OptionIsLive next }
+    ensures value { in_hand.taken result ≡ silent (option_map in_hand.stage next) }
+    ensures live { in_hand.NextIsLive result.next }
 {
     behind(Vec::new(alloc), next)
 }
@@ -65,8 +65,8 @@ fn copies(alloc: Global, texts: &[Text]) -> Result<Vec<Text>, AllocError>
 
 // The service is asked for.
 fn to_service(place: Option<Place>) -> Option<Stage>
-    ensures value { option_map told.stage result ≡ option_map stages.Service place }
-    ensures live { told.OptionIsLive result }
+    ensures value { option_map in_hand.stage result ≡ option_map stages.Service place }
+    ensures live { in_hand.OptionIsLive result }
 {
     match place {
         Some(place) => Some(Stage::Service(place)),
@@ -76,8 +76,8 @@ fn to_service(place: Option<Place>) -> Option<Stage>
 
 // A watch is made.
 fn to_make(place: Option<Place>) -> Option<Stage>
-    ensures value { option_map told.stage result ≡ option_map stages.Make place }
-    ensures live { told.OptionIsLive result }
+    ensures value { option_map in_hand.stage result ≡ option_map stages.Make place }
+    ensures live { in_hand.OptionIsLive result }
 {
     match place {
         Some(place) => Some(Stage::Make(place)),
@@ -87,8 +87,8 @@ fn to_make(place: Option<Place>) -> Option<Stage>
 
 // The subject is asked for.
 fn to_subject(ops: Ops, place: Option<Place>) -> Option<Stage>
-    ensures value { option_map told.stage result ≡ option_map (stages.Subject ops) place }
-    ensures live { told.OptionIsLive result }
+    ensures value { option_map in_hand.stage result ≡ option_map (stages.Subject ops) place }
+    ensures live { in_hand.OptionIsLive result }
 {
     match place {
         Some(place) => Some(Stage::Subject(ops, place)),
@@ -102,8 +102,8 @@ fn to_watch(
     plan: &DialoguePlan,
     ops: Option<Ops>,
 ) -> Result<Option<Stage>, AllocError>
-    ensures value { IfOk result (λ s. option_map told.stage s ≡ to_watch plan.now.url plan.now.topic ops) }
-    ensures live { IfOk result (λ s. told.OptionIsLive s) }
+    ensures value { IfOk result (λ s. option_map in_hand.stage s ≡ to_watch plan.now.url plan.now.topic ops) }
+    ensures live { IfOk result (λ s. in_hand.OptionIsLive s) }
 {
     let Some(ops) = ops else {
         return Ok(None);
@@ -126,8 +126,8 @@ fn to_watch(
 
 // The subject's feed is added.
 fn to_feed(alloc: Global, ops: Ops, feed: Option<Place>) -> Result<Option<Stage>, AllocError>
-    ensures value { IfOk result (λ s. option_map told.stage s ≡ to_feed ops feed) }
-    ensures live { IfOk result (λ s. told.OptionIsLive s) }
+    ensures value { IfOk result (λ s. option_map in_hand.stage s ≡ to_feed ops feed) }
+    ensures live { IfOk result (λ s. in_hand.OptionIsLive s) }
 {
     let Some(feed) = feed else {
         return Ok(None);
@@ -139,7 +139,7 @@ fn to_feed(alloc: Global, ops: Ops, feed: Option<Place>) -> Result<Option<Stage>
 
 // Where the alarm is acknowledged, if it can be. An error only for want of memory.
 fn led(answer: Result<Text, AckFault>) -> Result<Option<Text>, AllocError>
-    ensures { told.Leads answer result }
+    ensures { in_hand.Leads answer result }
 {
     match answer {
         Ok(target) => Ok(Some(target)),
@@ -150,7 +150,7 @@ fn led(answer: Result<Text, AckFault>) -> Result<Option<Text>, AllocError>
 
 // Where the alarm of an href is acknowledged, if the board has it with an op for it.
 fn target_of(alloc: Global, watching: &Watching, href: &Text) -> Result<Option<Text>, AllocError>
-    ensures { IfOk result (λ target. target ≡ ack_target (told.watching watching.now) href.now) }
+    ensures { IfOk result (λ target. target ≡ ack_target (in_hand.watching watching.now) href.now) }
 {
     let Some(board) = board_in(alloc, watching)? else {
         return Ok(None);
@@ -165,8 +165,8 @@ fn to_ack(
     user: &Text,
 ) -> Result<Option<Stage>, AllocError>
     requires { watching.mirror.stale ≡ false }
-    ensures value { IfOk result (λ s. option_map told.stage s ≡ option_map (λ t. stages.Acking (told.watching watching) t user.now) target) }
-    ensures live { IfOk result (λ s. told.OptionIsLive s) }
+    ensures value { IfOk result (λ s. option_map in_hand.stage s ≡ option_map (λ t. stages.Acking (in_hand.watching watching) t user.now) target) }
+    ensures live { IfOk result (λ s. in_hand.OptionIsLive s) }
 {
     let Some(target) = target else {
         return Ok(None);
@@ -182,8 +182,8 @@ fn acked(
     watching: Watching,
 ) -> Result<Option<Stage>, AllocError>
     requires { watching.mirror.stale ≡ false }
-    ensures value { IfOk result (λ s. option_map told.stage s ≡ acked plan.now plan.now.topic (told.watching watching)) }
-    ensures live { IfOk result (λ s. told.OptionIsLive s) }
+    ensures value { IfOk result (λ s. option_map in_hand.stage s ≡ acked plan.now plan.now.topic (in_hand.watching watching)) }
+    ensures live { IfOk result (λ s. in_hand.OptionIsLive s) }
 {
     match &plan.topic {
         Topic::Watch { hrefs: _ } => Ok(Some(onward(plan, watching))),
@@ -203,7 +203,7 @@ fn acked(
 
 // Whether a mirror took a reply. An error only for want of memory.
 fn has_taken(answer: Result<(), MirrorFault>) -> Result<bool, AllocError>
-    ensures { told.HasTaken answer result }
+    ensures { in_hand.HasTaken answer result }
 {
     match answer {
         Ok(()) => Ok(true),
@@ -230,9 +230,9 @@ fn printed(
     body: Option<Vec<u8>>,
     next: Option<Stage>,
 ) -> Result<Outcome, AllocError>
-    requires { told.OptionIsLive next }
-    ensures value { IfOk result (λ t. told.taken t ≡ printed heading.items more.items (option_map told.bytes body) (option_map told.stage next)) }
-    ensures live { IfOk result (λ t. told.NextIsLive t.next) }
+    requires { in_hand.OptionIsLive next }
+    ensures value { IfOk result (λ t. in_hand.taken t ≡ printed heading.items more.items (option_map in_hand.bytes body) (option_map in_hand.stage next)) }
+    ensures live { IfOk result (λ t. in_hand.NextIsLive t.next) }
 {
     match body {
         Some(body) => {
@@ -251,8 +251,8 @@ fn added(
     errs: Vec<u8>,
 ) -> Result<Outcome, AllocError>
     requires { watching.mirror.stale ≡ false }
-    ensures value { IfOk result (λ t. told.taken t ≡ printed add_heading errs.items (body_text plan.now.topic (told.watching watching)) (acked plan.now plan.now.topic (told.watching watching))) }
-    ensures live { IfOk result (λ t. told.NextIsLive t.next) }
+    ensures value { IfOk result (λ t. in_hand.taken t ≡ printed add_heading errs.items (body_text plan.now.topic (in_hand.watching watching)) (acked plan.now plan.now.topic (in_hand.watching watching))) }
+    ensures live { IfOk result (λ t. in_hand.NextIsLive t.next) }
 {
     let heading = add_heading(alloc)?;
     let body = body(alloc, &plan.topic, &watching)?;
@@ -268,8 +268,8 @@ fn on_add(
     reply: Obj,
 ) -> Result<Outcome, AllocError>
     requires { watching.mirror.stale ≡ false }
-    ensures value { IfOk result (λ t. told.taken t ≡ taken_at plan.now (stages.Adding (told.watching watching)) reply) }
-    ensures live { IfOk result (λ t. told.NextIsLive t.next) }
+    ensures value { IfOk result (λ t. in_hand.taken t ≡ taken_at plan.now (stages.Adding (in_hand.watching watching)) reply) }
+    ensures live { IfOk result (λ t. in_hand.NextIsLive t.next) }
 {
     let errs = errs(alloc, &plan.topic, &reply)?;
     if has_taken(watching.mirror.on_add(reply))? {
@@ -282,8 +282,8 @@ fn on_add(
 // A poll was answered.
 fn on_poll(alloc: Global, plan: &DialoguePlan, watching: Watching) -> Result<Outcome, AllocError>
     requires { watching.mirror.stale ≡ false }
-    ensures value { IfOk result (λ t. told.taken t ≡ on_poll plan.now (told.watching watching)) }
-    ensures live { IfOk result (λ t. told.NextIsLive t.next) }
+    ensures value { IfOk result (λ t. in_hand.taken t ≡ on_poll plan.now (in_hand.watching watching)) }
+    ensures live { IfOk result (λ t. in_hand.NextIsLive t.next) }
 {
     let heading = poll_heading(alloc, watching.polled)?;
     let body = body(alloc, &plan.topic, &watching)?;
@@ -300,8 +300,8 @@ fn on_changes(
 ) -> Result<Outcome, AllocError>
     requires live { watching.mirror.stale ≡ false }
     requires few { watching.polled + 1 < 2 ^ 64 }
-    ensures value { IfOk result (λ t. told.taken t ≡ taken_at plan.now (stages.Polling (told.watching watching)) reply) }
-    ensures live { IfOk result (λ t. told.NextIsLive t.next) }
+    ensures value { IfOk result (λ t. in_hand.taken t ≡ taken_at plan.now (stages.Polling (in_hand.watching watching)) reply) }
+    ensures live { IfOk result (λ t. in_hand.NextIsLive t.next) }
 {
     if has_taken(watching.mirror.on_changes(reply))? {
         watching.polled += 1;
@@ -319,8 +319,8 @@ fn on_refresh(
     reply: Obj,
 ) -> Result<Outcome, AllocError>
     requires { watching.polled + 1 < 2 ^ 64 }
-    ensures value { IfOk result (λ t. told.taken t ≡ taken_at plan.now (stages.Mending (told.watching watching)) reply) }
-    ensures live { IfOk result (λ t. told.NextIsLive t.next) }
+    ensures value { IfOk result (λ t. in_hand.taken t ≡ taken_at plan.now (stages.Mending (in_hand.watching watching)) reply) }
+    ensures live { IfOk result (λ t. in_hand.NextIsLive t.next) }
 {
     if has_taken(watching.mirror.on_refresh(reply))? {
         watching.polled += 1;
@@ -344,8 +344,8 @@ fn leads_on(
 
 // The lobby came.
 fn on_lobby(alloc: Global, place: Place, reply: Obj) -> Result<Outcome, AllocError>
-    ensures value { IfOk result (λ t. told.taken t ≡ silent (option_map stages.Service (child_place place.url reply (codes "watchService")))) }
-    ensures live { IfOk result (λ t. told.NextIsLive t.next) }
+    ensures value { IfOk result (λ t. in_hand.taken t ≡ silent (option_map stages.Service (child_place place.url reply (codes "watchService")))) }
+    ensures live { IfOk result (λ t. in_hand.NextIsLive t.next) }
 {
     let service = leads_on(alloc, place, reply, "watchService")?;
     Ok(silent(alloc, to_service(service)))
@@ -353,8 +353,8 @@ fn on_lobby(alloc: Global, place: Place, reply: Obj) -> Result<Outcome, AllocErr
 
 // The watch service came.
 fn on_service(alloc: Global, place: Place, reply: Obj) -> Result<Outcome, AllocError>
-    ensures value { IfOk result (λ t. told.taken t ≡ silent (option_map stages.Make (child_place place.url reply (codes "make")))) }
-    ensures live { IfOk result (λ t. told.NextIsLive t.next) }
+    ensures value { IfOk result (λ t. in_hand.taken t ≡ silent (option_map stages.Make (child_place place.url reply (codes "make")))) }
+    ensures live { IfOk result (λ t. in_hand.NextIsLive t.next) }
 {
     let make = leads_on(alloc, place, reply, "make")?;
     Ok(silent(alloc, to_make(make)))
@@ -374,8 +374,8 @@ fn on_make(
     place: Place,
     reply: Obj,
 ) -> Result<Outcome, AllocError>
-    ensures value { IfOk result (λ t. told.taken t ≡ taken_at plan.now (stages.Make place) reply) }
-    ensures live { IfOk result (λ t. told.NextIsLive t.next) }
+    ensures value { IfOk result (λ t. in_hand.taken t ≡ taken_at plan.now (stages.Make place) reply) }
+    ensures live { IfOk result (λ t. in_hand.NextIsLive t.next) }
 {
     let ops = ops_in(alloc, plan.retries > 0, place, reply)?;
     let next = to_watch(alloc, plan, ops)?;
@@ -384,8 +384,8 @@ fn on_make(
 
 // The alarm subject came.
 fn on_subject(alloc: Global, ops: Ops, place: Place, reply: Obj) -> Result<Outcome, AllocError>
-    ensures value { IfOk result (λ t. told.taken t ≡ silent (to_feed ops (child_place place.url reply (codes "feed")))) }
-    ensures live { IfOk result (λ t. told.NextIsLive t.next) }
+    ensures value { IfOk result (λ t. in_hand.taken t ≡ silent (to_feed ops (child_place place.url reply (codes "feed")))) }
+    ensures live { IfOk result (λ t. in_hand.NextIsLive t.next) }
 {
     let feed = leads_on(alloc, place, reply, "feed")?;
     let next = to_feed(alloc, ops, feed)?;
@@ -399,9 +399,9 @@ fn taken_at(
     stage: Stage,
     reply: Obj,
 ) -> Result<Outcome, AllocError>
-    requires { told.IsLive stage }
-    ensures value { IfOk result (λ t. told.taken t ≡ taken_at plan.now (told.stage stage) reply) }
-    ensures live { IfOk result (λ t. told.NextIsLive t.next) }
+    requires { in_hand.IsLive stage }
+    ensures value { IfOk result (λ t. in_hand.taken t ≡ taken_at plan.now (in_hand.stage stage) reply) }
+    ensures live { IfOk result (λ t. in_hand.NextIsLive t.next) }
 {
     match stage {
         Stage::Lobby(place) => on_lobby(alloc, place, reply),
@@ -425,9 +425,9 @@ pub(crate) fn taken(
     stage: Stage,
     reply: Obj,
 ) -> Result<Outcome, AllocError>
-    requires { told.IsLive stage }
-    ensures value { IfOk result (λ t. told.taken t ≡ taken plan.now (told.stage stage) reply) }
-    ensures live { IfOk result (λ t. told.NextIsLive t.next) }
+    requires { in_hand.IsLive stage }
+    ensures value { IfOk result (λ t. in_hand.taken t ≡ taken plan.now (in_hand.stage stage) reply) }
+    ensures live { IfOk result (λ t. in_hand.NextIsLive t.next) }
 {
     if reply.kind().same(Kind::Err) {
         return Ok(Outcome {

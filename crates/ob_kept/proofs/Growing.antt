@@ -4,7 +4,7 @@ use Rattle.std.specs.Prelude.{nat_lt}
 use Rattle.std.proofs.lemmas.Bool.{lt-ltb, ltb-true}
 use Rattle.ob_machine.specs.History.{entry}
 use Rattle.ob_machine.specs.declared.call.Answer.TheVariants.{Done}
-use Rattle.ob_watching.specs.Asked.{Itself, NewWatch}
+use Rattle.ob_watching.specs.Operations.{Itself, NewWatch}
 use Rattle.ob_watching.specs.Watches.{last_number, acted, begun}
 use Rattle.ob_lasting.proofs.Replaying.{leaves_site}
 use Rattle.ob_site.specs.Keeping.{stepping, KeepsNothing, Keeps, MayKeep}

@@ -11,7 +11,7 @@ use Rattle.ob_record.specs.declared.run.Entry.{Entry}
 use Rattle.ob_record.specs.declared.run.Told.TheVariants.{Reply}
 use Rattle.ob_record_journal.specs.Runs.{run_blocks}
 use Rattle.ob_values.specs.declared.verb.Verb.TheVariants.{Get}
-use Rattle.ob_watching.specs.Asked.{Itself, NewWatch}
+use Rattle.ob_watching.specs.Operations.{Itself, NewWatch}
 use Rattle.ob_watching.specs.Watches.{last_number, acted, begun}
 use Rattle.ob_lasting.proofs.Replaying.{leaves_site}
 use Rattle.ob_site.specs.Keeping.{stepping, KeepsNothing, Keeps, MayKeep}

@@ -1,7 +1,7 @@
 -- A step done again from the state that a record leads to.
 use Rattle.std.proofs.Common.{◌≡◌, ◌≢◌, ℕ, ◌≤◌, max, Bool, true, false, cond, refl, sym, ◌∙◌, ap, subst, arith}
 use Rattle.ob_object.specs.Object.{Object}
-use Rattle.ob_watching.specs.Asked.{Itself, Answered}
+use Rattle.ob_watching.specs.Operations.{Itself, Answered}
 use Rattle.ob_watching.specs.Sites.{Site}
 use Rattle.ob_watching.specs.Tables.{numbers_of}
 use Rattle.ob_watching.specs.Watches.{act, acted, begun}

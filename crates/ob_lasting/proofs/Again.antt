@@ -3,7 +3,7 @@ use Rattle.std.proofs.Common.{◌≡◌, ℕ, ◌+◌, ◌≤◌, ◌<◌, max, 
 use Rattle.std.specs.List.{filter}
 use Rattle.std.proofs.lemmas.Bool.Decides.{nat_tests}
 use Rattle.ob_values.proofs.Bools.{neither_right}
-use Rattle.ob_watching.specs.Asked.{Target, Itself, Nowhere, NewWatch, OneWatch}
+use Rattle.ob_watching.specs.Operations.{Target, Itself, Nowhere, NewWatch, OneWatch}
 use Rattle.ob_watching.specs.Sites.{Site}
 use Rattle.ob_watching.specs.Tables.{lookup, numbers_of}
 use Rattle.ob_watching.specs.Watches.{World, Watch, Reply, Asks, act, acted, ended, begun, is_full, on_watch, made, has_lapsed, max_watches, last_number}

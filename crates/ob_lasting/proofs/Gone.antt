@@ -5,7 +5,7 @@ use Rattle.ob_values.proofs.Lists.{all_mapped}
 use Rattle.ob_machine.specs.History.{entry, left_by, IsAnswer, IsCall}
 use Rattle.ob_machine.specs.declared.call.Answer.TheVariants.{Done, NoMemory}
 use Rattle.ob_machine.proofs.HistoryLemmas.{after-append, legal_front, legal_back}
-use Rattle.ob_watching.specs.Asked.{Target, Itself, Nowhere, NewWatch, OneWatch, Told, Refused}
+use Rattle.ob_watching.specs.Operations.{Target, Itself, Nowhere, NewWatch, OneWatch, Told, Refused}
 use Rattle.ob_watching.specs.Sites.{Site, IsLawful}
 use Rattle.ob_watching.specs.Tables.{lookup}
 use Rattle.ob_watching.specs.Watches.{World, Reply, first_lease, act, acted, begun, is_full, on_watch, made, Rises, Distinct, IsSound}

@@ -2,7 +2,7 @@
 use Rattle.std.proofs.Common.{◌≡◌, ℕ, ◌≢◌, ◌≤◌, max, true, false, cond, List, [], ◌∷◌, ◌++◌, Some, None, refl, sym, ◌∙◌, ap, subst, arith, le_trans, Option, inl, inr}
 use Rattle.ob_machine.specs.History.{left_by}
 use Rattle.ob_machine.specs.declared.call.Answer.TheVariants.{Done, NoMemory}
-use Rattle.ob_watching.specs.Asked.{Target, Itself, Nowhere, NewWatch, OneWatch, Told, Refused}
+use Rattle.ob_watching.specs.Operations.{Target, Itself, Nowhere, NewWatch, OneWatch, Told, Refused}
 use Rattle.ob_watching.specs.Sites.{Site}
 use Rattle.ob_watching.specs.Tables.{lookup, numbers_of}
 use Rattle.ob_watching.specs.Watches.{World, Reply, act, acted, begun, is_full, on_watch, made, first_lease}

@@ -1,6 +1,6 @@
 -- What of a site's state lasts when its process ends, what a restart leaves, and that a step done again keeps it.
 use Rattle.std.specs.Prelude.{◌≡◌, ℕ, ◌+◌, ◌≤◌, max, false, List, []}
-use Rattle.ob_watching.specs.Asked.{NewWatch}
+use Rattle.ob_watching.specs.Operations.{NewWatch}
 use Rattle.ob_watching.specs.Sites.{Site}
 use Rattle.ob_watching.specs.Watches.{World, last_number, act, begun, is_full}
 

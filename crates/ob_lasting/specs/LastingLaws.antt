@@ -1,7 +1,7 @@
 -- The laws of a site that is restarted.
 use Rattle.std.specs.Prelude.{◌≡◌, ◌≢◌, ℕ, ◌^◌, ◌<◌, max, List, [], ◌∷◌, ◌++◌, Option, Some, None}
 use Rattle.std.specs.List.{AllByRecursion}
-use Rattle.ob_watching.specs.Asked.{Itself, NewWatch}
+use Rattle.ob_watching.specs.Operations.{Itself, NewWatch}
 use Rattle.ob_watching.specs.Sites.{Site}
 use Rattle.ob_watching.specs.Tables.{lookup, numbers_of}
 use Rattle.ob_watching.specs.Watches.{World, act, begun, IsSound}

@@ -1,6 +1,6 @@
 -- Worked rows on the small site of ob_watching: what lasts, what a step done again leaves, records, and runs.
 use Rattle.std.specs.Prelude.{◌≡◌, ℕ, List, [], ◌∷◌, Some, None}
-use Rattle.ob_watching.specs.Asked.{PollChanges, Delete, Told, Refused, Answered}
+use Rattle.ob_watching.specs.Operations.{PollChanges, Delete, Told, Refused, Answered}
 use Rattle.ob_watching.specs.Watches.{World, Reply, first_lease, act}
 use Rattle.ob_watching.specs.Clients.{Asking}
 use Rattle.ob_watching.specs.Laws.{after}

@@ -10,7 +10,7 @@ use Rattle.ob_object.specs.Paths.{is_path, node_path}
 use Rattle.ob_contracts.specs.Inherit.{Contracts, Words, or_else, only_if, result_of, effective_of}
 use Rattle.ob_history.specs.declared.records.Filter.{Filter}
 use Rattle.ob_history.specs.Filters.{filter_of}
-use Rattle.ob_watching.specs.Asked.{ObjectAt, NotFound}
+use Rattle.ob_watching.specs.Operations.{ObjectAt, NotFound}
 use Rattle.ob_site_rules.specs.Build.{Path}
 use Rattle.ob_site_rules.specs.declared.fault.Fault.TheVariants.{HrefTooLong, NotWatchable}
 use Rattle.ob_site_rules.specs.Locating.{locate}

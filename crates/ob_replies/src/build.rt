@@ -6,7 +6,7 @@ ghost use Rattle.ob_object.specs.WellFormed.{is_taken, with_child};
 ghost use Rattle.ob_object.specs.declared.kind.Kind.TheVariants as kind;
 ghost use Rattle.ob_site_rules.specs.Build.{whole, word, valued, time_slot, ref_to, op_at, feed_at, nameless, under_name};
 ghost use Rattle.ob_replies.specs.Names.{is_name, are_new};
-ghost use Rattle.ob_replies.specs.ContractWords as told;
+ghost use Rattle.ob_replies.specs.ContractWords as contract_words;
 
 use crate::contract::Contract;
 use ob_object::{Attributes, Kind, Obj, Slot};
@@ -16,7 +16,7 @@ use std::alloc::{AllocError, Global};
 
 /// An obj's head with one contract, and its path if one is given.
 pub fn obj_head(alloc: Global, href: Option<Text>, is: Contract) -> Result<Attributes, AllocError>
-    ensures { IfOk result (λ h. h ≡ record (empty_head kind.Obj) { href = href; is = word (told.contract is) }) }
+    ensures { IfOk result (λ h. h ≡ record (empty_head kind.Obj) { href = href; is = word (contract_words.contract is) }) }
 {
     let words = is.words(alloc)?;
     let mut head = Attributes::empty(alloc, Kind::Obj);
@@ -93,7 +93,7 @@ pub fn timed(alloc: Global, name: &str, time: Option<Abstime>) -> Result<Obj, Al
 #[tactic(auto, using(crate::proofs::Fits::ref_fits, crate::proofs::Fits::name_printable))]
 pub fn ref_to(alloc: Global, name: &str, path: Text, is: Contract) -> Result<Obj, AllocError>
     requires { IsTrue (is_name name.now) }
-    ensures { IfOk result (λ o. o ≡ ref_to name.now path (word (told.contract is))) }
+    ensures { IfOk result (λ o. o ≡ ref_to name.now path (word (contract_words.contract is))) }
 {
     let name = Text::from_ascii(alloc, name)?;
     let words = is.words(alloc)?;
@@ -114,7 +114,7 @@ pub fn op_at(
     gives: Contract,
 ) -> Result<Obj, AllocError>
     requires { IsTrue (is_name name.now) }
-    ensures { IfOk result (λ o. o ≡ op_at name.now path (told.contract takes) (told.contract gives)) }
+    ensures { IfOk result (λ o. o ≡ op_at name.now path (contract_words.contract takes) (contract_words.contract gives)) }
 {
     let name = Text::from_ascii(alloc, name)?;
     let input = takes.words(alloc)?;
@@ -141,7 +141,7 @@ pub fn feed_at(
     takes: Contract,
 ) -> Result<Obj, AllocError>
     requires { IsTrue (is_name name.now) }
-    ensures { IfOk result (λ o. o ≡ feed_at name.now path (told.contract of) (told.contract takes)) }
+    ensures { IfOk result (λ o. o ≡ feed_at name.now path (contract_words.contract of) (contract_words.contract takes)) }
 {
     let name = Text::from_ascii(alloc, name)?;
     let of = of.words(alloc)?;

@@ -1,6 +1,6 @@
 //! The contracts that the server names.
 ghost use Rattle.std.specs.Prelude.{◌≡◌, ◌∷◌, [], IfOk};
-ghost use Rattle.ob_replies.specs.ContractWords as told;
+ghost use Rattle.ob_replies.specs.ContractWords as contract_words;
 
 use ob_object::{WordFault, Words};
 use ob_values::Text;
@@ -37,7 +37,7 @@ pub enum Contract {
 impl Contract {
     /// The word that names it.
     fn word(self) -> &'static str
-        ensures { result.now ≡ told.contract self }
+        ensures { result.now ≡ contract_words.contract self }
     {
         match self {
             Contract::Nil => "obix:Nil",
@@ -67,7 +67,7 @@ impl Contract {
     /// A list of this word alone.
     #[tactic(auto, using(crate::proofs::Fits::contract_printable, crate::proofs::Fits::contract_word))]
     pub fn words(self, alloc: Global) -> Result<Words, AllocError>
-        ensures { IfOk result (λ words. words ≡ told.contract self ∷ []) }
+        ensures { IfOk result (λ words. words ≡ contract_words.contract self ∷ []) }
     {
         let text = Text::from_ascii(alloc, self.word())?;
         let mut words = Words::new(alloc);

@@ -1,7 +1,7 @@
 //! Feeds, as watches report them.
 ghost use Rattle.std.specs.Prelude.{◌≡◌, ◌<◌, ◌^◌, IfOk, true, is_none};
 ghost use Rattle.std.specs.List.{list_all};
-ghost use Rattle.ob_watching.specs.Asked.{Lists};
+ghost use Rattle.ob_watching.specs.Operations.{Lists};
 ghost use Rattle.ob_site_rules.specs.Watched.{is_alarm_feed, feed_there};
 ghost use Rattle.ob_site_rules.specs.Replies.{content_object, dropped_child};
 

@@ -3,7 +3,7 @@ ghost use Rattle.std.specs.Prelude.{◌≡◌, ◌<◌, ◌^◌, ◌&&◌, [], n
 ghost use Rattle.std.specs.List.{list_all};
 ghost use Rattle.circular_buffer.specs.Buffer.{last_item};
 ghost use Rattle.ob_site_rules.specs.Entries.{query_out, is_within};
-ghost use Rattle.ob_replies.specs.ContractWords as told;
+ghost use Rattle.ob_replies.specs.ContractWords as contract_words;
 ghost use Rattle.ob_replies.specs.Queries.{counts_of, data_of};
 
 use crate::build::{obj_head, put, timed, valued, whole};
@@ -63,7 +63,7 @@ fn last(times: &[Abstime]) -> Option<Abstime>
 #[tactic(auto, using(crate::proofs::New::nameless_new))]
 fn data(alloc: Global, of: Contract, objects: Vec<Obj>) -> Result<Obj, AllocError>
     requires { list_all (λ o. is_none o.head.name) objects.items ≡ true }
-    ensures { IfOk result (λ o. o ≡ data_of (told.contract of) objects.items) }
+    ensures { IfOk result (λ o. o ≡ data_of (contract_words.contract of) objects.items) }
 {
     let name = Text::from_ascii(alloc, "data")?;
     let of = of.words(alloc)?;
@@ -104,7 +104,7 @@ pub(crate) fn query_out(
     objects: Vec<Obj>,
 ) -> Result<Obj, AllocError>
     requires { list_all (λ o. is_none o.head.name) objects.items ≡ true }
-    ensures { IfOk result (λ o. o ≡ query_out (told.contract is) (told.contract of) times.now objects.items) }
+    ensures { IfOk result (λ o. o ≡ query_out (contract_words.contract is) (contract_words.contract of) times.now objects.items) }
 {
     let head = obj_head(alloc, None, is)?;
     let mut children = Vec::new(alloc);

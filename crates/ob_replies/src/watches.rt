@@ -5,7 +5,7 @@ ghost use Rattle.ob_site_rules.specs.Build.{op_at, under_href};
 ghost use Rattle.ob_site_rules.specs.Computed.{watch_object, watch_part_object, watch_out};
 ghost use Rattle.ob_replies.specs.WatchChildren.{span_value, lease_at, child_at, children_at};
 ghost use Rattle.ob_replies.specs.Names.{is_name};
-ghost use Rattle.ob_replies.specs.ContractWords as told;
+ghost use Rattle.ob_replies.specs.ContractWords as contract_words;
 
 use crate::build::{nameless, obj_head, one_child, op_at, put, whole};
 use crate::contract::Contract;
@@ -58,7 +58,7 @@ fn watch_op(
     gives: Contract,
 ) -> Result<Obj, AllocError>
     requires { IsTrue (is_name name.now) }
-    ensures { IfOk result (λ o. o ≡ op_at name.now (path.now ++ name.now) (told.contract takes) (told.contract gives)) }
+    ensures { IfOk result (λ o. o ≡ op_at name.now (path.now ++ name.now) (contract_words.contract takes) (contract_words.contract gives)) }
 {
     let href = path.followed_by(alloc, name)?;
     op_at(alloc, name, href, takes, gives)

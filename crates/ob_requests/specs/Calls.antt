@@ -9,7 +9,7 @@ use Rattle.ob_object.specs.declared.kind.Kind.TheVariants as kind
 use Rattle.ob_object.specs.Kinds.{same_kind}
 use Rattle.ob_object.specs.Object.{Object}
 use Rattle.ob_contracts.specs.Inherit.{Contracts, effective_of}
-use Rattle.ob_watching.specs.Asked.{ObjectAt, FeedAt, NotFound}
+use Rattle.ob_watching.specs.Operations.{ObjectAt, FeedAt, NotFound}
 use Rattle.ob_site_rules.specs.Build.{Text, child}
 use Rattle.ob_site_rules.specs.declared.fault.Fault.TheVariants as faults
 use Rattle.ob_site_rules.specs.declared.fault.Fault.{Fault}

@@ -31,7 +31,7 @@ use Rattle.ob_step_laws.specs.Given.{IsMade}
 use Rattle.ob_step_laws.proofs.Slotted.{differ_slotted}
 use Rattle.ob_step_laws.proofs.Steps.{slots_then, made_written}
 use Rattle.ob_site_laws.specs.SiteLaws.{of_plan, acts}
-use Rattle.ob_watching.specs.Asked.{Itself, Nowhere, NewWatch, OneWatch, Told, Refused}
+use Rattle.ob_watching.specs.Operations.{Itself, Nowhere, NewWatch, OneWatch, Told, Refused}
 use Rattle.ob_watching.specs.Sites.{Site}
 use Rattle.ob_watching.specs.Tables.{lookup}
 use Rattle.ob_watching.specs.Watches.{World, Watch, Reply, acted, begun, is_full, made, on_watch, first_lease}

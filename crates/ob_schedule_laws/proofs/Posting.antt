@@ -37,7 +37,7 @@ use Rattle.ob_site_rules.specs.Posts.{write_point}
 use Rattle.ob_site_rules.specs.Actions.{act_itself, act_located, act_on}
 use Rattle.ob_site_rules.specs.Replies.{sent}
 use Rattle.ob_site_rules.specs.Watched.{target_at, target_part}
-use Rattle.ob_watching.specs.Asked.{Itself, NewWatch, Answered}
+use Rattle.ob_watching.specs.Operations.{Itself, NewWatch, Answered}
 use Rattle.ob_watching.specs.Sites.{Site}
 use Rattle.ob_watching.specs.Tables.{numbers_of}
 use Rattle.ob_watching.specs.Watches.{World, Reply, acted, begun, with_site}

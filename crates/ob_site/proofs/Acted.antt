@@ -4,7 +4,7 @@ use Rattle.std.specs.Prelude.{nat_lt, slice_get, unwrap_or}
 use Rattle.ob_object.specs.Object.{Object as Node, parts}
 use Rattle.ob_history.specs.declared.records.Filter.{Filter}
 use Rattle.ob_tree.specs.Trees.{Stamped}
-use Rattle.ob_watching.specs.Asked.{Itself}
+use Rattle.ob_watching.specs.Operations.{Itself}
 use Rattle.ob_watching.specs.Tables.{numbers_of}
 use Rattle.ob_watching.specs.Watches.{TrackedOf, ItemOf, WatchOf, World, ended}
 use Rattle.ob_watching.specs.Watches as rules

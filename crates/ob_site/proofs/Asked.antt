@@ -4,7 +4,7 @@ use Rattle.std.proofs.lemmas.Bool.Decides.{nat_tests}
 use Rattle.ob_object.specs.Object.{Object}
 use Rattle.ob_tree.specs.Trees.{Stamped}
 use Rattle.ob_history.specs.declared.records.Filter.{Filter}
-use Rattle.ob_watching.specs.Asked.{NewWatch, Nowhere, OneWatch}
+use Rattle.ob_watching.specs.Operations.{NewWatch, Nowhere, OneWatch}
 use Rattle.ob_watching.specs.Tables.{lookup, numbers_of}
 use Rattle.ob_watching.specs.Watches.{WatchOf, on_watch}
 use Rattle.ob_site_rules.specs.declared.request.Request.{Request}

@@ -3,7 +3,7 @@ use Rattle.std.proofs.Common.{◌≡◌, ℕ, ◌+◌, ◌≤◌, max, sym, ap, 
 use Rattle.ob_object.specs.Object.{Object}
 use Rattle.ob_tree.specs.Depths.{levels}
 use Rattle.ob_tree.specs.Shown.{row}
-use Rattle.ob_watching.specs.Asked.{OneWatch, PollChanges}
+use Rattle.ob_watching.specs.Operations.{OneWatch, PollChanges}
 use Rattle.ob_watching.specs.Watches.{World, acted, begun}
 use Rattle.ob_site_rules.specs.declared.request.Request.{Request}
 use Rattle.ob_site_rules.specs.Locating.{locate}

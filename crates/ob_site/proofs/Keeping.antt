@@ -5,7 +5,7 @@ use Rattle.ob_values.specs.declared.verb.Verb.{Verb}
 use Rattle.ob_values.specs.declared.verb.Verb.TheVariants.{Get}
 use Rattle.ob_object.specs.Object.{Object}
 use Rattle.ob_history.specs.declared.records.Filter.{Filter}
-use Rattle.ob_watching.specs.Asked.{Itself, NewWatch, Nowhere, OneWatch, Refused, Told}
+use Rattle.ob_watching.specs.Operations.{Itself, NewWatch, Nowhere, OneWatch, Refused, Told}
 use Rattle.ob_watching.specs.Tables.{lookup, numbers_of}
 use Rattle.ob_watching.specs.Watches.{World, Reply, WatchOf, acted, begun, ended, first_lease, is_full, made, on_watch}
 use Rattle.ob_site_rules.specs.declared.request.Request.{Request}

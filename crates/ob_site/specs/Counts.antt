@@ -1,6 +1,6 @@
 -- How many steps a request at a moment counts on a site: what it looks at and builds (oBIX 1.1, chapters 7 and 12).
 use Rattle.std.specs.Prelude.{◌≡◌, ℕ}
-use Rattle.ob_watching.specs.Asked.{OneWatch, PollChanges}
+use Rattle.ob_watching.specs.Operations.{OneWatch, PollChanges}
 use Rattle.ob_watching.specs.Watches.{begun}
 use Rattle.ob_site_rules.specs.declared.request.Request.{Request}
 use Rattle.ob_site_rules.specs.Locating.{locate}

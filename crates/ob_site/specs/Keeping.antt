@@ -4,7 +4,7 @@ use Rattle.ob_values.specs.declared.verb.Verb.{Verb}
 use Rattle.ob_values.specs.declared.verb.Verb.TheVariants.{Get}
 use Rattle.ob_object.specs.Object.{Object}
 use Rattle.ob_history.specs.declared.records.Filter.{Filter}
-use Rattle.ob_watching.specs.Asked.{Itself, NewWatch}
+use Rattle.ob_watching.specs.Operations.{Itself, NewWatch}
 use Rattle.ob_watching.specs.Watches.{WorldOf, first_lease}
 use Rattle.ob_site_rules.specs.declared.request.Request.{Request}
 use Rattle.ob_site_rules.specs.Build.{Path, Text}

@@ -1,6 +1,6 @@
 //! Requests to the site itself.
 ghost use Rattle.std.specs.Prelude.{◌≡◌, IfOk, OnOk, OnErr};
-ghost use Rattle.ob_watching.specs.Asked.{Itself};
+ghost use Rattle.ob_watching.specs.Operations.{Itself};
 ghost use Rattle.ob_watching.specs.Tables.{numbers_of};
 ghost use Rattle.ob_site_rules.specs.Actions.{act_itself, act_located};
 ghost use Rattle.ob_site_rules.specs.Locating.{locate};

@@ -1,6 +1,6 @@
 //! Requests that leave the state as it is: those to a watch, to the watch service, or to nothing.
 ghost use Rattle.std.specs.Prelude.{◌≡◌, ◌⊎◌, ℕ, ◌+◌, ◌<◌, ◌≤◌, ◌^◌, slice_index, IfOk, OnOk, OnErr, MatchBool, false, true};
-ghost use Rattle.ob_watching.specs.Asked.{NewWatch, Nowhere, OneWatch};
+ghost use Rattle.ob_watching.specs.Operations.{NewWatch, Nowhere, OneWatch};
 ghost use Rattle.ob_site_rules.specs.declared.request.Request.{Request as Asked};
 ghost use Rattle.ob_site_rules.specs.State.{roll};
 ghost use Rattle.ob_site_rules.specs.Watched.{WatchOperation};

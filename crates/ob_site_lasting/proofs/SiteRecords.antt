@@ -6,7 +6,7 @@ use Rattle.ob_values.specs.declared.verb.Verb.{Verb}
 use Rattle.ob_values.specs.declared.verb.Verb.TheVariants.{Get}
 use Rattle.ob_machine.specs.History.{after}
 use Rattle.ob_object.specs.Object.{Object}
-use Rattle.ob_watching.specs.Asked.{NewWatch}
+use Rattle.ob_watching.specs.Operations.{NewWatch}
 use Rattle.ob_watching.specs.Tables.{numbers_of}
 use Rattle.ob_watching.specs.Watches.{World, begun}
 use Rattle.ob_site_rules.specs.declared.request.Request.{Request}

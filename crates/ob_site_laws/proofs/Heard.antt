@@ -7,7 +7,7 @@ use Rattle.ob_values.proofs.Bools.{both_true, not_true}
 use Rattle.ob_object.specs.declared.kind.Kind.TheVariants as kind
 use Rattle.ob_object.specs.Object.{Object, listed-in_row}
 use Rattle.ob_object.specs.WellFormed.{has_name, named}
-use Rattle.ob_watching.specs.Asked.{Operation, Look, Renew, Add, Remove, PollChanges, PollRefresh, Delete, Refuse, Shows, Lists, Refuses, Out, Nil, Refused, Values, Nothing, Other, GivesOut}
+use Rattle.ob_watching.specs.Operations.{Operation, Look, Renew, Add, Remove, PollChanges, PollRefresh, Delete, Refuse, Shows, Lists, Refuses, Out, Nil, Refused, Values, Nothing, Other, GivesOut}
 use Rattle.ob_watching.specs.WatchOuts.{is_of_kind, without_name, is_dropped, number_in, feed_read, content_if, entry_read, entries_of, heard_entries, heard}
 use Rattle.ob_site_rules.specs.Build.{Text, under_href, valued, number_slot}
 use Rattle.ob_site_rules.specs.Computed.{watch_out}

@@ -1,7 +1,7 @@
 -- Worked rows of what is held of a feed through a filter without a bound, and of what the alarms tell.
 use Rattle.std.proofs.Common.{◌≡◌, ℕ, ◌+◌, List, [], length, refl, ap, arith}
 use Rattle.ob_object.specs.Object.{Object}
-use Rattle.ob_watching.specs.Asked.{Lists}
+use Rattle.ob_watching.specs.Operations.{Lists}
 use Rattle.ob_watching.specs.Watches.{Content}
 use Rattle.ob_site_rules.specs.declared.plan.Plan.{Plan}
 use Rattle.ob_site_laws.specs.SiteLaws.{of_plan}

@@ -6,7 +6,7 @@ use Rattle.std.proofs.lemmas.List.{same_from_push}
 use Rattle.ob_object.specs.declared.kind.Kind.TheVariants as kind
 use Rattle.ob_object.specs.Kinds.{number}
 use Rattle.ob_object.specs.Object.{Object}
-use Rattle.ob_watching.specs.Asked.{Told, Refused}
+use Rattle.ob_watching.specs.Operations.{Told, Refused}
 use Rattle.ob_site_rules.specs.Build.{Text}
 use Rattle.ob_site_rules.specs.declared.fault.Fault.{Fault}
 use Rattle.ob_site_rules.specs.declared.plan.Plan.{Plan}

@@ -7,7 +7,7 @@ use Rattle.ob_alarms.specs.declared.alarm.Alarm.{Alarm}
 use Rattle.ob_alarms.specs.declared.alarm.Event.{Event}
 use Rattle.ob_alarms.specs.declared.alarm.What.TheVariants as what
 use Rattle.ob_alarms.specs.declared.rule.Num.TheVariants.{Int}
-use Rattle.ob_watching.specs.Asked.{Lists}
+use Rattle.ob_watching.specs.Operations.{Lists}
 use Rattle.ob_site_rules.specs.Build.{Path}
 use Rattle.ob_site_rules.specs.Entries.{event_object}
 use Rattle.ob_site_rules.specs.declared.plan.Plan.{Plan}

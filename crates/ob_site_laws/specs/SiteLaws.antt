@@ -7,7 +7,7 @@ use Rattle.ob_object.specs.Object.{Object}
 use Rattle.ob_history.specs.declared.records.Filter.{Filter}
 use Rattle.ob_alarms.specs.Changes.{State as Board}
 use Rattle.ob_alarms.specs.Soundness.{EventsShowAlarms, AtMostOne}
-use Rattle.ob_watching.specs.Asked.{Lists}
+use Rattle.ob_watching.specs.Operations.{Lists}
 use Rattle.ob_watching.specs.Sites.{Site}
 use Rattle.ob_watching.specs.Tables.{lookup}
 use Rattle.ob_watching.specs.Watches.{Object as ObjectItem, Feed as FeedItem, Tracked, Item, Content, Reading, Watch, count, reading, IsSound}

@@ -10,7 +10,7 @@ use Rattle.ob_alarms.specs.Changes.{State as Board}
 use Rattle.ob_history.specs.declared.records.Record.{Record}
 use Rattle.ob_history.specs.declared.records.Filter.{Filter}
 use Rattle.ob_history.specs.Records.{is_before, is_after, passes as passes_record}
-use Rattle.ob_watching.specs.Asked.{Lists}
+use Rattle.ob_watching.specs.Operations.{Lists}
 use Rattle.ob_watching.specs.Watches.{Feed, changes_of, lists_some}
 use Rattle.ob_site_rules.specs.Build.{Text, Path}
 use Rattle.ob_site_rules.specs.declared.plan.Plan.{Plan}

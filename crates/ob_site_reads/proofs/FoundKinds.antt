@@ -3,7 +3,7 @@ use Rattle.std.proofs.Common.{◌≡◌, ℕ, cond, List, Option, Some, None, op
 use Rattle.ob_object.specs.declared.kind.Kind.{Kind}
 use Rattle.ob_object.specs.Object.{Object}
 use Rattle.ob_contracts.specs.Inherit.{or_else}
-use Rattle.ob_watching.specs.Asked.{NotFound, ObjectAt}
+use Rattle.ob_watching.specs.Operations.{NotFound, ObjectAt}
 use Rattle.ob_site_rules.specs.Actions.{is_of_watch}
 use Rattle.ob_site_rules.specs.Build.{Path}
 use Rattle.ob_site_rules.specs.declared.fault.Fault.TheVariants.{NoSuchObject, NotWatchable}

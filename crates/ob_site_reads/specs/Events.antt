@@ -2,7 +2,7 @@
 use Rattle.std.specs.Prelude.{ℕ, zero, List, [], map, Option, Some, None}
 use Rattle.ob_object.specs.Object.{Object}
 use Rattle.ob_alarms.specs.Changes.{State as Board}
-use Rattle.ob_watching.specs.Asked.{Lists}
+use Rattle.ob_watching.specs.Operations.{Lists}
 use Rattle.ob_site_rules.specs.Build.{Path}
 use Rattle.ob_site_rules.specs.declared.plan.Plan.{Plan}
 use Rattle.ob_site_rules.specs.State.{State}

@@ -1,7 +1,7 @@
 //! What an asked href names.
 ghost use Rattle.std.specs.Prelude.{◌≡◌, cond, Option, option_map, IfOk};
 ghost use Rattle.ob_object.specs.Object.{Object};
-ghost use Rattle.ob_watching.specs.Asked.{NotFound, ObjectAt};
+ghost use Rattle.ob_watching.specs.Operations.{NotFound, ObjectAt};
 ghost use Rattle.ob_site_rules.specs.declared.fault.Fault.TheVariants.{NotWatchable};
 ghost use Rattle.ob_site_rules.specs.declared.resource.Resource.TheVariants.{Node};
 ghost use Rattle.ob_site_rules.specs.Places.{place_at};

@@ -3,7 +3,7 @@
 use Rattle.std.specs.Prelude.{ℕ, Bool, cond, not, ◌&&◌, nat_eq, codes, List, [], ◌∷◌, ◌++◌, map, Some, is_none}
 use Rattle.ob_object.specs.declared.kind.Kind.TheVariants as kind
 use Rattle.ob_object.specs.Object.{Object, in_row}
-use Rattle.ob_watching.specs.Asked.{ContentOf, Shows, Lists, Refuses, ReadingOf, ReplyOf, Answered, Told, Out, Nil, Refused}
+use Rattle.ob_watching.specs.Operations.{ContentOf, Shows, Lists, Refuses, ReadingOf, ReplyOf, Answered, Told, Out, Nil, Refused}
 use Rattle.ob_watching.specs.WatchOuts.{is_of_kind}
 use Rattle.ob_site_rules.specs.Build.{Text, under_href, valued, number_slot}
 use Rattle.ob_site_rules.specs.declared.fault.Fault.{Fault}

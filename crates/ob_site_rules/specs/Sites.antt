@@ -4,7 +4,7 @@ use Rattle.std.specs.Str.{bytes_eq}
 use Rattle.url.specs.Parts.{Parts}
 use Rattle.ob_object.specs.Object.{Object}
 use Rattle.ob_history.specs.declared.records.Filter.{Filter}
-use Rattle.ob_watching.specs.Asked.{NotFound}
+use Rattle.ob_watching.specs.Operations.{NotFound}
 use Rattle.ob_watching.specs.Sites.{Site}
 use Rattle.ob_watching.specs.WatchOuts.{heard}
 use Rattle.ob_watching.specs.Watches.{WorldOf, act}

@@ -15,7 +15,7 @@ use Rattle.ob_object.specs.Object.{Object, empty_head, children}
 use Rattle.ob_object.specs.Paths.{is_path}
 use Rattle.ob_history.specs.declared.records.Filter.{Filter}
 use Rattle.ob_history.specs.Filters.{filter_of}
-use Rattle.ob_watching.specs.Asked.{Operation, Look, Renew, Add, Remove, PollChanges, PollRefresh, Delete, Refuse, Target, Itself, Nowhere, NewWatch, OneWatch, Found, ObjectAt, FeedAt, NotFound}
+use Rattle.ob_watching.specs.Operations.{Operation, Look, Renew, Add, Remove, PollChanges, PollRefresh, Delete, Refuse, Target, Itself, Nowhere, NewWatch, OneWatch, Found, ObjectAt, FeedAt, NotFound}
 use Rattle.ob_site_rules.specs.declared.request.Request.{Request}
 use Rattle.ob_site_rules.specs.declared.watch_part.WatchPart.TheVariants as parts
 use Rattle.ob_site_rules.specs.Build.{Text, Path, child, leaf, word}

@@ -5,7 +5,7 @@ use Rattle.ob_tree.specs.Laid.{head_at, paths}
 use Rattle.ob_tree.specs.Paths.{place_of}
 use Rattle.ob_tree.specs.declared.node.NodeId.{NodeId}
 use Rattle.ob_history.specs.declared.records.Filter.{Filter}
-use Rattle.ob_watching.specs.Asked.{ObjectAt, FeedAt, Refuses}
+use Rattle.ob_watching.specs.Operations.{ObjectAt, FeedAt, Refuses}
 use Rattle.ob_watching.specs.Sites.{Site}
 use Rattle.ob_watching.specs.Watches.{Item as Flagged, add_found, added, count}
 use Rattle.ob_marks_laws.specs.Watched.{IsOwnFound}

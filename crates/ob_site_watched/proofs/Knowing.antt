@@ -3,7 +3,7 @@ use Rattle.std.proofs.Common.{◌≡◌, ℕ, ◌≤◌, ◌==◌, Bool, true, f
 use Rattle.std.specs.Prelude.{option_and_then}
 use Rattle.std.specs.List.{AllByRecursion, filter}
 use Rattle.ob_object.specs.Object.{Object as Node}
-use Rattle.ob_watching.specs.Asked.{Look, Renew, Add, Remove, PollChanges, PollRefresh, Delete, Refuse}
+use Rattle.ob_watching.specs.Operations.{Look, Renew, Add, Remove, PollChanges, PollRefresh, Delete, Refuse}
 use Rattle.ob_watching.specs.Tables.{lookup, replace}
 use Rattle.ob_site_rules.specs.Build.{Path}
 use Rattle.ob_site_rules.specs.declared.fault.Fault.{Fault}

@@ -6,7 +6,7 @@ use Rattle.ob_watch.specs.Tables.{Leased, Table, at_number, holding, leased_for}
 use Rattle.ob_site_rules.specs.declared.fault.Fault.{Fault}
 use Rattle.ob_site_rules.specs.Watched.{WatchOperation}
 use Rattle.ob_site_state.specs.declared.contents.Contents.{Contents}
-use Rattle.ob_watching.specs.Asked.{PollChanges}
+use Rattle.ob_watching.specs.Operations.{PollChanges}
 use Rattle.ob_requests.specs.declared.target.Operation.{Operation}
 use Rattle.ob_requests.specs.declared.target.Operation.TheVariants as asks
 use Rattle.ob_requests.specs.Targets.{operation_of}

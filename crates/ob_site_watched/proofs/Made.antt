@@ -2,7 +2,7 @@
 use Rattle.std.proofs.Common.{◌≡◌, ℕ, Bool, true, false, cond, sym, ap, ◌∙◌}
 use Rattle.ob_object.specs.Object.{Object}
 use Rattle.ob_tree.specs.Trees.{Stamped}
-use Rattle.ob_watching.specs.Asked.{Refused, Told}
+use Rattle.ob_watching.specs.Operations.{Refused, Told}
 use Rattle.ob_watching.specs.Sites.{Site}
 use Rattle.ob_watching.specs.Watches.{World, Reply, first_lease, is_full, made}
 use Rattle.ob_site_rules.specs.Computed.{watch_part_object}

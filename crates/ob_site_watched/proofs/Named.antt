@@ -6,7 +6,7 @@ use Rattle.std.proofs.lemmas.List.{map-append}
 use Rattle.std.proofs.lemmas.List.Folds.{list_all-append}
 use Rattle.ob_object.specs.Object.{Object as Node}
 use Rattle.ob_history.specs.declared.records.Filter.{Filter}
-use Rattle.ob_watching.specs.Asked.{ObjectAt, FeedAt, NotFound, Refuses}
+use Rattle.ob_watching.specs.Operations.{ObjectAt, FeedAt, NotFound, Refuses}
 use Rattle.ob_watching.specs.Sites.{Site}
 use Rattle.ob_watching.specs.Watches.{Item, TrackedOf, Object, Feed, max_items, count, since, content_now, reading, changes, changes_of, lists_some, has_text, put_item, added, add_found, readings_added}
 use Rattle.ob_site_rules.specs.Build.{Text, Path, nameless as without_name, under_href}

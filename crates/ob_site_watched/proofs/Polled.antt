@@ -6,7 +6,7 @@ use Rattle.std.proofs.lemmas.List.{map-append, take_more}
 use Rattle.ob_values.proofs.Bools.{and_second}
 use Rattle.ob_object.specs.Object.{Object, parts, listed-in_row}
 use Rattle.ob_history.specs.declared.records.Filter.{Filter}
-use Rattle.ob_watching.specs.Asked.{Look, Renew, Add, Remove, PollChanges, PollRefresh, Delete, Refuse, OneWatch}
+use Rattle.ob_watching.specs.Operations.{Look, Renew, Add, Remove, PollChanges, PollRefresh, Delete, Refuse, OneWatch}
 use Rattle.ob_watching.specs.Tables.{lookup}
 use Rattle.ob_watching.specs.Watches.{TrackedOf, ItemOf, WatchOf, World, acted, changes, changes_of, on_watch}
 use Rattle.ob_watching.specs.Watches as rules

@@ -6,7 +6,7 @@ use Rattle.std.specs.Str.{bytes_eq}
 use Rattle.ob_object.specs.Object.{Object as Node}
 use Rattle.ob_history.specs.declared.records.Filter.{Filter}
 use Rattle.ob_tree.specs.Trees.{Stamped}
-use Rattle.ob_watching.specs.Asked.{Add, Refuses}
+use Rattle.ob_watching.specs.Operations.{Add, Refuses}
 use Rattle.ob_watching.specs.Sites.{Site}
 use Rattle.ob_watching.specs.Tables.{lookup, numbers_of, replace}
 use Rattle.ob_watching.specs.Watches.{ItemOf, WatchOf, add_found, added, has_text as has_flagged, items_added, max_items, put_item as put_flagged, reading, readings_added, touched, watch_after, with_items}

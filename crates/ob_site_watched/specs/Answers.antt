@@ -4,7 +4,7 @@ use Rattle.std.specs.List.{AllByRecursion}
 use Rattle.ob_object.specs.Object.{Object}
 use Rattle.ob_watching.specs.Tables.{lookup}
 use Rattle.ob_watching.specs.Watches.{acted, first_lease, on_watch, reply_to, touched}
-use Rattle.ob_watching.specs.Asked.{NewWatch}
+use Rattle.ob_watching.specs.Operations.{NewWatch}
 use Rattle.ob_site_rules.specs.declared.request.Request.{Request}
 use Rattle.ob_site_rules.specs.Computed.{watch_part_object}
 use Rattle.ob_site_rules.specs.declared.watch_part.WatchPart.TheVariants.{Whole}

@@ -1,6 +1,6 @@
 -- What an operation leaves of its watch, by marks. Watch.add, of which more is left, is told of apart.
 use Rattle.std.specs.Prelude.{◌≡◌, ℕ, Bool, true, false, Option, Some, None, option_and_then, Result, Ok, Err}
-use Rattle.ob_watching.specs.Asked.{Add, Renew, Remove, PollChanges, PollRefresh, Delete}
+use Rattle.ob_watching.specs.Operations.{Add, Renew, Remove, PollChanges, PollRefresh, Delete}
 use Rattle.ob_watching.specs.Tables.{lookup, replace}
 use Rattle.ob_site_rules.specs.declared.fault.Fault.{Fault}
 use Rattle.ob_site_rules.specs.Watched.{WatchOperation, lease_asked}

@@ -1,7 +1,7 @@
 -- An href that is asked for, before it is added.
 use Rattle.std.specs.Prelude.{◌≡◌, ℕ, List, Result, Ok, Err}
 use Rattle.ob_object.specs.Object.{Object}
-use Rattle.ob_watching.specs.Asked.{Refuses}
+use Rattle.ob_watching.specs.Operations.{Refuses}
 use Rattle.ob_watching.specs.Watches.{Item as Flagged, add_found, added}
 use Rattle.ob_site_rules.specs.Build.{Text}
 use Rattle.ob_site_rules.specs.Faults.{err}

@@ -9,7 +9,7 @@ use Rattle.ob_tree.specs.Depths.{depth_at, levels}
 use Rattle.ob_tree.specs.Laid.{paths}
 use Rattle.ob_tree.specs.Paths.{place_of}
 use Rattle.ob_tree.specs.Shown.{row}
-use Rattle.ob_watching.specs.Asked.{Look, Renew, Add, Remove, PollChanges, PollRefresh, Delete, Refuse, Itself, Nowhere, NewWatch, OneWatch}
+use Rattle.ob_watching.specs.Operations.{Look, Renew, Add, Remove, PollChanges, PollRefresh, Delete, Refuse, Itself, Nowhere, NewWatch, OneWatch}
 use Rattle.ob_watching.specs.Tables.{lookup}
 use Rattle.ob_watching.specs.Watches.{TrackedOf, ItemOf, WatchOf, WorldOf}
 use Rattle.ob_watching.specs.Watches as rules

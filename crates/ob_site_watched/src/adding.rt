@@ -9,7 +9,7 @@ ghost use Rattle.ob_watch.specs.Marks.{AreStampsPast};
 ghost use Rattle.ob_watch.specs.Tables.{lapsed_at};
 ghost use Rattle.ob_watch.specs.Undo.{Undoes};
 ghost use Rattle.ob_requests.specs.Calls.{firsts as firsts_of};
-ghost use Rattle.ob_watching.specs.Asked.{Add};
+ghost use Rattle.ob_watching.specs.Operations.{Add};
 ghost use Rattle.ob_watching.specs.Tables.{lookup, numbers_of};
 ghost use Rattle.ob_site_watched.specs.Answers.{AllKnown, IsDone};
 ghost use Rattle.ob_site_watched.specs.Putting.{ArePut, HasPut, IsPlaced, IsPut, OfHeld};

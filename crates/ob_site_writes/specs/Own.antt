@@ -28,6 +28,7 @@ abbrev pub put_faults : Kept → Path → Object → Option Object → Option Fa
 put_faults k p o None = option_or (target_fault o.head) (Some OtherShape)
 put_faults k p o (Some body) = option_or (target_fault o.head) (head_faults k p o (given_by k.now body))
 
+-- what a Put makes, and the reply, in the same way
 abbrev pub put_makes : Kept → Path → Object → Option Object → Object → State × Object
 put_makes k p o None d = (k.now, d)
 put_makes k p o (Some body) d = head_makes k p o (given_by k.now body) d

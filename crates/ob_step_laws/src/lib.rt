@@ -61,7 +61,7 @@ pub fn apart_are_of_one_kind()
     ensures { ApartAreOfOneKind }
 {}
 
-/// A state that is consistent with its plan (`IsConsistent` of ob_step_laws) is so with another slot at any path,
+/// A state that is consistent with its plan (`IsConsistent` of `specs/Consistent.antt`) is so with another slot at any path,
 /// with other logs of the same histories whose events can be counted, with another library, with other alarms,
 /// and once its histories have rolled.
 pub fn steps_stay_consistent()

@@ -16,7 +16,7 @@ use Rattle.ob_super.specs.Turns.{Standing, Down, Up}
 use Rattle.ob_super.specs.Trees.{View, Entry, shown_in, shown_at, view_of, views_of, entry_at}
 use Rattle.ob_super.specs.Rounds.{Rounds, Stops, PutsHere, Sends, SendsIf, Puts, not_supported}
 use Rattle.ob_super.specs.Supervised.{no_such_object, refused_at, RepliesTo, ManyRounds, StopsAmong}
-use Rattle.ob_super.specs.InHand as told
+use Rattle.ob_super.specs.InHand as in_hand
 use Rattle.ob_super.specs.InHand.{Outside, Goes, Stands, StandAll, RoundsAll, PutsAll, ManyAll, RepliesOr, RepliesAll, AnswersAll}
 use Rattle.ob_client.proofs.SessionLemmas.{never}
 use Rattle.ob_super.proofs.SuperLemmas.{told_before, part_less, goes_none, goes_then, held_stands}
@@ -114,69 +114,69 @@ module _ {L : Type 0} (left taken held : L → Option (List ℕ)) where
 
   -- ---- what is shown
 
-  view_at : (u : Upstream) (s : Standing) (live : Option (Live L)) → Stands left taken held u s live → view_of u s ≡ (let v : View = (u, told.held_in live) in v)
+  view_at : (u : Upstream) (s : Standing) (live : Option (Live L)) → Stands left taken held u s live → view_of u s ≡ (let v : View = (u, in_hand.held_in live) in v)
   view_at u Down None stands = refl
   view_at u Down (Some l) stands = absurd stands
   view_at u (Up calls) None stands = absurd stands
   view_at u (Up calls) (Some l) is = ap (λ (hs : List Held). let v : View = (u, Some hs) in v) (held_stands left taken held u (Up calls) (Some l) is)
 
-  views_at : (all : List (Followed L)) (ss : List Standing) → AllStand ss all → views_of (told.upstreams all) ss ≡ told.views all
+  views_at : (all : List (Followed L)) (ss : List Standing) → AllStand ss all → views_of (in_hand.upstreams all) ss ≡ in_hand.views all
   views_at [] [] are = refl
   views_at [] (s ∷ ss) are = absurd are
   views_at (f ∷ fs) [] are = absurd are
   views_at (f ∷ fs) (s ∷ ss) (first, others) =
-      ap (λ (v : View). v ∷ views_of (told.upstreams fs) ss) (view_at (told.upstream f.upstream) s f.live first) ∙ ap (λ (vs : List View). told.view f ∷ vs) (views_at fs ss others)
+      ap (λ (v : View). v ∷ views_of (in_hand.upstreams fs) ss) (view_at (in_hand.upstream f.upstream) s f.live first) ∙ ap (λ (vs : List View). in_hand.view f ∷ vs) (views_at fs ss others)
 
-  shown_standing : (all : List (Followed L)) (ss : List Standing) (path : Text) → AllStand ss all → shown_in (told.views all) path ≡ shown_at (told.upstreams all) ss path
+  shown_standing : (all : List (Followed L)) (ss : List Standing) (path : Text) → AllStand ss all → shown_in (in_hand.views all) path ≡ shown_at (in_hand.upstreams all) ss path
   shown_standing all ss path are = ap (λ (vs : List View). shown_in vs path) (sym (views_at all ss are))
 
   -- ---- replies
 
-  pub replies_got : (o : Outside) (all : List (Followed L)) (path : Text) (body : Option Object) (r : Result Object AllocError) → IfOk r (λ x. x ≡ unwrap_or (shown_in (told.views all) path) no_such_object)
-      → RepliesAll left taken held o o all all (told.request Get path body) (told.replied_by r)
+  pub replies_got : (o : Outside) (all : List (Followed L)) (path : Text) (body : Option Object) (r : Result Object AllocError) → IfOk r (λ x. x ≡ unwrap_or (shown_in (in_hand.views all) path) no_such_object)
+      → RepliesAll left taken held o o all all (in_hand.request Get path body) (in_hand.replied_by r)
   replies_got o all path body r is = λ olds are. (olds, [], goes_none o, of olds are r is, are)
     where
-      of : (olds : List Standing) → AllStand olds all → (r : Result Object AllocError) → IfOk r (λ x. x ≡ unwrap_or (shown_in (told.views all) path) no_such_object)
-          → RepliesOr left taken held (IsSome o.visits) (told.upstreams all) olds olds (told.request Get path body) [] (told.replied_by r)
+      of : (olds : List Standing) → AllStand olds all → (r : Result Object AllocError) → IfOk r (λ x. x ≡ unwrap_or (shown_in (in_hand.views all) path) no_such_object)
+          → RepliesOr left taken held (IsSome o.visits) (in_hand.upstreams all) olds olds (in_hand.request Get path body) [] (in_hand.replied_by r)
       of olds are (Ok x) is = (is ∙ ap (λ (s : Option Object). unwrap_or s no_such_object) (shown_standing all olds path are), refl, refl)
       of olds are (Err e) is = (refl, refl)
 
-  pub replies_post : (o : Outside) (all : List (Followed L)) (path : Text) (body : Option Object) (r : Result Object AllocError) → IfOk r (λ x. x ≡ refused_at (is_some (shown_in (told.views all) path)))
-      → RepliesAll left taken held o o all all (told.request Post path body) (told.replied_by r)
+  pub replies_post : (o : Outside) (all : List (Followed L)) (path : Text) (body : Option Object) (r : Result Object AllocError) → IfOk r (λ x. x ≡ refused_at (is_some (shown_in (in_hand.views all) path)))
+      → RepliesAll left taken held o o all all (in_hand.request Post path body) (in_hand.replied_by r)
   replies_post o all path body r is = λ olds are. (olds, [], goes_none o, of olds are r is, are)
     where
-      of : (olds : List Standing) → AllStand olds all → (r : Result Object AllocError) → IfOk r (λ x. x ≡ refused_at (is_some (shown_in (told.views all) path)))
-          → RepliesOr left taken held (IsSome o.visits) (told.upstreams all) olds olds (told.request Post path body) [] (told.replied_by r)
+      of : (olds : List Standing) → AllStand olds all → (r : Result Object AllocError) → IfOk r (λ x. x ≡ refused_at (is_some (shown_in (in_hand.views all) path)))
+          → RepliesOr left taken held (IsSome o.visits) (in_hand.upstreams all) olds olds (in_hand.request Post path body) [] (in_hand.replied_by r)
       of olds are (Ok x) is = (is ∙ ap (λ (s : Option Object). refused_at (is_some s)) (shown_standing all olds path are), refl, refl)
       of olds are (Err e) is = (refl, refl)
 
   pub replies_put : (before after : Outside) (old new : List (Followed L)) (path : Text) (body : Option Object) (reply : Object) → PutsAll left taken held before after old new path body (Ok (Some reply))
-      → RepliesAll left taken held before after old new (told.request Put path body) (Some reply)
+      → RepliesAll left taken held before after old new (in_hand.request Put path body) (Some reply)
   replies_put before after old new path body reply puts = λ olds are. let p = puts olds are in (p.0, p.1, p.2, (Some reply, p.3, refl), p.4)
 
-  pub replies_unput : (before after : Outside) (old new : List (Followed L)) (path : Text) (body : Option Object) (r : Result Object AllocError) → told.upstreams new ≡ told.upstreams old
-      → PutsAll left taken held before after old new path body (Ok None) → IfOk r (λ x. x ≡ refused_at (is_some (shown_in (told.views new) path)))
-      → RepliesAll left taken held before after old new (told.request Put path body) (told.replied_by r)
+  pub replies_unput : (before after : Outside) (old new : List (Followed L)) (path : Text) (body : Option Object) (r : Result Object AllocError) → in_hand.upstreams new ≡ in_hand.upstreams old
+      → PutsAll left taken held before after old new path body (Ok None) → IfOk r (λ x. x ≡ refused_at (is_some (shown_in (in_hand.views new) path)))
+      → RepliesAll left taken held before after old new (in_hand.request Put path body) (in_hand.replied_by r)
   replies_unput before after old new path body r same puts is = λ olds are. let p = puts olds are in (p.0, p.1, p.2, of olds p.0 p.1 p.3 p.4 r is, p.4)
     where
-      of : (olds news : List Standing) (vs : List Visit) → Puts (IsSome after.visits) (told.upstreams old) olds news path body vs (Ok None) → AllStand news new → (r : Result Object AllocError)
-          → IfOk r (λ x. x ≡ refused_at (is_some (shown_in (told.views new) path))) → RepliesOr left taken held (IsSome after.visits) (told.upstreams old) olds news (told.request Put path body) vs (told.replied_by r)
+      of : (olds news : List Standing) (vs : List Visit) → Puts (IsSome after.visits) (in_hand.upstreams old) olds news path body vs (Ok None) → AllStand news new → (r : Result Object AllocError)
+          → IfOk r (λ x. x ≡ refused_at (is_some (shown_in (in_hand.views new) path))) → RepliesOr left taken held (IsSome after.visits) (in_hand.upstreams old) olds news (in_hand.request Put path body) vs (in_hand.replied_by r)
       of olds news vs p stand (Ok x) is = (
         None,
         p,
         is ∙ ap (λ (s : Option Object). refused_at (is_some s)) (shown_standing new news path stand
-            ∙ ap (λ (us : List Upstream). shown_at us news path) same ∙ ap (λ (ss : List Standing). shown_at (told.upstreams old) ss path) (puts_same (IsSome after.visits) (told.upstreams old) olds news path body vs p)),
+            ∙ ap (λ (us : List Upstream). shown_at us news path) same ∙ ap (λ (ss : List Standing). shown_at (in_hand.upstreams old) ss path) (puts_same (IsSome after.visits) (in_hand.upstreams old) olds news path body vs p)),
       )
       of olds news vs p stand (Err e) is = (Ok None, tt, p)
 
   pub replies_lacked : (before after : Outside) (old new : List (Followed L)) (path : Text) (body : Option Object) (r : Result Object AllocError) {e : AllocError} → IsErr r
-      → PutsAll left taken held before after old new path body (Err e) → RepliesAll left taken held before after old new (told.request Put path body) (told.replied_by r)
+      → PutsAll left taken held before after old new path body (Err e) → RepliesAll left taken held before after old new (in_hand.request Put path body) (in_hand.replied_by r)
   replies_lacked before after old new path body (Ok x) is puts = never is
   replies_lacked before after old new path body (Err x) {e} is puts = λ olds are. let p = puts olds are in (p.0, p.1, p.2, (Err e, tt, p.3), p.4)
 
   -- ---- a round, and a reply
 
-  pub answers : (before mid after : Outside) (old mids new : List (Followed L)) (q : Request) (r : Option Object) (x : Unit {0}) → told.upstreams mids ≡ told.upstreams old
+  pub answers : (before mid after : Outside) (old mids new : List (Followed L)) (q : Request) (r : Option Object) (x : Unit {0}) → in_hand.upstreams mids ≡ in_hand.upstreams old
       → RoundsAll left taken held before mid old mids (Ok x) → RepliesAll left taken held mid after mids new q r → AnswersAll left taken held before after old new q r
   answers before mid after old mids new q r x same rounds replies = λ olds are.
       let p = rounds olds are in
@@ -186,18 +186,18 @@ module _ {L : Type 0} (left taken held : L → Option (List ℕ)) where
         p.2 ++ a.1,
         subst (λ (ds : List Dial). Goes before ds (p.2 ++ a.1) after) (append-nil p.1) (goes_then before mid after p.1 [] p.2 a.1 p.3 a.2),
         of r olds p.0 a.0 p.1 p.2 a.1
-            (rounds_less (IsSome mid.visits) (IsSome after.visits) (λ t. told_before mid.visits after.visits a.1 a.2.back t) (told.upstreams old) olds p.0 p.1 p.2 p.4)
+            (rounds_less (IsSome mid.visits) (IsSome after.visits) (λ t. told_before mid.visits after.visits a.1 a.2.back t) (in_hand.upstreams old) olds p.0 p.1 p.2 p.4)
             (subst (λ (us : List Upstream). RepliesOr left taken held (IsSome after.visits) us p.0 a.0 q a.1 r) same a.3),
         a.4,
       )
     where
-      of : (r : Option Object) (olds rounded news : List Standing) (ds : List Dial) (v w : List Visit) → Rounds (IsSome after.visits) (told.upstreams old) olds rounded ds v
-          → RepliesOr left taken held (IsSome after.visits) (told.upstreams old) rounded news q w r → RepliesTo (IsSome after.visits) (told.upstreams old) olds news q r ds (v ++ w)
+      of : (r : Option Object) (olds rounded news : List Standing) (ds : List Dial) (v w : List Visit) → Rounds (IsSome after.visits) (in_hand.upstreams old) olds rounded ds v
+          → RepliesOr left taken held (IsSome after.visits) (in_hand.upstreams old) rounded news q w r → RepliesTo (IsSome after.visits) (in_hand.upstreams old) olds news q r ds (v ++ w)
       of (Some reply) olds rounded news ds v w round replies = record { rounded = rounded; in_round = v; in_reply = w; visits_are = refl; round = round; replies = replies }
       of None olds rounded news ds v w round lacks = record { rounded = rounded; in_round = v; in_reply = w; visits_are = refl; lacks = inr (round, lacks) }
 
   pub answers_not : (before after : Outside) (old new : List (Followed L)) (q : Request) (r : Result Object AllocError) {e : AllocError} → IsErr r
-      → RoundsAll left taken held before after old new (Err e) → AnswersAll left taken held before after old new q (told.replied_by r)
+      → RoundsAll left taken held before after old new (Err e) → AnswersAll left taken held before after old new q (in_hand.replied_by r)
   answers_not before after old new q (Ok x) is rounds = never is
   answers_not before after old new q (Err x) is rounds = λ olds are.
       let p = rounds olds are in
@@ -208,7 +208,7 @@ module _ {L : Type 0} (left taken held : L → Option (List ℕ)) where
   pub many_none : (o : Outside) (all : List (Followed L)) → ManyAll left taken held o o all all 0 (Ok tt)
   many_none o all = λ olds are. (olds, [], [], goes_none o, (refl, refl, refl), are)
 
-  pub many_more : (before mid after : Outside) (old mids new : List (Followed L)) (n : ℕ) (x y z : Unit {0}) → told.upstreams mids ≡ told.upstreams old
+  pub many_more : (before mid after : Outside) (old mids new : List (Followed L)) (n : ℕ) (x y z : Unit {0}) → in_hand.upstreams mids ≡ in_hand.upstreams old
       → ManyAll left taken held before mid old mids n (Ok x) → RoundsAll left taken held mid after mids new (Ok y) → ManyAll left taken held before after old new (n + 1) (Ok z)
   many_more before mid after old mids new n x y z same many rounds = λ olds are.
       let p = many olds are in
@@ -217,14 +217,14 @@ module _ {L : Type 0} (left taken held : L → Option (List ℕ)) where
         p.1 ++ a.1,
         p.2 ++ a.2,
         goes_then before mid after p.1 a.1 p.2 a.2 p.3 a.3,
-        subst (λ (m : ℕ). ManyRounds (IsSome after.visits) (told.upstreams old) m olds a.0 (p.1 ++ a.1) (p.2 ++ a.2)) (sym (add-one n))
-            (more_rounds (IsSome after.visits) (told.upstreams old) n olds p.0 a.0 p.1 a.1 p.2 a.2
-            (many_less (IsSome mid.visits) (IsSome after.visits) (λ t. told_before mid.visits after.visits a.2 a.3.back t) (told.upstreams old) n olds p.0 p.1 p.2 p.4)
+        subst (λ (m : ℕ). ManyRounds (IsSome after.visits) (in_hand.upstreams old) m olds a.0 (p.1 ++ a.1) (p.2 ++ a.2)) (sym (add-one n))
+            (more_rounds (IsSome after.visits) (in_hand.upstreams old) n olds p.0 a.0 p.1 a.1 p.2 a.2
+            (many_less (IsSome mid.visits) (IsSome after.visits) (λ t. told_before mid.visits after.visits a.2 a.3.back t) (in_hand.upstreams old) n olds p.0 p.1 p.2 p.4)
             (subst (λ (us : List Upstream). Rounds (IsSome after.visits) us p.0 a.0 a.1 a.2) same a.4)),
         a.5,
       )
 
-  pub many_stop : (before mid after : Outside) (old mids new : List (Followed L)) (n m : ℕ) (x : Unit {0}) (r : Result (Unit {0}) AllocError) {e : AllocError} → IsErr r → n < m → told.upstreams mids ≡ told.upstreams old
+  pub many_stop : (before mid after : Outside) (old mids new : List (Followed L)) (n m : ℕ) (x : Unit {0}) (r : Result (Unit {0}) AllocError) {e : AllocError} → IsErr r → n < m → in_hand.upstreams mids ≡ in_hand.upstreams old
       → ManyAll left taken held before mid old mids n (Ok x) → RoundsAll left taken held mid after mids new (Err e) → ManyAll left taken held before after old new m r
   many_stop before mid after old mids new n m x (Ok y) is lt same many rounds = never is
   many_stop before mid after old mids new n m x (Err y) is lt same many rounds = λ olds are.
@@ -234,8 +234,8 @@ module _ {L : Type 0} (left taken held : L → Option (List ℕ)) where
         p.1 ++ a.1,
         p.2 ++ a.2,
         goes_then before mid after p.1 a.1 p.2 a.2 p.3 a.3,
-        then_stops (IsSome after.visits) (told.upstreams old) n m olds p.0 a.0 p.1 a.1 p.2 a.2 lt
-            (many_less (IsSome mid.visits) (IsSome after.visits) (λ t. told_before mid.visits after.visits a.2 a.3.back t) (told.upstreams old) n olds p.0 p.1 p.2 p.4)
+        then_stops (IsSome after.visits) (in_hand.upstreams old) n m olds p.0 a.0 p.1 a.1 p.2 a.2 lt
+            (many_less (IsSome mid.visits) (IsSome after.visits) (λ t. told_before mid.visits after.visits a.2 a.3.back t) (in_hand.upstreams old) n olds p.0 p.1 p.2 p.4)
             (subst (λ (us : List Upstream). Stops (IsSome after.visits) us p.0 a.0 a.1 a.2) same a.4),
         a.5,
       )

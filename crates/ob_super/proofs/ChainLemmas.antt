@@ -19,7 +19,7 @@ use Rattle.ob_super.specs.Turns.{Standing, Down, Up, after}
 use Rattle.ob_super.specs.Trees.{Entry, entry_at}
 use Rattle.ob_super.specs.Rounds.{Stops, Lacks, BackForMemory, PutsHere, Sends, SendsIf, SendsTo, Puts, Ends}
 use Rattle.ob_super.specs.Supervised.{RepliesBy, LacksReply, Asked, RepliesTo, Supervises, StopsAmong, all_down}
-use Rattle.ob_super.specs.InHand as told
+use Rattle.ob_super.specs.InHand as in_hand
 use Rattle.ob_super.specs.InHand.{Outside, Goes, Stands, StandAll, EndsAll, ManyAll, AnswersAll, SupervisesAll, RunsAll, StopsAll}
 use Rattle.ob_super.proofs.SuperLemmas.{told_before, breaks_next_less, back_less, part_less, goes_none, goes_then}
 use Rattle.ob_super.proofs.AnswerLemmas.{rounds_less, many_less}
@@ -127,8 +127,8 @@ module _ {L : Type 0} (left taken held : L → Option (List ℕ)) where
   pub supervises_none : (o : Outside) (all : List (Followed L)) → SupervisesAll left taken held o o all all []
   supervises_none o all = λ olds are. (olds, [], [], goes_none o, (refl, refl, refl), are)
 
-  pub supervises_more : (before mid after : Outside) (old mids new : List (Followed L)) (q : Request) (reply : Option Object) (qs : List Asked) → told.upstreams mids ≡ told.upstreams old
-      → AnswersAll left taken held before mid old mids q reply → SupervisesAll left taken held mid after mids new qs → SupervisesAll left taken held before after old new (told.asked q reply ∷ qs)
+  pub supervises_more : (before mid after : Outside) (old mids new : List (Followed L)) (q : Request) (reply : Option Object) (qs : List Asked) → in_hand.upstreams mids ≡ in_hand.upstreams old
+      → AnswersAll left taken held before mid old mids q reply → SupervisesAll left taken held mid after mids new qs → SupervisesAll left taken held before after old new (in_hand.asked q reply ∷ qs)
   supervises_more before mid after old mids new q reply qs same first rest = λ olds are.
       let p = first olds are in
       let a = rest p.0 p.5 in (
@@ -144,7 +144,7 @@ module _ {L : Type 0} (left taken held : L → Option (List ℕ)) where
           a.2,
           refl,
           refl,
-          replies_less (IsSome mid.visits) (IsSome after.visits) (λ t. told_before mid.visits after.visits a.2 a.3.back t) (told.upstreams old) olds p.0 q reply p.1 p.2 p.4,
+          replies_less (IsSome mid.visits) (IsSome after.visits) (λ t. told_before mid.visits after.visits a.2 a.3.back t) (in_hand.upstreams old) olds p.0 q reply p.1 p.2 p.4,
           subst (λ (us : List Upstream). Supervises (IsSome after.visits) us p.0 a.0 qs a.1 a.2) same a.4,
         ),
         a.5,
@@ -152,19 +152,19 @@ module _ {L : Type 0} (left taken held : L → Option (List ℕ)) where
 
   -- ---- a whole run
 
-  pub down_stand : (all : List (Followed L)) → AllByRecursion (λ (f : Followed L). f.live ≡ None) all → AllStand (all_down (told.upstreams all)) all
+  pub down_stand : (all : List (Followed L)) → AllByRecursion (λ (f : Followed L). f.live ≡ None) all → AllStand (all_down (in_hand.upstreams all)) all
   down_stand [] down = tt
-  down_stand (f ∷ fs) (none, rest) = (subst (λ (live : Option (Live L)). Stands left taken held (told.upstream f.upstream) Down live) (sym none) tt, down_stand fs rest)
+  down_stand (f ∷ fs) (none, rest) = (subst (λ (live : Option (Live L)). Stands left taken held (in_hand.upstream f.upstream) Down live) (sym none) tt, down_stand fs rest)
 
   pub runs : (before mid late after : Outside) (old begun last : List (Followed L)) (n : ℕ) (x : Unit {0}) (qs : List Asked) → AllByRecursion (λ (f : Followed L). f.live ≡ None) old
-      → told.upstreams begun ≡ told.upstreams old → told.upstreams last ≡ told.upstreams begun
+      → in_hand.upstreams begun ≡ in_hand.upstreams old → in_hand.upstreams last ≡ in_hand.upstreams begun
       → ManyAll left taken held before mid old begun n (Ok x) → SupervisesAll left taken held mid late begun last qs → EndsAll left taken held late after last
-      → RunsAll before after (told.upstreams old) n qs
+      → RunsAll before after (in_hand.upstreams old) n qs
   runs before mid late after old begun last n x qs down same still many asked ends =
-      let p = many (all_down (told.upstreams old)) (down_stand old down) in
+      let p = many (all_down (in_hand.upstreams old)) (down_stand old down) in
       let a = asked p.0 p.5 in
       let e = ends a.0 a.5 in
-      let us = told.upstreams old in
+      let us = in_hand.upstreams old in
       let lost = λ (t : IsSome after.visits). told_before late.visits after.visits e.0 e.1.back t in (
         p.1 ++ a.1,
         p.2 ++ (a.2 ++ e.0),
@@ -181,7 +181,7 @@ module _ {L : Type 0} (left taken held : L → Option (List ℕ)) where
           dials_are = refl;
           visits_are = refl;
           before = many_less (IsSome mid.visits) (IsSome after.visits) (λ t. told_before mid.visits late.visits a.2 a.3.back (lost t)) us n (all_down us) p.0 p.1 p.2 p.4;
-          replies = subst (λ (vs : List Upstream). Supervises (IsSome after.visits) vs p.0 a.0 qs a.1 a.2) same (supervises_less (IsSome late.visits) (IsSome after.visits) lost (told.upstreams begun) p.0 a.0 qs a.1 a.2 a.4);
+          replies = subst (λ (vs : List Upstream). Supervises (IsSome after.visits) vs p.0 a.0 qs a.1 a.2) same (supervises_less (IsSome late.visits) (IsSome after.visits) lost (in_hand.upstreams begun) p.0 a.0 qs a.1 a.2 a.4);
           ends = subst (λ (vs : List Upstream). Ends (IsSome after.visits) vs a.0 e.0) (still ∙ same) e.2;
         },
       )
@@ -194,12 +194,12 @@ module _ {L : Type 0} (left taken held : L → Option (List ℕ)) where
   ]
 
   pub stops : (before mid after : Outside) (old last : List (Followed L)) (n : ℕ) (x : AllocError) → AllByRecursion (λ (f : Followed L). f.live ≡ None) old
-      → told.upstreams last ≡ told.upstreams old → ManyAll left taken held before mid old last n (Err x) → EndsAll left taken held mid after last
-      → StopsAll before after (told.upstreams old) n
+      → in_hand.upstreams last ≡ in_hand.upstreams old → ManyAll left taken held before mid old last n (Err x) → EndsAll left taken held mid after last
+      → StopsAll before after (in_hand.upstreams old) n
   stops before mid after old last n x down same many ends =
-      let p = many (all_down (told.upstreams old)) (down_stand old down) in
+      let p = many (all_down (in_hand.upstreams old)) (down_stand old down) in
       let e = ends p.0 p.5 in
-      let us = told.upstreams old in (
+      let us = in_hand.upstreams old in (
         p.1,
         p.2 ++ e.0,
         subst (λ (ds : List Dial). Goes before ds (p.2 ++ e.0) after) (append-nil p.1) (goes_then before mid after p.1 [] p.2 e.0 p.3 e.1),

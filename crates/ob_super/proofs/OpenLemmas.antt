@@ -13,7 +13,7 @@ use Rattle.ob_asking.specs.Wires.{Wire}
 use Rattle.ob_asking.specs.declared.fault.Fault.{Fault}
 use Rattle.ob_super.specs.Upstreams.{Upstream}
 use Rattle.ob_super.specs.declared.asking.Watch.{Watch}
-use Rattle.ob_super.specs.InHand as told
+use Rattle.ob_super.specs.InHand as in_hand
 use Rattle.ob_super.specs.Calls.{Stage, Lobby, Service, Make, Adding, Said, said, asking, added, to_add, request_at, led, next, spoken}
 use Rattle.ob_super.specs.Turns.{is_polling}
 use Rattle.ob_super.specs.Links.{HasSaid, HasBroken}
@@ -89,7 +89,7 @@ opens_not u s old new f going b = elim b [
 
 -- ---- the calls of an opening
 
-both_led : (a b : Option Place) → option_map (λ (p : Text × Text). let s : Stage = Adding p.0 p.1 in s) (told.both_targets a b) ≡ to_add a b
+both_led : (a b : Option Place) → option_map (λ (p : Text × Text). let s : Stage = Adding p.0 p.1 in s) (in_hand.both_targets a b) ≡ to_add a b
 both_led None b = refl
 both_led (Some a) None = refl
 both_led (Some a) (Some b) = refl
@@ -104,16 +104,16 @@ pub lead_service : (h : Text) (u : Upstream) (place : Place) (old new : Wire) (r
 lead_service h u place old new r hs b =
     lead h (get place) (λ o. child_place place.url o (codes "make")) Make u (Service place) old new r hs refl (λ o. unless_err_map Make (is_err o) (child_place place.url o (codes "make"))) b
 
-pub lead_make : (h : Text) (u : Upstream) (place : Place) (old new : Wire) (r : Result (Text × Text) Fault) → h ≡ host u → Brings h (asking place.target None) (told.ops_in place) old new r
+pub lead_make : (h : Text) (u : Upstream) (place : Place) (old new : Wire) (r : Result (Text × Text) Fault) → h ≡ host u → Brings h (asking place.target None) (in_hand.ops_in place) old new r
     → Brings (host u) (request_at u (Make place)) (led u (Make place)) old new (map_result (λ (p : Text × Text). let s : Stage = Adding p.0 p.1 in s) r)
 lead_make h u place old new r hs b =
     let f = λ (p : Text × Text). let s : Stage = Adding p.0 p.1 in s in
-    lead h (asking place.target None) (told.ops_in place) f u (Make place) old new r hs refl
-    (λ o. unless_err_map f (is_err o) (told.ops_in place o) ∙ ap (cond (is_err o) None) (both_led (child_place place.url o (codes "add")) (child_place place.url o (codes "pollChanges")))) b
+    lead h (asking place.target None) (in_hand.ops_in place) f u (Make place) old new r hs refl
+    (λ o. unless_err_map f (is_err o) (in_hand.ops_in place o) ∙ ap (cond (is_err o) None) (both_led (child_place place.url o (codes "add")) (child_place place.url o (codes "pollChanges")))) b
 
-pub opens_add : (h : Text) (u : Upstream) (add changes : Text) (old new : Wire) (r : Result Watch Fault) → h ≡ host u → Brings h (asking add (Some (watch_in u.hrefs))) (added changes) old new (told.opened r)
-    → Opens u (Adding add changes) old new (told.opened r)
+pub opens_add : (h : Text) (u : Upstream) (add changes : Text) (old new : Wire) (r : Result Watch Fault) → h ≡ host u → Brings h (asking add (Some (watch_in u.hrefs))) (added changes) old new (in_hand.opened r)
+    → Opens u (Adding add changes) old new (in_hand.opened r)
 opens_add h u add changes old new (Ok w) hs b =
-    opens_last u (Adding add changes) (told.polling w) old new refl refl (subst (λ (z : Text). Brings z (asking add (Some (watch_in u.hrefs))) (added changes) old new (Ok (told.polling w))) hs b)
+    opens_last u (Adding add changes) (in_hand.polling w) old new refl refl (subst (λ (z : Text). Brings z (asking add (Some (watch_in u.hrefs))) (added changes) old new (Ok (in_hand.polling w))) hs b)
 opens_add h u add changes old new (Err e) hs b =
     opens_not u (Adding add changes) old new e refl (subst (λ (z : Text). Brings {T = Stage} z (asking add (Some (watch_in u.hrefs))) (added changes) old new (Err e)) hs b)

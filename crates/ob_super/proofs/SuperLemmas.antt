@@ -20,7 +20,7 @@ use Rattle.ob_super.specs.Turns.{Turn, Dialled, Reply, Broken, Standing, Down, U
 use Rattle.ob_super.specs.Trees.{Entry, placed, object_path, the_entry, entry_in, entry_at}
 use Rattle.ob_super.specs.Links.{IsBack, IsBroken}
 use Rattle.ob_super.specs.Rounds.{host, ComesBack, BreaksAt, BreaksNext, BackIfDown, AreBackAt, AreBack, Part, Rounded, PutsHere, Puts, Sends, Ends, upstream_down, not_supported}
-use Rattle.ob_super.specs.InHand as told
+use Rattle.ob_super.specs.InHand as in_hand
 use Rattle.ob_super.specs.InHand.{Outside, Goes, Stands, Follows, StandAll, RoundsAll, SendsOn, PutsTo, HasSent, MayPut, PutsOne, PutsAll, EndsAll, HasEntry}
 use Rattle.ob_client.proofs.SessionLemmas.{never}
 use Rattle.ob_super.proofs.SaidLemmas.{unasked}
@@ -91,36 +91,36 @@ module _ {L : Type 0} (left taken held : L → Option (List ℕ)) where
   rounds_none o all e = subst (λ (x : List (Followed L)). RoundsAll left taken held o o x x (Ok tt)) (sym (no_length all e)) (rounds_empty o)
 
   pub rounds_stop : (before after : Outside) (f g : Followed L) (rest : List (Followed L)) (r : Result (Unit {0}) AllocError) {e : AllocError} → IsErr r → g.upstream ≡ f.upstream
-      → ((old : Standing) → Stands left taken held (told.upstream f.upstream) old f.live → Follows left taken held before after (told.upstream f.upstream) old g.live (Err e))
+      → ((old : Standing) → Stands left taken held (in_hand.upstream f.upstream) old f.live → Follows left taken held before after (in_hand.upstream f.upstream) old g.live (Err e))
       → RoundsAll left taken held before after (f ∷ rest) (g ∷ rest) r
   rounds_stop before after f g rest (Ok x) is same follows = never is
   rounds_stop before after f g rest (Err x) is same follows = λ olds are. of olds are
     where
-      down : (live : Option (Live L)) → live ≡ None → Stands left taken held (told.upstream g.upstream) Down live
+      down : (live : Option (Live L)) → live ≡ None → Stands left taken held (in_hand.upstream g.upstream) Down live
       down None d = tt
       down (Some l) d = absurd (let x : Some l ≡ None = d in cc)
 
       of : (olds : List Standing) → AllStand olds (f ∷ rest) → (news : List Standing) × (dials : List Dial) × (visits : List Visit)
-          × Goes before dials visits after × Rounded (IsSome after.visits) (told.upstreams (f ∷ rest)) olds news dials visits (Err x) × AllStand news (g ∷ rest)
+          × Goes before dials visits after × Rounded (IsSome after.visits) (in_hand.upstreams (f ∷ rest)) olds news dials visits (Err x) × AllStand news (g ∷ rest)
       of [] are = absurd are
       of (s ∷ ss) (first, others) =
           let p = follows s first in
           (Down ∷ ss, p.0.0, p.0.1, p.0.2, inl (p.0.3, refl, refl), (down g.live p.1, others))
 
   pub rounds_more : (before mid after : Outside) (f g : Followed L) (rest more : List (Followed L)) (r : Result (Unit {0}) AllocError) (x : Unit {0}) → g.upstream ≡ f.upstream
-      → ((old : Standing) → Stands left taken held (told.upstream f.upstream) old f.live → Follows left taken held before mid (told.upstream f.upstream) old g.live (Ok x))
+      → ((old : Standing) → Stands left taken held (in_hand.upstream f.upstream) old f.live → Follows left taken held before mid (in_hand.upstream f.upstream) old g.live (Ok x))
       → RoundsAll left taken held mid after rest more r
       → RoundsAll left taken held before after (f ∷ rest) (g ∷ more) r
   rounds_more before mid after f g rest more r x same follows rounds = λ olds are. of olds are
     where
       put : (r : Result (Unit {0}) AllocError) (old new : Standing) (olds news : List Standing) (d ds : List Dial) (v vs : List Visit)
-          → Part (IsSome after.visits) (told.upstream f.upstream) old new d v → Rounded (IsSome after.visits) (told.upstreams rest) olds news ds vs r
-          → Rounded (IsSome after.visits) (told.upstreams (f ∷ rest)) (old ∷ olds) (new ∷ news) (d ++ ds) (v ++ vs) r
+          → Part (IsSome after.visits) (in_hand.upstream f.upstream) old new d v → Rounded (IsSome after.visits) (in_hand.upstreams rest) olds news ds vs r
+          → Rounded (IsSome after.visits) (in_hand.upstreams (f ∷ rest)) (old ∷ olds) (new ∷ news) (d ++ ds) (v ++ vs) r
       put (Ok y) old new olds news d ds v vs p q = (d, ds, v, vs, refl, refl, p, q)
       put (Err e) old new olds news d ds v vs p q = inr (d, ds, v, vs, refl, refl, p, q)
 
       of : (olds : List Standing) → AllStand olds (f ∷ rest) → (news : List Standing) × (dials : List Dial) × (visits : List Visit)
-          × Goes before dials visits after × Rounded (IsSome after.visits) (told.upstreams (f ∷ rest)) olds news dials visits r × AllStand news (g ∷ more)
+          × Goes before dials visits after × Rounded (IsSome after.visits) (in_hand.upstreams (f ∷ rest)) olds news dials visits r × AllStand news (g ∷ more)
       of [] are = absurd are
       of (s ∷ ss) (first, others) =
           let p = follows s first in
@@ -130,8 +130,8 @@ module _ {L : Type 0} (left taken held : L → Option (List ℕ)) where
             p.2 ++ q.2,
             goes_then before mid after p.1 q.1 p.2 q.2 p.3 q.3,
             put r s p.0 ss q.0 p.1 q.1 p.2 q.2
-                (part_less (IsSome mid.visits) (IsSome after.visits) (λ t. told_before mid.visits after.visits q.2 q.3.back t) (told.upstream f.upstream) s p.0 p.1 p.2 p.4) q.4,
-            (subst (λ (u : Upstream). Stands left taken held u p.0 g.live) (sym (ap told.upstream same)) p.5, q.5),
+                (part_less (IsSome mid.visits) (IsSome after.visits) (λ t. told_before mid.visits after.visits q.2 q.3.back t) (in_hand.upstream f.upstream) s p.0 p.1 p.2 p.4) q.4,
+            (subst (λ (u : Upstream). Stands left taken held u p.0 g.live) (sym (ap in_hand.upstream same)) p.5, q.5),
           )
 
   -- ---- a PUT
@@ -148,13 +148,13 @@ module _ {L : Type 0} (left taken held : L → Option (List ℕ)) where
   puts_none o all path body e = subst (λ (x : List (Followed L)). PutsAll left taken held o o x x path body (Ok None)) (sym (no_length all e)) (puts_empty o path body)
 
   pub puts_here : (before after : Outside) (f g : Followed L) (rest : List (Followed L)) (path : Text) (body : Option Object) (r : Result (Option Object) AllocError) → g.upstream ≡ f.upstream
-      → ((old : Standing) → Stands left taken held (told.upstream f.upstream) old f.live
-      → (entry : Entry) × (entry_at (told.upstream f.upstream) old path ≡ Some entry) × PutsOne left taken held before after (told.upstream f.upstream) old entry body g.live r)
+      → ((old : Standing) → Stands left taken held (in_hand.upstream f.upstream) old f.live
+      → (entry : Entry) × (entry_at (in_hand.upstream f.upstream) old path ≡ Some entry) × PutsOne left taken held before after (in_hand.upstream f.upstream) old entry body g.live r)
       → PutsAll left taken held before after (f ∷ rest) (g ∷ rest) path body r
   puts_here before after f g rest path body r same one = λ olds are. of olds are
     where
       of : (olds : List Standing) → AllStand olds (f ∷ rest) → (news : List Standing) × (visits : List Visit)
-          × Goes before [] visits after × Puts (IsSome after.visits) (told.upstreams (f ∷ rest)) olds news path body visits r × AllStand news (g ∷ rest)
+          × Goes before [] visits after × Puts (IsSome after.visits) (in_hand.upstreams (f ∷ rest)) olds news path body visits r × AllStand news (g ∷ rest)
       of [] are = absurd are
       of (s ∷ ss) (first, others) =
           let h = one s first in
@@ -162,27 +162,27 @@ module _ {L : Type 0} (left taken held : L → Option (List ℕ)) where
             p.0 ∷ ss,
             p.1,
             p.2,
-            subst (λ (n : Option Entry). PutsHere n (λ entry. (ss ≡ ss) × Sends (IsSome after.visits) (told.upstream f.upstream) s p.0 entry body p.1 r)
-                ((p.0 ≡ s) × Puts (IsSome after.visits) (told.upstreams rest) ss ss path body p.1 r)) (sym h.1) (refl, p.3),
-            (subst (λ (u : Upstream). Stands left taken held u p.0 g.live) (sym (ap told.upstream same)) p.4, others),
+            subst (λ (n : Option Entry). PutsHere n (λ entry. (ss ≡ ss) × Sends (IsSome after.visits) (in_hand.upstream f.upstream) s p.0 entry body p.1 r)
+                ((p.0 ≡ s) × Puts (IsSome after.visits) (in_hand.upstreams rest) ss ss path body p.1 r)) (sym h.1) (refl, p.3),
+            (subst (λ (u : Upstream). Stands left taken held u p.0 g.live) (sym (ap in_hand.upstream same)) p.4, others),
           )
 
   pub puts_past : (before after : Outside) (f : Followed L) (rest more : List (Followed L)) (path : Text) (body : Option Object) (r : Result (Option Object) AllocError)
-      → ((old : Standing) → Stands left taken held (told.upstream f.upstream) old f.live → entry_at (told.upstream f.upstream) old path ≡ None)
+      → ((old : Standing) → Stands left taken held (in_hand.upstream f.upstream) old f.live → entry_at (in_hand.upstream f.upstream) old path ≡ None)
       → PutsAll left taken held before after rest more path body r
       → PutsAll left taken held before after (f ∷ rest) (f ∷ more) path body r
   puts_past before after f rest more path body r none puts = λ olds are. of olds are
     where
       of : (olds : List Standing) → AllStand olds (f ∷ rest) → (news : List Standing) × (visits : List Visit)
-          × Goes before [] visits after × Puts (IsSome after.visits) (told.upstreams (f ∷ rest)) olds news path body visits r × AllStand news (f ∷ more)
+          × Goes before [] visits after × Puts (IsSome after.visits) (in_hand.upstreams (f ∷ rest)) olds news path body visits r × AllStand news (f ∷ more)
       of [] are = absurd are
       of (s ∷ ss) (first, others) =
           let q = puts ss others in (
             s ∷ q.0,
             q.1,
             q.2,
-            subst (λ (n : Option Entry). PutsHere n (λ entry. (q.0 ≡ ss) × Sends (IsSome after.visits) (told.upstream f.upstream) s s entry body q.1 r)
-                ((s ≡ s) × Puts (IsSome after.visits) (told.upstreams rest) ss q.0 path body q.1 r)) (sym (none s first)) (refl, q.3),
+            subst (λ (n : Option Entry). PutsHere n (λ entry. (q.0 ≡ ss) × Sends (IsSome after.visits) (in_hand.upstream f.upstream) s s entry body q.1 r)
+                ((s ≡ s) × Puts (IsSome after.visits) (in_hand.upstreams rest) ss q.0 path body q.1 r)) (sym (none s first)) (refl, q.3),
             (first, q.4),
           )
 
@@ -201,11 +201,11 @@ module _ {L : Type 0} (left taken held : L → Option (List ℕ)) where
   EndsOne before after u (Up calls) = (v : Visit) × Goes before [] (v ∷ []) after × (IsSome after.visits → IsBack (host u) (said_in u calls) v)
 
   pub ends_more : (before mid after : Outside) (f : Followed L) (rest : List (Followed L))
-      → ((old : Standing) → Stands left taken held (told.upstream f.upstream) old f.live → EndsOne before mid (told.upstream f.upstream) old)
+      → ((old : Standing) → Stands left taken held (in_hand.upstream f.upstream) old f.live → EndsOne before mid (in_hand.upstream f.upstream) old)
       → EndsAll left taken held mid after rest → EndsAll left taken held before after (f ∷ rest)
   ends_more before mid after f rest one ends = λ ss are. of ss are
     where
-      of : (ss : List Standing) → AllStand ss (f ∷ rest) → (visits : List Visit) × Goes before [] visits after × Ends (IsSome after.visits) (told.upstreams (f ∷ rest)) ss visits
+      of : (ss : List Standing) → AllStand ss (f ∷ rest) → (visits : List Visit) × Goes before [] visits after × Ends (IsSome after.visits) (in_hand.upstreams (f ∷ rest)) ss visits
       of [] are = absurd are
       of (Down ∷ ss) (first, others) =
           let q = ends ss others in
@@ -218,7 +218,7 @@ module _ {L : Type 0} (left taken held : L → Option (List ℕ)) where
 -- ---- an upstream that is taken down
 
 -- what is held of an upstream that stands so
-pub held_stands : {L : Type 0} (left taken held : L → Option (List ℕ)) (u : Upstream) (s : Standing) (live : Option (Live L)) → Stands left taken held u s live → held_of u s ≡ told.held_now live
+pub held_stands : {L : Type 0} (left taken held : L → Option (List ℕ)) (u : Upstream) (s : Standing) (live : Option (Live L)) → Stands left taken held u s live → held_of u s ≡ in_hand.held_now live
 held_stands left taken held u Down None stands = refl
 held_stands left taken held u Down (Some l) stands = absurd stands
 held_stands left taken held u (Up calls) None stands = absurd stands
@@ -239,15 +239,15 @@ module _ {L : Type 0} (left taken held : L → Option (List ℕ)) (reads writes 
   -- its link came back, if it had one
   abbrev pub IsDown : Option (Live L) → Outside → Outside → Type 0
   IsDown None mid after = after ≡ mid
-  IsDown (Some l) mid after = told.ComesBack left taken held reads writes l.session.link mid.visits after.visits × (after.dials ≡ mid.dials)
+  IsDown (Some l) mid after = in_hand.ComesBack left taken held reads writes l.session.link mid.visits after.visits × (after.dials ≡ mid.dials)
 
-  pub is_down : (live : Option (Live L)) (mid after : Outside) → (live ≡ None → after ≡ mid) → IfSome live (λ l. told.ComesBack left taken held reads writes l.session.link mid.visits after.visits)
+  pub is_down : (live : Option (Live L)) (mid after : Outside) → (live ≡ None → after ≡ mid) → IfSome live (λ l. in_hand.ComesBack left taken held reads writes l.session.link mid.visits after.visits)
       → after.dials ≡ mid.dials → IsDown live mid after
   is_down None mid after none back apart = none refl
   is_down (Some l) mid after none back apart = (back, apart)
 
   abbrev wire_at : Live L → Wire
-  wire_at l = told.wire_of left taken held l.session
+  wire_at l = in_hand.wire_of left taken held l.session
 
   link_back : (mid after : Outside) (l : Live L) (d : IsDown (Some l) mid after) → Goes mid [] (d.0.0 ∷ []) after
   link_back mid after l d = record { dialled = subst (λ (x : Option (List Dial)). Gains mid.dials [] x) (sym d.1) (Gains-none mid.dials); back = d.0.1 }
@@ -350,7 +350,7 @@ module _ {L : Type 0} (left taken held : L → Option (List ℕ)) where
   -- ---- where an upstream holds an entry
 
   pub puts_first : (before after : Outside) (u : Upstream) (live live' : Option (Live L)) (i : ℕ) (path : Text) (body : Option Object) (r : Result (Option Object) AllocError) → IsSome live
-      → (has : HasEntry u (told.held_now live) i path)
+      → (has : HasEntry u (in_hand.held_now live) i path)
       → ((calls : List Call) (href : Text) → Stands left taken held u (Up calls) live → slice_get u.hrefs i ≡ Some href → PutsTo left taken held before after u calls (object_path u i) (place_at u.lobby.url href) body live' r)
       → (old : Standing) → Stands left taken held u old live
       → (entry : Entry) × (entry_at u old path ≡ Some entry) × PutsOne left taken held before after u old entry body live' r
@@ -359,5 +359,5 @@ module _ {L : Type 0} (left taken held : L → Option (List ℕ)) where
   puts_first before after u (Some l) live' i path body r some has puts (Up calls) is =
       (the_entry u i has.href has.one, ap (λ (hs : List Held). entry_in u hs path) (ap held_at is.polls) ∙ has.first, puts calls has.href is has.at)
 
-  pub puts_none_here : (u : Upstream) (live : Option (Live L)) (path : Text) → entry_in u (told.held_now live) path ≡ None → (old : Standing) → Stands left taken held u old live → entry_at u old path ≡ None
+  pub puts_none_here : (u : Upstream) (live : Option (Live L)) (path : Text) → entry_in u (in_hand.held_now live) path ≡ None → (old : Standing) → Stands left taken held u old live → entry_at u old path ≡ None
   puts_none_here u live path none old stands = ap (λ (hs : List Held). entry_in u hs path) (held_stands left taken held u old live stands) ∙ none

@@ -3,7 +3,7 @@ ghost use Rattle.std.specs.Prelude.{◌≡◌, IfOk, option_copied, unwrap_or, i
 ghost use Rattle.ob_values.specs.declared.verb.Verb.TheVariants.{Put};
 ghost use Rattle.ob_super.specs.Supervised.{no_such_object, refused_at};
 ghost use Rattle.ob_super.specs.Trees.{shown_in};
-ghost use Rattle.ob_super.specs.InHand as told;
+ghost use Rattle.ob_super.specs.InHand as in_hand;
 
 use crate::refusal::{no_such_object, not_supported};
 use crate::state::Super;
@@ -15,7 +15,7 @@ use std::alloc::AllocError;
 impl<L: Link + Drop> Super<L> {
     // The reply to a GET.
     fn got(&self, path: &str) -> Result<Obj, AllocError>
-        ensures { IfOk result (λ o. o ≡ unwrap_or (shown_in (told.views self.now.followed.items) path.now) no_such_object) }
+        ensures { IfOk result (λ o. o ≡ unwrap_or (shown_in (in_hand.views self.now.followed.items) path.now) no_such_object) }
     {
         match self.shown(path)? {
             Some(object) => Ok(object),
@@ -25,7 +25,7 @@ impl<L: Link + Drop> Super<L> {
 
     // The reply where the verb isn't for the place of this path, or the tree has no such place.
     fn refused(&self, path: &str) -> Result<Obj, AllocError>
-        ensures { IfOk result (λ o. o ≡ refused_at (is_some (shown_in (told.views self.now.followed.items) path.now))) }
+        ensures { IfOk result (λ o. o ≡ refused_at (is_some (shown_in (in_hand.views self.now.followed.items) path.now))) }
     {
         match self.shown(path)? {
             Some(_) => not_supported(self.alloc),
@@ -40,8 +40,8 @@ impl<L: Link + Drop> Super<L> {
         path: &str,
         body: Option<&Obj>,
     ) -> Result<Obj, AllocError>
-        ensures same { told.upstreams self.new.followed.items ≡ told.upstreams self.old.followed.items }
-        ensures replies { told.RepliesAll L.left L.taken L.held (told.outside (W.dials dialer.old) (W.visits dialer.old)) (told.outside (W.dials dialer.new) (W.visits dialer.new)) self.old.followed.items self.new.followed.items (told.request Put path.now (option_copied body.entry)) (told.replied_by result) }
+        ensures same { in_hand.upstreams self.new.followed.items ≡ in_hand.upstreams self.old.followed.items }
+        ensures replies { in_hand.RepliesAll L.left L.taken L.held (in_hand.outside (W.dials dialer.old) (W.visits dialer.old)) (in_hand.outside (W.dials dialer.new) (W.visits dialer.new)) self.old.followed.items self.new.followed.items (in_hand.request Put path.now (option_copied body.entry)) (in_hand.replied_by result) }
     {
         match self.put(dialer, path, body)? {
             Some(reply) => Ok(reply),
@@ -57,8 +57,8 @@ impl<L: Link + Drop> Super<L> {
         path: &str,
         body: Option<&Obj>,
     ) -> Result<Obj, AllocError>
-        ensures same { told.upstreams self.new.followed.items ≡ told.upstreams self.old.followed.items }
-        ensures replies { told.RepliesAll L.left L.taken L.held (told.outside (W.dials dialer.old) (W.visits dialer.old)) (told.outside (W.dials dialer.new) (W.visits dialer.new)) self.old.followed.items self.new.followed.items (told.request verb path.now (option_copied body.entry)) (told.replied_by result) }
+        ensures same { in_hand.upstreams self.new.followed.items ≡ in_hand.upstreams self.old.followed.items }
+        ensures replies { in_hand.RepliesAll L.left L.taken L.held (in_hand.outside (W.dials dialer.old) (W.visits dialer.old)) (in_hand.outside (W.dials dialer.new) (W.visits dialer.new)) self.old.followed.items self.new.followed.items (in_hand.request verb path.now (option_copied body.entry)) (in_hand.replied_by result) }
     {
         match verb {
             Verb::Get => self.got(path),
@@ -77,8 +77,8 @@ impl<L: Link + Drop> Super<L> {
         path: &str,
         body: Option<&Obj>,
     ) -> Result<Obj, AllocError>
-        ensures same { told.upstreams self.new.followed.items ≡ told.upstreams self.old.followed.items }
-        ensures answers { told.AnswersAll L.left L.taken L.held (told.outside (W.dials dialer.old) (W.visits dialer.old)) (told.outside (W.dials dialer.new) (W.visits dialer.new)) self.old.followed.items self.new.followed.items (told.request verb path.now (option_copied body.entry)) (told.replied_by result) }
+        ensures same { in_hand.upstreams self.new.followed.items ≡ in_hand.upstreams self.old.followed.items }
+        ensures answers { in_hand.AnswersAll L.left L.taken L.held (in_hand.outside (W.dials dialer.old) (W.visits dialer.old)) (in_hand.outside (W.dials dialer.new) (W.visits dialer.new)) self.old.followed.items self.new.followed.items (in_hand.request verb path.now (option_copied body.entry)) (in_hand.replied_by result) }
     {
         self.round(dialer)?;
         self.reply(dialer, verb, path, body)
@@ -86,8 +86,8 @@ impl<L: Link + Drop> Super<L> {
 
     /// Has so many rounds, one behind the other. Without memory in one of them there are no more, and its upstream in hand is down.
     pub fn rounds<W: Dialer<L = L>>(&mut self, dialer: &mut W, count: u32) -> Result<(), AllocError>
-        ensures same { told.upstreams self.new.followed.items ≡ told.upstreams self.old.followed.items }
-        ensures rounds { told.ManyAll L.left L.taken L.held (told.outside (W.dials dialer.old) (W.visits dialer.old)) (told.outside (W.dials dialer.new) (W.visits dialer.new)) self.old.followed.items self.new.followed.items count result }
+        ensures same { in_hand.upstreams self.new.followed.items ≡ in_hand.upstreams self.old.followed.items }
+        ensures rounds { in_hand.ManyAll L.left L.taken L.held (in_hand.outside (W.dials dialer.old) (W.visits dialer.old)) (in_hand.outside (W.dials dialer.new) (W.visits dialer.new)) self.old.followed.items self.new.followed.items count result }
     {
         for _ in 0..count {
             self.round(dialer)?;

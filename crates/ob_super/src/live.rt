@@ -3,7 +3,7 @@ ghost use Rattle.std.specs.Prelude.{◌≡◌, List, None, IsSome, IfSome, IsOk,
 ghost use Rattle.ob_super.specs.Calls.{Call, put_on};
 ghost use Rattle.ob_super.specs.Rounds.{host};
 ghost use Rattle.ob_super.specs.Turns.{Standing, Down, Up};
-ghost use Rattle.ob_super.specs.InHand as told;
+ghost use Rattle.ob_super.specs.InHand as in_hand;
 
 use crate::asking::{call, open, poll};
 use crate::upstream::{Followed, Live, Upstream};
@@ -16,7 +16,7 @@ use std::alloc::{AllocError, Global};
 
 // Gives a link back.
 fn give_back<W: Dialer>(dialer: &mut W, session: Session<W::L>)
-    ensures back { told.ComesBack W.L.left W.L.taken W.L.held W.L.read_faults W.L.write_faults session.link (W.visits dialer.old) (W.visits dialer.new) }
+    ensures back { in_hand.ComesBack W.L.left W.L.taken W.L.held W.L.read_faults W.L.write_faults session.link (W.visits dialer.old) (W.visits dialer.new) }
     ensures apart { W.dials dialer.new ≡ W.dials dialer.old }
 {
     dialer.back(session.end());
@@ -24,7 +24,7 @@ fn give_back<W: Dialer>(dialer: &mut W, session: Session<W::L>)
 
 // A link that ended so was given back: the upstream is down, or there was no memory.
 fn down<T>(fault: Fault) -> Result<Option<T>, AllocError>
-    ensures { told.IsDown fault result }
+    ensures { in_hand.IsDown fault result }
 {
     match fault {
         Fault::Memory => Err(AllocError),
@@ -39,9 +39,9 @@ fn begin<W: Dialer>(
     link: W::L,
     dialer: &mut W,
 ) -> Result<Session<W::L>, AllocError>
-    ensures ok { told.Begins link (host (told.upstream upstream.now)) result }
+    ensures ok { in_hand.Begins link (host (in_hand.upstream upstream.now)) result }
     ensures none { IsOk result → dialer.new ≡ dialer.old }
-    ensures back { OnErr result (told.ComesBack W.L.left W.L.taken W.L.held W.L.read_faults W.L.write_faults link (W.visits dialer.old) (W.visits dialer.new)) }
+    ensures back { OnErr result (in_hand.ComesBack W.L.left W.L.taken W.L.held W.L.read_faults W.L.write_faults link (W.visits dialer.old) (W.visits dialer.new)) }
     ensures apart { W.dials dialer.new ≡ W.dials dialer.old }
 {
     let Ok(host) = host_field(alloc, &upstream.lobby.url) else {
@@ -63,7 +63,7 @@ fn connect<W: Dialer>(
     upstream: &Upstream,
     dialer: &mut W,
 ) -> Result<Option<Live<W::L>>, AllocError>
-    ensures { told.Parts W.L.left W.L.taken W.L.held (told.outside (W.dials dialer.old) (W.visits dialer.old)) (told.outside (W.dials dialer.new) (W.visits dialer.new)) (told.upstream upstream.now) Down result }
+    ensures { in_hand.Parts W.L.left W.L.taken W.L.held (in_hand.outside (W.dials dialer.old) (W.visits dialer.old)) (in_hand.outside (W.dials dialer.new) (W.visits dialer.new)) (in_hand.upstream upstream.now) Down result }
 {
     let base = &upstream.lobby.url;
     let Ok(link) = dialer.dial(base.host(), base.port()) else {
@@ -85,8 +85,8 @@ fn refresh<W: Dialer>(
     live: Live<W::L>,
     dialer: &mut W,
 ) -> Result<Option<Live<W::L>>, AllocError>
-    ensures { (calls : List Call) → told.IsLive W.L.left W.L.taken W.L.held (told.upstream upstream.now) calls live
-        → told.Parts W.L.left W.L.taken W.L.held (told.outside (W.dials dialer.old) (W.visits dialer.old)) (told.outside (W.dials dialer.new) (W.visits dialer.new)) (told.upstream upstream.now) (Up calls) result }
+    ensures { (calls : List Call) → in_hand.IsLive W.L.left W.L.taken W.L.held (in_hand.upstream upstream.now) calls live
+        → in_hand.Parts W.L.left W.L.taken W.L.held (in_hand.outside (W.dials dialer.old) (W.visits dialer.old)) (in_hand.outside (W.dials dialer.new) (W.visits dialer.new)) (in_hand.upstream upstream.now) (Up calls) result }
 {
     let Live {
         mut session,
@@ -109,8 +109,8 @@ fn next<W: Dialer>(
     live: Option<Live<W::L>>,
     dialer: &mut W,
 ) -> Result<Option<Live<W::L>>, AllocError>
-    ensures { (old : Standing) → told.Stands W.L.left W.L.taken W.L.held (told.upstream upstream.now) old live
-        → told.Parts W.L.left W.L.taken W.L.held (told.outside (W.dials dialer.old) (W.visits dialer.old)) (told.outside (W.dials dialer.new) (W.visits dialer.new)) (told.upstream upstream.now) old result }
+    ensures { (old : Standing) → in_hand.Stands W.L.left W.L.taken W.L.held (in_hand.upstream upstream.now) old live
+        → in_hand.Parts W.L.left W.L.taken W.L.held (in_hand.outside (W.dials dialer.old) (W.visits dialer.old)) (in_hand.outside (W.dials dialer.new) (W.visits dialer.new)) (in_hand.upstream upstream.now) old result }
 {
     match live {
         None => connect(alloc, upstream, dialer),
@@ -125,8 +125,8 @@ pub(crate) fn follow<W: Dialer>(
     dialer: &mut W,
 ) -> Result<(), AllocError>
     ensures same { followed.new.upstream ≡ followed.old.upstream }
-    ensures follows { (old : Standing) → told.Stands W.L.left W.L.taken W.L.held (told.upstream followed.old.upstream) old followed.old.live
-        → told.Follows W.L.left W.L.taken W.L.held (told.outside (W.dials dialer.old) (W.visits dialer.old)) (told.outside (W.dials dialer.new) (W.visits dialer.new)) (told.upstream followed.old.upstream) old followed.new.live result }
+    ensures follows { (old : Standing) → in_hand.Stands W.L.left W.L.taken W.L.held (in_hand.upstream followed.old.upstream) old followed.old.live
+        → in_hand.Follows W.L.left W.L.taken W.L.held (in_hand.outside (W.dials dialer.old) (W.visits dialer.old)) (in_hand.outside (W.dials dialer.new) (W.visits dialer.new)) (in_hand.upstream followed.old.upstream) old followed.new.live result }
 {
     let live = followed.live.take();
     let live = next(alloc, &followed.upstream, live, dialer)?;
@@ -147,7 +147,7 @@ fn put_live<W: Dialer>(followed: &mut Followed<W::L>, live: Option<Live<W::L>>, 
 /// Gives the link back, if there is one.
 pub(crate) fn end_live<W: Dialer>(live: Option<Live<W::L>>, dialer: &mut W)
     ensures none { live ≡ None → dialer.new ≡ dialer.old }
-    ensures back { IfSome live (λ l. told.ComesBack W.L.left W.L.taken W.L.held W.L.read_faults W.L.write_faults l.session.link (W.visits dialer.old) (W.visits dialer.new)) }
+    ensures back { IfSome live (λ l. in_hand.ComesBack W.L.left W.L.taken W.L.held W.L.read_faults W.L.write_faults l.session.link (W.visits dialer.old) (W.visits dialer.new)) }
     ensures apart { W.dials dialer.new ≡ W.dials dialer.old }
 {
     if let Some(live) = live {
@@ -166,8 +166,8 @@ pub(crate) fn send_put<W: Dialer>(
 ) -> Result<Option<Obj>, AllocError>
     requires { IsSome followed.old.live }
     ensures same { followed.new.upstream ≡ followed.old.upstream }
-    ensures sends { (calls : List Call) → told.Stands W.L.left W.L.taken W.L.held (told.upstream followed.old.upstream) (Up calls) followed.old.live
-        → told.SendsOn W.L.left W.L.taken W.L.held (told.outside (W.dials dialer.old) (W.visits dialer.old)) (told.outside (W.dials dialer.new) (W.visits dialer.new)) (told.upstream followed.old.upstream) calls (put_on target.now (option_copied body.entry)) followed.new.live result }
+    ensures sends { (calls : List Call) → in_hand.Stands W.L.left W.L.taken W.L.held (in_hand.upstream followed.old.upstream) (Up calls) followed.old.live
+        → in_hand.SendsOn W.L.left W.L.taken W.L.held (in_hand.outside (W.dials dialer.old) (W.visits dialer.old)) (in_hand.outside (W.dials dialer.new) (W.visits dialer.new)) (in_hand.upstream followed.old.upstream) calls (put_on target.now (option_copied body.entry)) followed.new.live result }
 {
     let Some(live) = followed.live.take() else {
         return Ok(None);

@@ -1,7 +1,7 @@
 //! The places of the tree.
 ghost use Rattle.std.specs.Prelude.{◌≡◌, IfOk, bytes_eq, decimal, option_map};
 ghost use Rattle.ob_super.specs.Trees.{list_at, object_at};
-ghost use Rattle.ob_super.specs.InHand as told;
+ghost use Rattle.ob_super.specs.InHand as in_hand;
 
 use itoa::Buffer;
 use ob_values::Text;
@@ -30,14 +30,14 @@ pub(crate) fn object_path(alloc: Global, name: &Text, place: usize) -> Result<Te
 
 // What follows a front of a text.
 fn behind<'a>(front: &[u8], text: &'a [u8]) -> Option<&'a [u8]>
-    ensures { told.IsBehind front.now text.now (option_map (λ rest. rest.now) result) }
+    ensures { in_hand.IsBehind front.now text.now (option_map (λ rest. rest.now) result) }
 {
     text.strip_prefix(front)
 }
 
 /// What follows the path of the list of an upstream.
 pub(crate) fn behind_list<'a>(name: &Text, path: &'a str) -> Option<&'a [u8]>
-    ensures { told.IsBehind (list_at name.now) path.now (option_map (λ rest. rest.now) result) }
+    ensures { in_hand.IsBehind (list_at name.now) path.now (option_map (λ rest. rest.now) result) }
 {
     let Some(rest) = behind(ROOT.as_bytes(), path.as_bytes()) else {
         return None;

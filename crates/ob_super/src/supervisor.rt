@@ -5,7 +5,7 @@ ghost use Rattle.ob_asking.specs.Places.{place_at};
 ghost use Rattle.ob_super.specs.Calls.{Call};
 ghost use Rattle.ob_super.specs.Trees.{object_at, entry_in, with_children, subtree, shown_among, shown_in};
 ghost use Rattle.ob_super.specs.Turns.{Up};
-ghost use Rattle.ob_super.specs.InHand as told;
+ghost use Rattle.ob_super.specs.InHand as in_hand;
 
 use crate::config::upstreams;
 use crate::config_fault::ConfigFault;
@@ -25,7 +25,7 @@ use std::alloc::{AllocError, Global};
 // The place of the href of an upstream whose object is held, and has this path.
 fn held_place<L>(followed: &Followed<L>, path: &str) -> Option<usize>
     ensures live { IsSome result → IsSome followed.now.live }
-    ensures finds { told.FindsEntry (told.upstream followed.now.upstream) (told.held_now followed.now.live) path.now result }
+    ensures finds { in_hand.FindsEntry (in_hand.upstream followed.now.upstream) (in_hand.held_now followed.now.live) path.now result }
 {
     let Some(live) = &followed.live else {
         return None;
@@ -35,7 +35,7 @@ fn held_place<L>(followed: &Followed<L>, path: &str) -> Option<usize>
 
 // The same of what a mirror holds.
 fn held_among(upstream: &Upstream, mirror: &Mirror, path: &str) -> Option<usize>
-    ensures { told.FindsEntry (told.upstream upstream.now) mirror.now.held path.now result }
+    ensures { in_hand.FindsEntry (in_hand.upstream upstream.now) mirror.now.held path.now result }
 {
     let Some(rest) = behind_list(&upstream.name, path) else {
         return None;
@@ -61,7 +61,7 @@ fn object_shown<L>(
     followed: &Followed<L>,
     path: &str,
 ) -> Result<Option<Obj>, AllocError>
-    ensures { IfOk result (λ o. o ≡ option_map (λ e. e.object) (entry_in (told.upstream followed.now.upstream) (told.held_now followed.now.live) path.now)) }
+    ensures { IfOk result (λ o. o ≡ option_map (λ e. e.object) (entry_in (in_hand.upstream followed.now.upstream) (in_hand.held_now followed.now.live) path.now)) }
 {
     let Some(live) = &followed.live else {
         return Ok(None);
@@ -74,7 +74,7 @@ fn object_shown<L>(
 
 // What an upstream shows at a path.
 fn shown_of<L>(alloc: Global, followed: &Followed<L>, path: &str) -> Result<Option<Obj>, AllocError>
-    ensures { IfOk result (λ o. o ≡ shown_among (with_children (subtree (told.view followed.now))) path.now) }
+    ensures { IfOk result (λ o. o ≡ shown_among (with_children (subtree (in_hand.view followed.now))) path.now) }
 {
     if is_list_path(&followed.upstream.name, path) {
         return Ok(Some(subtree(alloc, followed)?));
@@ -93,9 +93,9 @@ fn put_at<W: Dialer>(
     requires live { IsSome followed.old.live }
     requires there { place < length followed.old.upstream.hrefs.items }
     ensures same { followed.new.upstream ≡ followed.old.upstream }
-    ensures puts { (calls : List Call) → (href : List ℕ) → told.Stands W.L.left W.L.taken W.L.held (told.upstream followed.old.upstream) (Up calls) followed.old.live
+    ensures puts { (calls : List Call) → (href : List ℕ) → in_hand.Stands W.L.left W.L.taken W.L.held (in_hand.upstream followed.old.upstream) (Up calls) followed.old.live
         → slice_get followed.old.upstream.hrefs.items place ≡ Some href
-        → told.MayPut W.L.left W.L.taken W.L.held (told.outside (W.dials dialer.old) (W.visits dialer.old)) (told.outside (W.dials dialer.new) (W.visits dialer.new)) (told.upstream followed.old.upstream) calls (object_at followed.old.upstream.name place) (place_at followed.old.upstream.lobby.url href) (option_copied body.entry) followed.new.live result }
+        → in_hand.MayPut W.L.left W.L.taken W.L.held (in_hand.outside (W.dials dialer.old) (W.visits dialer.old)) (in_hand.outside (W.dials dialer.new) (W.visits dialer.new)) (in_hand.upstream followed.old.upstream) calls (object_at followed.old.upstream.name place) (place_at followed.old.upstream.lobby.url href) (option_copied body.entry) followed.new.live result }
 {
     let path = object_path(alloc, &followed.upstream.name, place)?;
     let upstream = &followed.upstream;
@@ -116,8 +116,8 @@ fn round_over<W: Dialer>(
     all: &mut [Followed<W::L>],
     dialer: &mut W,
 ) -> Result<(), AllocError>
-    ensures same { told.upstreams all.new ≡ told.upstreams all.old }
-    ensures rounds { told.RoundsAll W.L.left W.L.taken W.L.held (told.outside (W.dials dialer.old) (W.visits dialer.old)) (told.outside (W.dials dialer.new) (W.visits dialer.new)) all.old all.new result }
+    ensures same { in_hand.upstreams all.new ≡ in_hand.upstreams all.old }
+    ensures rounds { in_hand.RoundsAll W.L.left W.L.taken W.L.held (in_hand.outside (W.dials dialer.old) (W.visits dialer.old)) (in_hand.outside (W.dials dialer.new) (W.visits dialer.new)) all.old all.new result }
 {
     let Some((first, rest)) = all.split_first_mut() else {
         return Ok(());
@@ -130,7 +130,7 @@ fn round_over<W: Dialer>(
 fn take_down<W: Dialer>(followed: &mut Followed<W::L>, dialer: &mut W)
     ensures down { followed.new ≡ record followed.old { live = None } }
     ensures none { followed.old.live ≡ None → dialer.new ≡ dialer.old }
-    ensures back { IfSome followed.old.live (λ l. told.ComesBack W.L.left W.L.taken W.L.held W.L.read_faults W.L.write_faults l.session.link (W.visits dialer.old) (W.visits dialer.new)) }
+    ensures back { IfSome followed.old.live (λ l. in_hand.ComesBack W.L.left W.L.taken W.L.held W.L.read_faults W.L.write_faults l.session.link (W.visits dialer.old) (W.visits dialer.new)) }
     ensures apart { W.dials dialer.new ≡ W.dials dialer.old }
 {
     let live = followed.live.take();
@@ -148,9 +148,9 @@ fn put_or_down<W: Dialer>(
     requires live { IsSome followed.old.live }
     requires there { place < length followed.old.upstream.hrefs.items }
     ensures same { followed.new.upstream ≡ followed.old.upstream }
-    ensures puts { (calls : List Call) → (href : List ℕ) → told.Stands W.L.left W.L.taken W.L.held (told.upstream followed.old.upstream) (Up calls) followed.old.live
+    ensures puts { (calls : List Call) → (href : List ℕ) → in_hand.Stands W.L.left W.L.taken W.L.held (in_hand.upstream followed.old.upstream) (Up calls) followed.old.live
         → slice_get followed.old.upstream.hrefs.items place ≡ Some href
-        → told.PutsTo W.L.left W.L.taken W.L.held (told.outside (W.dials dialer.old) (W.visits dialer.old)) (told.outside (W.dials dialer.new) (W.visits dialer.new)) (told.upstream followed.old.upstream) calls (object_at followed.old.upstream.name place) (place_at followed.old.upstream.lobby.url href) (option_copied body.entry) followed.new.live result }
+        → in_hand.PutsTo W.L.left W.L.taken W.L.held (in_hand.outside (W.dials dialer.old) (W.visits dialer.old)) (in_hand.outside (W.dials dialer.new) (W.visits dialer.new)) (in_hand.upstream followed.old.upstream) calls (object_at followed.old.upstream.name place) (place_at followed.old.upstream.lobby.url href) (option_copied body.entry) followed.new.live result }
 {
     match put_at(alloc, followed, place, dialer, body) {
         Ok(reply) => Ok(Some(reply)),
@@ -163,7 +163,7 @@ fn put_or_down<W: Dialer>(
 
 // An upstream that is down stands last.
 fn push_down<L: Drop>(all: &mut Vec<Followed<L>>, upstream: Upstream) -> Result<(), AllocError>
-    ensures { OnOk result (all.new.items ≡ all.old.items ++ told.down upstream ∷ []) }
+    ensures { OnOk result (all.new.items ≡ all.old.items ++ in_hand.down upstream ∷ []) }
 {
     all.push(Followed {
         upstream,
@@ -177,7 +177,7 @@ fn all_down<L: Drop>(
     alloc: Global,
     upstreams: Vec<Upstream>,
 ) -> Result<Vec<Followed<L>>, AllocError>
-    ensures { IfOk result (λ all. told.AreDown upstreams.items all.items) }
+    ensures { IfOk result (λ all. in_hand.AreDown upstreams.items all.items) }
 {
     let mut all = Vec::new(alloc);
     for upstream in upstreams {
@@ -194,8 +194,8 @@ fn put_over<W: Dialer>(
     path: &str,
     body: Option<&Obj>,
 ) -> Result<Option<Obj>, AllocError>
-    ensures same { told.upstreams all.new ≡ told.upstreams all.old }
-    ensures puts { told.PutsAll W.L.left W.L.taken W.L.held (told.outside (W.dials dialer.old) (W.visits dialer.old)) (told.outside (W.dials dialer.new) (W.visits dialer.new)) all.old all.new path.now (option_copied body.entry) result }
+    ensures same { in_hand.upstreams all.new ≡ in_hand.upstreams all.old }
+    ensures puts { in_hand.PutsAll W.L.left W.L.taken W.L.held (in_hand.outside (W.dials dialer.old) (W.visits dialer.old)) (in_hand.outside (W.dials dialer.new) (W.visits dialer.new)) all.old all.new path.now (option_copied body.entry) result }
 {
     let Some((first, rest)) = all.split_first_mut() else {
         return Ok(None);
@@ -208,7 +208,7 @@ fn put_over<W: Dialer>(
 
 // Gives the links of upstreams back, in order.
 fn end_over<W: Dialer>(all: &mut [Followed<W::L>], dialer: &mut W)
-    ensures { told.EndsAll W.L.left W.L.taken W.L.held (told.outside (W.dials dialer.old) (W.visits dialer.old)) (told.outside (W.dials dialer.new) (W.visits dialer.new)) all.old }
+    ensures { in_hand.EndsAll W.L.left W.L.taken W.L.held (in_hand.outside (W.dials dialer.old) (W.visits dialer.old)) (in_hand.outside (W.dials dialer.new) (W.visits dialer.new)) all.old }
 {
     let Some((first, rest)) = all.split_first_mut() else {
         return;
@@ -219,7 +219,7 @@ fn end_over<W: Dialer>(all: &mut [Followed<W::L>], dialer: &mut W)
 
 // What the first of upstreams that has a place of this path shows there.
 fn shown_over<L>(alloc: Global, all: &[Followed<L>], path: &str) -> Result<Option<Obj>, AllocError>
-    ensures { IfOk result (λ shown. shown ≡ told.shown_over all.now path.now) }
+    ensures { IfOk result (λ shown. shown ≡ in_hand.shown_over all.now path.now) }
 {
     for followed in all {
         if let Some(shown) = shown_of(alloc, followed, path)? {
@@ -233,7 +233,7 @@ impl<L: Link + Drop> Super<L> {
     /// Follows the upstreams of a config, each of which is down. Shape where a part of the config isn't as it has to be, with
     /// the number of the first such part.
     pub fn new(alloc: Global, config: &Obj) -> Result<Super<L>, ConfigFault>
-        ensures configured { told.Configures config.now result }
+        ensures configured { in_hand.Configures config.now result }
     {
         match upstreams(alloc, config) {
             Ok(upstreams) => {
@@ -247,15 +247,15 @@ impl<L: Link + Drop> Super<L> {
     /// Has a round over the upstreams, in order: one that is down is dialled and a watch opened over the link, one that is up is
     /// asked for its changes. Without memory the upstream in hand is down.
     pub fn round<W: Dialer<L = L>>(&mut self, dialer: &mut W) -> Result<(), AllocError>
-        ensures same { told.upstreams self.new.followed.items ≡ told.upstreams self.old.followed.items }
-        ensures rounds { told.RoundsAll L.left L.taken L.held (told.outside (W.dials dialer.old) (W.visits dialer.old)) (told.outside (W.dials dialer.new) (W.visits dialer.new)) self.old.followed.items self.new.followed.items result }
+        ensures same { in_hand.upstreams self.new.followed.items ≡ in_hand.upstreams self.old.followed.items }
+        ensures rounds { in_hand.RoundsAll L.left L.taken L.held (in_hand.outside (W.dials dialer.old) (W.visits dialer.old)) (in_hand.outside (W.dials dialer.new) (W.visits dialer.new)) self.old.followed.items self.new.followed.items result }
     {
         round_over(self.alloc, &mut self.followed, dialer)
     }
 
     /// What the tree shows at the place of this path; None where it has no such place.
     pub fn shown(&self, path: &str) -> Result<Option<Obj>, AllocError>
-        ensures { IfOk result (λ shown. shown ≡ shown_in (told.views self.now.followed.items) path.now) }
+        ensures { IfOk result (λ shown. shown ≡ shown_in (in_hand.views self.now.followed.items) path.now) }
     {
         if path == ROOT {
             return Ok(Some(tree(self.alloc, &self.followed)?));
@@ -273,15 +273,15 @@ impl<L: Link + Drop> Super<L> {
         path: &str,
         body: Option<&Obj>,
     ) -> Result<Option<Obj>, AllocError>
-        ensures same { told.upstreams self.new.followed.items ≡ told.upstreams self.old.followed.items }
-        ensures puts { told.PutsAll L.left L.taken L.held (told.outside (W.dials dialer.old) (W.visits dialer.old)) (told.outside (W.dials dialer.new) (W.visits dialer.new)) self.old.followed.items self.new.followed.items path.now (option_copied body.entry) result }
+        ensures same { in_hand.upstreams self.new.followed.items ≡ in_hand.upstreams self.old.followed.items }
+        ensures puts { in_hand.PutsAll L.left L.taken L.held (in_hand.outside (W.dials dialer.old) (W.visits dialer.old)) (in_hand.outside (W.dials dialer.new) (W.visits dialer.new)) self.old.followed.items self.new.followed.items path.now (option_copied body.entry) result }
     {
         put_over(self.alloc, &mut self.followed, dialer, path, body)
     }
 
     /// Gives every link back.
     pub fn end<W: Dialer<L = L>>(self, dialer: &mut W)
-        ensures { told.EndsAll L.left L.taken L.held (told.outside (W.dials dialer.old) (W.visits dialer.old)) (told.outside (W.dials dialer.new) (W.visits dialer.new)) self.followed.items }
+        ensures { in_hand.EndsAll L.left L.taken L.held (in_hand.outside (W.dials dialer.old) (W.visits dialer.old)) (in_hand.outside (W.dials dialer.new) (W.visits dialer.new)) self.followed.items }
     {
         let Super {
             alloc: _,

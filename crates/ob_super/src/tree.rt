@@ -4,7 +4,7 @@ ghost use Rattle.ob_object.specs.Object.{children};
 ghost use Rattle.ob_watching.specs.WatchOuts.{without_name};
 ghost use Rattle.ob_super.specs.Names.{are_apart, names};
 ghost use Rattle.ob_super.specs.Trees.{bare_one, placed, list_head, subtree, tree};
-ghost use Rattle.ob_super.specs.InHand as told;
+ghost use Rattle.ob_super.specs.InHand as in_hand;
 
 use crate::place::{ROOT, list_path, object_path};
 use crate::upstream::{Followed, Upstream};
@@ -46,7 +46,7 @@ pub(crate) fn placed_at(
     mirror: &Mirror,
     place: usize,
 ) -> Result<Option<Obj>, AllocError>
-    ensures { IfOk result (λ o. o ≡ option_map (λ e. e.object) (told.entry_of (told.upstream upstream.now) mirror.now.held place)) }
+    ensures { IfOk result (λ o. o ≡ option_map (λ e. e.object) (in_hand.entry_of (in_hand.upstream upstream.now) mirror.now.held place)) }
 {
     let Some(href) = upstream.hrefs.get(place) else {
         return Ok(None);
@@ -76,7 +76,7 @@ fn push_held(
     list: &mut Obj,
 ) -> Result<(), AllocError>
     requires { children list.old ≡ [] }
-    ensures { OnOk result (list.new ≡ told.with_held (told.upstream upstream.now) mirror.now.held list.old) }
+    ensures { OnOk result (list.new ≡ in_hand.with_held (in_hand.upstream upstream.now) mirror.now.held list.old) }
 {
     for place in 0..upstream.hrefs.len() {
         if let Some(copy) = placed_at(alloc, upstream, mirror, place)? {
@@ -88,7 +88,7 @@ fn push_held(
 
 /// The list of an upstream, without its name.
 pub(crate) fn subtree<L>(alloc: Global, followed: &Followed<L>) -> Result<Obj, AllocError>
-    ensures { IfOk result (λ o. o ≡ without_name (subtree (told.view followed.now))) }
+    ensures { IfOk result (λ o. o ≡ without_name (subtree (in_hand.view followed.now))) }
 {
     let upstream = &followed.upstream;
     let head = list_head(alloc, &upstream.name, followed.live.is_some())?;
@@ -101,7 +101,7 @@ pub(crate) fn subtree<L>(alloc: Global, followed: &Followed<L>) -> Result<Obj, A
 
 // The list of an upstream, under its name.
 fn named_subtree<L>(alloc: Global, followed: &Followed<L>) -> Result<Obj, AllocError>
-    ensures { IfOk result (λ o. o ≡ subtree (told.view followed.now)) }
+    ensures { IfOk result (λ o. o ≡ subtree (in_hand.view followed.now)) }
 {
     let mut list = subtree(alloc, followed)?;
     let name = followed.upstream.name.copy()?;
@@ -114,7 +114,7 @@ fn named_subtree<L>(alloc: Global, followed: &Followed<L>) -> Result<Obj, AllocE
 /// The whole tree.
 pub(crate) fn tree<L>(alloc: Global, all: &[Followed<L>]) -> Result<Obj, AllocError>
     requires { are_apart (names all.now) ≡ true }
-    ensures { IfOk result (λ o. o ≡ tree (told.views all.now)) }
+    ensures { IfOk result (λ o. o ≡ tree (in_hand.views all.now)) }
 {
     let mut head = Attributes::empty(alloc, Kind::Obj);
     head.put_href(Some(Text::from_ascii(alloc, ROOT)?));

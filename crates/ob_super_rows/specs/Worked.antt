@@ -7,7 +7,7 @@ use Rattle.ob_object.specs.declared.kind.Kind.{Kind}
 use Rattle.ob_object.specs.declared.kind.Kind.TheVariants as kind
 use Rattle.ob_object.specs.declared.head.Slot.TheVariants.{Is}
 use Rattle.ob_object.specs.Object.{Object, empty_head, in_row, none}
-use Rattle.ob_watching.specs.Asked.{Shows}
+use Rattle.ob_watching.specs.Operations.{Shows}
 use Rattle.ob_watching.specs.WatchOuts.{Text, Held}
 use Rattle.ob_super.specs.Upstreams.{Upstream}
 

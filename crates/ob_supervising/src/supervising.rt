@@ -4,7 +4,7 @@ ghost use Rattle.std.specs.List.{AllByRecursion};
 ghost use Rattle.ob_io.specs.Links.{inlet};
 ghost use Rattle.ob_server.specs.Answered.{HasEndCause};
 ghost use Rattle.ob_server.specs.Complete.{ServesWhole};
-ghost use Rattle.ob_super.specs.InHand as told;
+ghost use Rattle.ob_super.specs.InHand as in_hand;
 ghost use Rattle.ob_supervising.specs.Supervising.{Asks, AnswersLink, SupervisesLink};
 
 use ob_io::{Dialer, Link, Ticker};
@@ -50,7 +50,7 @@ fn serve_requests<W: Dialer, L: Link>(
 where
     W::L: Drop,
     ensures answers { AnswersLink W.L.left W.L.taken W.L.held
-        (told.outside (W.dials dialer.old) (W.visits dialer.old)) (told.outside (W.dials dialer.new) (W.visits dialer.new))
+        (in_hand.outside (W.dials dialer.old) (W.visits dialer.old)) (in_hand.outside (W.dials dialer.new) (W.visits dialer.new))
         serving.old.upstreams.followed.items serving.new.upstreams.followed.items
         (inlet (L.left link.old) (L.taken link.old)) (inlet (L.left link.new) (L.taken link.new))
         (L.held link.old) (L.held link.new) result }
@@ -71,8 +71,8 @@ where
 fn finish<W: Dialer>(serving: Supervising<W::L>, dialer: &mut W)
 where
     W::L: Drop,
-    ensures { told.EndsAll W.L.left W.L.taken W.L.held
-        (told.outside (W.dials dialer.old) (W.visits dialer.old)) (told.outside (W.dials dialer.new) (W.visits dialer.new))
+    ensures { in_hand.EndsAll W.L.left W.L.taken W.L.held
+        (in_hand.outside (W.dials dialer.old) (W.visits dialer.old)) (in_hand.outside (W.dials dialer.new) (W.visits dialer.new))
         serving.upstreams.followed.items }
 {
     let Supervising { upstreams } = serving;
@@ -92,8 +92,8 @@ pub fn supervise<W: Dialer, L: Link>(
 where
     W::L: Drop,
     requires down { AllByRecursion (λ f. f.live ≡ None) upstreams.followed.items }
-    ensures supervises { SupervisesLink (told.upstreams upstreams.followed.items) rounds
-        (told.outside (W.dials dialer.old) (W.visits dialer.old)) (told.outside (W.dials dialer.new) (W.visits dialer.new))
+    ensures supervises { SupervisesLink (in_hand.upstreams upstreams.followed.items) rounds
+        (in_hand.outside (W.dials dialer.old) (W.visits dialer.old)) (in_hand.outside (W.dials dialer.new) (W.visits dialer.new))
         (inlet (L.left link.old) (L.taken link.old)) (inlet (L.left link.new) (L.taken link.new))
         (L.held link.old) (L.held link.new) result }
     ensures cause { HasEndCause (L.read_faults link.old) (L.read_faults link.new)

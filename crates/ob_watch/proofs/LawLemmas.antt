@@ -11,7 +11,7 @@ use Rattle.ob_object.specs.Object as object
 use Rattle.ob_object.specs.Object.{parts}
 use Rattle.ob_history.specs.declared.records.Filter.{Filter}
 use Rattle.ob_tree.specs.Trees.{Stamped}
-use Rattle.ob_watching.specs.Asked.{Lists, Shows}
+use Rattle.ob_watching.specs.Operations.{Lists, Shows}
 use Rattle.ob_watching.specs.Sites.{HasRolled}
 use Rattle.ob_watching.specs.Tables.{lookup, replace, numbers_of}
 use Rattle.ob_watching.specs.Watches.{TrackedOf, ItemOf, WatchOf, Reading, count, settled, settled_at, reported, reported_now, changes_of, lists_some, Distinct, since}

@@ -6,7 +6,7 @@ use Rattle.std.proofs.lemmas.List.Elements.{filter-append}
 use Rattle.std.proofs.lemmas.List.{take-append-le}
 use Rattle.std.proofs.Math.Seq.{take-length}
 use Rattle.ob_values.proofs.Lists.{all_both}
-use Rattle.ob_watching.specs.Asked.{Shows, Lists, Refuses, Found, ObjectAt, FeedAt, NotFound}
+use Rattle.ob_watching.specs.Operations.{Shows, Lists, Refuses, Found, ObjectAt, FeedAt, NotFound}
 use Rattle.ob_watching.specs.Sites.{Site, IsLawful, HasRolled}
 use Rattle.ob_watching.specs.Tables.{put, IsSuffix}
 use Rattle.ob_watching.specs.Watches.{max_items, Tracked, Object, Feed, Item, Content, Reading, count, since, content_now, reading, reported_now, reported, lists_some, changes_of, changes, settled_at, settled, put_item, has_text, add_found, items_added, readings_added, among, Distinct}

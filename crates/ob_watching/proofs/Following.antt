@@ -5,7 +5,7 @@ use Rattle.std.specs.List.{list_any, AllByRecursion}
 use Rattle.std.proofs.lemmas.Bool.Decides.{eqb_tells}
 use Rattle.ob_machine.specs.History.{left_by, IsAnswer, IsCall}
 use Rattle.ob_machine.specs.declared.call.Answer.TheVariants.{Done, NoMemory}
-use Rattle.ob_watching.specs.Asked.{Operation, Look, Renew, Add, Remove, PollChanges, PollRefresh, Delete, Refuse, Target, Itself, Nowhere, NewWatch, OneWatch, Told, Refused, Values, Nothing, Other}
+use Rattle.ob_watching.specs.Operations.{Operation, Look, Renew, Add, Remove, PollChanges, PollRefresh, Delete, Refuse, Target, Itself, Nowhere, NewWatch, OneWatch, Told, Refused, Values, Nothing, Other}
 use Rattle.ob_watching.specs.Sites.{Site, IsLawful, HasRolled}
 use Rattle.ob_watching.specs.Tables.{lookup, replace, numbers_of}
 use Rattle.ob_watching.specs.Watches.{last_number, first_lease, Item, Watch, World, Reading, Reply, Asks, settled, reading, reported, firsts, with_items, with_lease, watch_after, reply_to, begun, touched, made, is_full, on_watch, acted, act, Distinct, IsSound}

@@ -7,7 +7,7 @@ use Rattle.ob_values.proofs.Lists.{all_mapped}
 use Rattle.ob_machine.specs.History.{left_by, IsAnswer, IsCall}
 use Rattle.ob_machine.specs.declared.call.Answer.TheVariants.{Done, NoMemory}
 use Rattle.ob_machine.proofs.HistoryLemmas.{after-append, legal_front, legal_back}
-use Rattle.ob_watching.specs.Asked.{Target, Itself, Nowhere, NewWatch, OneWatch, Told, Refused, Lists}
+use Rattle.ob_watching.specs.Operations.{Target, Itself, Nowhere, NewWatch, OneWatch, Told, Refused, Lists}
 use Rattle.ob_watching.specs.Sites.{Site, IsLawful}
 use Rattle.ob_watching.specs.Tables.{lookup, numbers_of}
 use Rattle.ob_watching.specs.Watches.{first_lease, Tracked, Object, Feed, Item, Watch, World, Content, Reading, Reply, count, content_now, reading, reported_now, reported, with_items, begun, made, is_full, on_watch, acted, act, IsSound}

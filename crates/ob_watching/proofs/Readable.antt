@@ -1,7 +1,7 @@
 -- All that a watch answers can be read back by a client.
 use Rattle.std.proofs.Common.{ℕ, zero, suc, ◌-◌, Bool, true, false, cond, not, ◌&&◌, List, [], ◌∷◌, ◌++◌, map, length, nat_le}
 use Rattle.std.specs.List.{filter, AllByRecursion}
-use Rattle.ob_watching.specs.Asked.{PollChanges, Found, ObjectAt, FeedAt, NotFound, Refuses}
+use Rattle.ob_watching.specs.Operations.{PollChanges, Found, ObjectAt, FeedAt, NotFound, Refuses}
 use Rattle.ob_watching.specs.Sites.{Site, IsLawful}
 use Rattle.ob_watching.specs.Watches.{max_items, Tracked, Object, Feed, Item, Reading, Asks, since, content_now, reading, lists_some, changes_of, changes, put_item, has_text, added, add_found, readings_added}
 use Rattle.ob_watching.proofs.Soundness.{all_filter}

@@ -3,7 +3,7 @@ use Rattle.std.proofs.Common.{◌≡◌, ℕ, ◌+◌, ◌-◌, Bool, true, fals
 use Rattle.std.specs.List.{AllByRecursion}
 use Rattle.std.specs.Bool.{Decides}
 use Rattle.std.proofs.lemmas.Bool.Decides.{Decides-eqb, Decides-and, Decides-like}
-use Rattle.ob_watching.specs.Asked.{Told, Refused}
+use Rattle.ob_watching.specs.Operations.{Told, Refused}
 use Rattle.ob_watching.specs.Sites.{IsLawful, HasRolled}
 use Rattle.ob_watching.specs.Small.{Sent, Fault, Whole, Event, Nodes, Request, Do, Batch, Make, Ask, AskNothing, Action, Get, Put, AskWatch, Outcome, Shown, source, feed_path, events, gone, written, put_value, do_one, do_all, act_itself, roll, same_values, small}
 

@@ -5,7 +5,7 @@ use Rattle.std.specs.List.{filter, AllByRecursion}
 use Rattle.std.proofs.lemmas.Bool.Decides.{nat_tests, eqb_tells}
 use Rattle.ob_machine.specs.History.{left_by}
 use Rattle.ob_machine.specs.declared.call.Answer.TheVariants.{Done, NoMemory}
-use Rattle.ob_watching.specs.Asked.{Look, Renew, Add, Remove, PollChanges, PollRefresh, Delete, Refuse, Target, Itself, Nowhere, NewWatch, OneWatch, Told, Refused}
+use Rattle.ob_watching.specs.Operations.{Look, Renew, Add, Remove, PollChanges, PollRefresh, Delete, Refuse, Target, Itself, Nowhere, NewWatch, OneWatch, Told, Refused}
 use Rattle.ob_watching.specs.Sites.{Site, IsLawful}
 use Rattle.ob_watching.specs.Tables.{lookup, map_values, replace, numbers_of}
 use Rattle.ob_watching.specs.Watches.{last_number, max_watches, first_lease, Tracked, Object, Feed, Item, Watch, World, Reply, Asks, with_lease, settled_at, settled, reported, firsts, with_items, watch_after, has_lapsed, begun, touched, made, is_full, on_watch, with_site, acted, ended, act, Distinct, Rises, IsSound}

@@ -1,7 +1,7 @@
 -- No two items of a watch have one text, through each operation.
 use Rattle.std.proofs.Common.{ℕ, ◌≡◌, Bool, true, false, cond, not, ◌&&◌, List, [], ◌∷◌, map, length, nat_le, refl, sym, ap, ◌∙◌, subst}
 use Rattle.std.specs.List.{filter, AllByRecursion}
-use Rattle.ob_watching.specs.Asked.{Found, ObjectAt, FeedAt, NotFound, Refuses}
+use Rattle.ob_watching.specs.Operations.{Found, ObjectAt, FeedAt, NotFound, Refuses}
 use Rattle.ob_watching.specs.Sites.{Site, IsLawful}
 use Rattle.ob_watching.specs.Watches.{Item, Reading, reading, put_item, has_text, added, add_found, items_added, Distinct, max_items}
 

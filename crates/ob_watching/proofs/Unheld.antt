@@ -1,7 +1,7 @@
 -- An event that rolled off untold isn't held.
 use Rattle.std.proofs.Common.{◌≡◌, ℕ, ◌+◌, true, List, [], length, nat_le, ap, arith, ◌⊎◌, inl, inr}
 use Rattle.std.specs.List.{filter}
-use Rattle.ob_watching.specs.Asked.{Lists}
+use Rattle.ob_watching.specs.Operations.{Lists}
 use Rattle.ob_watching.specs.Rows.{event, UntoldIsNotHeld}
 use Rattle.ob_watching.specs.Small.{small, Event}
 use Rattle.ob_watching.specs.Watches.{Content}

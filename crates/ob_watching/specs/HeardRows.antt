@@ -7,7 +7,7 @@ use Rattle.ob_object.specs.declared.head.Slot.TheVariants.{Is}
 use Rattle.ob_object.specs.declared.kind.Kind.{Kind}
 use Rattle.ob_object.specs.declared.kind.Kind.TheVariants as kind
 use Rattle.ob_object.specs.Object.{Object, none, in_row, empty_head}
-use Rattle.ob_watching.specs.Asked.{Operation, Add, Remove, PollChanges, PollRefresh, Shows, Lists, Refuses, Values, Other}
+use Rattle.ob_watching.specs.Operations.{Operation, Add, Remove, PollChanges, PollRefresh, Shows, Lists, Refuses, Values, Other}
 use Rattle.ob_watching.specs.Replay.{replay_heard}
 use Rattle.ob_watching.specs.WatchOuts.{Text, Held, Heard, heard}
 

@@ -4,20 +4,22 @@ use Rattle.std.specs.List.{filter, list_any, AllByRecursion}
 use Rattle.ob_machine.specs.History.{left_by, IsLegal}
 use Rattle.ob_machine.specs.History as history
 use Rattle.ob_machine.specs.declared.call.Answer.TheVariants.{Done, NoMemory}
-use Rattle.ob_watching.specs.Asked.{NewWatch, OneWatch, PollChanges, PollRefresh, Shows, Lists, Told, Refused, Values}
+use Rattle.ob_watching.specs.Operations.{NewWatch, OneWatch, PollChanges, PollRefresh, Shows, Lists, Told, Refused, Values}
 use Rattle.ob_watching.specs.Sites.{Site}
 use Rattle.ob_watching.specs.Tables.{lookup, IsSuffix}
 use Rattle.ob_watching.specs.Watches.{Tracked, Object, Feed, Item, Watch, World, Content, Reading, Asks, count, reading, act, has_lapsed, IsSound}
 use Rattle.ob_watching.specs.Clients.{Replied, Asking, call_of, calls, replay, watched, call_gives}
 
 module _ (m : Site) where
-  -- the state after one entry, and after a history
+  -- the state after one entry
   abbrev pub step : World m → Asking m → World m
   step w e = left_by (act m) w e.request e.moment e.answer
 
+  -- the state after a history
   abbrev pub after : World m → List (Asking m) → World m
   after = history.after (act m)
 
+  -- each entry of a history is answered as the state before it says
   abbrev pub Legal : World m → List (Asking m) → Type 0
   Legal = IsLegal (act m)
 
@@ -50,6 +52,7 @@ module _ (m : Site) where
   abbrev pub whole_by : ℕ → m.State → Asking m → (m.Text → m.State) → m.Text → m.State
   whole_by n s e when text = cond (list_any (λ c. call_gives m text c.operation c.answer) (call_of m n e.answer (m.target e.request))) s (when text)
 
+  -- the same over a history, from this world on
   abbrev pub whole_at : ℕ → World m → List (Asking m) → (m.Text → m.State) → m.Text → m.State
   whole_at n w [] when = when
   whole_at n w (e ∷ es) when = whole_at n (step w e) es (whole_by n w.site e when)
@@ -138,6 +141,7 @@ module _ (m : Site) where
       WasMade start n before → lookup n (after start before).watches ≡ None →
       (lookup n (after start (before ++ later)).watches ≡ None) × AllByRecursion (λ e. (IsMake n e → ⊥) × (IsOn n e → IsNotFound e.answer)) later
 
+  -- a watch, if there is one and its lease hasn't run out by then
   abbrev pub unless_lapsed : ℕ → Option (Watch m) → Option (Watch m)
   unless_lapsed now None = None
   unless_lapsed now (Some v) = cond (has_lapsed m now v) None (Some v)

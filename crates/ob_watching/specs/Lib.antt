@@ -1,4 +1,4 @@
-pub mod Asked
+pub mod Operations
 pub mod Sites
 pub mod Tables
 pub mod Replay

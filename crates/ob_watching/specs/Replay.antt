@@ -3,7 +3,7 @@
 -- the laws of watches and a client's own program cite this one definition.
 use Rattle.std.specs.Prelude.{◌+◌, Bool, true, false, not, ◌&&◌, List, [], ◌∷◌, ◌++◌}
 use Rattle.std.specs.List.{filter, list_any}
-use Rattle.ob_watching.specs.Asked.{Operation, Add, Remove, PollChanges, PollRefresh, ContentOf, Lists, Refuses, ReadingOf, HeardOf, Values, Nothing, Other}
+use Rattle.ob_watching.specs.Operations.{Operation, Add, Remove, PollChanges, PollRefresh, ContentOf, Lists, Refuses, ReadingOf, HeardOf, Values, Nothing, Other}
 use Rattle.ob_watching.specs.Tables.{put, is_among}
 
 -- of a held feed what dropped out is counted, and the events are appended; all else is replaced

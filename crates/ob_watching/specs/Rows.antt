@@ -2,7 +2,7 @@
 use Rattle.std.specs.Prelude.{◌≡◌, ◌⊎◌, ℕ, zero, suc, false, ◌+◌, ◌-◌, ◌^◌, List, [], ◌∷◌, ◌++◌}
 use Rattle.ob_machine.specs.History.{entry}
 use Rattle.ob_machine.specs.declared.call.Answer.TheVariants.{Done, NoMemory}
-use Rattle.ob_watching.specs.Asked.{Add, Remove, PollChanges, PollRefresh, Delete, Renew, Look, Shows, Lists, Refuses, Told, Out, Refused, Answered}
+use Rattle.ob_watching.specs.Operations.{Add, Remove, PollChanges, PollRefresh, Delete, Renew, Look, Shows, Lists, Refuses, Told, Out, Refused, Answered}
 use Rattle.ob_watching.specs.Watches.{World, Watch, Item, Reading, Reply, Object, first_lease, act}
 use Rattle.ob_watching.specs.Clients.{Asking, calls, replay}
 use Rattle.ob_watching.specs.Laws.{after, HoldsFeed}

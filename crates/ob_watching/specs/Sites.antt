@@ -2,7 +2,7 @@
 use Rattle.std.specs.Prelude.{◌≡◌, ℕ, ◌+◌, ◌^◌, ◌<◌, ◌≤◌, Bool, List, ◌++◌, length, drop, Result, ◌≢◌}
 use Rattle.std.specs.List.{AllByRecursion}
 use Rattle.std.specs.Bool.{Decides}
-use Rattle.ob_watching.specs.Asked.{Operation, Remove, PollChanges, Target, Found, Shows, Lists, Refuses, ReadingOf, ReplyOf, Told, Out, Nil, Refused, HeardOf, Values, Nothing, Other, GivesOut}
+use Rattle.ob_watching.specs.Operations.{Operation, Remove, PollChanges, Target, Found, Shows, Lists, Refuses, ReadingOf, ReplyOf, Told, Out, Nil, Refused, HeardOf, Values, Nothing, Other, GivesOut}
 
 -- A site apart from its watches: what its own requests do to it, and what can be watched in it.
 pub record Site : Type 1 where

@@ -2,7 +2,7 @@
 -- capacity, and batches.
 use Rattle.std.specs.Prelude.{ℕ, ◌+◌, ◌-◌, Bool, true, false, cond, ◌&&◌, List, [], ◌∷◌, ◌++◌, map, length, drop, nat_le, ◌==◌, Option, Some, None, is_some, Result, Ok, Err}
 use Rattle.std.specs.List.{list_any}
-use Rattle.ob_watching.specs.Asked.{Operation, Target, Itself, Nowhere, NewWatch, OneWatch, Found, ObjectAt, FeedAt, NotFound, ReplyOf, Out, Nil, HeardOf, Values, Nothing, Other}
+use Rattle.ob_watching.specs.Operations.{Operation, Target, Itself, Nowhere, NewWatch, OneWatch, Found, ObjectAt, FeedAt, NotFound, ReplyOf, Out, Nil, HeardOf, Values, Nothing, Other}
 use Rattle.ob_watching.specs.Sites.{Site}
 use Rattle.ob_watching.specs.Tables.{lookup, replace}
 

@@ -10,7 +10,7 @@ use Rattle.ob_object.specs.declared.head.Slot.TheVariants.{Is}
 use Rattle.ob_object.specs.Kinds.{same_kind}
 use Rattle.ob_object.specs.Object.{Object, none, children}
 use Rattle.ob_object.specs.WellFormed.{has_name, named}
-use Rattle.ob_watching.specs.Asked.{Operation, Add, Remove, PollChanges, PollRefresh, ContentOf, Shows, Lists, Refuses, ReadingOf, HeardOf, Values, Nothing, Other}
+use Rattle.ob_watching.specs.Operations.{Operation, Add, Remove, PollChanges, PollRefresh, ContentOf, Shows, Lists, Refuses, ReadingOf, HeardOf, Values, Nothing, Other}
 
 -- the bytes of a text
 abbrev pub Text : Type 0

@@ -5,7 +5,7 @@ use Rattle.ob_io.specs.Links.{inlet, IsFresh}
 use Rattle.ob_http.proofs.RepliesLemmas.{start}
 use Rattle.ob_dialogue.specs.Legs.{had, Ended}
 use Rattle.ob_dialogue.specs.Plans.{host_field}
-use Rattle.ob_dialogue.specs.InHand as told
+use Rattle.ob_dialogue.specs.InHand as in_hand
 use Rattle.ob_dialogue.specs.declared.ending.Ending.TheVariants as ending
 use Rattle.ob_dialogue.proofs.LegLemmas.{leg_memory}
 use Rattle.ob_dialogue.proofs.TalkLemmas.{visits_none, visits_failed}
@@ -17,7 +17,7 @@ returns-in_default-clause-visits g c = visits_none _ _ _ _
 
 pub returns-in_default-dial-clause-visits : goal.returns-in_default-dial-clause-visits
 returns-in_default-dial-clause-visits g c =
-    visits_failed c.args.plan.now c.args.mends (told.stage c.args.stage) _ _ _ _ (g.K.Sink.held c.args.sink.now) _
+    visits_failed c.args.plan.now c.args.mends (in_hand.stage c.args.stage) _ _ _ _ (g.K.Sink.held c.args.sink.now) _
     c.in_default-dial.ensures.dials refl c.host.ensures (ap (λ o. unwrap_or o 0) c.port.ensures) c.in_default-dial.ensures.apart
 
 pub returns-in-Err-clause-visits : goal.returns-in-Err-clause-visits
@@ -26,7 +26,7 @@ returns-in-Err-clause-visits g c =
     let link = c.in-Err.link in
     let here = had (inlet (g.W.L.Link.left link) (g.W.L.Link.taken link)) (g.W.L.Link.held link) [] (g.K.Sink.held c.args.sink.now) in
     let fresh = subst (λ x. IsFresh (g.W.L.Link.taken x) (g.W.L.Link.held x) (g.W.L.Link.read_faults x) (g.W.L.Link.write_faults x)) (sym c.in-Err.ensures) c.in-Ok-dial.ensures.fresh in
-    visits_link p c.args.mends (told.stage c.args.stage) (host_field p.url) _ _ _ _ _ _ here here (Ended ending.Memory) _ c.back.ensures.visit.0
+    visits_link p c.args.mends (in_hand.stage c.args.stage) (host_field p.url) _ _ _ _ _ _ here here (Ended ending.Memory) _ c.back.ensures.visit.0
     (g.W.L.Link.read_faults link) (g.W.L.Link.write_faults link) (g.W.L.Link.read_faults link) (g.W.L.Link.write_faults link)
     refl (leg_memory _ _ _ _ _) fresh start (λ e. absurd (let wrong : ending.Memory ≡ ending.Link = e in cc)) c.back.ensures.visit.2
     c.in-Ok-dial.ensures.dials c.back.ensures.apart refl c.host.ensures (ap (λ o. unwrap_or o 0) c.port.ensures) c.in-Ok-dial.ensures.apart c.back.ensures.visit.1
@@ -38,10 +38,10 @@ returns-clause-visits g c =
     let t = c.on_link-pause.new.session in
     let visits = c.back-2.ensures.visit in
     let fresh = subst (λ x. IsFresh (g.W.L.Link.taken x) (g.W.L.Link.held x) (g.W.L.Link.read_faults x) (g.W.L.Link.write_faults x)) (sym c.in-Ok-new.ensures.0) c.in-Ok-dial.ensures.fresh in
-    visits_link p c.args.mends (told.stage c.args.stage) s.host _ _ _ _ _ _
+    visits_link p c.args.mends (in_hand.stage c.args.stage) s.host _ _ _ _ _ _
     (had (inlet (g.W.L.Link.left s.link) (g.W.L.Link.taken s.link)) (g.W.L.Link.held s.link) s.framer (g.K.Sink.held c.args.sink.now))
     (had (inlet (g.W.L.Link.left t.link) (g.W.L.Link.taken t.link)) (g.W.L.Link.held t.link) t.framer (g.K.Sink.held c.on_link-pause.new.sink))
-    (told.pause c.on_link-pause.result) _ visits.0
+    (in_hand.pause c.on_link-pause.result) _ visits.0
     (g.W.L.Link.read_faults s.link) (g.W.L.Link.write_faults s.link) (g.W.L.Link.read_faults t.link) (g.W.L.Link.write_faults t.link)
     (c.in-Ok-new.ensures.1 ∙ c.in-Ok.ensures) c.on_link-pause.ensures.leg fresh c.in-Ok-new.ensures.2 c.on_link-pause.ensures.link
     (subst (λ x. IsSome (g.W.Dialer.visits c.back-2.new.self) → IsVisit visits.0 (g.W.L.Link.left x) (g.W.L.Link.taken x) (g.W.L.Link.held x) (g.W.L.Link.read_faults x) (g.W.L.Link.write_faults x)) c.end.ensures visits.2)

@@ -3,7 +3,7 @@ use Rattle.ob_http.specs.Asking.{request_text}
 use Rattle.ob_object.specs.Object.{Object}
 use Rattle.ob_client.specs.Sessions.{Asks, body_text}
 use Rattle.ob_client.proofs.SessionLemmas.{never}
-use Rattle.ob_dialogue.specs.InHand as told
+use Rattle.ob_dialogue.specs.InHand as in_hand
 use Rattle.ob_dialogue.proofs.ExchangeLemmas.{call_exchanges, call_goes_on, call_by_link, call_lived, ack_exchanges, ack_goes_on, ack_host, ack_later, ack_by_link, ack_lived}
 use Rattle.ob_dialogue.proofs.link.ask.Goals as goal
 
@@ -11,7 +11,7 @@ use Rattle.ob_dialogue.proofs.link.ask.Goals as goal
 
 pub returns-in-Ack-clause-exchanges : goal.returns-in-Ack-clause-exchanges
 returns-in-Ack-clause-exchanges g c =
-    ack_exchanges (told.stage c.args.stage.now) _ c.in-Ack.target c.in-Ack.user _ _ c.acknowledge_at.result c.gave.result (ap told.stage c.in-Ack.is) c.gave.ensures c.requires c.acknowledge_at.ensures
+    ack_exchanges (in_hand.stage c.args.stage.now) _ c.in-Ack.target c.in-Ack.user _ _ c.acknowledge_at.result c.gave.result (ap in_hand.stage c.in-Ack.is) c.gave.ensures c.requires c.acknowledge_at.ensures
 
 pub returns-in-Ack-clause-alive : goal.returns-in-Ack-clause-alive
 returns-in-Ack-clause-alive g c = ack_goes_on c.in-Ack.target c.in-Ack.user _ _ c.acknowledge_at.result c.gave.result c.gave.ensures c.requires c.acknowledge_at.ensures
@@ -35,7 +35,7 @@ returns-clause-exchanges g c =
     let old = c.args.session.now in
     let new = c.call.new.self in
     let r = c.in-Some.request in
-    call_exchanges old.host (told.stage c.args.stage.now) r _ _ c.call.result c.gave-2.result c.gave-2.ensures
+    call_exchanges old.host (in_hand.stage c.args.stage.now) r _ _ c.call.result c.gave-2.result c.gave-2.ensures
     (sym c.in-Ok.ensures ∙ c.in-Some.is)
     (subst (λ (b : Option Object). Asks (g.L.Link.held old.link) (g.L.Link.held new.link) (request_text r.verb r.target old.host (body_text b)) c.call.result) c.as_ref.ensures.value (c.call.ensures.asks c.requires))
     (c.call.ensures.reads c.requires)

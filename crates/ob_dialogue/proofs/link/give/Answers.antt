@@ -1,12 +1,12 @@
 use Rattle.std.proofs.Common.{refl, subst, List, ℕ}
-use Rattle.ob_dialogue.specs.InHand as told
+use Rattle.ob_dialogue.specs.InHand as in_hand
 use Rattle.ob_dialogue.proofs.TurnLemmas.{gives_of, memory_no_link, memory_no_write}
 use Rattle.ob_dialogue.proofs.link.give.Goals as goal
 
 pub returns-in-Ok-clause-gives : goal.returns-in-Ok-clause-gives
 returns-in-Ok-clause-gives g c =
-    gives_of (g.K.Sink.held c.args.sink.now) (g.K.Sink.held c.print.new.sink) c.args.plan.now (told.stage c.args.stage) c.args.reply (told.taken c.in-Ok.outcome) c.print.result c.in-Ok.ensures.value
-    (subst (λ (l : List ℕ). told.Prints (g.K.Sink.held c.args.sink.now) (g.K.Sink.held c.print.new.sink) (told.step l c.in-Ok.outcome.next) c.print.result) c.deref.ensures.value c.print.ensures.prints)
+    gives_of (g.K.Sink.held c.args.sink.now) (g.K.Sink.held c.print.new.sink) c.args.plan.now (in_hand.stage c.args.stage) c.args.reply (in_hand.taken c.in-Ok.outcome) c.print.result c.in-Ok.ensures.value
+    (subst (λ (l : List ℕ). in_hand.Prints (g.K.Sink.held c.args.sink.now) (g.K.Sink.held c.print.new.sink) (in_hand.step l c.in-Ok.outcome.next) c.print.result) c.deref.ensures.value c.print.ensures.prints)
 
 pub returns-in-Err-clause-gives : goal.returns-in-Err-clause-gives
 returns-in-Err-clause-gives g c = refl

@@ -1,5 +1,5 @@
 use Rattle.std.proofs.Common.{◌<◌, ◌^◌, ℕ, List, get_or, subst}
-use Rattle.ob_watching.specs.Asked.{OneWatch}
+use Rattle.ob_watching.specs.Operations.{OneWatch}
 use Rattle.ob_site.proofs.Asked.{beyond, beyond_steps}
 use Rattle.ob_site.proofs.Unchanged.{quietly}
 use Rattle.ob_site.proofs.quiet.to_no_watch.Goals as goal

@@ -1,4 +1,4 @@
-use Rattle.ob_watching.specs.Asked.{Nowhere}
+use Rattle.ob_watching.specs.Operations.{Nowhere}
 use Rattle.ob_site.proofs.Asked.{nobody}
 use Rattle.ob_site.proofs.Unchanged.{quietly}
 use Rattle.ob_site.proofs.quiet.to_nobody.Goals as goal

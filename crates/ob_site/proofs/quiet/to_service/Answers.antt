@@ -1,5 +1,5 @@
 use Rattle.std.proofs.Common.{refl}
-use Rattle.ob_watching.specs.Asked.{NewWatch}
+use Rattle.ob_watching.specs.Operations.{NewWatch}
 use Rattle.ob_site.proofs.Asked.{made_so}
 use Rattle.ob_site.proofs.Keeping.{may_next_so, place_so, whatever_err}
 use Rattle.ob_site.proofs.Known.{kept_through}

@@ -1,4 +1,4 @@
-use Rattle.ob_watching.specs.Asked.{OneWatch}
+use Rattle.ob_watching.specs.Operations.{OneWatch}
 use Rattle.ob_requests.specs.Targets.{operation_of}
 use Rattle.ob_site.proofs.Asked.{asked_so, asked_steps, tree_is}
 use Rattle.ob_site.proofs.Known.{known_in, kept_through, past_in}

@@ -1,6 +1,6 @@
 use Rattle.std.proofs.Common.{List, sym, ap, ◌∙◌, subst}
 use Rattle.std.proofs.lemmas.Result.{IfOk-weaker}
-use Rattle.ob_watching.specs.Asked.{Add}
+use Rattle.ob_watching.specs.Operations.{Add}
 use Rattle.ob_watching.specs.Tables.{lookup, numbers_of}
 use Rattle.ob_watch.specs.declared.item.Item.{Item}
 use Rattle.ob_watch.specs.Tables.{IsLease, Leased, live}

@@ -1,7 +1,7 @@
 use Rattle.std.proofs.Common.{◌≡◌, ℕ, List, Some, Result, sym, ap, subst}
 use Rattle.std.specs.Prelude.{option_and_then}
 use Rattle.ob_watching.specs.Tables.{lookup, replace}
-use Rattle.ob_watching.specs.Asked.{Remove}
+use Rattle.ob_watching.specs.Operations.{Remove}
 use Rattle.ob_site_rules.specs.Build.{Text}
 use Rattle.ob_site_rules.specs.declared.fault.Fault.{Fault}
 use Rattle.ob_site_rules.specs.Watched.{WatchOperation}

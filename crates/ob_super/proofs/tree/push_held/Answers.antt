@@ -1,6 +1,6 @@
 use Rattle.std.proofs.Common.{◌<◌, ◌≤◌, ◌+◌, length, sym, subst, ◌∙◌, arith}
 use Rattle.ob_object.specs.Object.{Object}
-use Rattle.ob_super.specs.InHand as told
+use Rattle.ob_super.specs.InHand as in_hand
 use Rattle.ob_super.proofs.TreeLemmas.{IsPut, put_none, put_some, put_all}
 use Rattle.ob_super.proofs.tree.push_held.Goals as goal
 use Rattle.ob_super.proofs.tree.push_held.Goals.{in-Some+in_ok-push_last, in_default}
@@ -8,7 +8,7 @@ use Rattle.ob_super.proofs.tree.push_held.Goals.{in-Some+in_ok-push_last, in_def
 pub loop-place-preserved : goal.loop-place-preserved
 loop-place-preserved c =
     let i = c.loop-place.place in
-    let u = told.upstream c.args.upstream.now in
+    let u = in_hand.upstream c.args.upstream.now in
     let held = c.args.mirror.now.held in
     let head = c.args.list.now.head in
     let inside : i < length c.args.upstream.now.hrefs.items = omega (arith, c.loop-place-test.true, c.len-place-end.ensures, c.args.upstream.now.hrefs.ok.0) in
@@ -25,4 +25,4 @@ pub returns : goal.returns
 returns c =
     let i = c.loop-place.place in
     let outside : length c.args.upstream.now.hrefs.items ≤ i = omega (arith, c.loop-place-test.false, c.len-place-end.ensures, c.args.upstream.now.hrefs.ok.0) in
-    put_all (told.upstream c.args.upstream.now) c.args.mirror.now.held c.args.list.now.head i c.loop-place.list outside c.loop-place.invariant
+    put_all (in_hand.upstream c.args.upstream.now) c.args.mirror.now.held c.args.list.now.head i c.loop-place.list outside c.loop-place.invariant

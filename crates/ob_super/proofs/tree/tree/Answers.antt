@@ -5,7 +5,7 @@ use Rattle.ob_watching.specs.WatchOuts.{Text}
 use Rattle.ob_object.specs.Object.{Object, none, empty_head, children}
 use Rattle.ob_object.specs.WellFormed.{is_taken}
 use Rattle.ob_super.specs.Trees.{subtree}
-use Rattle.ob_super.specs.InHand as told
+use Rattle.ob_super.specs.InHand as in_hand
 use Rattle.ob_super.proofs.NameLemmas.{list_free}
 use Rattle.ob_super.proofs.TreeLemmas.{tree_children, tree_more, tree_all}
 use Rattle.ob_super.proofs.tree.tree.Goals as goal
@@ -23,7 +23,7 @@ push_last-requires g c =
     let f = c.followed-item.result in
     let all = c.args.all.now in
     ap (λ (o : Object). is_taken o.head.name (children c.loop-followed.root)) c.in_ok-list.ensures
-    ∙ ap (is_taken (subtree (told.view f)).head.name) (tree_children all i c.loop-followed.root c.loop-followed.invariant)
+    ∙ ap (is_taken (subtree (in_hand.view f)).head.name) (tree_children all i c.loop-followed.root c.loop-followed.invariant)
     ∙ list_free all i f c.requires c.loop-followed-test.true c.followed-item.is
 
 pub loop-followed-preserved : goal.loop-followed-preserved
