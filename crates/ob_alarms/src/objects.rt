@@ -12,29 +12,19 @@ ghost use Rattle.ob_object.specs.declared.kind.Kind.TheVariants as kind;
 
 use crate::alarm::{Ack, Alarm, Turn};
 use crate::rule::{Num, Rule};
-use ob_object::{Facets, Head, Kind, Obj, Slot, WordFault, Words};
+use ob_object::{Attributes, Kind, Obj, Slot, WordFault, Words};
 use ob_values::{Text, Value};
 use std::alloc::{AllocError, Global};
 
 /// An object of a kind with a name and a slot, and nothing else.
-fn value_child(alloc: Global, kind: Kind, name: Text, slot: Slot) -> Result<Obj, AllocError>
+fn value_child(alloc: Global, kind: Kind, name: Text, slot: Slot) -> Obj
     requires { IsTrue (fits_head (value_head kind name slot)) }
-    ensures { IfOk result (λ o. o ≡ leaf (value_head kind name slot)) }
+    ensures { result ≡ leaf (value_head kind name slot) }
 {
-    Obj::from_head(
-        alloc,
-        Head {
-            kind,
-            name: Some(name),
-            href: None,
-            is: None,
-            of: None,
-            input: None,
-            output: None,
-            slot,
-            facets: Facets::none(),
-        },
-    )
+    let mut head = Attributes::empty(alloc, kind);
+    head.put_name(Some(name));
+    head.put_slot(slot);
+    Obj::from_attributes(alloc, head)
 }
 
 /// When something happened, as a slot.
@@ -70,29 +60,7 @@ fn put_value(
     ensures { IfOk result (λ _. object.new ≡ with_child object.old (leaf (value_head kind name.now slot))) }
 {
     let name = Text::from_ascii(alloc, name)?;
-    object.push_last(value_child(alloc, kind, name, slot)?)
-}
-
-fn named_head(
-    kind: Kind,
-    name: Text,
-    href: Option<Text>,
-    input: Option<Words>,
-    output: Option<Words>,
-) -> Head
-    ensures { result ≡ record (value_head kind name Absent) { href = href; input = input; output = output } }
-{
-    Head {
-        kind,
-        name: Some(name),
-        href,
-        is: None,
-        of: None,
-        input,
-        output,
-        slot: Slot::Absent,
-        facets: Facets::none(),
-    }
+    object.push_last(value_child(alloc, kind, name, slot))
 }
 
 /// Puts a word last.
@@ -126,7 +94,10 @@ fn put_source(alloc: Global, object: &mut Obj, path: &Text) -> Result<(), AllocE
 {
     let name = Text::from_ascii(alloc, "source")?;
     let href = path.copy()?;
-    object.push_last(Obj::from_head(alloc, named_head(Kind::Ref, name, Some(href), None, None))?)
+    let mut head = Attributes::empty(alloc, Kind::Ref);
+    head.put_name(Some(name));
+    head.put_href(Some(href));
+    object.push_last(Obj::from_attributes(alloc, head))
 }
 
 /// When an alarm was raised, and when it ended.
@@ -181,10 +152,13 @@ fn ack_op(alloc: Global, path: &Text) -> Result<Obj, AllocError>
     let href = path.followed_by(alloc, "ack")?;
     let input = one_word(alloc, "obix:AckAlarmIn")?;
     let output = one_word(alloc, "obix:AckAlarmOut")?;
-    Obj::from_head(
-        alloc,
-        named_head(Kind::Op, name, Some(href), Some(input), Some(output)),
-    )
+    let mut head = Attributes::empty(alloc, Kind::Op);
+    head.put_name(Some(name));
+    head.put_href(Some(href));
+    if head.put_input(Some(input)).is_err() || head.put_output(Some(output)).is_err() {
+        return Err(AllocError);
+    }
+    Ok(Obj::from_attributes(alloc, head))
 }
 
 fn user_slot(ack: &Option<Ack>) -> Result<Slot, AllocError>
@@ -249,20 +223,10 @@ fn alarm_head(alloc: Global, path: &Text, needs_ack: bool) -> Result<Obj, AllocE
     let href = path.copy()?;
     let is = alarm_words(alloc, needs_ack)?;
     let _words = is.as_slice();
-    Obj::from_head(
-        alloc,
-        Head {
-            kind: Kind::Obj,
-            name: None,
-            href: Some(href),
-            is: Some(is),
-            of: None,
-            input: None,
-            output: None,
-            slot: Slot::Absent,
-            facets: Facets::none(),
-        },
-    )
+    let mut head = Attributes::empty(alloc, Kind::Obj);
+    head.put_href(Some(href));
+    head.put_is(Some(is));
+    Ok(Obj::from_attributes(alloc, head))
 }
 
 /// An alarm as an object, but for the value that raised it.
