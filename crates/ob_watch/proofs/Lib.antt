@@ -5,6 +5,7 @@ pub mod FeedLemmas
 pub mod MarkLemmas
 pub mod UndoLemmas
 pub mod TableLemmas
+pub mod LapseLemmas
 pub mod Unmaking
 pub mod NewsLemmas
 pub mod LawLemmas

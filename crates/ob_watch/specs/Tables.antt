@@ -1,6 +1,6 @@
 -- Watches with marked items, and their table by number: what each call makes of them.
-use Rattle.std.specs.Prelude.{ℕ, ◌+◌, ◌*◌, ◌≤◌, Bool, not, ◌||◌, List, [], ◌∷◌, ◌++◌, map, length, drop, nat_le, nat_lt, Option, option_map, position}
-use Rattle.std.specs.List.{filter}
+use Rattle.std.specs.Prelude.{◌≡◌, ℕ, ◌+◌, ◌*◌, ◌<◌, ◌≤◌, Bool, false, not, ◌||◌, List, [], ◌∷◌, ◌++◌, map, length, drop, nat_le, nat_lt, Option, option_map, position}
+use Rattle.std.specs.List.{AllByRecursion, filter}
 use Rattle.ob_tree.specs.Trees.{Stamped}
 use Rattle.ob_watching.specs.Tables.{lookup, replace}
 use Rattle.ob_watching.specs.Watches.{max_watches, max_items, last_number, first_lease}
@@ -52,6 +52,14 @@ is_full_watch w = nat_le max_items (length w.items)
 -- the lease has run out, compared in nanoseconds
 abbrev pub is_over : ℕ → Leased → Bool
 is_over now w = nat_le (w.touched * 1_000_000 + w.lease) (now * 1_000_000)
+
+-- the lease has run out at no moment before this one
+abbrev pub StandsUntil : ℕ → Leased → Type 0
+StandsUntil moment w = (now : ℕ) → now < moment → is_over now w ≡ false
+
+-- no lease has run out at a moment before this one
+abbrev pub AllStandUntil : ℕ → List (ℕ × Leased) → Type 0
+AllStandUntil moment ws = AllByRecursion (λ e. StandsUntil moment e.1) ws
 
 -- the first place from one on whose item is to be reported
 abbrev pub next_due : Stamped → ℕ → List Item → Option ℕ

@@ -5,7 +5,7 @@ ghost use Rattle.ob_watch.specs.declared.item.Item.{Item as KeptItem};
 ghost use Rattle.ob_watch.specs.Adding.{Adds};
 ghost use Rattle.ob_watch.specs.Items.{Differ, changed_by, has_text, is_due};
 ghost use Rattle.ob_watch.specs.Marks.{AreStampsPast};
-ghost use Rattle.ob_watch.specs.Tables.{IsLease, is_full_watch, is_over, leased_for, new_watch, next_due, touched_at, watching, without};
+ghost use Rattle.ob_watch.specs.Tables.{IsLease, StandsUntil, is_full_watch, is_over, leased_for, new_watch, next_due, touched_at, watching, without};
 ghost use Rattle.ob_watch.specs.Undo.{StillUndoes, Undoes};
 
 use crate::additions::Additions;
@@ -119,6 +119,14 @@ impl Watch {
         end <= now.ms() as u128 * 1_000_000
     }
 
+    /// A moment in milliseconds since 1970 before which the lease does not run out: its end, to the whole millisecond
+    /// below.
+    pub(crate) fn stands_until(&self) -> u64
+        ensures { StandsUntil result self.now }
+    {
+        self.touched.saturating_add(self.lease / 1_000_000)
+    }
+
     /// Whether no new href can be added: the watch has 2,048 items.
     pub fn is_full(&self) -> bool
         ensures { result ≡ is_full_watch self.now }
@@ -194,7 +202,8 @@ impl Watch {
 
     /// Leaves the items as they were before those were added.
     pub(crate) fn take_back(&mut self, undo: Additions)
-        ensures { (original : List KeptItem) → Undoes undo self.old.items original → self.new ≡ watching original self.old }
+        ensures kept { self.new ≡ watching self.new.items self.old }
+        ensures taken { (original : List KeptItem) → Undoes undo self.old.items original → self.new ≡ watching original self.old }
     {
         undo.take_back(&mut self.items);
     }

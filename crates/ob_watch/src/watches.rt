@@ -1,12 +1,12 @@
 //! The watches of a site.
 ghost use Rattle.std.specs.Prelude.{◌≡◌, ℕ, ◌++◌, [], ◌∷◌, cond, count_by, OnOk, is_some, not, None, IfOk, nat_eq, length, max, option_map};
-ghost use Rattle.std.specs.List.{IsDistinct, list_any};
+ghost use Rattle.std.specs.List.{AllByRecursion, IsDistinct, list_any};
 ghost use Rattle.std.specs.Option.{option_copied};
 ghost use Rattle.indexmap.specs.IndexMap.{IsUnique};
 ghost use Rattle.ob_watching.specs.Tables.{lookup, numbers_of, replace};
 ghost use Rattle.ob_watch.specs.Adding.{AddsAt, Makes, TakesBack};
 ghost use Rattle.ob_watch.specs.Items.{changed_by, marked_anew, one_more, rolled_to};
-ghost use Rattle.ob_watch.specs.Tables.{IsLease, at_number, has_no_place, holding, is_over, lapsed_at, leased_for, live, no_watches, touched_at, watching, with_all_items, with_new, without, Table};
+ghost use Rattle.ob_watch.specs.Tables.{AllStandUntil, IsLease, StandsUntil, at_number, has_no_place, holding, is_over, lapsed_at, leased_for, live, no_watches, touched_at, watching, with_all_items, with_new, without, Table};
 ghost use Rattle.ob_watch.specs.Reported.{IsDue, all_reported};
 
 use crate::additions::Additions;
@@ -33,17 +33,19 @@ pub struct Watches {
     alloc: Global,
     map: Map,
     next: u64,
+    // A moment in milliseconds since 1970 before which no lease that is held runs out.
+    soonest: u64,
 }
 
 impl Model for Watches {
     ghost use Rattle.ob_watch.specs.Held.{AreNumbered};
-    ghost use Rattle.ob_watch.specs.Tables.{Table};
+    ghost use Rattle.ob_watch.specs.Tables.{AllStandUntil, Table};
 
     ghost Value = { Table };
 
     ghost view = { λ w. record { watches = w.map.entries; next = w.next } };
 
-    ghost invariant = { λ w. AreNumbered w.next w.map.entries };
+    ghost invariant = { λ w. AreNumbered w.next w.map.entries × AllStandUntil w.soonest w.map.entries };
 }
 
 // The watch of a number whose lease has not run out.
@@ -71,6 +73,25 @@ fn one_has_lapsed(held: &Map, now: Moment) -> bool
 {
     let watches = held.values().as_slice();
     any_has_lapsed(watches, now)
+}
+
+// A moment before which no lease of these runs out; the greatest number where there are none.
+fn soonest_of(watches: &[Watch]) -> u64
+    ensures { AllByRecursion (StandsUntil result) watches.now }
+{
+    let mut soonest = u64::MAX;
+    for watch in watches {
+        soonest = soonest.min(watch.stands_until());
+    }
+    soonest
+}
+
+// The same of the watches under their numbers.
+fn soonest_held(held: &Map) -> u64
+    ensures { AllStandUntil result held.now.entries }
+{
+    let watches = held.values().as_slice();
+    soonest_of(watches)
 }
 
 // How many there are whose lease has not run out.
@@ -149,6 +170,7 @@ impl Watches {
             alloc,
             map: IndexMap::new(alloc),
             next: 1,
+            soonest: u64::MAX,
         }
     }
 
@@ -214,9 +236,11 @@ impl Watches {
         }
         let number = self.next;
         let watch = Watch::new(self.alloc, now);
+        let until = watch.stands_until();
         match self.map.insert(number, watch) {
             Ok(_) => {
                 self.next = number + 1;
+                self.soonest = self.soonest.min(until);
                 Ok(number)
             }
             Err(_) => Err(WatchFault::Memory),
@@ -240,7 +264,10 @@ impl Watches {
         ensures touched { self.new ≡ holding (at_number number (touched_at now) self.old.watches) self.old }
     {
         match self.map.get_mut(&number) {
-            Some(watch) => watch.touch(now),
+            Some(watch) => {
+                watch.touch(now);
+                self.soonest = self.soonest.min(watch.stands_until());
+            }
             None => return false,
         }
         true
@@ -253,7 +280,10 @@ impl Watches {
         ensures leased { self.new ≡ holding (at_number number (leased_for lease) self.old.watches) self.old }
     {
         match self.map.get_mut(&number) {
-            Some(watch) => watch.renew(lease),
+            Some(watch) => {
+                watch.renew(lease);
+                self.soonest = self.soonest.min(watch.stands_until());
+            }
             None => return false,
         }
         true
@@ -273,15 +303,18 @@ impl Watches {
     {
         self.map = IndexMap::new(self.alloc);
         self.next = self.next.max(below);
+        self.soonest = u64::MAX;
     }
 
     /// Drops the watches whose lease has run out at this moment.
     pub fn sweep(&mut self, now: Moment)
         ensures { self.new ≡ lapsed_at now self.old }
     {
-        if one_has_lapsed(&self.map, now) {
-            drop_lapsed(&mut self.map, now);
+        if now.ms() < self.soonest {
+            return;
         }
+        drop_lapsed(&mut self.map, now);
+        self.soonest = soonest_held(&self.map);
     }
 
     /// Puts an item in the place of the one of its href, or last. NoWatch where no watch of that number is held;

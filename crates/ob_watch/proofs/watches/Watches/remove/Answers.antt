@@ -1,6 +1,7 @@
-use Rattle.std.proofs.Common.{ap, sym, ◌∙◌, None, Some}
+use Rattle.std.proofs.Common.{nat_eq, ap, sym, ◌∙◌, None, Some}
 use Rattle.std.specs.Option.{option_copied_mut}
-use Rattle.ob_watch.specs.Tables.{without}
+use Rattle.ob_watch.specs.Tables.{is_over, without}
+use Rattle.ob_watch.proofs.LapseLemmas.{stand_same}
 use Rattle.ob_watch.proofs.TableLemmas.{is_held, none_written, numbered_same, one_written}
 use Rattle.ob_watch.proofs.watches.Watches.remove.Goals as goal
 
@@ -14,8 +15,11 @@ returns-in-None-clause-removed c =
     (sym c.get_mut.ensures.value ∙ ap option_copied_mut c.in-None.is) (λ i. (c.get_mut.follows.holds-at-none i).entries)
 
 pub invariant_of-self-2 : goal.invariant_of-self-2
-invariant_of-self-2 c =
-    numbered_same c.self.inside.next c.self.inside.map.entries (c.get_mut.follows.lender c.remove.new.self).entries (c.get_mut.follows.holds c.remove.new.self).1 c.self.invariant
+invariant_of-self-2 c = (
+  numbered_same c.self.inside.next c.self.inside.map.entries (c.get_mut.follows.lender c.remove.new.self).entries (c.get_mut.follows.holds c.remove.new.self).1 c.self.invariant.0,
+  stand_same c.self.inside.soonest (nat_eq c.args.number) c.self.inside.map.entries (c.get_mut.follows.lender c.remove.new.self).entries c.in-Some.watch.now c.remove.new.self
+      (sym c.get_mut.ensures.value ∙ ap option_copied_mut c.in-Some.is) (λ now. ap (is_over now) c.remove.ensures) (c.get_mut.follows.holds c.remove.new.self).0 c.self.invariant.1,
+)
 
 pub returns-clause-held : goal.returns-clause-held
 returns-clause-held c =
@@ -24,4 +28,4 @@ returns-clause-held c =
 pub returns-clause-removed : goal.returns-clause-removed
 returns-clause-removed c =
     one_written c.args.number c.self.inside.map.entries c.self.inside.next c.args.self.now c.self.view_is (without c.args.texts.now) (c.get_mut.follows.lender c.remove.new.self).entries
-    c.in-Some.watch.now c.remove.new.self c.self.invariant (sym c.get_mut.ensures.value ∙ ap option_copied_mut c.in-Some.is) (c.remove.ensures) (c.get_mut.follows.holds c.remove.new.self).0
+    c.in-Some.watch.now c.remove.new.self c.self.invariant.0 (sym c.get_mut.ensures.value ∙ ap option_copied_mut c.in-Some.is) (c.remove.ensures) (c.get_mut.follows.holds c.remove.new.self).0

@@ -1,6 +1,10 @@
 use Rattle.ob_watch.specs.Items.{at_path, rolled_by, changed_by}
+use Rattle.ob_watch.proofs.LapseLemmas.{stand_changed}
 use Rattle.ob_watch.proofs.TableLemmas.{numbered_changed}
 use Rattle.ob_watch.proofs.watches.Watches.rolled.Goals as goal
 
 pub invariant_of-self : goal.invariant_of-self
-invariant_of-self c = numbered_changed (changed_by (at_path c.args.path.now (rolled_by c.args.gone))) c.self.inside.next c.self.inside.map.entries c.change_each.new.held.entries c.change_each.ensures c.self.invariant
+invariant_of-self c = (
+  numbered_changed (changed_by (at_path c.args.path.now (rolled_by c.args.gone))) c.self.inside.next c.self.inside.map.entries c.change_each.new.held.entries c.change_each.ensures c.self.invariant.0,
+  stand_changed c.self.inside.soonest (changed_by (at_path c.args.path.now (rolled_by c.args.gone))) c.self.inside.map.entries c.change_each.new.held.entries c.change_each.ensures c.self.invariant.1,
+)

@@ -1,14 +1,14 @@
-use Rattle.std.proofs.Common.{◌≡◌, ap, not, sym, ◌∙◌}
-use Rattle.ob_watch.specs.Tables.{Table, is_over, lapsed_at}
-use Rattle.ob_watch.proofs.TableLemmas.{Numbered, none_lapsed, numbered_filter, table}
+use Rattle.std.proofs.Common.{not, arith}
+use Rattle.ob_watch.specs.Tables.{is_over}
+use Rattle.ob_watch.proofs.LapseLemmas.{none_swept}
+use Rattle.ob_watch.proofs.TableLemmas.{numbered_filter}
 use Rattle.ob_watch.proofs.watches.Watches.sweep.Goals as goal
 
 pub invariant_of-self : goal.invariant_of-self
-invariant_of-self c = numbered_filter c.self.inside.next c.self.inside.map.entries (λ e. not (is_over c.args.now e.1)) c.drop_lapsed.new.held.entries c.drop_lapsed.ensures c.self.invariant
+invariant_of-self c = (
+  numbered_filter c.self.inside.next c.self.inside.map.entries (λ e. not (is_over c.args.now e.1)) c.drop_lapsed.new.held.entries c.drop_lapsed.ensures c.self.invariant.0,
+  c.soonest_held-self-inside.ensures,
+)
 
-pub returns-else-one_has_lapsed : goal.returns-else-one_has_lapsed
-returns-else-one_has_lapsed c =
-    let kept : table c.self.inside.map.entries c.self.inside.next ≡ lapsed_at c.args.now c.args.self.now =
-    ap (λ (ws : Numbered). table ws c.self.inside.next) (sym (none_lapsed c.args.now c.self.inside.map.entries (sym c.one_has_lapsed.ensures ∙ c.if-one_has_lapsed.false)))
-    ∙ ap (λ (t : Table). lapsed_at c.args.now t) c.self.view_is in
-    cc
+pub returns-then-ms-self : goal.returns-then-ms-self
+returns-then-ms-self c = none_swept c.self.inside.soonest c.args.now c.self.inside.map.entries c.self.inside.next c.args.self.now c.self.view_is (omega (arith, c.if-ms-self.true, c.ms.ensures.value)) c.self.invariant.1
