@@ -1,5 +1,5 @@
 //! How many parts an object comes to, counted up to a limit without building it.
-ghost use Rattle.std.specs.Prelude.{◌≡◌, ◌-◌, false, nat_lt, None, IfOk};
+ghost use Rattle.std.specs.Prelude.{◌≡◌, ◌+◌, ◌-◌, false, nat_lt, None, IfOk};
 ghost use Rattle.ob_object.specs.Object.{parts};
 ghost use Rattle.ob_contracts.specs.Inherit.{result_of};
 ghost use Rattle.ob_contracts.specs.Shown.{shown_as};
@@ -7,8 +7,10 @@ ghost use Rattle.ob_contracts.specs.Shown.{shown_as};
 use crate::fewer::told_by;
 use crate::library::Library;
 use crate::reading::View;
+use crate::steps::Steps;
 use ob_object::Obj;
 use std::alloc::{AllocError, Global};
+use std::sync::ledger::Ledger;
 
 // The most parts of a contract.
 const MOST: u64 = 512;
@@ -40,11 +42,16 @@ fn left_after(alloc: Global, view: &View, most: u64) -> Result<u64, AllocError>
     Ok(left)
 }
 
-/// Whether a contract comes to more parts than a library takes.
-pub(crate) fn is_large<'x>(library: &'x Library, contract: &'x Obj) -> Result<bool, AllocError>
-    ensures { IfOk result (λ large. large ≡ nat_lt 512 (parts (result_of library.now contract.now None None))) }
+/// Whether a contract comes to more parts than a library takes. It counts one step.
+pub(crate) fn is_large<'x, L: Ledger>(
+    library: &'x Library,
+    contract: &'x Obj,
+    steps: &mut Steps<L>,
+) -> Result<bool, AllocError>
+    ensures large { IfOk result (λ large. large ≡ nat_lt 512 (parts (result_of library.now contract.now None None))) }
+    ensures steps { steps.new ≡ steps.old + 1 }
 {
-    let view = View::uncounted(library, contract, None, None);
+    let view = View::new(library, contract, None, None, steps);
     let left = left_after(library.allocator(), &view, MOST + 1)?;
     let parts = (MOST + 1).saturating_sub(left);
     Ok(parts > MOST)

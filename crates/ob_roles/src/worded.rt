@@ -19,14 +19,16 @@ ghost use Rattle.ob_roles.specs.Worded.{worded_at};
 
 use crate::few::{copied, few_given, few_own};
 use crate::kinds::Known;
+use crate::library::standard_by;
 use crate::naming::{find_over, names_in, names_of};
 use crate::summed::{put_if_new, put_missing, sum_given};
 use crate::taking::{Table, implied_by, sources};
-use ob_contracts::Library;
 use ob_object::{Facets, Head, Obj, Slot, Words, copy_text};
 use ob_values::Text;
 use std::alloc::{AllocError, Global};
 use std::collections::BTreeMap;
+use std::marker::Brand;
+use std::sync::ledger::Blank;
 
 // A copy of the words that a list or a feed gives, and none for another kind.
 fn copied_if(has: bool, words: Option<&Words>) -> Result<Option<Words>, AllocError>
@@ -128,7 +130,7 @@ fn standard_table(alloc: Global, known: &Known) -> Result<Table, AllocError>
     ensures { IfOk result (λ table. (whole : Contracts) → Tells known.now whole → Holds table (brief_contracts whole standard_words)) }
 {
     let mut table = BTreeMap::new(alloc);
-    let library = Library::standard(alloc)?;
+    let library = standard_by::<Brand>(alloc, Blank::new(1))?;
     for contract in library.contracts() {
         put_contract(alloc, known, &mut table, &contract.0, &contract.1)?;
     }

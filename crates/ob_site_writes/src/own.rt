@@ -26,7 +26,7 @@ use ob_replies::build::nameless;
 use ob_site_rules::Fault;
 use ob_site_shown::shown_own;
 use ob_site_state::State;
-use ob_site_written::write_if_changed;
+use ob_site_written::{OwnNode, write_if_changed};
 use ob_tree::NodeId;
 use ob_values::Text;
 use std::alloc::AllocError;
@@ -67,7 +67,7 @@ fn show_own<L: Ledger>(
     ensures ok { IfOk result (λ reply. (d : Object) → IsDone state.old state.new (showing state.old.plan path.now d (written state.old.plan state.old.time path.now own.now slot.now state.old.now)) reply) }
     ensures stays { state.new ≡ record state.old { now = state.new.now } }
 {
-    write_if_changed(state, node, path, own.head(), slot)?;
+    write_if_changed(state, OwnNode { node, path }, own.head(), slot, steps)?;
     own_reply(state, node, steps)
 }
 

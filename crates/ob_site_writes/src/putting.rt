@@ -36,7 +36,7 @@ fn show_written<L: Ledger>(
     ensures ok { IfOk result (IsDone state.old state.new (showing state.old.plan path.now object.now (written state.old.plan state.old.time path.now object.now slot.now state.old.now))) }
     ensures stays { state.new ≡ record state.old { now = state.new.now } }
 {
-    written_at(state, path, object.head(), slot)?;
+    written_at(state, path, object.head(), slot, steps)?;
     let default = object.copy()?;
     reply_object(state, path, default, steps)
 }

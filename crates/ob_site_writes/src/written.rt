@@ -6,11 +6,13 @@ ghost use Rattle.ob_tree.specs.Paths.{place_of};
 ghost use Rattle.ob_site_rules.specs.Writes.{written, overfills};
 ghost use Rattle.ob_site_written.specs.Fitting.{CanBeWritten};
 
+use ob_contracts::Steps;
 use ob_object::{Attributes, Slot};
 use ob_site_state::State;
-use ob_site_written::{same_slot, write_if_changed};
+use ob_site_written::{OwnNode, same_slot, write_if_changed};
 use ob_values::Text;
 use std::alloc::AllocError;
+use std::sync::ledger::Ledger;
 
 /// Writes a value to what a role derives at a path, where there is no own node: no slot is set.
 fn written_derived(
@@ -36,11 +38,12 @@ fn written_derived(
 
 /// Writes a value to the object of a head that is shown at a path, unless it is equal to the one that is shown. Want of
 /// memory leaves all but the state now as it was.
-pub(crate) fn written_at(
+pub(crate) fn written_at<L: Ledger>(
     state: &mut State,
     path: &Text,
     head: &Attributes,
     slot: &Slot,
+    steps: &mut Steps<L>,
 ) -> Result<(), AllocError>
     requires can { CanBeWritten state.old.plan state.old.now path.now head.now.kind slot.now }
     requires room { overfills state.old.plan state.old.now state.old.time path.now head.now slot.now ≡ false }
@@ -49,7 +52,7 @@ pub(crate) fn written_at(
     ensures err { OnErr result (state.new ≡ record state.old { now = state.new.now }) }
 {
     match state.tree().get(path) {
-        Some(node) => write_if_changed(state, node, path, head, slot),
+        Some(node) => write_if_changed(state, OwnNode { node, path }, head, slot, steps),
         None => written_derived(state, path, head, slot),
     }
 }

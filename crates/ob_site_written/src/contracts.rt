@@ -15,13 +15,14 @@ ghost use Rattle.ob_site_rules.specs.Writes.{site_contracts, is_in_contract, lib
 ghost use Rattle.ob_plain_state.specs.States.{AreTaken};
 ghost use Rattle.ob_site_written.specs.Parts.{contracts_in};
 
-use ob_contracts::{LibFault, Library};
+use ob_contracts::{LibFault, Library, Steps};
 use ob_object::Obj;
 use ob_plain_state::node_of;
 use ob_site_state::State;
 use ob_tree::{NodeId, Tree};
 use ob_values::Text;
 use std::alloc::{AllocError, Global};
+use std::sync::ledger::Ledger;
 
 /// Whether an object is a node, and has the node of a path in it.
 fn has_node(contract: &Obj, path: &Text) -> bool
@@ -46,11 +47,16 @@ fn is_among(contracts: &[Obj], path: &Text) -> bool
 }
 
 /// Adds a contract that a library takes.
-fn add_taken(library: &mut Library, path: Text, contract: Obj) -> Result<(), AllocError>
+fn add_taken<L: Ledger>(
+    library: &mut Library,
+    path: Text,
+    contract: Obj,
+    steps: &mut Steps<L>,
+) -> Result<(), AllocError>
     requires { added library.old path contract ≡ Ok (with_added library.old ((path, contract) ∷ [])) }
     ensures { IfOk result (λ _. library.new ≡ with_added library.old ((path, contract) ∷ [])) }
 {
-    match library.add(path, contract) {
+    match library.add(path, contract, steps) {
         Ok(()) => Ok(()),
         Err(LibFault::Memory) => Err(AllocError),
         Err(_) => unreachable!(),
@@ -58,24 +64,32 @@ fn add_taken(library: &mut Library, path: Text, contract: Obj) -> Result<(), All
 }
 
 /// Adds a contract of the site under its path, if it has one.
-fn put_contract(library: &mut Library, contract: &Obj) -> Result<(), AllocError>
+fn put_contract<L: Ledger>(
+    library: &mut Library,
+    contract: &Obj,
+    steps: &mut Steps<L>,
+) -> Result<(), AllocError>
     requires { AreTaken library.old (contracts_in (contract.now ∷ [])) }
     ensures { IfOk result (λ _. library.new ≡ with_added library.old (contracts_in (contract.now ∷ []))) }
 {
     match contract.head().node_path() {
-        Some(path) => add_taken(library, path.copy()?, contract.copy()?),
+        Some(path) => add_taken(library, path.copy()?, contract.copy()?, steps),
         None => Ok(()),
     }
 }
 
 /// The standard library with these contracts.
-fn library_with(alloc: Global, contracts: &[Obj]) -> Result<Library, AllocError>
+fn library_with<L: Ledger>(
+    alloc: Global,
+    contracts: &[Obj],
+    steps: &mut Steps<L>,
+) -> Result<Library, AllocError>
     requires { AreTaken standard (contracts_in contracts.now) }
     ensures { IfOk result (λ library. library ≡ with_added standard (contracts_in contracts.now)) }
 {
-    let mut library = Library::standard(alloc)?;
+    let mut library = Library::standard(alloc, steps)?;
     for contract in contracts {
-        put_contract(&mut library, contract)?;
+        put_contract(&mut library, contract, steps)?;
     }
     Ok(library)
 }
@@ -143,11 +157,12 @@ fn contracts_round(alloc: Global, tree: &Tree, node: NodeId) -> Result<Option<Ob
 
 /// The library after a write to a node, whose value the tree has already: made anew where the node is a contract of the
 /// site or a part of one, and else none.
-fn new_library(
+fn new_library<L: Ledger>(
     alloc: Global,
     tree: &Tree,
     node: NodeId,
     path: &Text,
+    steps: &mut Steps<L>,
 ) -> Result<Option<Library>, AllocError>
     requires node { place_of path.now (paths tree.now.root) ≡ Some node.number }
     requires within { node.number < parts tree.now.root }
@@ -161,7 +176,7 @@ fn new_library(
     if !is_among(contracts.children(), path) {
         return Ok(None);
     }
-    let library = library_with(alloc, contracts.children())?;
+    let library = library_with(alloc, contracts.children(), steps)?;
     Ok(Some(library))
 }
 
@@ -169,13 +184,18 @@ fn new_library(
 /// memory leaves all as it was.
 ///
 /// Source: oBIX 1.1, chapter 7 (Contracts).
-pub(crate) fn renew_library(state: &mut State, node: NodeId, path: &Text) -> Result<(), AllocError>
+pub(crate) fn renew_library<L: Ledger>(
+    state: &mut State,
+    node: NodeId,
+    path: &Text,
+    steps: &mut Steps<L>,
+) -> Result<(), AllocError>
     requires { place_of path.now (paths state.old.now.tree) ≡ Some node.number }
     ensures ok { OnOk result (state.new ≡ record state.old { now = record state.old.now { library = library_after path.now state.old.now.tree state.old.now.library } }) }
     ensures err { OnErr result (state.new ≡ state.old) }
 {
     state.sound_law();
-    match new_library(state.allocator(), state.tree(), node, path)? {
+    match new_library(state.allocator(), state.tree(), node, path, steps)? {
         Some(library) => state.set_library(library),
         None => Ok(()),
     }

@@ -11,4 +11,4 @@ mod writing;
 
 pub use limits::{ack_overfills, overfills};
 pub use slots::same_slot;
-pub use writing::{write, write_if_changed};
+pub use writing::{OwnNode, write, write_if_changed};

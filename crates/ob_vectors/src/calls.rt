@@ -1,4 +1,5 @@
 //! Calls that may answer want of memory, each with ample memory.
+use crate::contracts::standard;
 use ob_contracts::Library;
 use ob_documents::read;
 use ob_encoding::{Part, PartFault, encode, read_known, read_part, read_words, write};
@@ -104,7 +105,7 @@ fn has_words(copy: &Library, library: &Library) -> bool {
 
 // Whether the library of the specification's contracts is copied.
 fn copies_library(alloc: Global) -> bool {
-    let Ok(library) = Library::standard(alloc) else {
+    let Ok(library) = standard(alloc) else {
         return false;
     };
     match &library.copy() {

@@ -118,16 +118,31 @@ fn tell_item(
 }
 
 // What it comes to that a contract is added.
-fn add(alloc: Global, library: &mut Library, word: &str, contract: Obj) -> &'static str {
-    let Ok(word) = Text::from_utf8(alloc, word.as_bytes()) else {
-        return "no word";
-    };
-    match library.add(word, contract) {
+fn add_counted<L: Ledger>(
+    library: &mut Library,
+    word: Text,
+    contract: Obj,
+    blank: Blank,
+) -> &'static str
+    requires name { blank.name ≡ L.name }
+    requires parts { blank.parts ≡ L.parts }
+    requires cut { 0 < blank.parts }
+{
+    let mut steps = Steps::<L>::begin(blank);
+    match library.add(word, contract, &mut steps) {
         Ok(()) => "added",
         Err(LibFault::Twice { uri: _ }) => "Twice",
         Err(LibFault::Later { uri: _ }) => "Later",
         Err(LibFault::Large { uri: _ }) => "Large",
         Err(LibFault::Memory) => "Memory",
+    }
+}
+
+// The same, by a counter of its own.
+fn add(alloc: Global, library: &mut Library, word: &str, contract: Obj) -> &'static str {
+    match Text::from_utf8(alloc, word.as_bytes()) {
+        Ok(word) => add_counted::<Brand>(library, word, contract, Blank::new(1)),
+        Err(_) => "no word",
     }
 }
 
@@ -193,12 +208,28 @@ fn tell_parts(library: &Library, word: &str, told: &mut String) -> Result<(), Al
     }
 }
 
+fn standard_counted<L: Ledger>(alloc: Global, blank: Blank) -> Result<Library, AllocError>
+    requires name { blank.name ≡ L.name }
+    requires parts { blank.parts ≡ L.parts }
+    requires cut { 0 < blank.parts }
+{
+    let mut steps = Steps::<L>::begin(blank);
+    Library::standard(alloc, &mut steps)
+}
+
+/// The library of the specification's contracts, by a counter of its own.
+///
+/// `AllocError` for want of memory.
+pub(crate) fn standard(alloc: Global) -> Result<Library, AllocError> {
+    standard_counted::<Brand>(alloc, Blank::new(1))
+}
+
 impl Contracts {
     /// The standard contracts.
     ///
     /// `AllocError` for want of memory.
     pub(crate) fn new(alloc: Global) -> Result<Contracts, AllocError> {
-        let library = Library::standard(alloc)?;
+        let library = standard(alloc)?;
         Ok(Contracts { library })
     }
 

@@ -5,7 +5,7 @@ use Rattle.ob_site_written.specs.Parts.{contracts_in}
 use Rattle.ob_site_written.proofs.contracts.library_with.Given as goal
 
 abbrev pub invariant-loop-contract : goal.invariant-loop-contract
-invariant-loop-contract l = record {
+invariant-loop-contract g l = record {
   taken : AreTaken l.library (contracts_in (drop l.contract-index l.contracts));
   added : with_added l.library (contracts_in (drop l.contract-index l.contracts)) ≡ with_added standard (contracts_in l.contracts);
 }
