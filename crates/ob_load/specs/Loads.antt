@@ -1,6 +1,8 @@
 -- What a site file opens, or why it opens nothing.
 use Rattle.std.specs.Prelude.{◌≡◌, ℕ, List, Option, true, Ok}
 use Rattle.ob_object.specs.Object.{Object}
+use Rattle.ob_site.specs.Between.{IsShallow}
+use Rattle.ob_site_open.specs.Opens.{IsFromRoot}
 use Rattle.ob_documents.specs.Spelling.{Spells}
 use Rattle.ob_xml.specs.Judged.{Judged, fault}
 use Rattle.ob_site_rules.specs.Sites.{SiteState}
@@ -20,6 +22,11 @@ abbrev pub IsUnspelled : List ℕ → LoadFault → Type 0
 IsUnspelled bytes (Document refused) = Judged bytes true (fault refused.at refused.why)
 IsUnspelled bytes Memory = Unit {0}
 IsUnspelled bytes _ = ⊥
+
+-- a site that some root of at most 32 levels opens at some moment
+pub record IsFromShallow (site : SiteState) : Type 0 where
+  pub from : IsFromRoot site
+  pub shallow : IsShallow from.root
 
 -- The bytes spell a document with this xmlns, whose root opens this site at the moment.
 abbrev pub IsSite : List ℕ → ℕ → Option (List ℕ) → SiteState → Type 0

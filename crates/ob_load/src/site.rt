@@ -6,7 +6,7 @@ ghost use Rattle.ob_site.specs.Between.{IsShallow};
 ghost use Rattle.ob_site_file.specs.Opened.{site_of};
 ghost use Rattle.ob_site_file.specs.Passes.{Refuses};
 ghost use Rattle.ob_load.specs.Causes.{HasLoadCause};
-ghost use Rattle.ob_load.specs.Loads.{IsOutside, IsSite, RefusesBytes};
+ghost use Rattle.ob_load.specs.Loads.{IsFromShallow, IsOutside, IsSite, RefusesBytes};
 
 use crate::reading::{document, read_bytes};
 use ob_io::Files;
@@ -25,37 +25,37 @@ pub struct Loaded {
     pub site: Site,
 }
 
-// The site of what a document's root opened at a moment.
-fn site_of(alloc: Global, root: &Obj, boot: Moment, opened: Opened) -> Result<Site, AllocError>
-    requires shallow { IsShallow root.now }
-    requires opens { opening root.now boot ≡ Ok (site_of opened) }
+// The site of what some root of at most 32 levels opened at some moment.
+fn site_of(alloc: Global, opened: Opened) -> Result<Site, AllocError>
+    requires opens { IsFromShallow (site_of opened) }
     requires counted { AreCounted (map entry_of opened.logs.items) }
     ensures { IfOk result (λ site. site ≡ site_of opened) }
 {
-    let _head = root.head();
-    let state = state_of(alloc, root, boot, opened)?;
+    let state = state_of(alloc, opened)?;
     Ok(Site::open(state))
 }
 
 // The site that a document's root opens at a moment.
-fn site_at(alloc: Global, root: &Obj, boot: Moment) -> Result<Site, LoadFault>
-    requires { IsShallow root.now }
-    ensures site { IfOk result (λ site. opening root.now boot ≡ Ok site) }
-    ensures refused { IfErr result (Refuses root.now boot) }
+fn site_at(alloc: Global, root: Obj, boot: Moment) -> Result<Site, LoadFault>
+    requires { IsShallow root }
+    ensures site { IfOk result (λ site. opening root boot ≡ Ok site) }
+    ensures refused { IfErr result (Refuses root boot) }
 {
+    let _head = root.head();
     let opened = opening(alloc, root, boot)?;
-    let site = site_of(alloc, root, boot, opened)?;
+    let site = site_of(alloc, opened)?;
     Ok(site)
 }
 
 // The site that a document's bytes open at a moment.
-fn load_bytes(alloc: Global, bytes: &[u8], boot: Moment) -> Result<Loaded, LoadFault>
-    ensures site { IfOk result (λ loaded. IsSite bytes.now boot loaded.ns loaded.site) }
-    ensures refused { IfErr result (RefusesBytes bytes.now boot) }
+fn load_bytes(alloc: Global, bytes: Vec<u8>, boot: Moment) -> Result<Loaded, LoadFault>
+    ensures site { IfOk result (λ loaded. IsSite bytes.items boot loaded.ns loaded.site) }
+    ensures refused { IfErr result (RefusesBytes bytes.items boot) }
 {
-    let doc = document(alloc, bytes)?;
+    let doc = document(alloc, &bytes)?;
+    drop(bytes);
     let (ns, root) = doc.into_parts();
-    match site_at(alloc, &root, boot) {
+    match site_at(alloc, root, boot) {
         Ok(site) => Ok(Loaded { ns, site }),
         Err(fault) => Err(fault),
     }
@@ -76,6 +76,6 @@ pub fn load<F: Files>(
     ensures refused { IfErr result (λ fault. IfSome (F.content files.old name.now) (λ whole. IsOutside fault ⊎ RefusesBytes (take 16_777_217 whole) boot fault)) }
 {
     let bytes = read_bytes(alloc, files, name)?;
-    let loaded = load_bytes(alloc, &bytes, boot)?;
+    let loaded = load_bytes(alloc, bytes, boot)?;
     Ok(loaded)
 }

@@ -69,17 +69,18 @@ fn planned(
     alloc: Global,
     base: Base,
     judged: Basis,
-    root: &Obj,
+    root: Obj,
     boot: Moment,
 ) -> Result<Opened, AllocError>
-    requires { parts root.now < 2 ^ 64 }
-    ensures { IfOk result (λ o. judged.roles.items ≡ site_roles root.now → Plans base boot root.now judged.library o) }
+    requires { parts root < 2 ^ 64 }
+    ensures { IfOk result (λ o. judged.roles.items ≡ site_roles root → Plans base boot root judged.library o) }
 {
     let Basis { library, roles } = judged;
-    let parts = all_parts(alloc, roles.as_slice(), root)?;
-    let plan = plan_of(alloc, base, root, parts.as_slice(), boot)?;
+    let parts = all_parts(alloc, roles.as_slice(), &root)?;
+    let plan = plan_of(alloc, base, &root, parts.as_slice(), boot)?;
     let logs = logs_of(alloc, parts.as_slice())?;
-    let tree = kept_root(alloc, roles.as_slice(), root)?;
+    drop(parts);
+    let tree = kept_root(alloc, roles.as_slice(), &root)?;
     Ok(Opened {
         plan,
         library,
@@ -97,13 +98,13 @@ fn is_large(alloc: Global, opened: &Opened) -> Result<bool, AllocError>
 }
 
 // What a root opens that has paths in place of texts that lead to the site, or the first refusal behind those of hrefs.
-fn open_made(alloc: Global, base: Base, root: &Obj, boot: Moment) -> Result<Opened, LoadFault>
-    requires { parts root.now < 2 ^ 64 }
-    ensures ok { IfOk result (λ o. opened_made base boot root.now ≡ Ok (site_of o)) }
+fn open_made(alloc: Global, base: Base, root: Obj, boot: Moment) -> Result<Opened, LoadFault>
+    requires { parts root < 2 ^ 64 }
+    ensures ok { IfOk result (λ o. opened_made base boot root ≡ Ok (site_of o)) }
     ensures counted { IfOk result (λ o. AreCounted (map entry_of o.logs.items)) }
-    ensures err { IfErr result (IsRefusal (opened_made base boot root.now)) }
+    ensures err { IfErr result (IsRefusal (opened_made base boot root)) }
 {
-    let judged = judged(alloc, &base, root)?;
+    let judged = judged(alloc, &base, &root)?;
     let opened = planned(alloc, base, judged, root, boot)?;
     let large = is_large(alloc, &opened)?;
     if large {
@@ -114,21 +115,23 @@ fn open_made(alloc: Global, base: Base, root: &Obj, boot: Moment) -> Result<Open
 }
 
 /// What a document's root opens at a moment, or the first refusal in order. A root that can't be counted in 64 bits is
-/// refused for want of memory.
-pub fn opening(alloc: Global, root: &Obj, boot: Moment) -> Result<Opened, LoadFault>
-    ensures opened { IfOk result (λ o. opening root.now boot ≡ Ok (site_of o)) }
+/// refused for want of memory. No more than two copies of the root stand at a time: it is dropped when that with paths
+/// stands, and this one when the tree does.
+pub fn opening(alloc: Global, root: Obj, boot: Moment) -> Result<Opened, LoadFault>
+    ensures opened { IfOk result (λ o. opening root boot ≡ Ok (site_of o)) }
     ensures counted { IfOk result (λ o. AreCounted (map entry_of o.logs.items)) }
-    ensures refused { IfErr result (Refuses root.now boot) }
+    ensures refused { IfErr result (Refuses root boot) }
 {
-    if !is_countable(root) {
+    if !is_countable(&root) {
         return Err(LoadFault::Memory);
     }
-    let base = base_of(alloc, root)?;
-    check_hrefs(alloc, &base, root)?;
-    let made = made_root(alloc, &base, root)?;
+    let base = base_of(alloc, &root)?;
+    check_hrefs(alloc, &base, &root)?;
+    let made = made_root(alloc, &base, &root)?;
+    drop(root);
     if !is_countable(&made) {
         return Err(LoadFault::Memory);
     }
-    let opened = open_made(alloc, base, &made, boot)?;
+    let opened = open_made(alloc, base, made, boot)?;
     Ok(opened)
 }

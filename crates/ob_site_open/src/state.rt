@@ -1,17 +1,16 @@
 //! The state that a document opens.
-ghost use Rattle.std.specs.Prelude.{◌≡◌, [], None, Ok, map, replicate, IfOk};
+ghost use Rattle.std.specs.Prelude.{◌≡◌, [], None, map, replicate, IfOk};
 ghost use Rattle.ob_object.specs.Object.{parts};
 ghost use Rattle.ob_object.specs.WellFormed.{IsWellFormed};
 ghost use Rattle.ob_tree.specs.Laid.{paths};
 ghost use Rattle.ob_tree.specs.Paths.{first_twice};
-ghost use Rattle.ob_site_rules.specs.Opening.{opening};
 ghost use Rattle.ob_plain_state.specs.States.{AreCounted, entry_of as opened_entry};
 ghost use Rattle.ob_site_file.specs.Opened.{site_of};
 ghost use Rattle.ob_site_state.specs.Kept.{entry_of};
 ghost use Rattle.ob_site_state.specs.Tallies.{capacities_of};
 ghost use Rattle.ob_opening_laws.specs.Records.{EachLog};
 ghost use Rattle.ob_site_open.specs.Logs.{CanStand, HaveNanos};
-ghost use Rattle.ob_site_open.specs.Opens.{just_opened};
+ghost use Rattle.ob_site_open.specs.Opens.{IsFromRoot, just_opened};
 
 use crate::board::board_of;
 use crate::logs::{capacities_of, logs_of};
@@ -65,19 +64,13 @@ fn capacities_in(alloc: Global, opened: &Opened) -> Result<Vec<Option<u64>>, All
     capacities_of(alloc, &opened.logs)
 }
 
-/// The state of what a document's root opened at a moment: no step has changed anything yet. An error only for want of memory.
-pub fn state_of(
-    alloc: Global,
-    root: &Obj,
-    boot: Moment,
-    opened: Opened,
-) -> Result<State, AllocError>
-    requires opens { opening root.now boot ≡ Ok (site_of opened) }
+/// The state of what some document's root opened at some moment: no step has changed anything yet. An error only for want of
+/// memory.
+pub fn state_of(alloc: Global, opened: Opened) -> Result<State, AllocError>
+    requires opens { IsFromRoot (site_of opened) }
     requires counted { AreCounted (map opened_entry opened.logs.items) }
     ensures { IfOk result (λ state. state ≡ just_opened (site_of opened)) }
 {
-    let _head = root.head();
-    let _boot = boot;
     let time = time_of(&opened);
     let logs = logs_in(alloc, &opened)?;
     let board = board_of(alloc, &opened.plan)?;

@@ -1,6 +1,7 @@
 use Rattle.std.proofs.Common.{◌≡◌, ℕ, List, Option, sym, subst}
 use Rattle.std.specs.Prelude.{Ok}
 use Rattle.ob_object.specs.Object.{Object}
+use Rattle.ob_documents.specs.Spelling.{Spells}
 use Rattle.ob_site_rules.specs.Opening.{opening}
 use Rattle.ob_site_file.specs.Passes.{Refuses}
 use Rattle.ob_site.specs.Between.{IsShallow}
@@ -13,7 +14,7 @@ site_at-requires c = subst (λ (parts : Option (List ℕ) × Object). IsShallow 
 pub returns-in-Err-clause-refused : goal.returns-in-Err-clause-refused
 returns-in-Err-clause-refused c =
     let d = c.in_ok-doc.doc in
-    refused d.ns d.root c.in_ok-doc.ensures.spelled
+    refused d.ns d.root (subst (λ (l : List ℕ). Spells l d.ns d.root) c.deref.ensures.value c.in_ok-doc.ensures.spelled)
     (subst (λ (parts : Option (List ℕ) × Object). Refuses parts.1 c.args.boot c.in-Err.fault) c.into_parts-ns.ensures c.in-Err.ensures.refused)
 
 pub returns-in-Ok-clause-site : goal.returns-in-Ok-clause-site
@@ -21,5 +22,6 @@ returns-in-Ok-clause-site c =
     let d = c.in_ok-doc.doc in
     let opens : opening d.root c.args.boot ≡ Ok c.in-Ok.site =
     subst (λ (parts : Option (List ℕ) × Object). opening parts.1 c.args.boot ≡ Ok c.in-Ok.site) c.into_parts-ns.ensures c.in-Ok.ensures.site in
-    let told : IsSite c.args.bytes.now c.args.boot d.ns c.in-Ok.site = (d.root, (c.in_ok-doc.ensures.spelled, opens)) in
-    subst (λ (parts : Option (List ℕ) × Object). IsSite c.args.bytes.now c.args.boot parts.0 c.in-Ok.site) (sym c.into_parts-ns.ensures) told
+    let spelled : Spells c.args.bytes.items d.ns d.root = subst (λ (l : List ℕ). Spells l d.ns d.root) c.deref.ensures.value c.in_ok-doc.ensures.spelled in
+    let told : IsSite c.args.bytes.items c.args.boot d.ns c.in-Ok.site = (d.root, (spelled, opens)) in
+    subst (λ (parts : Option (List ℕ) × Object). IsSite c.args.bytes.items c.args.boot parts.0 c.in-Ok.site) (sym c.into_parts-ns.ensures) told

@@ -5,11 +5,11 @@ use Rattle.ob_load.proofs.site.site_of.Goals as goal
 
 pub open-requires : goal.open-requires
 open-requires c = record {
-  root = c.args.root.now;
-  boot = c.args.boot;
-  well_formed = c.head-head.ensures.well_formed;
-  shallow = c.requires.shallow;
-  opens = record { site = site_of c.args.opened; opens = c.requires.opens; is = c.in_ok-state.ensures };
+  root = c.requires.opens.from.root;
+  boot = c.requires.opens.from.boot;
+  well_formed = c.requires.opens.from.well_formed;
+  shallow = c.requires.opens.shallow;
+  opens = record { site = site_of c.args.opened; opens = c.requires.opens.from.opens; is = c.in_ok-state.ensures };
 }
 
 pub returns : goal.returns

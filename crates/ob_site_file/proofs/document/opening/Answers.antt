@@ -16,11 +16,11 @@ returns-in_err-opened-clause-refused c =
     let base = c.in_ok-base.base in
     let f = c.in_err-opened.field-0.0 in
     let made = subst (λ (o : Object). IsRefusal (opened_made base c.args.boot o) f) c.in_ok-made.ensures c.in_err-opened.ensures.err in
-    let e = refused c.args.root.now c.args.boot base f c.in_ok-base.ensures.ok c.in_ok-check_hrefs.ensures.ok made in
+    let e = refused c.args.root c.args.boot base f c.in_ok-base.ensures.ok c.in_ok-check_hrefs.ensures.ok made in
     search rules
 
 pub returns-clause-opened : goal.returns-clause-opened
 returns-clause-opened c =
-    past c.args.root.now c.args.boot c.in_ok-base.base c.in_ok-base.ensures.ok c.in_ok-check_hrefs.ensures.ok
+    past c.args.root c.args.boot c.in_ok-base.base c.in_ok-base.ensures.ok c.in_ok-check_hrefs.ensures.ok
     ∙ ap (λ (o : Object). opened_made c.in_ok-base.base c.args.boot o) (sym c.in_ok-made.ensures)
     ∙ c.in_ok-opened.ensures.ok

@@ -10,7 +10,7 @@ use Rattle.ob_site_file.proofs.document.planned.Goals as goal
 
 pub returns : goal.returns
 returns c = λ is.
-    let root = c.args.root.now in
+    let root = c.args.root in
     let parts : map site_part c.in_ok-parts.parts.items ≡ site_parts root =
     c.in_ok-parts.ensures ∙ ap (λ (rs : List Roles). parts_of rs 0 false no_roles (node root.head root.inner none)) (c.as_slice.ensures.value ∙ is) in
     record {
