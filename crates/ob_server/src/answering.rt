@@ -45,130 +45,143 @@ pub trait Answerer<O> {
             (entry 0 request.now moment NoMemory)) };
 }
 
-/// Answers one request.
-fn answer_one<O, A: Answerer<O>, L: Link, C: Clock>(
-    alloc: Global,
-    answerer: &mut A,
-    outside: &mut O,
-    ns: Option<&Text>,
-    next: Next,
-    text: &mut Vec<u8>,
-    link: &mut L,
-    clock: &mut C,
-) -> Result<(), Break>
-    ensures answers { (request : Framed) → SortsTo request next.sorted → request.close ≡ next.close
-        → AnswersOneBy A.asks (answerer.old, outside.old) (answerer.new, outside.new) (option_copied ns.entry) request
-        (L.held link.old) (L.held link.new) (C.given clock.old) (C.given clock.new) result }
-    ensures pace { C.pace clock.new ≡ C.pace clock.old }
-    ensures apart { (L.left link.new ≡ L.left link.old) × (L.taken link.new ≡ L.taken link.old)
-        × (L.read_faults link.new ≡ L.read_faults link.old) }
-    ensures cause { HasBreakCause (L.write_faults link.old) (L.write_faults link.new)
-        (C.faults clock.old) (C.faults clock.new) result }
-{
-    let Ok(moment) = clock.now() else {
-        return Err(Break::ClockFault);
-    };
-    let Next { sorted, close } = next;
-    match sorted {
-        Sorted::Fixed { line, body } => write_out(alloc, text, link, line, close, body.as_slice()),
-        Sorted::Step(request) => {
-            let Ok(reply) = answerer.answer(outside, &request, moment) else {
-                return Err(Break::Memory);
-            };
-            let Ok(document) = encode(alloc, ns, &reply) else {
-                return Err(Break::Memory);
-            };
-            write_out(alloc, text, link, StatusLine::Done, close, &document)
-        }
-    }
+/// What answers the requests of one link, and what the link has to itself while it is served.
+#[derive(Drop)]
+struct Connection<'a, 'o, 'l, 'c, O, A: Answerer<O>, L, C> {
+    answerer: &'a mut A,
+    /// What is lent to the answerer for each answer.
+    outside: &'o mut O,
+    link: &'l mut L,
+    /// The clock of the requests' moments.
+    clock: &'c mut C,
 }
 
-/// Answers the whole requests that are held.
-fn answer_held<O, A: Answerer<O>, L: Link, C: Clock>(
-    alloc: Global,
-    answerer: &mut A,
-    outside: &mut O,
-    ns: Option<&Text>,
-    framer: &mut Framer,
-    text: &mut Vec<u8>,
-    link: &mut L,
-    clock: &mut C,
-) -> Result<(), Stop>
-    ensures answers { AnswersHeldBy A.asks (answerer.old, outside.old) (answerer.new, outside.new) (option_copied ns.entry) framer.old framer.new
-        (L.held link.old) (L.held link.new) (C.given clock.old) (C.given clock.new) result }
-    ensures pace { C.pace clock.new ≡ C.pace clock.old }
-    ensures apart { (L.left link.new ≡ L.left link.old) × (L.taken link.new ≡ L.taken link.old)
-        × (L.read_faults link.new ≡ L.read_faults link.old) }
-    ensures cause { HasStopCause (L.write_faults link.old) (L.write_faults link.new)
-        (C.faults clock.old) (C.faults clock.new) result }
-{
-    'next: loop {
-        match take_next(alloc, framer) {
-            Ok(None) => return Ok(()),
-            Ok(Some(next)) => {
-                let close = next.close;
-                if let Err(broken) = answer_one(
-                    alloc, answerer, outside, ns, next, text, link, clock,
-                ) {
-                    return Err(Stop::Broke(broken));
-                }
-                if close {
-                    return Err(Stop::Asked);
-                }
+impl<O, A: Answerer<O>, L: Link, C: Clock> Connection<'_, '_, '_, '_, O, A, L, C> {
+    /// Answers one request.
+    fn answer_one(
+        &mut self,
+        alloc: Global,
+        ns: Option<&Text>,
+        next: Next,
+        text: &mut Vec<u8>,
+    ) -> Result<(), Break>
+        ensures answers { (request : Framed) → SortsTo request next.sorted → request.close ≡ next.close
+            → AnswersOneBy A.asks (self.old.answerer.now, self.old.outside.now)
+            (self.new.answerer.now, self.new.outside.now) (option_copied ns.entry) request
+            (L.held self.old.link.now) (L.held self.new.link.now)
+            (C.given self.old.clock.now) (C.given self.new.clock.now) result }
+        ensures pace { C.pace self.new.clock.now ≡ C.pace self.old.clock.now }
+        ensures apart { (L.left self.new.link.now ≡ L.left self.old.link.now)
+            × (L.taken self.new.link.now ≡ L.taken self.old.link.now)
+            × (L.read_faults self.new.link.now ≡ L.read_faults self.old.link.now) }
+        ensures cause { HasBreakCause (L.write_faults self.old.link.now) (L.write_faults self.new.link.now)
+            (C.faults self.old.clock.now) (C.faults self.new.clock.now) result }
+        ensures same { (self.new.answerer.ghost_name ≡ self.old.answerer.ghost_name)
+            × (self.new.outside.ghost_name ≡ self.old.outside.ghost_name)
+            × (self.new.link.ghost_name ≡ self.old.link.ghost_name)
+            × (self.new.clock.ghost_name ≡ self.old.clock.ghost_name) }
+    {
+        let Ok(moment) = self.clock.now() else {
+            return Err(Break::ClockFault);
+        };
+        let Next { sorted, close } = next;
+        match sorted {
+            Sorted::Fixed { line, body } => {
+                write_out(text, self.link, line, close, body.as_slice())
             }
-            Err(FrameFault::Memory) => return Err(Stop::Broke(Break::Memory)),
-            Err(fault) => {
-                if let Err(broken) = refuse(link, fault) {
-                    return Err(Stop::Broke(broken));
-                }
-                return Err(Stop::BadFrame(fault));
+            Sorted::Step(request) => {
+                let Ok(reply) = self.answerer.answer(self.outside, &request, moment) else {
+                    return Err(Break::Memory);
+                };
+                let Ok(document) = encode(alloc, ns, &reply) else {
+                    return Err(Break::Memory);
+                };
+                write_out(text, self.link, StatusLine::Done, close, &document)
             }
         }
     }
-}
 
-/// Answers the requests piece by piece.
-fn serve_pieces<O, A: Answerer<O>, L: Link, C: Clock>(
-    alloc: Global,
-    answerer: &mut A,
-    outside: &mut O,
-    ns: Option<&Text>,
-    link: &mut L,
-    clock: &mut C,
-) -> LinkEnd
-    ensures serves { ServesBy A.asks (answerer.old, outside.old) (answerer.new, outside.new) (option_copied ns.entry)
-        (inlet (L.left link.old) (L.taken link.old)) (inlet (L.left link.new) (L.taken link.new))
-        (L.held link.old) (L.held link.new) (C.given clock.old) (C.given clock.new) result }
-    ensures pace { C.pace clock.new ≡ C.pace clock.old }
-    ensures cause { HasEndCause (L.read_faults link.old) (L.read_faults link.new)
-        (L.write_faults link.old) (L.write_faults link.new) (C.faults clock.old) (C.faults clock.new) result }
-{
-    let Ok(made) = Framer::new(alloc) else {
-        return LinkEnd::Memory;
-    };
-    let mut framer = made;
-    let mut text = Vec::new(alloc);
-    let mut room = BUDGET;
-    'pieces: loop {
-        if let Err(stop) = answer_held(
-            alloc,
-            answerer,
-            outside,
-            ns,
-            &mut framer,
-            &mut text,
-            link,
-            clock,
-        ) {
-            return end_of(stop, framer.place());
+    /// Answers the whole requests that are held.
+    fn answer_held(
+        &mut self,
+        alloc: Global,
+        ns: Option<&Text>,
+        framer: &mut Framer,
+        text: &mut Vec<u8>,
+    ) -> Result<(), Stop>
+        ensures answers { AnswersHeldBy A.asks (self.old.answerer.now, self.old.outside.now)
+            (self.new.answerer.now, self.new.outside.now) (option_copied ns.entry) framer.old framer.new
+            (L.held self.old.link.now) (L.held self.new.link.now)
+            (C.given self.old.clock.now) (C.given self.new.clock.now) result }
+        ensures pace { C.pace self.new.clock.now ≡ C.pace self.old.clock.now }
+        ensures apart { (L.left self.new.link.now ≡ L.left self.old.link.now)
+            × (L.taken self.new.link.now ≡ L.taken self.old.link.now)
+            × (L.read_faults self.new.link.now ≡ L.read_faults self.old.link.now) }
+        ensures cause { HasStopCause (L.write_faults self.old.link.now) (L.write_faults self.new.link.now)
+            (C.faults self.old.clock.now) (C.faults self.new.clock.now) result }
+        ensures same { (self.new.answerer.ghost_name ≡ self.old.answerer.ghost_name)
+            × (self.new.outside.ghost_name ≡ self.old.outside.ghost_name)
+            × (self.new.link.ghost_name ≡ self.old.link.ghost_name)
+            × (self.new.clock.ghost_name ≡ self.old.clock.ghost_name) }
+    {
+        'next: loop {
+            match take_next(alloc, framer) {
+                Ok(None) => return Ok(()),
+                Ok(Some(next)) => {
+                    let close = next.close;
+                    if let Err(broken) = self.answer_one(alloc, ns, next, text) {
+                        return Err(Stop::Broke(broken));
+                    }
+                    if close {
+                        return Err(Stop::Asked);
+                    }
+                }
+                Err(FrameFault::Memory) => return Err(Stop::Broke(Break::Memory)),
+                Err(fault) => {
+                    if let Err(broken) = refuse(self.link, fault) {
+                        return Err(Stop::Broke(broken));
+                    }
+                    return Err(Stop::BadFrame(fault));
+                }
+            }
         }
-        if room == 0 {
-            return LinkEnd::Budget;
-        }
-        let most = room.min(PIECE as u64) as usize;
-        match read_piece(link, &mut framer, most) {
-            Ok(count) => room -= count as u64,
-            Err(pause) => return end_at(pause, framer.kept() == 0),
+    }
+
+    /// Answers the requests piece by piece.
+    fn serve_pieces(&mut self, alloc: Global, ns: Option<&Text>) -> LinkEnd
+        ensures serves { ServesBy A.asks (self.old.answerer.now, self.old.outside.now)
+            (self.new.answerer.now, self.new.outside.now) (option_copied ns.entry)
+            (inlet (L.left self.old.link.now) (L.taken self.old.link.now))
+            (inlet (L.left self.new.link.now) (L.taken self.new.link.now))
+            (L.held self.old.link.now) (L.held self.new.link.now)
+            (C.given self.old.clock.now) (C.given self.new.clock.now) result }
+        ensures pace { C.pace self.new.clock.now ≡ C.pace self.old.clock.now }
+        ensures cause { HasEndCause (L.read_faults self.old.link.now) (L.read_faults self.new.link.now)
+            (L.write_faults self.old.link.now) (L.write_faults self.new.link.now)
+            (C.faults self.old.clock.now) (C.faults self.new.clock.now) result }
+        ensures same { (self.new.answerer.ghost_name ≡ self.old.answerer.ghost_name)
+            × (self.new.outside.ghost_name ≡ self.old.outside.ghost_name)
+            × (self.new.link.ghost_name ≡ self.old.link.ghost_name)
+            × (self.new.clock.ghost_name ≡ self.old.clock.ghost_name) }
+    {
+        let Ok(made) = Framer::new(alloc) else {
+            return LinkEnd::Memory;
+        };
+        let mut framer = made;
+        let mut text = Vec::new(alloc);
+        let mut room = BUDGET;
+        'pieces: loop {
+            if let Err(stop) = self.answer_held(alloc, ns, &mut framer, &mut text) {
+                return end_of(stop, framer.place());
+            }
+            if room == 0 {
+                return LinkEnd::Budget;
+            }
+            let most = room.min(PIECE as u64) as usize;
+            match read_piece(self.link, &mut framer, most) {
+                Ok(count) => room -= count as u64,
+                Err(pause) => return end_at(pause, framer.kept() == 0),
+            }
         }
     }
 }
@@ -194,5 +207,11 @@ pub fn serve_by<O, A: Answerer<O>, L: Link, C: Clock>(
 {
     framing_is_one();
     end_stays();
-    serve_pieces(alloc, answerer, outside, ns, link, clock)
+    let mut connection = Connection {
+        answerer,
+        outside,
+        link,
+        clock,
+    };
+    connection.serve_pieces(alloc, ns)
 }

@@ -15,6 +15,7 @@ mod next;
 mod passes;
 mod port;
 mod refusal;
+mod service;
 mod sort;
 mod worker;
 

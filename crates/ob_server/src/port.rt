@@ -7,6 +7,7 @@ ghost use Rattle.ob_server.specs.Port.{HasOpened, ServesDoors, HasPortCause};
 ghost use Rattle.ob_server.specs.Together.{IsFirst};
 
 use crate::passes::join_workers;
+use crate::service::Service;
 use crate::worker::{Served, Worker, WorkerEnd, serve};
 use ob_io::{Clock, Door, Port};
 use ob_machine::Machine;
@@ -89,24 +90,21 @@ fn serve_doors<
     P: Port<D = D>,
     C: Clock + Send,
 >(
-    rt: &R,
-    alloc: Global,
-    desk: &Desk<M>,
+    service: &Service<'_, '_, '_, M, R>,
     pass: &mut Pass<M>,
-    ns: Option<&Text>,
     port: &mut P,
     clock: &mut C,
     staff: Staff<'_>,
 ) -> (Option<u64>, WorkerEnd)
 where
     D::L: Send,
-    requires of { pass.old.table ≡ desk.now.table }
+    requires of { pass.old.table ≡ service.now.desk.now.table }
     requires first { IsFirst pass.old }
     requires count { length pass.old.numbers ≡ 4294967296 }
     ensures of { pass.new.table ≡ pass.old.table }
     ensures count { length pass.new.numbers ≡ 4294967296 }
     ensures serves { ServesDoors D.faults D.handed D.returned D.visits C.given C.pace C.faults
-        M.act D.is_closed (option_copied ns.entry) desk.now.opening
+        M.act D.is_closed (option_copied service.now.ns) service.now.desk.now.opening
         staff.entry.workers staff.entry.quota (is_some staff.entry.stays) pass.new.seen
         (port_told (P.faults port.old) (P.opened port.old) (P.returned port.old)
         (P.listens port.old) (P.doors port.old))
@@ -118,19 +116,27 @@ where
     ensures cause { HasPortCause result.1 (P.faults port.old) (P.faults port.new)
         (C.faults clock.old) (C.faults clock.new) }
 {
-    let Ok(mut workers) = Vec::with_capacity(alloc, staff.workers as usize) else {
+    let Ok(mut workers) = Vec::with_capacity(service.alloc, staff.workers as usize) else {
         return (None, WorkerEnd::Memory);
     };
-    if let Err(end) = open_workers(desk, pass, port, clock, &mut workers, staff.workers) {
-        join_workers(desk, pass, port, clock, workers);
+    if let Err(end) = open_workers(service.desk, pass, port, clock, &mut workers, staff.workers) {
+        join_workers(service.desk, pass, port, clock, workers);
         return (None, end);
     }
     let Served {
         workers,
         links,
         end,
-    } = serve(rt, alloc, desk, ns, workers, staff.quota, staff.stays);
-    join_workers(desk, pass, port, clock, workers);
+    } = serve(
+        service.rt,
+        service.alloc,
+        service.desk,
+        service.ns,
+        workers,
+        staff.quota,
+        staff.stays,
+    );
+    join_workers(service.desk, pass, port, clock, workers);
     (Some(links), end)
 }
 
@@ -170,7 +176,13 @@ where
 {
     match Desk::new(alloc, machine) {
         Ok((desk, mut pass)) => {
-            let (links, end) = serve_doors(rt, alloc, &desk, &mut pass, ns, port, clock, staff);
+            let service = Service {
+                rt,
+                alloc,
+                desk: &desk,
+                ns,
+            };
+            let (links, end) = serve_doors(&service, &mut pass, port, clock, staff);
             PortServed {
                 machine: desk.close(pass),
                 links,

@@ -7,6 +7,7 @@ ghost use Rattle.ob_server.specs.Working.{DidNext, Worked, Stops, post, NextCome
 
 use crate::end::LinkEnd;
 use crate::link::serve_link;
+use crate::service::Service;
 use ob_http::laws::{end_stays, framing_is_one};
 use ob_io::{Clock, Door};
 use ob_machine::Machine;
@@ -60,20 +61,14 @@ pub struct Worker<M: Machine, D, C> {
 
 impl<M: Machine<Request = Request, Reply = Obj>, D: Door, C: Clock> Worker<M, D, C> {
     /// Serves the next link of the door, and gives it back.
-    fn serve_next<R: Wait>(
-        &mut self,
-        rt: &R,
-        alloc: Global,
-        desk: &Desk<M>,
-        ns: Option<&Text>,
-    ) -> Next
-        requires { self.old.pass.table ≡ desk.now.table }
-        ensures did { DidNext (option_copied ns.entry)
+    fn serve_next<R: Wait>(&mut self, service: &Service<'_, '_, '_, M, R>) -> Next
+        requires { self.old.pass.table ≡ service.now.desk.now.table }
+        ensures did { DidNext (option_copied service.now.ns)
             (post (D.visits self.old.door) (D.handed self.old.door) (D.returned self.old.door)
             (C.given self.old.clock) (mine self.old.pass))
             (post (D.visits self.new.door) (D.handed self.new.door) (D.returned self.new.door)
             (C.given self.new.clock) (mine self.new.pass)) result }
-        ensures pass { Continues M.act desk.now.opening self.old.pass self.new.pass }
+        ensures pass { Continues M.act service.now.desk.now.opening self.old.pass self.new.pass }
         ensures pace { C.pace self.new.clock ≡ C.pace self.old.clock }
         ensures doors_later { D.faults self.old.door ≤ D.faults self.new.door }
         ensures clocks_later { C.faults self.old.clock ≤ C.faults self.new.clock }
@@ -91,11 +86,11 @@ impl<M: Machine<Request = Request, Reply = Obj>, D: Door, C: Clock> Worker<M, D,
         end_stays();
         let mut link = accepted;
         let end = serve_link(
-            rt,
-            alloc,
-            desk,
+            service.rt,
+            service.alloc,
+            service.desk,
             &mut self.pass,
-            ns,
+            service.ns,
             &mut link,
             &mut self.clock,
         );
@@ -106,20 +101,17 @@ impl<M: Machine<Request = Request, Reply = Obj>, D: Door, C: Clock> Worker<M, D,
     /// Serves the links of the door one after the other, and tells how many it had and why it ended.
     fn serve_links<R: Wait>(
         &mut self,
-        rt: &R,
-        alloc: Global,
-        desk: &Desk<M>,
-        ns: Option<&Text>,
+        service: &Service<'_, '_, '_, M, R>,
         quota: u32,
         stays: Option<&AtomicBool>,
     ) -> (u64, WorkerEnd)
-        requires { self.old.pass.table ≡ desk.now.table }
-        ensures worked { Worked (option_copied ns.entry) (is_some stays.entry)
+        requires { self.old.pass.table ≡ service.now.desk.now.table }
+        ensures worked { Worked (option_copied service.now.ns) (is_some stays.entry)
             (post (D.visits self.old.door) (D.handed self.old.door) (D.returned self.old.door)
             (C.given self.old.clock) (mine self.old.pass))
             (post (D.visits self.new.door) (D.handed self.new.door) (D.returned self.new.door)
             (C.given self.new.clock) (mine self.new.pass)) result.0 result.1 }
-        ensures pass { Continues M.act desk.now.opening self.old.pass self.new.pass }
+        ensures pass { Continues M.act service.now.desk.now.opening self.old.pass self.new.pass }
         ensures pace { C.pace self.new.clock ≡ C.pace self.old.clock }
         ensures within { result.0 ≤ quota }
         ensures doors_later { D.faults self.old.door ≤ D.faults self.new.door }
@@ -130,7 +122,7 @@ impl<M: Machine<Request = Request, Reply = Obj>, D: Door, C: Clock> Worker<M, D,
     {
         let most = quota as u64;
         for links in 0..most {
-            match self.serve_next(rt, alloc, desk, ns) {
+            match self.serve_next(service) {
                 Next::Link(end) => {
                     if let Some(stop) = stops_with(end, stays) {
                         return (links + 1, stop);
@@ -146,18 +138,15 @@ impl<M: Machine<Request = Request, Reply = Obj>, D: Door, C: Clock> Worker<M, D,
     /// Serves the links of the door, and leaves in the worker how it went.
     fn run<R: Wait>(
         &mut self,
-        rt: &R,
-        alloc: Global,
-        desk: &Desk<M>,
-        ns: Option<&Text>,
+        service: &Service<'_, '_, '_, M, R>,
         quota: u32,
         stays: Option<&AtomicBool>,
     )
-        requires { self.old.pass.table ≡ desk.now.table }
+        requires { self.old.pass.table ≡ service.now.desk.now.table }
         ensures { WorkerRan M.act D.visits D.handed D.returned D.is_closed D.faults
-            C.given C.pace C.faults (option_copied ns.entry) desk.now.opening quota (is_some stays.entry) self.old self.new }
+            C.given C.pace C.faults (option_copied service.now.ns) service.now.desk.now.opening quota (is_some stays.entry) self.old self.new }
     {
-        let (links, end) = self.serve_links(rt, alloc, desk, ns, quota, stays);
+        let (links, end) = self.serve_links(service, quota, stays);
         self.links = links;
         self.end = end;
     }
@@ -197,20 +186,17 @@ fn run_workers<
     D: Door + Send,
     C: Clock + Send,
 >(
-    rt: &R,
-    alloc: Global,
-    desk: &Desk<M>,
-    ns: Option<&Text>,
+    service: &Service<'_, '_, '_, M, R>,
     workers: &mut [Worker<M, D, C>],
     quota: u32,
     stays: Option<&AtomicBool>,
 )
 where
     D::L: Send,
-    requires { All (λ w. w.pass.table ≡ desk.now.table) workers.old }
+    requires { All (λ w. w.pass.table ≡ service.now.desk.now.table) workers.old }
     ensures { (k : ℕ) (d : _) → k < length workers.old
         → WorkerRan M.act D.visits D.handed D.returned D.is_closed D.faults C.given C.pace C.faults
-        (option_copied ns.entry) desk.now.opening quota (is_some stays.entry)
+        (option_copied service.now.ns) service.now.desk.now.opening quota (is_some stays.entry)
         (slice_index_or workers.old k d) (slice_index_or workers.new k d) }
 {
     if workers.is_empty() {
@@ -218,10 +204,10 @@ where
     }
     let threads = workers.len();
     for_each_mut(
-        rt,
+        service.rt,
         workers,
         threads,
-        &|_, worker| worker.run(rt, alloc, desk, ns, quota, stays),
+        &|_, worker| worker.run(service, quota, stays),
     );
 }
 
@@ -268,7 +254,13 @@ where
     ensures end { result.end ≡ spec.first_end result.workers.items }
 {
     let mut workers = workers;
-    run_workers(rt, alloc, desk, ns, workers.as_mut_slice(), quota, stays);
+    let service = Service {
+        rt,
+        alloc,
+        desk,
+        ns,
+    };
+    run_workers(&service, workers.as_mut_slice(), quota, stays);
     let links = total_links(&workers, quota);
     let end = first_end(&workers);
     Served {

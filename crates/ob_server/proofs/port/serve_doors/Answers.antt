@@ -16,37 +16,37 @@ join_workers-requires-2-clause-each g c κs within = λ k d less.
 
 pub returns-in-Err-clause-serves : goal.returns-in-Err-clause-serves
 returns-in-Err-clause-serves g c =
-    doors_unserved g.D.Door.faults g.D.Door.handed g.D.Door.returned g.D.Door.visits g.C.Clock.given g.C.Clock.pace g.C.Clock.faults g.D.Door.is_closed g.M.Machine.act (option_copied c.args.ns) c.args.desk.now.opening c.args.staff.workers c.args.staff.quota (is_some c.args.staff.stays)
+    doors_unserved g.D.Door.faults g.D.Door.handed g.D.Door.returned g.D.Door.visits g.C.Clock.given g.C.Clock.pace g.C.Clock.faults g.D.Door.is_closed g.M.Machine.act (option_copied c.args.service.now.ns) c.args.service.now.desk.now.opening c.args.staff.workers c.args.staff.quota (is_some c.args.staff.stays)
     c.args.pass.now c.open_workers.new.pass c.join_workers.new.pass c.open_workers.new.workers.items c.open_workers.result _ _ _ _ _ _ c.in-Err.end
     c.requires.first c.open_workers.ensures (rw c.in-Err.is at c.open_workers.ensures.fault) c.join_workers.ensures
 
 pub returns-in-Err-clause-count : goal.returns-in-Err-clause-count
 returns-in-Err-clause-count g c =
-    (idle_whole g.D.Door.faults g.D.Door.handed g.D.Door.returned g.D.Door.visits g.C.Clock.given g.C.Clock.pace g.C.Clock.faults g.D.Door.is_closed g.M.Machine.act (option_copied c.args.ns) c.args.desk.now.opening (is_some c.args.staff.stays) (g.C.Clock.pace c.args.clock.now)
+    (idle_whole g.D.Door.faults g.D.Door.handed g.D.Door.returned g.D.Door.visits g.C.Clock.given g.C.Clock.pace g.C.Clock.faults g.D.Door.is_closed g.M.Machine.act (option_copied c.args.service.now.ns) c.args.service.now.desk.now.opening (is_some c.args.staff.stays) (g.C.Clock.pace c.args.clock.now)
     c.args.pass.now c.open_workers.new.pass c.join_workers.new.pass c.open_workers.new.workers.items
     c.requires.first c.open_workers.ensures.split c.open_workers.ensures.are_ready c.join_workers.ensures.joined).shares
 
 pub returns-in-Err-clause-cause : goal.returns-in-Err-clause-cause
 returns-in-Err-clause-cause g c =
-    unserved_cause g.D.Door.faults g.D.Door.handed g.D.Door.returned g.D.Door.visits g.C.Clock.given g.C.Clock.pace g.C.Clock.faults g.D.Door.is_closed g.M.Machine.act (option_copied c.args.ns) c.args.desk.now.opening c.args.staff.workers c.args.staff.quota (is_some c.args.staff.stays)
+    unserved_cause g.D.Door.faults g.D.Door.handed g.D.Door.returned g.D.Door.visits g.C.Clock.given g.C.Clock.pace g.C.Clock.faults g.D.Door.is_closed g.M.Machine.act (option_copied c.args.service.now.ns) c.args.service.now.desk.now.opening c.args.staff.workers c.args.staff.quota (is_some c.args.staff.stays)
     c.args.pass.now c.open_workers.new.pass c.join_workers.new.pass c.open_workers.new.workers.items c.open_workers.result _ _ _ _ _ _ c.in-Err.end
     c.open_workers.ensures c.in-Err.is (rw c.in-Err.is at c.open_workers.ensures.fault) c.join_workers.ensures
 
 pub returns-clause-serves : goal.returns-clause-serves
 returns-clause-serves g c =
-    doors_served g.D.Door.faults g.D.Door.handed g.D.Door.returned g.D.Door.visits g.C.Clock.given g.C.Clock.pace g.C.Clock.faults g.D.Door.is_closed g.M.Machine.act (option_copied c.args.ns) c.args.desk.now.opening c.args.staff.workers c.args.staff.quota (is_some c.args.staff.stays)
+    doors_served g.D.Door.faults g.D.Door.handed g.D.Door.returned g.D.Door.visits g.C.Clock.given g.C.Clock.pace g.C.Clock.faults g.D.Door.is_closed g.M.Machine.act (option_copied c.args.service.now.ns) c.args.service.now.desk.now.opening c.args.staff.workers c.args.staff.quota (is_some c.args.staff.stays)
     c.args.pass.now c.open_workers.new.pass c.join_workers-2.new.pass c.open_workers.new.workers.items c.serve-workers.result.workers.items c.open_workers.result _ _ _ _ _ _ _ _
     c.requires.first c.open_workers.ensures (rw c.in_default-open_workers.is at c.open_workers.ensures.all) c.serve-workers.ensures.same c.serve-workers.ensures.ran
     c.serve-workers.ensures.links c.serve-workers.ensures.end c.join_workers-2.ensures
 
 pub returns-clause-count : goal.returns-clause-count
 returns-clause-count g c =
-    (served_whole g.D.Door.faults g.D.Door.handed g.D.Door.returned g.D.Door.visits g.C.Clock.given g.C.Clock.pace g.C.Clock.faults g.D.Door.is_closed g.M.Machine.act (option_copied c.args.ns) c.args.desk.now.opening (is_some c.args.staff.stays) (g.C.Clock.pace c.args.clock.now) c.args.staff.quota
+    (served_whole g.D.Door.faults g.D.Door.handed g.D.Door.returned g.D.Door.visits g.C.Clock.given g.C.Clock.pace g.C.Clock.faults g.D.Door.is_closed g.M.Machine.act (option_copied c.args.service.now.ns) c.args.service.now.desk.now.opening (is_some c.args.staff.stays) (g.C.Clock.pace c.args.clock.now) c.args.staff.quota
     c.args.pass.now c.open_workers.new.pass c.join_workers-2.new.pass c.open_workers.new.workers.items c.serve-workers.result.workers.items
     c.requires.first c.open_workers.ensures.split c.serve-workers.ensures.same c.serve-workers.ensures.ran c.join_workers-2.ensures.joined).shares
 
 pub returns-clause-cause : goal.returns-clause-cause
 returns-clause-cause g c =
-    served_cause g.D.Door.faults g.D.Door.handed g.D.Door.returned g.D.Door.visits g.C.Clock.given g.C.Clock.pace g.C.Clock.faults g.D.Door.is_closed g.M.Machine.act (option_copied c.args.ns) c.args.desk.now.opening c.args.staff.workers c.args.staff.quota (is_some c.args.staff.stays)
+    served_cause g.D.Door.faults g.D.Door.handed g.D.Door.returned g.D.Door.visits g.C.Clock.given g.C.Clock.pace g.C.Clock.faults g.D.Door.is_closed g.M.Machine.act (option_copied c.args.service.now.ns) c.args.service.now.desk.now.opening c.args.staff.workers c.args.staff.quota (is_some c.args.staff.stays)
     c.args.pass.now c.open_workers.new.pass c.join_workers-2.new.pass c.open_workers.new.workers.items c.serve-workers.result.workers.items c.open_workers.result _ _ _ _ _ _ _
     c.open_workers.ensures c.serve-workers.ensures.same c.serve-workers.ensures.ran c.serve-workers.ensures.end c.join_workers-2.ensures

@@ -7,7 +7,7 @@ use Rattle.ob_machine.specs.History.{entry}
 use Rattle.ob_server.specs.Exchange.{SortsTo, fixed, stepped}
 use Rattle.ob_server.specs.declared.end.Break.TheVariants as breaks
 use Rattle.ob_server.proofs.ExchangeLemmas.{breaks_early, breaks_inside, lasts_more, sends_one}
-use Rattle.ob_server.proofs.answering.answer_one.Goals as goal
+use Rattle.ob_server.proofs.answering.Connection.answer_one.Goals as goal
 
 pub returns-in_default-clause-answers : goal.returns-in_default-clause-answers
 returns-in_default-clause-answers g c = λ request sorts closes. record {

@@ -2,7 +2,7 @@ use Rattle.std.proofs.Common.{◌==◌, ◌∙◌, refl, ap, arith, ℕ}
 use Rattle.ob_io.specs.Links.{inlet}
 use Rattle.ob_server.proofs.ServeLemmas.{stop_cause, pause_cause, stop_along, pause_along, cause_as}
 use Rattle.ob_server.proofs.AnsweringLemmas.{going_none, going_held, link_as, link_held, link_stopped, link_paused, link_budget, link_ended, link_fed, link_unstarted}
-use Rattle.ob_server.proofs.answering.serve_pieces.Goals as goal
+use Rattle.ob_server.proofs.answering.Connection.serve_pieces.Goals as goal
 
 pub pieces-init : goal.pieces-init
 pieces-init g c = record {
@@ -11,6 +11,10 @@ pieces-init g c = record {
   reads = omega arith;
   writes = omega arith;
   clocks = omega arith;
+  same_answerer = refl;
+  same_outside = refl;
+  same_link = refl;
+  same_clock = refl;
 }
 
 pub pieces-preserved : goal.pieces-preserved
@@ -27,6 +31,10 @@ pieces-preserved g c =
       reads = omega (arith, i.reads, apart.2, c.read_piece.ensures.later);
       writes = omega (arith, i.writes, c.answer_held.ensures.cause.writes_later, c.read_piece.ensures.apart.1);
       clocks = omega (arith, i.clocks, c.answer_held.ensures.cause.clocks_later);
+      same_answerer = c.answer_held.ensures.same.0 ∙ i.same_answerer;
+      same_outside = c.answer_held.ensures.same.1 ∙ i.same_outside;
+      same_link = c.answer_held.ensures.same.2 ∙ i.same_link;
+      same_clock = c.answer_held.ensures.same.3 ∙ i.same_clock;
     }
 
 pub returns-in-Err-clause-serves : goal.returns-in-Err-clause-serves
@@ -87,7 +95,7 @@ returns-in-Err-read_piece-clause-cause g c =
     cause_as _ _ _ _ _ _ _ _ c.end_at.ensures
     (pause_cause _ _ _ _ _ _ c.in-Err-read_piece.pause _ (omega (arith, i.reads, c.answer_held.ensures.apart.2, c.read_piece.ensures.later))
     (omega (arith, i.writes, cause.writes_later, c.read_piece.ensures.apart.1)) (omega (arith, i.clocks, cause.clocks_later))
-    (pause_along c.in-Err-read_piece.pause _ (g.L.Link.read_faults c.answer_held.new.link) _ (omega (arith, i.reads, c.answer_held.ensures.apart.2)) c.in-Err-read_piece.ensures.rose))
+    (pause_along c.in-Err-read_piece.pause _ (g.L.Link.read_faults c.answer_held.new.self.link.now) _ (omega (arith, i.reads, c.answer_held.ensures.apart.2)) c.in-Err-read_piece.ensures.rose))
 
 pub returns-in_default-clause-pace : goal.returns-in_default-clause-pace
 returns-in_default-clause-pace g c = refl

@@ -8,10 +8,10 @@ use Rattle.ob_turn.specs.Standing.{mine}
 use Rattle.ob_server.specs.declared.end.Break.TheVariants as breaks
 use Rattle.ob_server.proofs.HeldLemmas.{answering_none, one_more, nothing_held, asked_end, broke_between, broke_at, refused_next, sorts_some, sorts_none, next_first, next_closes, next_goes_on, next_size, next_place, next_shorter, next_refused, rose_along, break_along, write_broke}
 use Rattle.ob_server.proofs.ExchangeLemmas.{went_none, went_sent, sent_whole, continues_none, continues_then}
-use Rattle.ob_server.proofs.link.answer_held.Goals as goal
+use Rattle.ob_server.proofs.service.Service.answer_held.Goals as goal
 
 pub loop-next-init : goal.loop-next-init
-loop-next-init g c = record { answering = answering_none _ _ _; pass = continues_none _ _ _; pace = refl; left = refl; took = refl; reads = refl; writes = omega arith; clocks = omega arith }
+loop-next-init g c = record { answering = answering_none _ _ _; pass = continues_none _ _ _; pace = refl; left = refl; took = refl; reads = refl; writes = omega arith; clocks = omega arith; same_pass = refl; same_link = refl; same_clock = refl }
 
 pub returns-in-Ok-None-clause-answers : goal.returns-in-Ok-None-clause-answers
 returns-in-Ok-None-clause-answers g c =
@@ -58,6 +58,9 @@ loop-next-preserved g c =
       reads = c.answer_one.ensures.apart.2 ∙ i.reads;
       writes = omega (arith, c.answer_one.ensures.cause.writes_later);
       clocks = omega (arith, c.answer_one.ensures.cause.clocks_later);
+      same_pass = c.answer_one.ensures.same.0 ∙ i.same_pass;
+      same_link = c.answer_one.ensures.same.1 ∙ i.same_link;
+      same_clock = c.answer_one.ensures.same.2 ∙ i.same_clock;
     }
 
 pub returns-in-Err-Memory-clause-answers : goal.returns-in-Err-Memory-clause-answers
@@ -70,7 +73,7 @@ returns-in-Err-refuse-clause-answers g c =
     let counts : c.in-Err.fault ≢ faults.Memory = search rules in
     let sends = c.in-Err-refuse.ensures.sends in
     broke_between _ _ _ _ _ c.loop-next.invariant.answering c.in-Err-refuse.broken c.take_next.new.framer _ sends.sent
-    (went_sent _ _ (g.C.Clock.given c.loop-next.clock) (mine c.loop-next.pass) sends.sent sends.gained)
+    (went_sent _ _ (g.C.Clock.given c.loop-next.connection.clock.now) (mine c.loop-next.connection.pass.now) sends.sent sends.gained)
     (λ stream requests taken. inr (
       c.in-Err.fault,
       subst (λ (at : ℕ). Framed stream requests (faulted c.in-Err.fault at)) (ap (λ (r : Received). r.place) (sym c.in-Err.ensures.same))
@@ -84,7 +87,7 @@ returns-in-Err-clause-answers g c =
     let counts : c.in-Err.fault ≢ faults.Memory = search rules in
     let sends = c.in_default-refuse.ensures.sends in
     refused_next _ _ _ _ _ c.loop-next.invariant.answering c.in-Err.fault c.take_next.new.framer _ counts c.in-Err.ensures.same
-    (went_sent _ _ (g.C.Clock.given c.loop-next.clock) (mine c.loop-next.pass) (refusal_text c.in-Err.fault)
+    (went_sent _ _ (g.C.Clock.given c.loop-next.connection.clock.now) (mine c.loop-next.connection.pass.now) (refusal_text c.in-Err.fault)
     (sent_whole _ _ c.in_default-refuse.field-0 (refusal_text c.in-Err.fault) sends))
     (next_refused c.loop-next.framer c.take_next.new.framer c.in-Err.fault counts c.in-Err.ensures)
 

@@ -7,10 +7,10 @@ use Rattle.ob_server.specs.declared.end.Break.TheVariants as breaks
 use Rattle.ob_server.proofs.HeldLemmas.{sorts_some, sorts_none, next_first, next_closes, next_goes_on, next_size, next_place, next_shorter, next_refused, rose_along, break_along, write_broke}
 use Rattle.ob_server.proofs.ExchangeLemmas.{went_none, went_sent, sent_whole}
 use Rattle.ob_server.proofs.AnsweringLemmas.{holding_none, holding_more, held_nothing, held_asked, held_broke, held_cut, held_refused}
-use Rattle.ob_server.proofs.answering.answer_held.Goals as goal
+use Rattle.ob_server.proofs.answering.Connection.answer_held.Goals as goal
 
 pub next-init : goal.next-init
-next-init g c = record { holding = holding_none _ _ _ _ _ _; pace = refl; left = refl; took = refl; reads = refl; writes = omega arith; clocks = omega arith }
+next-init g c = record { holding = holding_none _ _ _ _ _ _; pace = refl; left = refl; took = refl; reads = refl; writes = omega arith; clocks = omega arith; same_answerer = refl; same_outside = refl; same_link = refl; same_clock = refl }
 
 pub returns-in-Ok-None-clause-answers : goal.returns-in-Ok-None-clause-answers
 returns-in-Ok-None-clause-answers g c =
@@ -56,6 +56,10 @@ next-preserved g c =
       reads = c.answer_one.ensures.apart.2 ∙ i.reads;
       writes = omega (arith, c.answer_one.ensures.cause.writes_later);
       clocks = omega (arith, c.answer_one.ensures.cause.clocks_later);
+      same_answerer = c.answer_one.ensures.same.0 ∙ i.same_answerer;
+      same_outside = c.answer_one.ensures.same.1 ∙ i.same_outside;
+      same_link = c.answer_one.ensures.same.2 ∙ i.same_link;
+      same_clock = c.answer_one.ensures.same.3 ∙ i.same_clock;
     }
 
 pub returns-in-Err-Memory-clause-answers : goal.returns-in-Err-Memory-clause-answers
@@ -68,7 +72,7 @@ returns-in-Err-refuse-clause-answers g c =
     let counts : c.in-Err.fault ≢ faults.Memory = search rules in
     let sends = c.in-Err-refuse.ensures.sends in
     held_cut _ _ _ _ _ _ _ _ _ _ c.next.invariant.holding _ c.in-Err-refuse.broken c.take_next.new.framer sends.sent
-    (went_sent _ _ (g.C.Clock.given c.next.clock) c.next.invariant.holding.calls sends.sent sends.gained)
+    (went_sent _ _ (g.C.Clock.given c.next.self.clock.now) c.next.invariant.holding.calls sends.sent sends.gained)
     (λ stream requests taken. inr (
       c.in-Err.fault,
       subst (λ (at : ℕ). Framed stream requests (faulted c.in-Err.fault at)) (ap (λ (r : Received). r.place) (sym c.in-Err.ensures.same))
@@ -82,7 +86,7 @@ returns-in-Err-clause-answers g c =
     let counts : c.in-Err.fault ≢ faults.Memory = search rules in
     let sends = c.in_default-refuse.ensures.sends in
     held_refused _ _ _ _ _ _ _ _ _ _ c.next.invariant.holding _ c.in-Err.fault c.take_next.new.framer counts c.in-Err.ensures.same
-    (went_sent _ _ (g.C.Clock.given c.next.clock) c.next.invariant.holding.calls (refusal_text c.in-Err.fault)
+    (went_sent _ _ (g.C.Clock.given c.next.self.clock.now) c.next.invariant.holding.calls (refusal_text c.in-Err.fault)
     (sent_whole _ _ c.in_default-refuse.field-0 (refusal_text c.in-Err.fault) sends))
     (next_refused c.next.framer c.take_next.new.framer c.in-Err.fault counts c.in-Err.ensures)
 

@@ -2,7 +2,7 @@ use Rattle.std.proofs.Common.{◌==◌, ◌∙◌, refl, ap, arith, ℕ}
 use Rattle.ob_io.specs.Links.{inlet}
 use Rattle.ob_server.proofs.ExchangeLemmas.{continues_none, continues_then}
 use Rattle.ob_server.proofs.ServeLemmas.{serving_none, serves_as, serving_along, serving_held, serves_along, held_answered, ends_of, ends_at, ends_budget, ends_unstarted, fed, stop_cause, pause_cause, stop_along, pause_along, cause_as}
-use Rattle.ob_server.proofs.link.serve_pieces.Goals as goal
+use Rattle.ob_server.proofs.service.Service.serve_pieces.Goals as goal
 
 pub pieces-init : goal.pieces-init
 pieces-init g c = record {
@@ -12,12 +12,15 @@ pieces-init g c = record {
   reads = omega arith;
   writes = omega arith;
   clocks = omega arith;
+  same_pass = refl;
+  same_link = refl;
+  same_clock = refl;
 }
 
 pub pieces-preserved : goal.pieces-preserved
 pieces-preserved g c =
     let i = c.pieces.invariant in
-    let here = serving_along _ _ _ (g.L.Link.left c.answer_held.new.link) _ (g.L.Link.taken c.answer_held.new.link) _ _ _ _ c.answer_held.ensures.apart.0 c.answer_held.ensures.apart.1 i.serving in
+    let here = serving_along _ _ _ (g.L.Link.left c.answer_held.new.connection.link.now) _ (g.L.Link.taken c.answer_held.new.connection.link.now) _ _ _ _ c.answer_held.ensures.apart.0 c.answer_held.ensures.apart.1 i.serving in
     let rests = held_answered _ _ _ _ _ _ _ _ _ here c.in_default-answer_held.field-0 c.in_default-answer_held.ensures.answers in
     let read = c.in-Ok-read_piece.ensures.bytes in
     record {
@@ -28,22 +31,25 @@ pieces-preserved g c =
       reads = omega (arith, i.reads, c.answer_held.ensures.apart.2, c.read_piece.ensures.later);
       writes = omega (arith, i.writes, c.answer_held.ensures.cause.writes_later, c.read_piece.ensures.apart.1);
       clocks = omega (arith, i.clocks, c.answer_held.ensures.cause.clocks_later);
+      same_pass = c.answer_held.ensures.same.0 ∙ i.same_pass;
+      same_link = c.answer_held.ensures.same.1 ∙ i.same_link;
+      same_clock = c.answer_held.ensures.same.2 ∙ i.same_clock;
     }
 
 pub returns-in-Err-clause-serves : goal.returns-in-Err-clause-serves
 returns-in-Err-clause-serves g c =
-    let here = serving_along _ _ _ (g.L.Link.left c.answer_held.new.link) _ (g.L.Link.taken c.answer_held.new.link) _ _ _ _ c.answer_held.ensures.apart.0 c.answer_held.ensures.apart.1 c.pieces.invariant.serving in
+    let here = serving_along _ _ _ (g.L.Link.left c.answer_held.new.connection.link.now) _ (g.L.Link.taken c.answer_held.new.connection.link.now) _ _ _ _ c.answer_held.ensures.apart.0 c.answer_held.ensures.apart.1 c.pieces.invariant.serving in
     serves_as _ _ _ _ _ _ _ c.end_of.ensures
     (ends_of _ _ _ _ _ _ _ _ _ here c.in-Err.stop c.place.result c.place.ensures c.in-Err.ensures.answers)
 
 pub returns-then-room-eq0-clause-serves : goal.returns-then-room-eq0-clause-serves
 returns-then-room-eq0-clause-serves g c =
-    let here = serving_along _ _ _ (g.L.Link.left c.answer_held.new.link) _ (g.L.Link.taken c.answer_held.new.link) _ _ _ _ c.answer_held.ensures.apart.0 c.answer_held.ensures.apart.1 c.pieces.invariant.serving in
+    let here = serving_along _ _ _ (g.L.Link.left c.answer_held.new.connection.link.now) _ (g.L.Link.taken c.answer_held.new.connection.link.now) _ _ _ _ c.answer_held.ensures.apart.0 c.answer_held.ensures.apart.1 c.pieces.invariant.serving in
     ends_budget _ _ _ _ _ _ _ (held_answered _ _ _ _ _ _ _ _ _ here c.in_default-answer_held.field-0 c.in_default-answer_held.ensures.answers) c.if-room-eq0.true
 
 pub returns-in-Err-read_piece-clause-serves : goal.returns-in-Err-read_piece-clause-serves
 returns-in-Err-read_piece-clause-serves g c =
-    let here = serving_along _ _ _ (g.L.Link.left c.answer_held.new.link) _ (g.L.Link.taken c.answer_held.new.link) _ _ _ _ c.answer_held.ensures.apart.0 c.answer_held.ensures.apart.1 c.pieces.invariant.serving in
+    let here = serving_along _ _ _ (g.L.Link.left c.answer_held.new.connection.link.now) _ (g.L.Link.taken c.answer_held.new.connection.link.now) _ _ _ _ c.answer_held.ensures.apart.0 c.answer_held.ensures.apart.1 c.pieces.invariant.serving in
     let rests = held_answered _ _ _ _ _ _ _ _ _ here c.in_default-answer_held.field-0 c.in_default-answer_held.ensures.answers in
     serves_as _ _ _ _ _ _ _ c.end_at.ensures
     (serves_along _ _ _ _ _ _ _ _ _ c.read_piece.ensures.apart.0
@@ -96,7 +102,7 @@ returns-in-Err-read_piece-clause-cause g c =
     cause_as _ _ _ _ _ _ _ _ c.end_at.ensures
     (pause_cause _ _ _ _ _ _ c.in-Err-read_piece.pause _ (omega (arith, i.reads, c.answer_held.ensures.apart.2, c.read_piece.ensures.later))
     (omega (arith, i.writes, cause.writes_later, c.read_piece.ensures.apart.1)) (omega (arith, i.clocks, cause.clocks_later))
-    (pause_along c.in-Err-read_piece.pause _ (g.L.Link.read_faults c.answer_held.new.link) _ (omega (arith, i.reads, c.answer_held.ensures.apart.2)) c.in-Err-read_piece.ensures.rose))
+    (pause_along c.in-Err-read_piece.pause _ (g.L.Link.read_faults c.answer_held.new.connection.link.now) _ (omega (arith, i.reads, c.answer_held.ensures.apart.2)) c.in-Err-read_piece.ensures.rose))
 
 -- ---- the clock's pace
 
