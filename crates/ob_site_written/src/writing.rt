@@ -39,7 +39,7 @@ pub fn write<L: Ledger>(
     requires node { place_of at.path.now (paths state.old.now.tree) ≡ Some at.node.number }
     requires can { CanBeWritten state.old.plan state.old.now at.path.now kind slot.now }
     requires counts { any_counted_out state.old.plan at.path.now state.old.now.logs ≡ false }
-    ensures ok { OnOk result (state.new ≡ record state.old { now = write state.old.plan state.old.time at.path.now kind slot.now state.old.now }) }
+    ensures ok { OnOk result (state.new ≡ record state.old { now = write state.old.plan state.old.time at.entry.path.now kind slot.now state.old.now }) }
     ensures err { OnErr result (state.new ≡ record state.old { now = state.new.now }) }
 {
     state.sound_law();
@@ -62,7 +62,7 @@ pub fn write_if_changed<L: Ledger>(
     requires can { CanBeWritten state.old.plan state.old.now at.path.now head.now.kind slot.now }
     requires room { overfills state.old.plan state.old.now state.old.time at.path.now head.now slot.now ≡ false }
     ensures ok { OnOk result ((object : Object) → object.head ≡ head.now
-        → state.new ≡ record state.old { now = written state.old.plan state.old.time at.path.now object slot.now state.old.now }) }
+        → state.new ≡ record state.old { now = written state.old.plan state.old.time at.entry.path.now object slot.now state.old.now }) }
     ensures err { OnErr result (state.new ≡ record state.old { now = state.new.now }) }
 {
     if same_slot(slot, head.slot()) {
