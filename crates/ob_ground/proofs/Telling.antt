@@ -13,9 +13,9 @@ use Rattle.ob_object.specs.declared.head.Slot.TheVariants.{Absent}
 use Rattle.ob_object.specs.Object.{Objects, none, node, Object, count}
 use Rattle.ob_contracts.specs.Inherit.{Contracts}
 use Rattle.ob_contracts.specs.Tellers.{TellsIn}
-use Rattle.ob_standing.specs.declared.instead.Instead.{Instead}
-use Rattle.ob_standing.specs.Contexts.{Context, HandedDown, handed_down, under, comes_to}
-use Rattle.ob_standing.specs.Standings.{MayStand, is_of, items_of}
+use Rattle.ob_tree.specs.declared.instead.Instead.{Instead}
+use Rattle.ob_tree.specs.Contexts.{Context, HandedDown, handed_down, under, comes_to}
+use Rattle.ob_tree.specs.Standings.{MayStand, is_of, items_of}
 use Rattle.ob_tree.specs.Laid.{heads, heads_of, head_at, leaf, changed_in, changed}
 use Rattle.ob_tree.specs.Shown.{at_top, effective_in, handed, handed_in, handed_at, standing_at}
 use Rattle.ob_tree.specs.Told.{IsToldAt, AreToldBy, words_for}

@@ -7,8 +7,8 @@ use Rattle.std.specs.Map.{lookup}
 use Rattle.ob_object.specs.Object.{Object}
 use Rattle.ob_contracts.specs.Inherit.{Contracts}
 use Rattle.ob_contracts.specs.Tellers.{Telling, telling_code}
-use Rattle.ob_standing.specs.declared.instead.Instead.{Instead}
-use Rattle.ob_standing.specs.Contexts.{Context, handed_down, under}
+use Rattle.ob_tree.specs.declared.instead.Instead.{Instead}
+use Rattle.ob_tree.specs.Contexts.{Context, handed_down, under}
 use Rattle.ob_tree.specs.Laid.{head_at, leaf}
 use Rattle.ob_tree.specs.Shown.{effective_in, handed_at, standing_at}
 use Rattle.ob_tree.specs.Told.{AreToldBy}

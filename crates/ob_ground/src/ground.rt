@@ -11,14 +11,13 @@ ghost use Rattle.ob_tree.specs.Laid.{head_at, changed};
 ghost use Rattle.ob_tree.specs.Shown.{standing_at};
 ghost use Rattle.ob_tree.specs.Stamps.{touched};
 ghost use Rattle.ob_contracts.specs.Shown.{shown};
-ghost use Rattle.ob_standing.specs.Standings.{context};
+ghost use Rattle.ob_tree.specs.Standings.{context};
 ghost use Rattle.ob_ground.specs.Grounds.{WordsStand, alone_at, inside_at};
 
 use crate::told::Told;
 use ob_contracts::{Library, Steps, View};
 use ob_object::Slot;
-use ob_standing::Standing;
-use ob_tree::{NodeId, Tree};
+use ob_tree::{Standing, NodeId, Tree};
 use ob_values::Text;
 use std::alloc::{AllocError, Global};
 use std::collections::BTreeMap;

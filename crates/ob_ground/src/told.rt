@@ -2,14 +2,13 @@
 ghost use Rattle.std.specs.Prelude.{◌≡◌, ◌<◌, ◌+◌, Some, IfOk};
 ghost use Rattle.std.specs.Option.{option_copied};
 ghost use Rattle.ob_object.specs.Object.{parts};
-ghost use Rattle.ob_standing.specs.Standings.{context};
+ghost use Rattle.ob_tree.specs.Standings.{context};
 ghost use Rattle.ob_tree.specs.Depths.{depth_at};
 ghost use Rattle.ob_tree.specs.Shown.{standing_at};
 ghost use Rattle.ob_ground.specs.Grounds.{WordsStand, words_at};
 
 use ob_contracts::{Library, Steps};
-use ob_standing::{Instead, Standing};
-use ob_tree::{NodeId, Tree};
+use ob_tree::{Instead, Standing, NodeId, Tree};
 use std::alloc::{AllocError, Global};
 use std::collections::BTreeMap;
 use std::marker::Model;

@@ -18,7 +18,7 @@ use Rattle.ob_site_rules.specs.Places.{alarm_places, computed_places, event_plac
 use Rattle.ob_site_rules.specs.declared.resource.Resource.{Resource}
 use Rattle.ob_site_rules.specs.declared.resource.Resource.TheVariants.{AckOf, FeedOf, Node, QueryOf, WritePointOf}
 use Rattle.ob_site_rules.specs.Watched.{is_call_kind}
-use Rattle.ob_standing.specs.Contexts.{HandedDown, handed_down, under}
+use Rattle.ob_tree.specs.Contexts.{HandedDown, handed_down, under}
 use Rattle.ob_shown_laws.specs.Standing.{Standing, standing_in}
 use Rattle.ob_shown_laws.proofs.Looking.{at_path}
 

@@ -21,7 +21,7 @@ use Rattle.ob_site_rules.specs.declared.resource.Resource.{Resource}
 use Rattle.ob_site_rules.specs.declared.resource.Resource.TheVariants.{About, AckOf, AlarmAt, AlarmFeed, AlarmQuery, Batch, FeedOf, Make, Node, QueryOf, Service, WritePointOf}
 use Rattle.ob_site_rules.specs.declared.plan.Plan.{Plan}
 use Rattle.ob_site_rules.specs.Watched.{is_call_kind, feed_if, feed_with, sets_limit, found_place, found_at, found_located}
-use Rattle.ob_standing.specs.Contexts.{HandedDown, handed_down, under}
+use Rattle.ob_tree.specs.Contexts.{HandedDown, handed_down, under}
 use Rattle.ob_shown_laws.specs.Alike.{row}
 use Rattle.ob_shown_laws.specs.Changed.{is_in, is_watchable}
 use Rattle.ob_shown_laws.specs.Numbered.{root_row}

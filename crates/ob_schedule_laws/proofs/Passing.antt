@@ -26,7 +26,7 @@ use Rattle.ob_shown_laws.proofs.Alikes.{head_in-alike, handed_alike, missing_nam
 use Rattle.ob_shown_laws.proofs.OwnStanding.{own_tells_differences}
 use Rattle.ob_shown_laws.proofs.Reaching.{status_alike, alike_append, alike_listed, roles_alike, derived_alike}
 use Rattle.ob_shown_laws.proofs.Standings.{own_row, effective_row}
-use Rattle.ob_standing.specs.Contexts.{Context, HandedDown, handed_down, comes_to}
+use Rattle.ob_tree.specs.Contexts.{Context, HandedDown, handed_down, comes_to}
 use Rattle.ob_parts.proofs.Earliest.{some_one}
 use Rattle.ob_schedule_laws.proofs.Shows.{IsShown, shown_at, same_node}
 use Rattle.ob_schedule_laws.proofs.Slots.{AreSame, nodes_same}

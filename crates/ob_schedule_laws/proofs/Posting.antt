@@ -44,7 +44,7 @@ use Rattle.ob_watching.specs.Watches.{World, Reply, acted, begun, with_site}
 use Rattle.ob_shown_laws.specs.Alike.{row}
 use Rattle.ob_shown_laws.specs.Changed.{PathsDiffer}
 use Rattle.ob_shown_laws.specs.Own.{derived_own}
-use Rattle.ob_standing.specs.Contexts.{comes_to}
+use Rattle.ob_tree.specs.Contexts.{comes_to}
 use Rattle.ob_shown_laws.proofs.Reaching.{status_off}
 use Rattle.ob_step_laws.proofs.Slotted.{kind_given}
 use Rattle.ob_weekly.specs.declared.schedule.Schedule.{Schedule}

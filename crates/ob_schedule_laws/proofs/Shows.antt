@@ -21,7 +21,7 @@ use Rattle.ob_shown_laws.specs.Numbered.{root_row}
 use Rattle.ob_shown_laws.specs.Standing.{Standing, effective, standing_in}
 use Rattle.ob_shown_laws.proofs.OwnStanding.{own_is_enough, own_tells_differences}
 use Rattle.ob_shown_laws.proofs.Touches.{there}
-use Rattle.ob_standing.specs.Contexts.{Context, comes_to}
+use Rattle.ob_tree.specs.Contexts.{Context, comes_to}
 use Rattle.ob_step_laws.proofs.Steps.{own_node}
 use Rattle.ob_schedule_laws.proofs.Slots.{AreSame, nodes_same}
 

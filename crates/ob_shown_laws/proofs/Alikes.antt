@@ -10,7 +10,7 @@ use Rattle.ob_contracts.specs.Inherit.{missing, is_new, bare, result_of, row_wit
 use Rattle.ob_site_rules.specs.Build.{Text, nameless, under_href}
 use Rattle.ob_site_rules.specs.Sameness.{same_head, same_row, same_object}
 use Rattle.ob_shown_laws.specs.Alike.{without_values, AreAlike}
-use Rattle.ob_standing.specs.Contexts.{Context, HandedDown, handed_down, under, comes_to}
+use Rattle.ob_tree.specs.Contexts.{Context, HandedDown, handed_down, under, comes_to}
 use Rattle.ob_shown_laws.specs.Changed.{same_values, head_in}
 use Rattle.ob_shown_laws.proofs.Standings.{own_row, effective_row}
 use Rattle.ob_shown_laws.proofs.Itself.{head_alike, row_itself}

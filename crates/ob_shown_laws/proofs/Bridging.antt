@@ -11,7 +11,7 @@ use Rattle.ob_object.specs.Paths.{is_path, node_path}
 use Rattle.ob_site_rules.specs.Build.{Path}
 use Rattle.ob_site_rules.specs.Shown.{dressed}
 use Rattle.ob_site_rules.specs.Writes.{with_slot, with_slot_in}
-use Rattle.ob_standing.specs.Contexts.{HandedDown, handed_down, under}
+use Rattle.ob_tree.specs.Contexts.{HandedDown, handed_down, under}
 use Rattle.ob_shown_laws.specs.Standing.{Standing, effective, root_standing}
 use Rattle.ob_shown_laws.specs.Changed.{is_in, is_round, PathsDiffer}
 use Rattle.ob_shown_laws.specs.Numbered.{number_in, numbered, root_row}

@@ -9,7 +9,7 @@ use Rattle.ob_site_rules.specs.Build.{Path}
 use Rattle.ob_site_rules.specs.Shown.{rule_of, with_status, with_status_at, with_status_by, dressed}
 use Rattle.ob_site_rules.specs.State.{State}
 use Rattle.ob_site_rules.specs.declared.plan.Plan.{Plan}
-use Rattle.ob_standing.specs.Contexts.{Context, under}
+use Rattle.ob_tree.specs.Contexts.{Context, under}
 use Rattle.ob_shown_laws.specs.Alike.{DifferInSlots}
 use Rattle.ob_shown_laws.specs.Standing.{standing_at as site_standing}
 use Rattle.ob_shown_laws.specs.Changed.{is_round, is_watchable, reaches, differs, PathsDiffer}

@@ -18,7 +18,7 @@ use Rattle.ob_site_rules.specs.Shown.{first_record, lobby_children, write_point_
 use Rattle.ob_site_rules.specs.State.{Log, State, at, is_among, numbered_from}
 use Rattle.ob_site_rules.specs.declared.plan.Plan.{Plan}
 use Rattle.ob_shown_laws.specs.Alike.{without_values, AreAlike, DifferInSlots, paths_of, DifferInValues}
-use Rattle.ob_standing.specs.Contexts.{Context, HandedDown, handed_down, under}
+use Rattle.ob_tree.specs.Contexts.{Context, HandedDown, handed_down, under}
 use Rattle.ob_shown_laws.specs.Standing.{Standing, standing_in}
 use Rattle.ob_shown_laws.specs.Changed.{same_values, head_in, same_leaves, same_node, same_standing, differs, same_log, same_derived}
 use Rattle.ob_shown_laws.specs.Own.{derived_own}

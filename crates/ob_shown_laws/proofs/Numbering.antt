@@ -9,7 +9,7 @@ use Rattle.ob_object.specs.Paths.{is_path, node_path}
 use Rattle.ob_contracts.specs.Inherit.{or_else, only_if}
 use Rattle.ob_site_rules.specs.Build.{Path}
 use Rattle.ob_site_rules.specs.Shown.{dressed}
-use Rattle.ob_standing.specs.Contexts.{Context, HandedDown, handed_down, under}
+use Rattle.ob_tree.specs.Contexts.{Context, HandedDown, handed_down, under}
 use Rattle.ob_shown_laws.specs.Standing.{Standing, inside, standing_in}
 use Rattle.ob_shown_laws.specs.Changed.{is_in, is_round, PathsDiffer}
 use Rattle.ob_shown_laws.specs.Numbered.{number_in, numbered, one_in, parent_in, root_row, NumbersTell, SitesAreNumbered}

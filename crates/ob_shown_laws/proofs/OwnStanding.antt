@@ -10,7 +10,7 @@ use Rattle.ob_site_rules.specs.Build.{Path}
 use Rattle.ob_site_rules.specs.Shown.{derived, derived_at, with_status, with_roles, dressed}
 use Rattle.ob_site_rules.specs.State.{State}
 use Rattle.ob_site_rules.specs.declared.plan.Plan.{Plan}
-use Rattle.ob_standing.specs.Contexts.{HandedDown, handed_down, under}
+use Rattle.ob_tree.specs.Contexts.{HandedDown, handed_down, under}
 use Rattle.ob_shown_laws.specs.Alike.{row, without_slot, without_values, DifferInSlots, paths_of, DifferInValues}
 use Rattle.ob_shown_laws.specs.Standing.{Standing, effective, standing_in, root_standing, standing_at}
 use Rattle.ob_shown_laws.specs.Changed.{same_standing, is_in, is_round, differs, PathsDiffer}

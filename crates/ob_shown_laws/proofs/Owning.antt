@@ -21,7 +21,7 @@ use Rattle.ob_site_rules.specs.declared.plan.Plan.{Plan}
 use Rattle.ob_site_rules.specs.Sameness.{same_slot}
 use Rattle.ob_site_rules.specs.Writes.{with_slot, with_slot_in, site_contracts, recorded}
 use Rattle.ob_shown_laws.specs.Alike.{without_slot, AreAlike, DifferInSlots, paths_of}
-use Rattle.ob_standing.specs.Contexts.{Context, HandedDown, handed_down, under}
+use Rattle.ob_tree.specs.Contexts.{Context, HandedDown, handed_down, under}
 use Rattle.ob_shown_laws.specs.Changed.{same_values, head_in, same_leaves, same_log, same_derived}
 use Rattle.ob_shown_laws.specs.Own.{OwnNodesDiffer, StepsLeaveAlike}
 use Rattle.ob_shown_laws.proofs.Itself.{and_drop, and_keep, values_itself, some_status_itself}

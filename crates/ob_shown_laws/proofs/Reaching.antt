@@ -16,7 +16,7 @@ use Rattle.ob_site_rules.specs.Entries.{empty_object}
 use Rattle.ob_site_rules.specs.Sites.{plain_or_empty, watched_object}
 use Rattle.ob_site_rules.specs.Sameness.{same_object}
 use Rattle.ob_shown_laws.specs.Alike.{without_slot, without_values, AreAlike, DifferInSlots, paths_of}
-use Rattle.ob_standing.specs.Contexts.{Context, HandedDown, handed_down, under, comes_to}
+use Rattle.ob_tree.specs.Contexts.{Context, HandedDown, handed_down, under, comes_to}
 use Rattle.ob_shown_laws.specs.Standing.{Standing, effective, standing_in, root_standing, standing_at}
 use Rattle.ob_shown_laws.specs.Changed.{same_node, same_standing, is_in, is_watchable, reaches, ChangesReachWatched}
 use Rattle.ob_shown_laws.proofs.Standings.{or_else-none, node_of-effective}

@@ -7,7 +7,7 @@ use Rattle.ob_object.specs.Paths.{is_path, node_path}
 use Rattle.ob_contracts.specs.Inherit.{or_else, only_if, missing, bare, bare_row, row_results, result_of, row_with_defaults, head_with_default}
 use Rattle.ob_site_rules.specs.Build.{Path}
 use Rattle.ob_site_rules.specs.Shown.{node_in, node_of}
-use Rattle.ob_standing.specs.Contexts.{HandedDown, under, handed_down}
+use Rattle.ob_tree.specs.Contexts.{HandedDown, under, handed_down}
 use Rattle.ob_shown_laws.specs.Standing.{Standing, effective, inside, walk, standing_in, root_standing, ShownWhereItStands}
 
 pub or_else-assoc : {A : Type 0} (a b c : Option A) → or_else (or_else a b) c ≡ or_else a (or_else b c)

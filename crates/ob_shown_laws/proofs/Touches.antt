@@ -9,7 +9,7 @@ use Rattle.ob_object.specs.Paths.{is_path, node_path}
 use Rattle.ob_contracts.specs.Inherit.{or_else, only_if}
 use Rattle.ob_site_rules.specs.Build.{Path}
 use Rattle.ob_shown_laws.specs.Alike.{without_values, AreAlike}
-use Rattle.ob_standing.specs.Contexts.{Context, HandedDown, handed_down, under}
+use Rattle.ob_tree.specs.Contexts.{Context, HandedDown, handed_down, under}
 use Rattle.ob_shown_laws.specs.Standing.{Standing, standing_in}
 use Rattle.ob_shown_laws.specs.Changed.{same_values, head_in, same_leaves, same_node, same_standing, is_in, PathsDiffer}
 use Rattle.ob_shown_laws.proofs.Alikes.{same_parts, under_alike, handed_alike}

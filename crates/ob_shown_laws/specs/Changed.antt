@@ -15,7 +15,7 @@ use Rattle.ob_site_rules.specs.State.{Log, State, at, is_among}
 use Rattle.ob_site_rules.specs.declared.plan.Plan.{Plan}
 use Rattle.ob_site_rules.specs.Sameness.{same_slot, same_option, same_status, same_object}
 use Rattle.ob_site_rules.specs.Sites.{watched_object}
-use Rattle.ob_standing.specs.Contexts.{Context, HandedDown, sources_in, handed_down, under}
+use Rattle.ob_tree.specs.Contexts.{Context, HandedDown, sources_in, handed_down, under}
 use Rattle.ob_shown_laws.specs.Standing.{Standing, root_standing, standing_at}
 use Rattle.ob_shown_laws.specs.Alike.{row, DifferInValues}
 

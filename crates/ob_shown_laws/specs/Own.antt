@@ -10,7 +10,7 @@ use Rattle.ob_site_rules.specs.State.{State, roll, with_board}
 use Rattle.ob_site_rules.specs.declared.plan.Plan.{Plan}
 use Rattle.ob_site_rules.specs.Writes.{with_slot, is_in_contract, write}
 use Rattle.ob_alarms.specs.Changes.{State as Board}
-use Rattle.ob_standing.specs.Contexts.{Context}
+use Rattle.ob_tree.specs.Contexts.{Context}
 use Rattle.ob_shown_laws.specs.Alike.{row, DifferInSlots, DifferInValues}
 use Rattle.ob_shown_laws.specs.Changed.{same_values, head_in, same_node, same_derived, PathsDiffer}
 

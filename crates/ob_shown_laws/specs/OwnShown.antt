@@ -7,7 +7,7 @@ use Rattle.ob_site_rules.specs.Build.{Path}
 use Rattle.ob_site_rules.specs.Shown.{derived, derived_at, with_status, dressed, shown}
 use Rattle.ob_site_rules.specs.State.{State}
 use Rattle.ob_site_rules.specs.declared.plan.Plan.{Plan}
-use Rattle.ob_standing.specs.Contexts.{handed_down, under}
+use Rattle.ob_tree.specs.Contexts.{handed_down, under}
 use Rattle.ob_shown_laws.specs.Alike.{row, DifferInValues}
 use Rattle.ob_shown_laws.specs.Standing.{Standing, effective, standing_in, standing_at}
 use Rattle.ob_shown_laws.specs.Numbered.{root_row, numbered}

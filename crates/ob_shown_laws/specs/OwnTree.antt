@@ -8,7 +8,7 @@ use Rattle.ob_site_rules.specs.Build.{Path}
 use Rattle.ob_site_rules.specs.Shown.{derived_at, with_status, dressed, shown}
 use Rattle.ob_site_rules.specs.State.{State}
 use Rattle.ob_site_rules.specs.declared.plan.Plan.{Plan}
-use Rattle.ob_standing.specs.Contexts.{Context, handed_down, under, comes_to}
+use Rattle.ob_tree.specs.Contexts.{Context, handed_down, under, comes_to}
 use Rattle.ob_shown_laws.specs.Alike.{row, DifferInValues}
 use Rattle.ob_shown_laws.specs.Changed.{same_values, head_in, same_derived, is_round, differs, PathsDiffer}
 use Rattle.ob_shown_laws.specs.Own.{derived_own}

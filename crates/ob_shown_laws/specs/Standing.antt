@@ -3,7 +3,7 @@ use Rattle.std.specs.Prelude.{◌≡◌, ℕ, List, [], ◌∷◌, Option, Some,
 use Rattle.ob_object.specs.Object.{Objects, none, node, Object, children}
 use Rattle.ob_object.specs.Paths.{is_path, node_path}
 use Rattle.ob_contracts.specs.Inherit.{or_else, only_if}
-use Rattle.ob_standing.specs.Contexts.{Context, HandedDown, at_root, handed_down, under, comes_to}
+use Rattle.ob_tree.specs.Contexts.{Context, HandedDown, at_root, handed_down, under, comes_to}
 use Rattle.ob_site_rules.specs.Build.{Path}
 use Rattle.ob_site_rules.specs.Shown.{node_of, dressed, shown}
 use Rattle.ob_site_rules.specs.State.{State}

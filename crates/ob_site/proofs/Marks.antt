@@ -4,7 +4,7 @@ use Rattle.ob_object.specs.Object.{parts}
 use Rattle.ob_tree.specs.Laid.{spots_of}
 use Rattle.ob_tree.specs.LastTouch.{Begins, Touches, done, all_done}
 use Rattle.ob_tree.specs.Trees.{Stamped}
-use Rattle.ob_tree.proofs.Standing.{count_spots}
+use Rattle.ob_tree.proofs.StandsFor.{count_spots}
 use Rattle.ob_tree.proofs.Touched.{length-stamped}
 use Rattle.ob_site_state.specs.Stamping.{after_step}
 

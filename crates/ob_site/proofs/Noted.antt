@@ -27,7 +27,7 @@ use Rattle.ob_site_state.proofs.Settling.{equal_of, differ_of}
 use Rattle.ob_tree.specs.Laid.{head_at, heads_of, spots_of, changed, leaf}
 use Rattle.ob_tree.proofs.Changing.{length-heads, spots-changed}
 use Rattle.ob_tree.proofs.Leaves.{others_stay}
-use Rattle.ob_tree.proofs.Standing.{stands_for}
+use Rattle.ob_tree.proofs.StandsFor.{stands_for}
 use Rattle.ob_values.specs.declared.verb.Verb.{Verb}
 use Rattle.ob_values.specs.declared.verb.Verb.TheVariants.{Get}
 use Rattle.ob_step_laws.proofs.Unrolled.{as_many}

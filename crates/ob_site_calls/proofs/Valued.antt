@@ -9,7 +9,7 @@ use Rattle.ob_object.specs.Object.{Objects, none, node, Object, count}
 use Rattle.ob_object.specs.Paths.{node_path}
 use Rattle.ob_object.specs.Kinds.{has_values}
 use Rattle.ob_contracts.specs.Inherit.{Contracts, Words, result_of, effective_of}
-use Rattle.ob_standing.specs.Contexts.{Context, comes_to}
+use Rattle.ob_tree.specs.Contexts.{Context, comes_to}
 use Rattle.ob_shown_laws.specs.Alike.{row}
 use Rattle.ob_shown_laws.specs.Own.{derived_own}
 use Rattle.ob_shown_laws.proofs.Looking.{at_path}

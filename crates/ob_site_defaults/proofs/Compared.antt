@@ -17,7 +17,7 @@ use Rattle.ob_site_rules.specs.declared.plan.Plan.{Plan}
 use Rattle.ob_site_rules.specs.Sameness.{same_object}
 use Rattle.ob_site_rules.specs.Sites.{plain_or_empty, watched_object}
 use Rattle.ob_site_laws.proofs.Same.{object_decides}
-use Rattle.ob_standing.specs.Contexts.{Context, under, comes_to}
+use Rattle.ob_tree.specs.Contexts.{Context, under, comes_to}
 use Rattle.ob_shown_laws.specs.Alike.{row}
 use Rattle.ob_shown_laws.specs.Changed.{is_watchable, PathsDiffer}
 use Rattle.ob_shown_laws.specs.Own.{derived_own}

@@ -12,7 +12,7 @@ use Rattle.ob_site_rules.specs.Build.{Path}
 use Rattle.ob_site_rules.specs.Shown.{dressed}
 use Rattle.ob_site_rules.specs.State.{State}
 use Rattle.ob_site_rules.specs.declared.plan.Plan.{Plan}
-use Rattle.ob_standing.specs.Contexts.{Context, under}
+use Rattle.ob_tree.specs.Contexts.{Context, under}
 use Rattle.ob_shown_laws.specs.Alike.{row}
 use Rattle.ob_shown_laws.specs.Changed.{is_watchable, PathsDiffer}
 use Rattle.ob_shown_laws.specs.Own.{derived_own}

@@ -6,7 +6,7 @@ use Rattle.ob_values.proofs.Lists.{some_same}
 use Rattle.ob_object.specs.declared.head.Head.{Head}
 use Rattle.ob_object.specs.Object.{Objects, none, node, Object, count, parts, listed}
 use Rattle.ob_contracts.specs.Inherit.{Contracts}
-use Rattle.ob_standing.specs.Contexts.{HandedDown}
+use Rattle.ob_tree.specs.Contexts.{HandedDown}
 use Rattle.ob_tree.specs.Laid.{object}
 use Rattle.ob_tree.specs.Shown.{row, part_in, part_at, at_top, handed, handed_in, handed_at}
 use Rattle.ob_tree.proofs.Growing.{first}

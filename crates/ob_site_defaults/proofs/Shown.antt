@@ -9,7 +9,7 @@ use Rattle.ob_contracts.specs.Inherit.{Contracts, Words, bare, effective_of, mis
 use Rattle.ob_site_rules.specs.Shown.{with_roles}
 use Rattle.ob_site_rules.specs.State.{State}
 use Rattle.ob_site_rules.specs.declared.plan.Plan.{Plan}
-use Rattle.ob_standing.specs.Contexts.{Context, HandedDown, comes_to, handed_down, under}
+use Rattle.ob_tree.specs.Contexts.{Context, HandedDown, comes_to, handed_down, under}
 use Rattle.ob_shown_laws.specs.Own.{derived_own}
 use Rattle.ob_shown_laws.proofs.Alikes.{handed_alike}
 use Rattle.ob_shown_laws.proofs.Reaching.{status_off}

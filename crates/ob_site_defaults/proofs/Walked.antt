@@ -9,7 +9,7 @@ use Rattle.ob_contracts.proofs.Names.{at_place}
 use Rattle.ob_site_rules.specs.declared.plan.Plan.{Plan}
 use Rattle.ob_site_rules.specs.State.{State}
 use Rattle.ob_site_rules.specs.Shown.{dressed}
-use Rattle.ob_standing.specs.Contexts.{Context, comes_to, under}
+use Rattle.ob_tree.specs.Contexts.{Context, comes_to, under}
 use Rattle.ob_shown_laws.specs.Alike.{row}
 use Rattle.ob_shown_laws.specs.Changed.{PathsDiffer}
 use Rattle.ob_shown_laws.specs.Own.{derived_own}

@@ -16,7 +16,7 @@ use Rattle.ob_site_rules.specs.Shown.{rule_of, with_status, with_status_at, with
 use Rattle.ob_site_rules.specs.Sites.{plain_or_empty}
 use Rattle.ob_site_rules.specs.declared.plan.Plan.{Plan}
 use Rattle.ob_site_rules.specs.State.{State}
-use Rattle.ob_standing.specs.Contexts.{Context, comes_to, under}
+use Rattle.ob_tree.specs.Contexts.{Context, comes_to, under}
 use Rattle.ob_shown_laws.specs.Changed.{is_watchable}
 use Rattle.ob_shown_laws.specs.Own.{derived_own}
 use Rattle.ob_tree.specs.Laid.{head_at}

@@ -8,7 +8,7 @@ use Rattle.ob_object.specs.Facets.{facet_value, word}
 use Rattle.ob_object.specs.declared.head.Head.{Head}
 use Rattle.ob_object.specs.Object.{Object}
 use Rattle.ob_contracts.specs.Inherit.{result_of}
-use Rattle.ob_standing.specs.Contexts.{Context, comes_to}
+use Rattle.ob_tree.specs.Contexts.{Context, comes_to}
 use Rattle.ob_shown_laws.specs.Changed.{head_in, same_values}
 use Rattle.ob_site_rules.specs.Sameness.{same_option, same_slot, same_status}
 use Rattle.ob_site_laws.proofs.Same.{Tells, tells_slot}

@@ -10,7 +10,7 @@ use Rattle.ob_object.specs.declared.head.Slot.{Slot}
 use Rattle.ob_object.specs.declared.status.Status.{Status}
 use Rattle.ob_object.specs.Paths.{is_path, node_path}
 use Rattle.ob_contracts.specs.Inherit.{Contracts}
-use Rattle.ob_standing.specs.Contexts.{Context, under}
+use Rattle.ob_tree.specs.Contexts.{Context, under}
 use Rattle.ob_alarms.specs.States.{status_of}
 use Rattle.ob_tree.specs.Laid.{heads_of, head_at, paths}
 use Rattle.ob_tree.specs.Paths.{place_of}

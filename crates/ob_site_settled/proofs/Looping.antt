@@ -15,7 +15,7 @@ use Rattle.ob_object.specs.declared.status.Status.{Status}
 use Rattle.ob_object.specs.Object.{Object, parts}
 use Rattle.ob_contracts.specs.Inherit.{Contracts, or_else, only_if}
 use Rattle.ob_alarms.specs.declared.alarm.Event.{Event}
-use Rattle.ob_standing.specs.Contexts.{Context}
+use Rattle.ob_tree.specs.Contexts.{Context}
 use Rattle.ob_tree.specs.Laid.{leaf, paths}
 use Rattle.ob_tree.specs.Paths.{place_of}
 use Rattle.ob_tree.specs.declared.node.NodeId.{NodeId}

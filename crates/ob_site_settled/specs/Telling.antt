@@ -6,7 +6,7 @@ use Rattle.ob_object.specs.declared.status.Status.{Status}
 use Rattle.ob_object.specs.Fits.{fits_slot}
 use Rattle.ob_object.specs.Object.{parts}
 use Rattle.ob_contracts.specs.Inherit.{Contracts, or_else, only_if}
-use Rattle.ob_standing.specs.Contexts.{Context}
+use Rattle.ob_tree.specs.Contexts.{Context}
 use Rattle.ob_ground.specs.Grounds.{Taught, WordsStand}
 use Rattle.ob_alarms.specs.States.{status_of}
 use Rattle.ob_alarms.specs.declared.alarm.Event.{Event}

@@ -1,14 +1,14 @@
 //! Whether an object shows another value or another status than before.
 ghost use Rattle.std.specs.Prelude.{◌≡◌, ◌↔◌, ◌&&◌, not, IsTrue};
 ghost use Rattle.ob_contracts.specs.Shown.{shown};
-ghost use Rattle.ob_standing.specs.Standings.{context};
+ghost use Rattle.ob_tree.specs.Standings.{context};
 ghost use Rattle.ob_site_rules.specs.Sameness.{same_option, same_slot, same_status};
 ghost use Rattle.ob_shown_laws.specs.Changed.{head_in, same_values};
 ghost use Rattle.ob_site_settled.specs.Values.{status_in};
 
 use ob_contracts::{Steps, View};
 use ob_object::{Facet, FacetRef, Obj, Slot, Status};
-use ob_standing::Standing;
+use ob_tree::Standing;
 use std::sync::ledger::Ledger;
 
 /// Whether two slots are equal.

@@ -9,7 +9,7 @@ use Rattle.ob_site_rules.specs.State.{State}
 use Rattle.ob_site_rules.specs.Shown.{dressed, derived_at, shown}
 use Rattle.ob_contracts.specs.Inherit.{Contracts}
 use Rattle.ob_ground.specs.Grounds.{inside_at}
-use Rattle.ob_standing.specs.Contexts.{Context, comes_to, handed_down, under}
+use Rattle.ob_tree.specs.Contexts.{Context, comes_to, handed_down, under}
 use Rattle.ob_shown_laws.specs.Alike.{row}
 use Rattle.ob_shown_laws.specs.Changed.{is_in, PathsDiffer}
 use Rattle.ob_shown_laws.specs.OwnShown.{IsNotDerived}

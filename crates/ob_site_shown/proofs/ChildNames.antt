@@ -12,7 +12,7 @@ use Rattle.ob_plain_state.proofs.Kept.{some_either}
 use Rattle.ob_site_rules.specs.Shown.{derived, rule_of, with_roles, with_status, with_status_at, with_status_by}
 use Rattle.ob_site_rules.specs.State.{State}
 use Rattle.ob_site_rules.specs.declared.plan.Plan.{Plan}
-use Rattle.ob_standing.specs.Contexts.{Context, comes_to, sources_in}
+use Rattle.ob_tree.specs.Contexts.{Context, comes_to, sources_in}
 use Rattle.ob_shown_laws.specs.Own.{derived_own}
 use Rattle.ob_tree.specs.Children.{named_from, child_at}
 use Rattle.ob_tree.specs.Laid.{head_at, leaf}

@@ -11,7 +11,7 @@ use Rattle.ob_site_rules.specs.Build.{Path, leaf}
 use Rattle.ob_site_rules.specs.Shown.{dressed, rule_of, shown, with_status_at, with_status_by}
 use Rattle.ob_site_rules.specs.State.{State}
 use Rattle.ob_site_rules.specs.declared.plan.Plan.{Plan}
-use Rattle.ob_standing.specs.Contexts.{Context, comes_to, under}
+use Rattle.ob_tree.specs.Contexts.{Context, comes_to, under}
 use Rattle.ob_shown_laws.specs.Alike.{row}
 use Rattle.ob_shown_laws.specs.Changed.{PathsDiffer, head_in}
 use Rattle.ob_shown_laws.specs.Own.{derived_own}

@@ -3,7 +3,7 @@ ghost use Rattle.std.specs.Prelude.{◌≡◌, ◌<◌, ◌++◌, [], ◌∷◌,
 ghost use Rattle.std.specs.Option.{option_copied};
 ghost use Rattle.std.specs.List.{starts_with};
 ghost use Rattle.ob_object.specs.Object.{parts};
-ghost use Rattle.ob_standing.specs.Contexts.{comes_to, handed_down, under};
+ghost use Rattle.ob_tree.specs.Contexts.{comes_to, handed_down, under};
 ghost use Rattle.ob_tree.specs.Shown.{standing_at};
 ghost use Rattle.ob_tree.specs.Laid.{AreLeaves, head_at};
 ghost use Rattle.ob_shown_laws.specs.Alike.{row};

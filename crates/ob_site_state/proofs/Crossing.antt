@@ -13,7 +13,7 @@ use Rattle.ob_object.proofs.object.Obj.TheLaws.TheKnot as object
 use Rattle.ob_alarms.proofs.board.Alarms.TheSendSync as board
 use Rattle.ob_contracts.proofs.library.Defaults.TheSendSync as defaults
 use Rattle.ob_contracts.specs.contracts.library.Library as library
-use Rattle.ob_standing.proofs.instead.Instead.TheSendSync as instead
+use Rattle.ob_tree.proofs.instead.Instead.TheSendSync as instead
 use Rattle.ob_tree.specs.contracts.tree.Tree as tree
 use Rattle.ob_ground.specs.contracts.told.Told as told
 use Rattle.ob_ground.specs.contracts.told.Told.TheInside as told_inside

@@ -19,7 +19,7 @@ use Rattle.ob_site_rules.specs.Entries.{empty_object}
 use Rattle.ob_site_rules.specs.Sameness.{same_object}
 use Rattle.ob_site_rules.specs.Sites.{plain_or_empty, watched_object}
 use Rattle.ob_site_laws.proofs.Same.{object_decides}
-use Rattle.ob_standing.specs.Contexts.{Context, HandedDown, sources_in, handed_down, under}
+use Rattle.ob_tree.specs.Contexts.{Context, HandedDown, sources_in, handed_down, under}
 use Rattle.ob_shown_laws.specs.Alike.{row, without_values, AreAlike, DifferInSlots, DifferInValues, paths_of}
 use Rattle.ob_shown_laws.specs.Numbered.{root_row}
 use Rattle.ob_shown_laws.specs.Standing.{Standing, standing_in, root_standing, standing_at}

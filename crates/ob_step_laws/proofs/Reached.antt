@@ -14,7 +14,7 @@ use Rattle.ob_site_rules.specs.State.{State}
 use Rattle.ob_site_rules.specs.declared.plan.Plan.{Plan}
 use Rattle.ob_site_rules.specs.Sites.{watched_object}
 use Rattle.ob_site_laws.proofs.Same.{object_decides}
-use Rattle.ob_standing.specs.Contexts.{Context, HandedDown, handed_down, under}
+use Rattle.ob_tree.specs.Contexts.{Context, HandedDown, handed_down, under}
 use Rattle.ob_shown_laws.specs.Alike.{row, without_values, AreAlike, DifferInSlots, DifferInValues}
 use Rattle.ob_shown_laws.specs.Numbered.{root_row}
 use Rattle.ob_shown_laws.specs.Standing.{Standing, standing_in}

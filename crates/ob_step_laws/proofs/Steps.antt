@@ -43,7 +43,7 @@ use Rattle.ob_shown_laws.proofs.OwnStanding.{own_is_enough}
 use Rattle.ob_step_laws.specs.Defaults.{StayGiven, defaults_off}
 use Rattle.ob_step_laws.proofs.Unslotted.{defaults_differ}
 use Rattle.ob_step_laws.proofs.Either.{given_itself}
-use Rattle.ob_standing.specs.Contexts.{HandedDown, handed_down, under}
+use Rattle.ob_tree.specs.Contexts.{HandedDown, handed_down, under}
 use Rattle.ob_requests.proofs.Places.{point_there}
 use Rattle.ob_step_laws.specs.Given.{IsMade, PointsHaveValues, StepsTakeNoneAway}
 use Rattle.ob_step_laws.proofs.Slotted.{given_slotted, differ_slotted, unslotted_object, contracts_stay, value_given, kind_given}

@@ -6,7 +6,7 @@ use Rattle.ob_object.specs.declared.head.Head.{Head}
 use Rattle.ob_object.specs.Object.{Objects, none, node, Object, count, parts, listed, in_row}
 use Rattle.ob_object.specs.WellFormed.{IsWellFormed}
 use Rattle.ob_contracts.specs.Inherit.{Contracts}
-use Rattle.ob_standing.specs.Contexts.{Context, HandedDown, handed_down, under}
+use Rattle.ob_tree.specs.Contexts.{Context, HandedDown, handed_down, under}
 use Rattle.ob_tree.specs.declared.spot.Spot.{Spot}
 use Rattle.ob_tree.specs.Laid.{object, spots_of, width, head_at}
 use Rattle.ob_tree.specs.Shown.{part_in, part_at, row, at_top, handed, handed_in, handed_at, standing_at}

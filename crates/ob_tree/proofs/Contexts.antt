@@ -6,7 +6,7 @@ use Rattle.std.proofs.lemmas.List.{append-nil}
 use Rattle.ob_object.specs.declared.head.Head.{Head}
 use Rattle.ob_object.specs.Object.{Objects, none, node, Object, count, parts}
 use Rattle.ob_contracts.specs.Inherit.{Contracts}
-use Rattle.ob_standing.specs.Contexts.{Context, HandedDown, at_root, handed_down, under}
+use Rattle.ob_tree.specs.Contexts.{Context, HandedDown, at_root, handed_down, under}
 use Rattle.std.proofs.lemmas.Option.{slice_get-map}
 use Rattle.ob_tree.specs.declared.spot.Spot.{Spot}
 use Rattle.ob_tree.specs.Laid.{heads, heads_of, spots_of, head_at}

@@ -8,10 +8,10 @@ use Rattle.std.specs.Map.{lookup}
 use Rattle.ob_object.specs.declared.head.Head.{Head}
 use Rattle.ob_object.specs.Object.{Object}
 use Rattle.ob_contracts.specs.Inherit.{Contracts}
-use Rattle.ob_standing.specs.declared.instead.Instead.{Instead}
-use Rattle.ob_standing.specs.Contexts.{Context}
-use Rattle.ob_standing.specs.Standings.{MayStand}
-use Rattle.ob_standing.proofs.Walking.{may_stand_none}
+use Rattle.ob_tree.specs.declared.instead.Instead.{Instead}
+use Rattle.ob_tree.specs.Contexts.{Context}
+use Rattle.ob_tree.specs.Standings.{MayStand}
+use Rattle.ob_tree.proofs.Walking.{may_stand_none}
 use Rattle.ob_tree.specs.Laid.{head_at}
 use Rattle.ob_tree.specs.Shown.{standing_at}
 use Rattle.ob_tree.specs.Told.{IsToldAt, AreToldBy, words_for}

@@ -11,7 +11,7 @@ use Rattle.ob_tree.specs.Shown.{part_at}
 use Rattle.ob_tree.specs.Stamps.{is_round, stamped, touched}
 use Rattle.ob_tree.specs.Trees.{Stamped}
 use Rattle.ob_tree.specs.LastTouch.{Stamping, Begins, Touches, Renumbers, done, all_done, NoneTouches, LastTouchesStamp}
-use Rattle.ob_tree.proofs.Standing.{count_spots}
+use Rattle.ob_tree.proofs.StandsFor.{count_spots}
 use Rattle.ob_tree.proofs.Touched.{length-stamped}
 use Rattle.ob_tree.proofs.Growing.{Grows, grows_for}
 

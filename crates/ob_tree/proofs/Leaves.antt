@@ -14,7 +14,7 @@ use Rattle.ob_tree.specs.Laid.{object, leaf, said, AreLeaves, heads_of, object_o
 use Rattle.ob_tree.specs.Shown.{AreLaid}
 use Rattle.ob_tree.specs.Trees.{IsLaid, IsArena}
 use Rattle.ob_tree.proofs.Changing.{heads-changed}
-use Rattle.ob_tree.proofs.Standing.{count_heads, at_head, laid_changed, stands_changed}
+use Rattle.ob_tree.proofs.StandsFor.{count_heads, at_head, laid_changed, stands_changed}
 
 pub said_below : (os : List Object) (n : ℕ) → n < length os → n < length (said os)
 said_below os n lt = omega (arith, length-map os (λ (o : Object). o.head))

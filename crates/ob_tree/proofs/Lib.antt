@@ -1,9 +1,10 @@
+pub mod Walking
 pub mod LaidOut
 pub mod Reading
 pub mod Changing
 pub mod Naming
 pub mod Placed
-pub mod Standing
+pub mod StandsFor
 pub mod Leaves
 pub mod Touched
 pub mod Contexts

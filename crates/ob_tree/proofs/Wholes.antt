@@ -4,7 +4,7 @@ use Rattle.std.specs.Prelude.{option_map}
 use Rattle.ob_object.specs.declared.head.Head.{Head}
 use Rattle.ob_object.specs.Object.{Object, parts}
 use Rattle.ob_contracts.specs.Inherit.{Contracts}
-use Rattle.ob_standing.specs.Contexts.{Context, under, comes_to}
+use Rattle.ob_tree.specs.Contexts.{Context, under, comes_to}
 use Rattle.ob_tree.specs.declared.spot.Spot.{Spot}
 use Rattle.ob_tree.specs.Laid.{object_of, said}
 use Rattle.ob_tree.specs.Shown.{part_at, handed_at, effective_in, shown_at, standing_at}

@@ -1,3 +1,5 @@
+pub mod Contexts
+pub mod Standings
 pub mod Paths
 pub mod Laid
 pub mod Stamps

@@ -4,7 +4,7 @@ use Rattle.ob_object.specs.declared.head.Head.{Head}
 use Rattle.ob_object.specs.Object.{Objects, none, node, Object, count}
 use Rattle.ob_object.specs.WellFormed.{IsWellFormed}
 use Rattle.ob_contracts.specs.Inherit.{Contracts}
-use Rattle.ob_standing.specs.Contexts.{Context, HandedDown, handed_down, under, comes_to}
+use Rattle.ob_tree.specs.Contexts.{Context, HandedDown, handed_down, under, comes_to}
 use Rattle.ob_tree.specs.declared.spot.Spot.{Spot}
 use Rattle.ob_tree.specs.Laid.{object, heads_of, spots_of, object_of, head_at}
 

@@ -6,9 +6,9 @@ use denote.Ref.{Bor}
 use Rattle.ob_object.specs.declared.head.Head.{Head}
 use Rattle.ob_object.specs.Object.{Object}
 use Rattle.ob_contracts.specs.Inherit.{Contracts}
-use Rattle.ob_standing.specs.declared.instead.Instead.{Instead}
-use Rattle.ob_standing.specs.Contexts.{Context}
-use Rattle.ob_standing.specs.Standings.{MayStand}
+use Rattle.ob_tree.specs.declared.instead.Instead.{Instead}
+use Rattle.ob_tree.specs.Contexts.{Context}
+use Rattle.ob_tree.specs.Standings.{MayStand}
 use Rattle.ob_tree.specs.Laid.{head_at}
 use Rattle.ob_tree.specs.Shown.{standing_at}
 

@@ -8,19 +8,25 @@
 mod children;
 mod differing;
 mod fault;
+mod handed;
+mod instead;
 mod laws;
 mod laying;
 mod node;
 mod numbering;
 mod shown;
 mod spot;
+mod standing;
 mod telling;
 mod touching;
 mod tree;
 
 pub use fault::TreeFault;
+pub use handed::Handed;
+pub use instead::Instead;
 pub use laws::{depths_are_levels, last_touches_stamp};
 pub use node::NodeId;
+pub use standing::Standing;
 pub use tree::Tree;
 
 /// A tree may go to another thread, and several may read it.

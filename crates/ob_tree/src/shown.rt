@@ -3,7 +3,7 @@ ghost use Rattle.std.specs.Prelude.{◌≡◌, ◌<◌, ◌+◌, length, slice_g
 ghost use Rattle.std.specs.Option.{option_copied};
 ghost use Rattle.ob_object.specs.Object.{children};
 ghost use Rattle.ob_object.specs.WellFormed.{is_taken, with_child};
-ghost use Rattle.ob_standing.specs.Standings.{context};
+ghost use Rattle.ob_tree.specs.Standings.{context};
 ghost use Rattle.ob_tree.specs.Laid.{object_of, said};
 ghost use Rattle.ob_tree.specs.Depths.{depth_at};
 ghost use Rattle.ob_tree.specs.Shown.{part_at, standing_at, AreLaid};
@@ -12,7 +12,7 @@ ghost use Rattle.ob_tree.specs.Told.{words_for, AreToldBy};
 use crate::spot::Spot;
 use ob_contracts::{Library, Steps};
 use ob_object::{Attributes, Obj};
-use ob_standing::{Instead, Standing};
+use crate::{Instead, Standing};
 use std::alloc::{AllocError, Global};
 use std::collections::BTreeMap;
 use std::sync::ledger::Ledger;

@@ -13,7 +13,7 @@ ghost use Rattle.ob_tree.specs.Stamps.{touched};
 ghost use Rattle.ob_tree.specs.Children.{AreNumbered, child_at, place_at};
 ghost use Rattle.ob_tree.specs.Depths.{depth_at};
 ghost use Rattle.ob_tree.specs.Shown.{part_at, shown_at, standing_at};
-ghost use Rattle.ob_standing.specs.Standings.{context};
+ghost use Rattle.ob_tree.specs.Standings.{context};
 ghost use Rattle.ob_tree.specs.Told.{words_for, AreToldBy};
 ghost use Rattle.ob_tree.specs.Trees.{Stamped, IsUnbuilt};
 
@@ -28,7 +28,7 @@ use crate::telling::{Arena, put_told};
 use crate::touching::{renumber, stamp_up};
 use ob_contracts::{Library, Steps};
 use ob_object::{Obj, Slot, Status};
-use ob_standing::{Instead, Standing};
+use crate::{Instead, Standing};
 use ob_values::Text;
 use std::alloc::{AllocError, Global};
 use std::collections::BTreeMap;

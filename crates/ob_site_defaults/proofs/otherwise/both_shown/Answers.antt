@@ -1,5 +1,5 @@
 use Rattle.std.proofs.Common.{ap, ◌∙◌}
-use Rattle.ob_standing.specs.Standings.{context}
+use Rattle.ob_tree.specs.Standings.{context}
 use Rattle.ob_tree.specs.Shown.{standing_at}
 use Rattle.ob_tree.specs.Trees.{Stamped}
 use Rattle.ob_site_shown.proofs.Stands.{stands}

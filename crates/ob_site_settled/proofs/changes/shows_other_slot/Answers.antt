@@ -1,6 +1,6 @@
 use Rattle.std.proofs.Common.{ap, ◌∙◌, option_map}
 use Rattle.std.specs.Option.{option_copied}
-use Rattle.ob_standing.specs.Standings.{context}
+use Rattle.ob_tree.specs.Standings.{context}
 use Rattle.ob_tree.specs.Laid.{leaf, head_at}
 use Rattle.ob_tree.specs.Shown.{standing_at}
 use Rattle.ob_tree.specs.Trees.{Stamped}

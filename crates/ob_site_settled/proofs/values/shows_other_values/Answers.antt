@@ -1,7 +1,7 @@
 use Rattle.std.proofs.Common.{Bool, ap₂, ◌&&◌, ◌∙◌}
 use Rattle.ob_contracts.specs.Shown.{shown}
 use Rattle.ob_site_rules.specs.Sameness.{same_option, same_slot, same_status}
-use Rattle.ob_standing.specs.Standings.{context}
+use Rattle.ob_tree.specs.Standings.{context}
 use Rattle.ob_site_settled.proofs.Comparing.{other_values}
 use Rattle.ob_site_settled.proofs.values.shows_other_values.Goals as goal
 

@@ -6,7 +6,7 @@ use Rattle.ob_object.specs.WellFormed.{named}
 use Rattle.ob_object.specs.Paths.{node_path}
 use Rattle.ob_site_rules.specs.Shown.{derived}
 use Rattle.ob_site_state.specs.Contents.{state_in}
-use Rattle.ob_standing.specs.Contexts.{comes_to}
+use Rattle.ob_tree.specs.Contexts.{comes_to}
 use Rattle.ob_tree.specs.Children.{child_at}
 use Rattle.ob_tree.specs.Laid.{head_at, leaf}
 use Rattle.ob_tree.specs.Trees.{Stamped}

@@ -4,7 +4,7 @@ use Rattle.std.specs.Option.{option_copied}
 use Rattle.ob_object.specs.declared.head.Head.{Head}
 use Rattle.ob_object.specs.Object.{Object}
 use Rattle.ob_ground.specs.Grounds.{inside_at}
-use Rattle.ob_standing.specs.Standings.{context}
+use Rattle.ob_tree.specs.Standings.{context}
 use Rattle.ob_site_shown.proofs.ByRole.{comes_inside}
 use Rattle.ob_site_shown.proofs.owners.shown_inside.Goals as goal
 

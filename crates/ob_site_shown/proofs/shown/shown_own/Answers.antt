@@ -3,8 +3,8 @@ use Rattle.std.proofs.lemmas.Result.{IfOk-weaker}
 use Rattle.ob_site_rules.specs.Build.{Path}
 use Rattle.ob_site_rules.specs.Shown.{shown}
 use Rattle.ob_site_state.specs.Contents.{state_in}
-use Rattle.ob_standing.specs.Standings.{context}
-use Rattle.ob_standing.specs.Contexts.{comes_to}
+use Rattle.ob_tree.specs.Standings.{context}
+use Rattle.ob_tree.specs.Contexts.{comes_to}
 use Rattle.ob_tree.specs.Laid.{paths}
 use Rattle.ob_tree.specs.Paths.{place_of}
 use Rattle.ob_shown_laws.specs.OwnTree.{own_shown_at}

@@ -5,7 +5,7 @@ use Rattle.ob_object.specs.Object.{Object, parts}
 use Rattle.ob_object.specs.WellFormed.{has_name}
 use Rattle.ob_tree.specs.Laid.{object_of, said, head_at}
 use Rattle.ob_tree.specs.Shown.{part_at}
-use Rattle.ob_tree.proofs.Standing.{count_spots}
+use Rattle.ob_tree.proofs.StandsFor.{count_spots}
 use Rattle.ob_tree.proofs.Leaves.{count_leaves}
 use Rattle.ob_tree.proofs.Growing.{grows, read_spot}
 use Rattle.ob_tree.proofs.Named.{Seeks, seeking, sought_at, goes_on, is_here, is_nowhere}

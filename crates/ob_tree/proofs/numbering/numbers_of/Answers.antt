@@ -4,7 +4,7 @@ use Rattle.std.specs.BTreeMap.{get_by_text}
 use Rattle.ob_object.specs.declared.head.Head.{Head}
 use Rattle.ob_object.specs.Object.{parts}
 use Rattle.ob_tree.specs.Laid.{object_of, said, head_at}
-use Rattle.ob_tree.proofs.Standing.{count_spots}
+use Rattle.ob_tree.proofs.StandsFor.{count_spots}
 use Rattle.ob_tree.proofs.Leaves.{count_leaves}
 use Rattle.ob_tree.proofs.Growing.{grows, read_spot}
 use Rattle.ob_tree.proofs.Numbered.{begun, none_known, follows, follows_on, all_follow}

@@ -1,6 +1,6 @@
 use Rattle.std.proofs.Common.{arith}
 use Rattle.ob_tree.specs.Laid.{object_of, said}
-use Rattle.ob_tree.proofs.Standing.{count_spots}
+use Rattle.ob_tree.proofs.StandsFor.{count_spots}
 use Rattle.ob_tree.proofs.Leaves.{count_leaves}
 use Rattle.ob_tree.proofs.Numbered.{numbered_more}
 use Rattle.ob_tree.proofs.numbering.put_numbers.Goals as goal

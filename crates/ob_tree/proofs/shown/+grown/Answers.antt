@@ -7,7 +7,7 @@ use Rattle.ob_object.specs.WellFormed.{is_taken, with_child}
 use Rattle.ob_tree.specs.Laid.{object_of, said, head_at}
 use Rattle.ob_tree.specs.Shown.{part_at}
 use Rattle.ob_tree.proofs.Naming.{head_fits_at}
-use Rattle.ob_tree.proofs.Standing.{count_spots}
+use Rattle.ob_tree.proofs.StandsFor.{count_spots}
 use Rattle.ob_tree.proofs.Leaves.{count_leaves}
 use Rattle.ob_tree.proofs.Growing.{grows, grows_for, read_spot, HasGrown, started, step_of, went_on, all_grown, free_in_copy}
 use Rattle.ob_tree.proofs.shown.+grown.Goals as goal

@@ -2,12 +2,12 @@ use Rattle.std.proofs.Common.{◌≡◌, ◌<◌, ◌∙◌, ℕ, Option, Some, 
 use Rattle.std.specs.Prelude.{slice_get}
 use Rattle.ob_object.specs.declared.head.Head.{Head}
 use Rattle.ob_object.specs.Object.{parts}
-use Rattle.ob_standing.specs.declared.instead.Instead.{Instead}
-use Rattle.ob_standing.specs.Contexts.{handed_down, under}
-use Rattle.ob_standing.specs.Standings.{context, MayStand}
+use Rattle.ob_tree.specs.declared.instead.Instead.{Instead}
+use Rattle.ob_tree.specs.Contexts.{handed_down, under}
+use Rattle.ob_tree.specs.Standings.{context, MayStand}
 use Rattle.ob_tree.specs.Laid.{object_of, said, head_at}
 use Rattle.ob_tree.specs.Shown.{handed_at, handed}
-use Rattle.ob_tree.proofs.Standing.{count_spots}
+use Rattle.ob_tree.proofs.StandsFor.{count_spots}
 use Rattle.ob_tree.proofs.Leaves.{count_leaves, said_read}
 use Rattle.ob_tree.proofs.Contexts.{context_below, context_top, parent_before, parent_read, stands_below, stands_on_top}
 use Rattle.ob_tree.proofs.Deep.{depth_below, depth_top}

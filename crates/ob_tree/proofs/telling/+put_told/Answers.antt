@@ -8,12 +8,12 @@ use Rattle.ob_object.specs.Object.{parts}
 use Rattle.ob_contracts.specs.Inherit.{Contracts}
 use Rattle.ob_contracts.specs.Tellers.{Telling, TellsIn}
 use Rattle.ob_contracts.proofs.Taught.{tells_none}
-use Rattle.ob_standing.specs.Contexts.{Context, handed_down, under}
-use Rattle.ob_standing.specs.Standings.{context, MayStand}
+use Rattle.ob_tree.specs.Contexts.{Context, handed_down, under}
+use Rattle.ob_tree.specs.Standings.{context, MayStand}
 use Rattle.ob_tree.specs.Laid.{object_of, said, head_at}
 use Rattle.ob_tree.specs.Shown.{standing_at}
 use Rattle.ob_tree.specs.Told.{AreToldBy}
-use Rattle.ob_tree.proofs.Standing.{count_spots}
+use Rattle.ob_tree.proofs.StandsFor.{count_spots}
 use Rattle.ob_tree.proofs.Leaves.{count_leaves, said_read}
 use Rattle.ob_tree.proofs.Below.{first_child, child_at, next_child, child_stands}
 use Rattle.ob_tree.proofs.Giving.{told_at}

@@ -6,7 +6,7 @@ use Rattle.ob_object.specs.Paths.{node_path}
 use Rattle.ob_tree.specs.declared.spot.Spot.{Spot}
 use Rattle.ob_tree.specs.Paths.{first_twice, place_of}
 use Rattle.ob_tree.specs.Laid.{heads_of, spots_of, leaf, said, AreLeaves}
-use Rattle.ob_tree.proofs.Standing.{laid_as, stands_for, same_tree}
+use Rattle.ob_tree.proofs.StandsFor.{laid_as, stands_for, same_tree}
 use Rattle.ob_tree.proofs.Leaves.{are_leaves, said_leaves, count_leaves}
 use Rattle.ob_tree.proofs.tree.laid.Goals as goal
 

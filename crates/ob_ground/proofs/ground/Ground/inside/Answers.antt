@@ -1,6 +1,6 @@
 use Rattle.std.proofs.Common.{◌≡◌, Some, sym, ap, ◌∙◌}
 use Rattle.std.specs.Option.{option_copied}
-use Rattle.ob_standing.specs.Standings.{context}
+use Rattle.ob_tree.specs.Standings.{context}
 use Rattle.ob_tree.specs.Laid.{head_at}
 use Rattle.ob_tree.specs.Shown.{standing_at}
 use Rattle.ob_ground.specs.Grounds.{Grounded, inside_at}

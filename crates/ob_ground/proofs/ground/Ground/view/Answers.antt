@@ -1,7 +1,7 @@
 use Rattle.std.proofs.Common.{◌≡◌, Some, sym, ap, ◌∙◌}
 use Rattle.std.specs.Option.{option_copied}
 use Rattle.ob_object.specs.Object.{Object}
-use Rattle.ob_standing.specs.Standings.{context}
+use Rattle.ob_tree.specs.Standings.{context}
 use Rattle.ob_tree.specs.Shown.{standing_at}
 use Rattle.ob_ground.specs.Grounds.{Grounded, alone_at}
 use Rattle.ob_ground.proofs.Telling.{told_inside, own_head, stands_alone}

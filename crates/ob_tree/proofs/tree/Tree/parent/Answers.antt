@@ -5,7 +5,7 @@ use Rattle.std.proofs.lemmas.Option.{slice_get_read}
 use Rattle.ob_object.specs.Object.{Object, parts}
 use Rattle.ob_tree.specs.Laid.{said, object_of}
 use Rattle.ob_tree.proofs.Contexts.{parent_before, parent_read}
-use Rattle.ob_tree.proofs.Standing.{spot_within, at_spot}
+use Rattle.ob_tree.proofs.StandsFor.{spot_within, at_spot}
 use Rattle.ob_tree.proofs.tree.Tree.parent.Goals as goal
 
 pub index-requires : goal.index-requires

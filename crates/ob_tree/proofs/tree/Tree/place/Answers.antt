@@ -5,7 +5,7 @@ use Rattle.ob_object.specs.Object.{Object, parts}
 use Rattle.ob_tree.specs.Laid.{said, object_of}
 use Rattle.ob_tree.specs.Children.{place_at}
 use Rattle.ob_tree.specs.Trees.{Stamped}
-use Rattle.ob_tree.proofs.Standing.{spot_within}
+use Rattle.ob_tree.proofs.StandsFor.{spot_within}
 use Rattle.ob_tree.proofs.Named.{place_before, place_behind, place_within}
 use Rattle.ob_tree.proofs.tree.Tree.place.Goals as goal
 

@@ -3,7 +3,7 @@ use Rattle.std.proofs.lemmas.List.{length-replicate}
 use Rattle.ob_object.specs.Object.{parts}
 use Rattle.ob_tree.specs.Laid.{said, object_of}
 use Rattle.ob_tree.specs.Trees.{Stamped}
-use Rattle.ob_tree.proofs.Standing.{same_tree}
+use Rattle.ob_tree.proofs.StandsFor.{same_tree}
 use Rattle.ob_tree.proofs.Touched.{given_back}
 use Rattle.ob_tree.proofs.tree.Tree.renumber.Goals as goal
 

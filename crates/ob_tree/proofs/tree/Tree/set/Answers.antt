@@ -7,7 +7,7 @@ use Rattle.ob_tree.specs.Trees.{Stamped}
 use Rattle.ob_tree.specs.Laid.{object_of, said, head_at}
 use Rattle.ob_tree.proofs.Changing.{parts-changed}
 use Rattle.ob_tree.proofs.Naming.{slot_fits, head_fits_at}
-use Rattle.ob_tree.proofs.Standing.{same_tree}
+use Rattle.ob_tree.proofs.StandsFor.{same_tree}
 use Rattle.ob_tree.proofs.Leaves.{leaf_within, at_leaf, kept, stands_kept, others_stay}
 use Rattle.ob_tree.proofs.tree.Tree.set.Goals as goal
 

@@ -3,7 +3,7 @@ use Rattle.std.specs.Ordering.{nat_cmp}
 use Rattle.std.specs.BTreeMap.{get}
 use Rattle.ob_object.specs.Object.{Object}
 use Rattle.ob_contracts.specs.Inherit.{Contracts}
-use Rattle.ob_standing.specs.Contexts.{Context}
+use Rattle.ob_tree.specs.Contexts.{Context}
 use Rattle.ob_tree.specs.Laid.{object_of, said}
 use Rattle.ob_tree.specs.Told.{AreToldBy}
 use Rattle.ob_tree.specs.Trees.{Stamped}

@@ -3,7 +3,7 @@ use Rattle.ob_tree.specs.declared.spot.Spot.{Spot}
 use Rattle.ob_tree.specs.Laid.{said, object_of, spots_of}
 use Rattle.ob_tree.specs.Stamps.{stamped}
 use Rattle.ob_tree.specs.Trees.{Stamped}
-use Rattle.ob_tree.proofs.Standing.{count_spots, same_tree}
+use Rattle.ob_tree.proofs.StandsFor.{count_spots, same_tree}
 use Rattle.ob_tree.proofs.Touched.{length-stamped, given_back}
 use Rattle.ob_tree.proofs.tree.Tree.touch.Goals as goal
 

@@ -1,7 +1,7 @@
 use Rattle.std.proofs.Common.{◌≡◌, Some, refl}
 use Rattle.std.proofs.lemmas.Result.{IfOk-weaker}
-use Rattle.ob_standing.specs.Contexts.{comes_to}
-use Rattle.ob_standing.specs.Standings.{context}
+use Rattle.ob_tree.specs.Contexts.{comes_to}
+use Rattle.ob_tree.specs.Standings.{context}
 use Rattle.ob_tree.specs.Shown.{shown_at}
 use Rattle.ob_tree.proofs.Wholes.{whole_shown}
 use Rattle.ob_tree.proofs.tree.Tree.whole.Goals as goal

@@ -1,6 +1,0 @@
-use Rattle.ob_standing.specs.Standings.{context}
-use Rattle.ob_standing.proofs.Walking.{may_stand_none}
-use Rattle.ob_standing.proofs.standing.Standing.view.Goals as goal
-
-pub view_told-requires : goal.view_told-requires
-view_told-requires g c = may_stand_none (context c.args.self.now) c.args.object.now.head
