@@ -3,7 +3,7 @@ use Rattle.std.proofs.Common.{◌≡◌, ℕ, suc, ◌+◌, Bool, true, false, c
 use Rattle.std.specs.Prelude.{not, ◌&&◌, ◌||◌, ◌==◌, is_some}
 use Rattle.std.specs.List.{list_any}
 use Rattle.std.proofs.lemmas.List.{length-map}
-use Rattle.ob_site_roles.specs.Roles.{all_places, is_of, recorders_of}
+use Rattle.ob_site_state.specs.Roles.{all_places, is_of, recorders_of}
 use Rattle.ob_site_rules.specs.Build.{Path}
 use Rattle.ob_site_rules.specs.Shown.{node_of, rule_of}
 use Rattle.ob_site_rules.specs.State.{State}

@@ -10,7 +10,7 @@ use Rattle.ob_site_rules.specs.State.{State, is_among}
 use Rattle.ob_site_rules.specs.Shown.{dressed, shown}
 use Rattle.ob_site_rules.specs.Writes.{records_from}
 use Rattle.ob_step_laws.specs.Consistent.{IsConsistent}
-use Rattle.ob_site_state.specs.Roles.{SourcesHaveValues}
+use Rattle.ob_site_state.specs.Standing.{SourcesHaveValues}
 
 -- Where sources have values, a point that a history records is shown with such a kind.
 abbrev pub PointsHaveValues : Type 0

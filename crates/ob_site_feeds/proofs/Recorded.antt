@@ -20,7 +20,7 @@ use Rattle.ob_site_state.specs.declared.change.Change.TheVariants as change
 use Rattle.ob_site_state.specs.Changes.{cut, with_log, undone, rewound, CanRewind, ChangesTell}
 use Rattle.ob_site_state.specs.Kept.{keys}
 use Rattle.ob_site_state.proofs.Noting.{got_there}
-use Rattle.ob_site_state.proofs.Places.{keys-with_log}
+use Rattle.ob_site_state.proofs.LogPlaces.{keys-with_log}
 use Rattle.ob_site_feeds.specs.declared.feeds.FeedEvent.{FeedEvent}
 use Rattle.ob_site_feeds.specs.News.{times_of}
 use Rattle.ob_site_feeds.specs.Noted.{feed_of, event_of, log_events_if, note_events, IsKeptRecord}

@@ -36,7 +36,7 @@ use Rattle.ob_site_file.specs.Opened.{site_of, state_with}
 use Rattle.ob_site_file.specs.declared.document.Opened.{Opened}
 use Rattle.ob_site_state.specs.declared.contents.Contents.{Contents}
 use Rattle.ob_site_state.specs.Contents.{state_in}
-use Rattle.ob_site_state.specs.Roles.{RolesStand}
+use Rattle.ob_site_state.specs.Standing.{RolesStand}
 use Rattle.ob_site_state.specs.Kept.{LogsAreBy, IsSoundFor, keys, entry_of as entry_in}
 use Rattle.ob_site_open.specs.Logs.{CanStand, HaveNanos}
 use Rattle.ob_site_state.specs.Tallies.{capacities_of}

@@ -17,8 +17,8 @@ use Rattle.ob_site_rules.specs.declared.plan.Plan.{Plan}
 use Rattle.ob_site_rules.specs.declared.resource.Resource.{Resource}
 use Rattle.ob_plain_state.specs.Parts.{point_parts, history_parts}
 use Rattle.ob_plain_state.proofs.Placed.{at-append, Entries}
-use Rattle.ob_site_roles.specs.Roles.{is_at, stands_at}
-use Rattle.ob_site_roles.proofs.Placed.{some_first}
+use Rattle.ob_site_state.specs.Roles.{is_at, stands_at}
+use Rattle.ob_site_state.proofs.Placed.{some_first}
 use Rattle.ob_site_shown.specs.Parents.{has_slash, IsParent}
 use Rattle.ob_site_shown.proofs.Slashes.{at_parent, no_parent}
 use Rattle.ob_site_places.proofs.Fronts.{point_off, history_off, subject_off}

@@ -1,7 +1,7 @@
 -- What is asked of a plan and of contents of which something is answered.
 use Rattle.std.specs.Prelude.{◌≡◌, map}
 use Rattle.ob_site_rules.specs.declared.plan.Plan.{Plan}
-use Rattle.ob_site_roles.specs.Roles.{AreRoles}
+use Rattle.ob_site_state.specs.Roles.{AreRoles}
 use Rattle.ob_site_state.specs.declared.contents.Contents.{Contents}
 use Rattle.ob_site_state.specs.Contents.{state_in}
 use Rattle.ob_site_state.specs.Kept.{keys}

@@ -6,7 +6,7 @@ ghost use Rattle.ob_contracts.specs.Inherit.{or_else};
 ghost use Rattle.ob_site_rules.specs.State.{at, numbered_from};
 ghost use Rattle.ob_site_rules.specs.declared.plan.Plan.{Plan as SitePlan};
 ghost use Rattle.ob_site_rules.specs.Places.{fixed_places, point_places, history_places, subject_places, event_places, alarm_places, computed_places, place_at};
-ghost use Rattle.ob_site_roles.specs.Roles.{AreRoles};
+ghost use Rattle.ob_site_state.specs.Roles.{AreRoles};
 ghost use Rattle.ob_site_state.specs.Contents.{state_in};
 ghost use Rattle.ob_site_shown.specs.Parents.{IsParent};
 ghost use Rattle.ob_site_shown.specs.Readable.{IsReadable};

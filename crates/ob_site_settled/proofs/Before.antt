@@ -27,7 +27,7 @@ use Rattle.ob_site_state.specs.declared.change.Change.TheVariants as change
 use Rattle.ob_site_state.specs.Changes.{alarms_before, events_before, cut, with_log, undone, rewound, CanRewind, ChangesTell}
 use Rattle.ob_site_state.proofs.Rewinding.{set_to}
 use Rattle.ob_site_state.proofs.Noting.{head_there, head_set}
-use Rattle.ob_site_state.proofs.Places.{length-with_log}
+use Rattle.ob_site_state.proofs.LogPlaces.{length-with_log}
 use Rattle.ob_site_settled.specs.Telling.{first_noted, slot_noted, len_noted, status_noted, library_noted, count_before_what, count_before, events_noted, IsComparable}
 
 -- numbers that are told apart

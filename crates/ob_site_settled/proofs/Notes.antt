@@ -24,7 +24,7 @@ use Rattle.ob_site_state.specs.declared.change.Change.TheVariants as change
 use Rattle.ob_site_state.specs.Changes.{cut, with_log, undone, rewound, CanUndo, CanRewind, IsTold, ChangesTell}
 use Rattle.ob_site_state.specs.Kept.{keys}
 use Rattle.ob_site_state.proofs.Rewinding.{set_to}
-use Rattle.ob_site_state.proofs.Places.{keys-with_log}
+use Rattle.ob_site_state.proofs.LogPlaces.{keys-with_log}
 use Rattle.ob_site_state.proofs.Noting.{paths_stay}
 use Rattle.ob_site_settled.specs.Noted.{paths_of, looked_at, NotesTell}
 

@@ -6,7 +6,7 @@ use Rattle.ob_history.specs.Logs.{History}
 use Rattle.ob_alarms.specs.Lists.{first_place}
 use Rattle.ob_site_rules.specs.Build.{Path}
 use Rattle.ob_site_rules.specs.State.{Log, at}
-use Rattle.ob_site_roles.specs.Roles.{stands_at}
+use Rattle.ob_site_state.specs.Roles.{stands_at}
 use Rattle.ob_site_state.specs.Kept.{log_of, entry_of, keys}
 
 abbrev pub log_at_place : List (Path × History) → ℕ → Option Log

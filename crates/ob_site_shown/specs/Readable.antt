@@ -6,7 +6,7 @@ use Rattle.ob_site_rules.specs.Shown.{dressed}
 use Rattle.ob_plain_state.specs.States.{NamesAreFree}
 use Rattle.ob_shown_laws.specs.Alike.{row}
 use Rattle.ob_shown_laws.specs.Changed.{PathsDiffer}
-use Rattle.ob_site_roles.specs.Roles.{AreRoles}
+use Rattle.ob_site_state.specs.Roles.{AreRoles}
 use Rattle.ob_site_state.specs.declared.contents.Contents.{Contents}
 use Rattle.ob_site_state.specs.Contents.{state_in}
 use Rattle.ob_site_state.specs.Kept.{keys}

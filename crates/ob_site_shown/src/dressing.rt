@@ -7,7 +7,7 @@ ghost use Rattle.ob_site_rules.specs.State.{numbered_from};
 ghost use Rattle.ob_site_rules.specs.Shown.{derived as derived_by, rule_of, with_status};
 ghost use Rattle.ob_shown_laws.specs.Own.{derived_own};
 ghost use Rattle.ob_plain_state.specs.States.{NamesAreFree};
-ghost use Rattle.ob_site_roles.specs.Roles.{AreRoles};
+ghost use Rattle.ob_site_state.specs.Roles.{AreRoles};
 ghost use Rattle.ob_site_state.specs.Contents.{state_in};
 ghost use Rattle.ob_site_state.specs.Kept.{keys};
 

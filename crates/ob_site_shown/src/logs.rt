@@ -5,7 +5,7 @@ ghost use Rattle.ob_replies.specs.Histories.{span_children, query_child, feed_ch
 ghost use Rattle.ob_site_rules.specs.Shown.{history_children};
 ghost use Rattle.ob_site_rules.specs.State.{at};
 ghost use Rattle.ob_site_rules.specs.declared.plan.Plan.{Plan};
-ghost use Rattle.ob_site_roles.specs.Roles.{AreRoles};
+ghost use Rattle.ob_site_state.specs.Roles.{AreRoles};
 ghost use Rattle.ob_site_state.specs.Contents.{state_in};
 ghost use Rattle.ob_site_state.specs.Kept.{keys, log_of};
 

@@ -7,7 +7,7 @@ use Rattle.std.proofs.lemmas.List.{length-map}
 use Rattle.std.proofs.lemmas.Slice.Eq.{bytes_eq-Decides}
 use Rattle.ob_site_rules.specs.Build.{Path}
 use Rattle.ob_site_rules.specs.State.{Log}
-use Rattle.ob_site_roles.specs.Roles.{is_of}
+use Rattle.ob_site_state.specs.Roles.{is_of}
 use Rattle.ob_site_state.specs.Tallies.{capacities_of, count_at, growing_in}
 
 -- one more is counted for a path

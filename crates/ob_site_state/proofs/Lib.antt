@@ -1,6 +1,9 @@
+pub mod Placed
+pub mod Kept
+pub mod Standing
 pub mod Rewinding
 pub mod Times
-pub mod Places
+pub mod LogPlaces
 pub mod Events
 pub mod Named
 pub mod Newest

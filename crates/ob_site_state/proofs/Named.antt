@@ -18,7 +18,7 @@ use Rattle.ob_site_rules.specs.declared.plan.Plan.{Plan}
 use Rattle.ob_site_rules.specs.Writes.{with_slot_in, with_slot}
 use Rattle.ob_plain_state.proofs.Kept.{slot_path, slot_kind}
 use Rattle.ob_shown_laws.proofs.Places.{row_paths}
-use Rattle.ob_site_state.specs.Roles.{RolesStand}
+use Rattle.ob_site_state.specs.Standing.{RolesStand}
 
 -- a slot that is set moves no node
 paths_slotted : (p : Path) (slot : Slot) (r : Objects) → row_paths (with_slot_in p slot r) ≡ row_paths r

@@ -30,7 +30,7 @@ use Rattle.ob_site_state.specs.Kept.{Kept, keys, LogsAreBy, IsSoundFor, IsConsis
 use Rattle.ob_site_state.proofs.Rewinding.{set_to, set_back, rewound-append, CanRewind-append, ChangesTell-append}
 use Rattle.ob_site_state.proofs.Sound.{slot_sound, record_sound, library_sound, board_sound}
 use Rattle.ob_site_state.proofs.Times.{LogsAreBy-later}
-use Rattle.ob_site_state.proofs.Places.{keys-with_log, length-with_log, cut_back, record_told, recorded_by}
+use Rattle.ob_site_state.proofs.LogPlaces.{keys-with_log, length-with_log, cut_back, record_told, recorded_by}
 
 pub got_there : {A : Type 0} (xs : List A) (n : ℕ) → n < length xs → (x : A) × (slice_get xs n ≡ Some x)
 got_there [] n h = absurd (omega arith)

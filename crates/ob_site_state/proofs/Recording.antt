@@ -7,11 +7,11 @@ use Rattle.ob_site_rules.specs.Build.{Path}
 use Rattle.ob_site_rules.specs.declared.plan.Plan.{Plan}
 use Rattle.ob_site_rules.specs.State.{Log}
 use Rattle.ob_site_rules.specs.Writes.{records_from}
-use Rattle.ob_site_roles.specs.Roles.{all_places, is_of, recorders_of}
-use Rattle.ob_site_roles.proofs.Standing.{AreBelow, Stands, stands}
+use Rattle.ob_site_state.specs.Roles.{all_places, is_of, recorders_of}
+use Rattle.ob_site_state.proofs.Standing.{AreBelow, Stands, stands}
 use Rattle.ob_site_state.specs.Changes.{with_log}
 use Rattle.ob_site_state.proofs.Aligned.{told_by_place}
-use Rattle.ob_site_state.proofs.Places.{length-with_log}
+use Rattle.ob_site_state.proofs.LogPlaces.{length-with_log}
 use Rattle.ob_site_state.proofs.Settling.{other_log}
 
 -- the logs, where those of some places are changed

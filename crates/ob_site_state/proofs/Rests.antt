@@ -1,8 +1,8 @@
 -- What stays the same of the contents.
 use Rattle.std.proofs.Common.{◌≡◌, ◌∙◌, sym, subst}
 use Rattle.ob_site_rules.specs.declared.plan.Plan.{Plan}
-use Rattle.ob_site_roles.specs.Roles.{AreRoles}
-use Rattle.ob_site_roles.specs.declared.roles.RoleIndex.{RoleIndex}
+use Rattle.ob_site_state.specs.Roles.{AreRoles}
+use Rattle.ob_site_state.specs.declared.roles.RoleIndex.{RoleIndex}
 use Rattle.ob_site_state.specs.declared.contents.Contents.{Contents}
 use Rattle.ob_site_state.specs.Contents.{SameRest}
 

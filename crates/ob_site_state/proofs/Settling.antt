@@ -17,7 +17,7 @@ use Rattle.ob_site_laws.proofs.Rolling.{rolls_once}
 use Rattle.ob_site_state.specs.declared.change.Change.{Change}
 use Rattle.ob_site_state.specs.declared.change.Change.TheVariants as change
 use Rattle.ob_site_state.specs.Changes.{cut, with_log, undone, rewound, settled_by, settled_all, CanUndo, CanRewind, IsPlaced}
-use Rattle.ob_site_state.proofs.Places.{length-with_log}
+use Rattle.ob_site_state.proofs.LogPlaces.{length-with_log}
 use Rattle.std.proofs.lemmas.List.{take_more}
 use Rattle.ob_values.proofs.Bools.{neither}
 use Rattle.ob_site_state.specs.Kept.{Kept, keys, log_of, LogsAreBy, AreBy, IsSoundFor, IsConsistentState}

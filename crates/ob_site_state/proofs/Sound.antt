@@ -20,7 +20,7 @@ use Rattle.ob_site_state.specs.Changes.{with_log, IsNode}
 use Rattle.ob_site_state.specs.Kept.{keys, IsSoundFor}
 use Rattle.ob_site_state.proofs.Rewinding.{set_to}
 use Rattle.ob_site_state.proofs.Named.{roles_slotted, roles_over}
-use Rattle.ob_site_state.proofs.Places.{keys-with_log}
+use Rattle.ob_site_state.proofs.LogPlaces.{keys-with_log}
 
 pub slot_sound : (plan : Plan) (s : State) (n : ℕ) (slot : Slot) → first_twice [] (paths s.tree) ≡ None → IsNode n s.tree → IsSoundFor plan s
     → IsSoundFor plan (record s { tree = changed (set_to slot) n s.tree })

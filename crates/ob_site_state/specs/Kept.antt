@@ -19,7 +19,7 @@ use Rattle.ob_shown_laws.specs.Alike.{row}
 use Rattle.ob_shown_laws.specs.Changed.{PathsDiffer}
 use Rattle.ob_site_state.specs.declared.change.Change.{Change}
 use Rattle.ob_site_state.specs.Changes.{rewound, CanRewind, ChangesTell}
-use Rattle.ob_site_state.specs.Roles.{RolesStand}
+use Rattle.ob_site_state.specs.Standing.{RolesStand}
 
 -- a log, in which no room is counted
 abbrev pub log_of : History → Log

@@ -1,4 +1,5 @@
 pub mod Roles
+pub mod Standing
 pub mod Changes
 pub mod Kept
 pub mod Recorded

@@ -1,7 +1,7 @@
 -- A `State` as contracts see it.
 use Rattle.std.specs.Prelude.{◌≡◌}
 use Rattle.ob_site_rules.specs.Build.{Path}
-use Rattle.ob_site_roles.specs.Roles.{AreRoles}
+use Rattle.ob_site_state.specs.Roles.{AreRoles}
 use Rattle.ob_site_state.specs.declared.state.State.TheInside.{Inside}
 use Rattle.ob_site_state.specs.Changes.{rewound}
 use Rattle.ob_site_state.specs.Contents.{state_in}

@@ -4,7 +4,7 @@ use Rattle.std.specs.BTreeMap.{BTreeMap, get_by_text}
 use Rattle.ob_site_rules.specs.Build.{Path}
 use Rattle.ob_site_rules.specs.State.{Log}
 use Rattle.ob_site_rules.specs.Writes.{stored_logs}
-use Rattle.ob_site_roles.specs.Roles.{is_of}
+use Rattle.ob_site_state.specs.Roles.{is_of}
 use Rattle.ob_site_state.specs.declared.tally.Tally.{Tally}
 
 -- how many records the history of each place keeps, if not all

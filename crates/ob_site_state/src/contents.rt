@@ -23,7 +23,7 @@ use ob_alarms::{AckResult, Alarms, Num, Turned};
 use ob_ground::Ground;
 use ob_history::{Log, Record};
 use ob_object::Slot;
-use ob_site_roles::RoleIndex;
+use crate::RoleIndex;
 use ob_times::Moment;
 use ob_tree::NodeId;
 use ob_values::Text;

@@ -8,6 +8,9 @@ mod change;
 mod contents;
 mod ending;
 mod logs;
+mod numbers;
+mod places;
+mod recorders;
 mod roles;
 mod state;
 mod tally;
@@ -15,6 +18,7 @@ mod tally;
 pub use change::Change;
 pub use contents::Contents;
 pub use ending::end_step;
+pub use roles::RoleIndex;
 pub use state::State;
 
 /// The state of a site may go to another thread.

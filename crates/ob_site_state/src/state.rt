@@ -17,7 +17,7 @@ ghost use Rattle.ob_tree.specs.Paths.{first_twice};
 ghost use Rattle.ob_step_laws.specs.Laws.{Apart};
 ghost use Rattle.ob_site_rules.specs.Shown.{rule_of};
 ghost use Rattle.ob_plain_state.specs.Fitting.{TakesIfRule};
-ghost use Rattle.ob_site_roles.specs.Roles.{recorders_of, AreRoles};
+ghost use Rattle.ob_site_state.specs.Roles.{recorders_of, AreRoles};
 ghost use Rattle.ob_site_state.specs.Recorded.{TakesRecord};
 ghost use Rattle.std.specs.List.{list_any};
 ghost use Rattle.ob_site_state.specs.Changes.{with_log, is_library, rewound, CanRewind, ChangesTell, IsNode, HasEvents};
@@ -28,7 +28,7 @@ ghost use Rattle.ob_site_state.specs.Tallies.{capacities_of, growing_in};
 
 use crate::change::Change;
 use crate::contents::Contents;
-use crate::roles::number_in;
+use crate::numbers::number_in;
 use crate::tally::{Tally, count_at};
 use ob_alarms::{Alarms, Num};
 use ob_contracts::Library;

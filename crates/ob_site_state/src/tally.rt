@@ -4,7 +4,7 @@ ghost use Rattle.std.specs.Str.{bytes_eq};
 ghost use Rattle.ob_site_rules.specs.Build.{Path};
 ghost use Rattle.ob_site_rules.specs.State.{Log as SiteLog};
 ghost use Rattle.ob_site_rules.specs.Writes.{stored_in, stored_logs};
-ghost use Rattle.ob_site_roles.specs.Roles.{is_of};
+ghost use Rattle.ob_site_state.specs.Roles.{is_of};
 ghost use Rattle.ob_site_state.specs.Kept.{entry_of};
 ghost use Rattle.ob_site_state.specs.Tallies.{capacities_of, counted, count_at, growing_in, IsTallied, with_one};
 

@@ -9,7 +9,7 @@ use Rattle.ob_site_rules.specs.Build.{Path}
 use Rattle.ob_site_rules.specs.declared.plan.Plan.{Plan}
 use Rattle.ob_site_rules.specs.State.{Log}
 use Rattle.ob_site_rules.specs.Writes.{events_ever, records_from}
-use Rattle.ob_site_roles.specs.Roles.{all_places, is_of, recorders_of}
+use Rattle.ob_site_state.specs.Roles.{all_places, is_of, recorders_of}
 use Rattle.ob_site_state.specs.Tallies.{capacities_of, growing_in}
 use Rattle.ob_site_state.proofs.Recording.{Beside, beside_histories, length-beside, recorder}
 use Rattle.ob_site_written.specs.Limits.{grows, growing, any_counted_out}

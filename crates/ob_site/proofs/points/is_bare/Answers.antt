@@ -1,7 +1,7 @@
 use Rattle.std.proofs.Common.{◌≡◌, ℕ, Bool, true, false, List, length, Option, refl, sym, ap, ◌∙◌}
 use Rattle.std.specs.Prelude.{not, ◌==◌, is_some}
 use Rattle.ob_object.specs.Object.{Object}
-use Rattle.ob_site_roles.specs.Roles.{recorders_of}
+use Rattle.ob_site_state.specs.Roles.{recorders_of}
 use Rattle.ob_site_rules.specs.Build.{leaf}
 use Rattle.ob_site_rules.specs.Shown.{node_of, rule_of}
 use Rattle.ob_tree.specs.Trees.{Stamped}

@@ -6,7 +6,7 @@ use Rattle.ob_site_rules.specs.State.{Log}
 use Rattle.ob_site_rules.specs.Writes.{with_record}
 use Rattle.ob_site_state.specs.Changes.{with_log}
 use Rattle.ob_site_state.specs.Kept.{entry_of}
-use Rattle.ob_site_state.proofs.Places.{entry_there, set_entry, recorded_log}
+use Rattle.ob_site_state.proofs.LogPlaces.{entry_there, set_entry, recorded_log}
 use Rattle.ob_site_state.proofs.logs.record_at.Goals as goal
 
 pub record-requires-clause-counted : goal.record-requires-clause-counted

@@ -1,5 +1,5 @@
 use Rattle.ob_history.specs.Logs.{settled}
-use Rattle.ob_site_state.proofs.Places.{set_log}
+use Rattle.ob_site_state.proofs.LogPlaces.{set_log}
 use Rattle.ob_site_state.proofs.logs.settle_at.Goals as goal
 
 pub returns : goal.returns

@@ -4,7 +4,7 @@ use Rattle.ob_site_rules.specs.Build.{Path}
 use Rattle.ob_site_rules.specs.State.{Log}
 use Rattle.ob_site_rules.specs.Writes.{stored_in}
 use Rattle.ob_site_state.specs.Kept.{entry_of}
-use Rattle.ob_site_state.proofs.Places.{entry_there}
+use Rattle.ob_site_state.proofs.LogPlaces.{entry_there}
 use Rattle.ob_site_state.proofs.Storing.{stored_more, capacity_there}
 use Rattle.ob_site_state.proofs.tally.counted.Goals as goal
 

@@ -2,7 +2,7 @@ use Rattle.std.proofs.Common.{◌≡◌, ◌+◌, ◌&&◌, ℕ, cond, take, Opt
 use Rattle.std.proofs.lemmas.List.{length-take}
 use Rattle.std.specs.Prelude.{slice_get, slice_index_or, is_none}
 use Rattle.ob_site_rules.specs.Build.{Path}
-use Rattle.ob_site_roles.specs.Roles.{is_of}
+use Rattle.ob_site_state.specs.Roles.{is_of}
 use Rattle.ob_site_state.proofs.Growing.{growing_next, growing_within, there_at}
 use Rattle.ob_site_state.proofs.tally.growing_by_source.Goals as goal
 

@@ -6,7 +6,7 @@ use Rattle.ob_site_rules.specs.State.{Log, State, rolled}
 use Rattle.ob_site_state.specs.declared.change.Change.{Change}
 use Rattle.ob_site_state.specs.Changes.{settled_by}
 use Rattle.ob_site_state.specs.Contents.{state_in}
-use Rattle.ob_site_state.proofs.Places.{lent_back}
+use Rattle.ob_site_state.proofs.LogPlaces.{lent_back}
 use Rattle.ob_site_state.proofs.Settling.{log_settled}
 use Rattle.ob_site_state.proofs.contents.Contents.settle_by.Goals as goal
 

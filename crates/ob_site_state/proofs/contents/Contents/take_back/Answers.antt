@@ -8,7 +8,7 @@ use Rattle.ob_site_state.specs.declared.change.Change.{Change}
 use Rattle.ob_site_state.specs.Changes.{undone, cut}
 use Rattle.ob_site_state.specs.Contents.{state_in}
 use Rattle.ob_site_state.proofs.Events.{event_undone}
-use Rattle.ob_site_state.proofs.Places.{lent_back}
+use Rattle.ob_site_state.proofs.LogPlaces.{lent_back}
 use Rattle.ob_site_state.proofs.contents.Contents.take_back.Goals as goal
 
 pub returns-in-Records-clause-new : goal.returns-in-Records-clause-new

@@ -13,7 +13,7 @@ use Rattle.ob_site_state.specs.Kept.{Kept}
 use Rattle.ob_site_state.specs.declared.tally.Tally.{Tally}
 use Rattle.ob_site_state.specs.Tallies.{count_at, growing_in}
 use Rattle.ob_site_state.specs.States.{kept}
-use Rattle.ob_site_state.proofs.Places.{follows_at}
+use Rattle.ob_site_state.proofs.LogPlaces.{follows_at}
 use Rattle.ob_site_state.proofs.Noting.{got_there, record_noted, record_back, before_as, seen_as}
 use Rattle.ob_site_state.proofs.Storing.{length-capacities, tallied_more}
 use Rattle.ob_site_state.proofs.Rests.{roles_stay}

@@ -7,7 +7,7 @@ use Rattle.ob_history.specs.Records.{IsRecord}
 use Rattle.ob_site_rules.specs.Build.{Path}
 use Rattle.ob_site_rules.specs.State.{Log}
 use Rattle.ob_site_rules.specs.Writes.{records_from, with_record}
-use Rattle.ob_site_roles.specs.Roles.{is_of, recorders_of}
+use Rattle.ob_site_state.specs.Roles.{is_of, recorders_of}
 use Rattle.ob_site_state.specs.Changes.{with_log}
 use Rattle.ob_site_state.specs.Kept.{Kept}
 use Rattle.ob_site_state.proofs.Noting.{got_there}

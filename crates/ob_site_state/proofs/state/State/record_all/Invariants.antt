@@ -2,7 +2,7 @@ use Rattle.std.proofs.Common.{◌≡◌, take}
 use Rattle.ob_times.specs.Times.{moment_instant}
 use Rattle.ob_site_rules.specs.State.{State}
 use Rattle.ob_site_rules.specs.Writes.{with_record}
-use Rattle.ob_site_roles.specs.Roles.{recorders_of}
+use Rattle.ob_site_state.specs.Roles.{recorders_of}
 use Rattle.ob_site_state.specs.Kept.{Kept}
 use Rattle.ob_site_state.proofs.Recording.{with_logs}
 use Rattle.ob_site_state.proofs.state.State.record_all.Given as goal

@@ -1,5 +1,5 @@
 use Rattle.std.proofs.Common.{ap, ◌∙◌}
-use Rattle.ob_site_roles.specs.Roles.{recorders_of}
+use Rattle.ob_site_state.specs.Roles.{recorders_of}
 use Rattle.ob_site_state.specs.Kept.{Kept}
 use Rattle.ob_site_state.proofs.state.State.recorders.Goals as goal
 

@@ -1,5 +1,0 @@
-use Rattle.std.proofs.Common.{◌∙◌}
-use Rattle.ob_site_roles.proofs.roles.RoleIndex.recorders.Goals as goal
-
-pub returns : goal.returns
-returns c = λ plan roles. c.places_at.ensures ∙ roles.recorders c.args.source.now
