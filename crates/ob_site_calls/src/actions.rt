@@ -8,7 +8,7 @@ ghost use Rattle.ob_site_writes.specs.Stops.{IsDone, Stops};
 use crate::calls::call;
 use ob_contracts::Steps;
 use ob_object::Obj;
-use ob_site_places::object_at;
+use ob_site_reads::object_at;
 use ob_site_rules::{Fault, Resource};
 use ob_site_state::State;
 use ob_site_writes::{NotDone, put};

@@ -18,7 +18,7 @@ use ob_object::{Kind, Obj};
 use ob_replies::build::put;
 use ob_replies::{batch_out, refusal};
 use ob_requests::{is_of_watch, item_request, locate_path};
-use ob_site_places::place_at;
+use ob_site_reads::place_at;
 use ob_site_rules::{Fault, Request, Resource};
 use ob_site_state::State;
 use ob_site_writes::NotDone;

@@ -11,7 +11,7 @@ use crate::acks::acknowledge;
 use ob_contracts::Steps;
 use ob_object::{Kind, Obj};
 use ob_replies::nil;
-use ob_site_places::{query_alarms, query_records};
+use ob_site_reads::{query_alarms, query_records};
 use ob_site_rules::{Fault, Resource};
 use ob_site_state::State;
 use ob_site_writes::{NotDone, shown, write_by, write_fault};

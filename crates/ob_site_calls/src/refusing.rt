@@ -11,9 +11,8 @@ ghost use Rattle.ob_site_calls.specs.Refusing.{IsDoneThere, IsRefusedThere, Stop
 
 use ob_contracts::Steps;
 use ob_object::Obj;
-use ob_site_places::computed_place;
+use ob_site_reads::{computed_place, own_kind};
 use ob_site_rules::Fault;
-use ob_site_shown::own_kind;
 use ob_site_state::State;
 use ob_site_writes::{NotDone, put_own};
 use ob_values::{Text, Verb};

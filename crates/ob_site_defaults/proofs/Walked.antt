@@ -20,7 +20,7 @@ use Rattle.ob_tree.specs.Shown.{row as row_of, part_at, handed_at, standing_at}
 use Rattle.ob_tree.proofs.Growing.{first, first_all, grows_for}
 use Rattle.ob_tree.proofs.Reading.{length-listed}
 use Rattle.ob_shown_laws.specs.OwnTree.{own_shown_at}
-use Rattle.ob_site_shown.proofs.Stands.{stands}
+use Rattle.ob_site_reads.proofs.Stands.{stands}
 use Rattle.ob_step_laws.specs.Defaults.{with_library}
 use Rattle.ob_site_defaults.specs.Otherwise.{AreOtherwise, AreOtherwiseBelow, AreShown}
 use Rattle.ob_site_defaults.specs.Watched.{can_be_watched}

@@ -12,7 +12,7 @@ ghost use Rattle.ob_site_rules.specs.declared.plan.Plan.{Plan};
 ghost use Rattle.ob_site_rules.specs.State.{State as SiteState};
 ghost use Rattle.ob_step_laws.specs.Defaults.{with_library};
 ghost use Rattle.ob_site_state.specs.Contents.{state_in};
-ghost use Rattle.ob_site_shown.specs.Readable.{IsReadable};
+ghost use Rattle.ob_site_reads.specs.Readable.{IsReadable};
 ghost use Rattle.ob_site_defaults.specs.Otherwise.{AreOtherwise, AreOtherwiseBelow, AreShown};
 ghost use Rattle.ob_site_defaults.specs.Watched.{can_be_watched};
 
@@ -20,7 +20,7 @@ use ob_contracts::{Library, Steps};
 use ob_object::{Kind, Obj};
 use ob_site_rules::Plan;
 use ob_site_settled::library_before;
-use ob_site_shown::derived_part;
+use ob_site_reads::derived_part;
 use ob_site_state::{Contents, State};
 use ob_tree::{NodeId, Tree};
 use std::alloc::{AllocError, Global};

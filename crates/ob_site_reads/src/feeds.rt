@@ -8,14 +8,14 @@ ghost use Rattle.ob_site_rules.specs.Replies.{content_object};
 ghost use Rattle.ob_site_rules.specs.Sites.{site};
 ghost use Rattle.ob_site_rules.specs.Watched.{passes, gone_at};
 ghost use Rattle.ob_site_state.specs.Contents.{state_in};
-ghost use Rattle.ob_site_places.specs.Complete.{AreOfPlan, IsComplete};
+ghost use Rattle.ob_site_reads.specs.Complete.{AreOfPlan, IsComplete};
 ghost use Rattle.ob_site_reads.specs.Events.{events_of, feed_of_some};
 
 use crate::events::{alarm_events, log_events};
 use ob_history::{Filter, Log};
 use ob_object::Obj;
 use ob_replies::{feed_entry, feed_there};
-use ob_site_places::{event_place, kept_log};
+use crate::{event_place, kept_log};
 use ob_site_rules::{Plan, Resource};
 use ob_site_state::Contents;
 use ob_values::Text;

@@ -1,58 +1,80 @@
-//! Objects as watches report them.
-ghost use Rattle.std.specs.Prelude.{◌≡◌, ◌<◌, ◌+◌, ◌-◌, ◌^◌, min, Some, None, IfOk};
-ghost use Rattle.ob_object.specs.Object.{parts};
-ghost use Rattle.ob_tree.specs.Depths.{depth_at};
-ghost use Rattle.ob_tree.specs.Laid.{paths};
-ghost use Rattle.ob_tree.specs.Paths.{place_of};
-ghost use Rattle.ob_site_rules.specs.Build.{Path, nameless, under_href};
-ghost use Rattle.ob_site_rules.specs.Sites.{plain_or_empty, watched_object};
+//! The answer to a Get.
+ghost use Rattle.std.specs.Prelude.{◌≡◌, IfOk};
+ghost use Rattle.ob_site_rules.specs.Places.{object_at, reply_at};
 ghost use Rattle.ob_site_state.specs.Contents.{state_in};
-ghost use Rattle.ob_site_shown.specs.Readable.{IsReadable};
-ghost use Rattle.ob_site_reads.specs.Watchable.{IsWatchableAt};
+ghost use Rattle.ob_site_reads.specs.Readable.{IsReadable};
+ghost use Rattle.ob_site_reads.specs.Complete.{IsComplete};
 
 use ob_contracts::Steps;
-use ob_object::{Kind, Obj};
-use ob_site_rules::Plan;
-use ob_site_shown::shown_own;
+use ob_object::Obj;
+use ob_replies::build::nameless;
+use ob_replies::{about, ack_op, alarm_object, batch_op, make_op, refusal, service};
+use ob_site_rules::{Fault, Plan, Resource};
+use crate::shown_at;
 use ob_site_state::Contents;
-use ob_tree::NodeId;
+use ob_times::Moment;
+use ob_values::Text;
 use std::alloc::{AllocError, Global};
 use std::sync::ledger::Ledger;
 
-/// An object without its name and its href; an empty obj where it is a feed or an err.
-fn unnamed(alloc: Global, mut object: Obj) -> Obj
-    ensures { result ≡ plain_or_empty (under_href None (nameless object)) }
-{
-    match object.kind() {
-        Kind::Feed | Kind::Err => Obj::new(alloc, Kind::Obj),
-        _ => match object.put_name(None) {
-            Ok(()) => {
-                object.put_href(None);
-                object
-            }
-            Err(_name) => unreachable!(),
-        },
-    }
-}
-
-/// The own node of a number as a watch reports it: without its name and its href, and the empty obj where nothing that is
-/// watched is there. Where it succeeds at a node that can be watched, it counts one step for each object round the node,
-/// and one for each object of the answer (`Obj::parts`). An error only for want of memory.
-///
-/// Source: oBIX 1.1, chapter 12 (Watches).
-pub fn watched_node<L: Ledger>(
+/// What is shown at a path, or else a given object; without its name. An error only for want of memory.
+pub fn reply_at<L: Ledger>(
     alloc: Global,
     plan: &Plan,
     contents: &Contents,
-    node: NodeId,
+    path: &Text,
+    default: Obj,
     steps: &mut Steps<L>,
 ) -> Result<Obj, AllocError>
-    requires readable { IsReadable plan.now contents.now }
-    requires within { node.number < parts contents.now.ground.tree.root }
-    ensures object { IfOk result (λ o. (p : Path) → place_of p (paths contents.now.ground.tree.root) ≡ Some node.number → o ≡ watched_object plan.now (state_in contents.now) p) }
-    ensures steps { IfOk result (λ o. IsWatchableAt node.number contents.now.ground.tree.root
-        → steps.new ≡ steps.old + depth_at node.number contents.now.ground.tree.root + min (parts o) (2 ^ 64 - 1)) }
+    requires { IsReadable plan.now contents.now }
+    ensures { IfOk result (λ o. o ≡ reply_at plan.now (state_in contents.now) path.now default) }
 {
-    let object = shown_own(alloc, plan, contents, node, steps)?;
-    Ok(unnamed(alloc, object))
+    match shown_at(alloc, plan, contents, path, steps)? {
+        Some(node) => Ok(nameless(node)),
+        None => Ok(nameless(default)),
+    }
+}
+
+/// The object that is read at a path, which names this place. The batch of a lobby is read as the root's child, and
+/// that of another root as the op alone. An error only for want of memory.
+///
+/// Source: oBIX 1.1, chapter 10 (Networking: Read).
+pub fn object_at<L: Ledger>(
+    alloc: Global,
+    plan: &Plan,
+    contents: &Contents,
+    now: Moment,
+    path: &Text,
+    place: Resource,
+    steps: &mut Steps<L>,
+) -> Result<Obj, AllocError>
+    requires { IsComplete plan.now contents.now }
+    ensures { IfOk result (λ o. o ≡ object_at plan.now (state_in contents.now) now path.now place) }
+{
+    match place {
+        Resource::About => about(alloc, plan, now),
+        Resource::Batch => {
+            let op = batch_op(alloc, plan)?;
+            reply_at(alloc, plan, contents, path, op, steps)
+        }
+        Resource::Service => service(alloc, plan),
+        Resource::Make => {
+            let op = make_op(alloc, plan)?;
+            Ok(nameless(op))
+        }
+        Resource::AlarmAt(number) => alarm_object(alloc, &contents.board, number),
+        Resource::AckOf(number) => {
+            let op = ack_op(alloc, plan, number)?;
+            Ok(nameless(op))
+        }
+        Resource::Node(node) => Ok(nameless(node)),
+        Resource::WritePointOf(_)
+        | Resource::QueryOf(_)
+        | Resource::FeedOf(_)
+        | Resource::AlarmQuery
+        | Resource::AlarmFeed => {
+            let missing = refusal(alloc, Fault::NoSuchObject)?;
+            reply_at(alloc, plan, contents, path, missing, steps)
+        }
+    }
 }

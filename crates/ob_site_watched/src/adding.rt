@@ -1,6 +1,6 @@
 //! What is asked for is put into a watch, or taken back.
 ghost use Rattle.std.specs.Prelude.{◌≡◌, true, IfOk, OnErr, is_some};
-ghost use Rattle.ob_site_places.specs.Complete.{IsComplete};
+ghost use Rattle.ob_site_reads.specs.Complete.{IsComplete};
 ghost use Rattle.ob_site_rules.specs.Build.{under_href};
 ghost use Rattle.ob_site_rules.specs.declared.fault.Fault.TheVariants.{TooManyItems};
 ghost use Rattle.ob_site_rules.specs.Faults.{err};

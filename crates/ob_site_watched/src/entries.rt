@@ -5,7 +5,7 @@ ghost use Rattle.ob_watch.specs.Flags.{flag_of, flags};
 ghost use Rattle.ob_watch.specs.Items.{is_due};
 ghost use Rattle.ob_watch.specs.Marks.{AreStampsPast};
 ghost use Rattle.ob_site_rules.specs.Replies.{content_object, entry};
-ghost use Rattle.ob_site_places.specs.Complete.{IsComplete};
+ghost use Rattle.ob_site_reads.specs.Complete.{IsComplete};
 ghost use Rattle.ob_site_watched.specs.Entries.{all_changes, all_readings, changes_in, object_now, reading_entry};
 ghost use Rattle.ob_site_watched.specs.Known.{AreSoundItems, IsSoundItem, IsPlacedBy};
 ghost use Rattle.ob_site_watched.specs.Polls.{item_steps, poll_steps, reading_steps, refresh_steps};

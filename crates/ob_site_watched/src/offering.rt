@@ -1,7 +1,7 @@
 //! What is asked for of a watch, before it is added.
 ghost use Rattle.std.specs.Prelude.{◌≡◌, IfOk};
 ghost use Rattle.ob_marks_laws.specs.Watched.{IsOwnFound};
-ghost use Rattle.ob_site_places.specs.Complete.{IsComplete};
+ghost use Rattle.ob_site_reads.specs.Complete.{IsComplete};
 ghost use Rattle.ob_site_state.specs.Contents.{state_in};
 ghost use Rattle.ob_watch.specs.Marks.{AreStampsPast};
 ghost use Rattle.ob_requests.specs.Calls.{found as found_of};

@@ -1,7 +1,7 @@
 //! What is asked of a watch.
 ghost use Rattle.std.specs.Prelude.{◌≡◌, ◌+◌, List, ℕ, map, Option, Some, false, IfOk, OnErr};
 ghost use Rattle.ob_requests.specs.Targets.{operation_of};
-ghost use Rattle.ob_site_places.specs.Complete.{IsComplete};
+ghost use Rattle.ob_site_reads.specs.Complete.{IsComplete};
 ghost use Rattle.ob_site_state.specs.Contents.{state_in};
 ghost use Rattle.ob_watch.specs.Flags.{flagged, flags, flags_of};
 ghost use Rattle.ob_watch.specs.Tables.{live};

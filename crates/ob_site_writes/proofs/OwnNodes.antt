@@ -13,7 +13,7 @@ use Rattle.ob_site_rules.specs.Writes.{given_by, is_writable, put, target_fault,
 use Rattle.ob_site_rules.specs.declared.fault.Fault.{Fault}
 use Rattle.ob_site_rules.specs.declared.fault.Fault.TheVariants.{NotSupported, NotWritable, OtherShape}
 use Rattle.ob_site_rules.specs.declared.plan.Plan.{Plan}
-use Rattle.ob_site_shown.specs.Targets.{target}
+use Rattle.ob_site_reads.specs.Targets.{target}
 use Rattle.ob_site_state.specs.Kept.{Kept}
 use Rattle.ob_site_state.proofs.Named.{paths_with_slot}
 use Rattle.ob_site_writes.specs.Own.{DoneBy, IsPut, StopsBy, StopsPut, head_faults, head_makes, put_faults, put_makes}

@@ -19,7 +19,7 @@ use Rattle.ob_site_rules.specs.Shown.{shown}
 use Rattle.ob_site_rules.specs.declared.plan.Plan.{Plan}
 use Rattle.ob_site_rules.specs.State.{State}
 use Rattle.ob_site_rules.specs.Writes.{given_by, is_listed, overfills, showing, slot_fault, target_fault, unless, value_fault, verdict_fault, write_by, written}
-use Rattle.ob_site_shown.specs.Targets.{target, target_head}
+use Rattle.ob_site_reads.specs.Targets.{target, target_head}
 use Rattle.ob_site_writes.specs.Targets.{IsRefused, IsTarget}
 
 -- what is asked of what is shown is a target

@@ -7,7 +7,7 @@ use Rattle.ob_site_rules.specs.Faults.{err}
 use Rattle.ob_site_rules.specs.Shown.{shown}
 use Rattle.ob_site_rules.specs.declared.plan.Plan.{Plan}
 use Rattle.ob_site_rules.specs.State.{State}
-use Rattle.ob_site_shown.specs.Targets.{target}
+use Rattle.ob_site_reads.specs.Targets.{target}
 
 -- of this object the same is asked as of what is shown at a path
 abbrev pub IsTarget : Plan → State → Path → Object → Type 0

@@ -24,7 +24,7 @@ use ob_contracts::Steps;
 use ob_object::{Attributes, Obj, Slot};
 use ob_replies::build::nameless;
 use ob_site_rules::Fault;
-use ob_site_shown::shown_own;
+use ob_site_reads::shown_own;
 use ob_site_state::State;
 use ob_site_written::{OwnNode, write_if_changed};
 use ob_tree::NodeId;

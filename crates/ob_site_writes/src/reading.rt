@@ -5,8 +5,7 @@ ghost use Rattle.ob_site_rules.specs.Shown.{shown};
 
 use ob_contracts::Steps;
 use ob_object::Obj;
-use ob_site_places::reply_at;
-use ob_site_shown::shown_at;
+use ob_site_reads::{reply_at, shown_at};
 use ob_site_state::State;
 use ob_values::Text;
 use std::alloc::AllocError;

@@ -8,7 +8,7 @@ use crate::value::value_fault;
 use ob_contracts::Steps;
 use ob_object::Obj;
 use ob_site_rules::Fault;
-use ob_site_shown::own_target;
+use ob_site_reads::own_target;
 use ob_site_state::State;
 use ob_values::Text;
 use std::alloc::AllocError;

@@ -10,7 +10,7 @@ ghost use Rattle.ob_site_writes.specs.Targets.{IsTarget};
 use ob_contracts::Steps;
 use ob_object::{Attributes, Obj, Slot, WriteFault, check_write};
 use ob_site_rules::Fault;
-use ob_site_shown::shows_child;
+use ob_site_reads::shows_child;
 use ob_site_state::State;
 use ob_site_written::overfills;
 use ob_values::{Text, Value};

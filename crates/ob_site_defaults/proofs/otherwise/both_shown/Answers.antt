@@ -2,7 +2,7 @@ use Rattle.std.proofs.Common.{ap, ◌∙◌}
 use Rattle.ob_tree.specs.Standings.{context}
 use Rattle.ob_tree.specs.Shown.{standing_at}
 use Rattle.ob_tree.specs.Trees.{Stamped}
-use Rattle.ob_site_shown.proofs.Stands.{stands}
+use Rattle.ob_site_reads.proofs.Stands.{stands}
 use Rattle.ob_site_state.specs.Contents.{state_in}
 use Rattle.ob_site_defaults.proofs.Walked.{shown_before}
 use Rattle.ob_site_defaults.proofs.otherwise.both_shown.Goals as goal

@@ -2,7 +2,7 @@ use Rattle.std.proofs.Common.{◌≡◌, Some, option_map}
 use Rattle.std.specs.Prelude.{IfSome}
 use Rattle.std.proofs.lemmas.Result.{IfOk-weaker}
 use Rattle.ob_site_rules.specs.Shown.{shown}
-use Rattle.ob_site_shown.specs.Targets.{target}
+use Rattle.ob_site_reads.specs.Targets.{target}
 use Rattle.ob_site_state.specs.Contents.{state_in}
 use Rattle.ob_site_writes.specs.Targets.{IsTarget}
 use Rattle.ob_site_writes.proofs.Targets.{all_targets}

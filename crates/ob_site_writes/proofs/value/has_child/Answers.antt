@@ -4,7 +4,7 @@ use Rattle.ob_contracts.specs.Inherit.{Contracts, contract_of}
 use Rattle.ob_object.specs.Object.{Object, children}
 use Rattle.ob_object.specs.WellFormed.{named}
 use Rattle.ob_site_rules.specs.Writes.{has_child, ranged}
-use Rattle.ob_site_shown.proofs.ChildNames.{told}
+use Rattle.ob_site_reads.proofs.ChildNames.{told}
 use Rattle.ob_site_writes.proofs.Ranged.{contract_has}
 use Rattle.ob_site_writes.proofs.value.has_child.Goals as goal
 

@@ -1,4 +1,0 @@
-pub mod Alone
-pub mod Asked
-pub mod Fronts
-pub mod Numbers

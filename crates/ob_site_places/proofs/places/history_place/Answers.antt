@@ -1,7 +1,0 @@
-use Rattle.std.proofs.Common.{sym, subst}
-use Rattle.ob_site_shown.specs.Parents.{IsParent}
-use Rattle.ob_site_places.proofs.Alone.{no_histories}
-use Rattle.ob_site_places.proofs.places.history_place.Goals as goal
-
-pub returns-in-None : goal.returns-in-None
-returns-in-None c = sym (no_histories c.args.path.now c.args.plan.now.histories (subst (IsParent c.args.path.now) c.in-None.is c.in_ok-parent.ensures))

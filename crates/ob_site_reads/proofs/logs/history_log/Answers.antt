@@ -1,0 +1,25 @@
+use Rattle.std.proofs.Common.{◌≡◌, List, length, Some, None, option_map, refl, sym, ap, ◌∙◌}
+use Rattle.std.specs.Prelude.{slice_get}
+use Rattle.std.proofs.lemmas.Option.{slice_get_read, slice_get_past}
+use Rattle.ob_history.specs.Logs.{History}
+use Rattle.ob_site_rules.specs.Build.{Path}
+use Rattle.ob_site_state.specs.Kept.{log_of}
+use Rattle.ob_site_reads.proofs.Lookups.{found_log}
+use Rattle.ob_site_reads.proofs.logs.history_log.Goals as goal
+
+pub returns-in_default : goal.returns-in_default
+returns-in_default c = λ plan roles same. found_log c.args.path.now c.args.contents.now.logs.items plan.histories None None same (c.in_default.ensures plan roles) refl
+
+pub returns-in-Some-get : goal.returns-in-Some-get
+returns-in-Some-get c = λ plan roles same.
+    let ls = c.deref.result.now in
+    let there : slice_get ls c.in-Some.place ≡ Some c.in-Some-get.entry.now = slice_get_read ls (length ls) c.in-Some.place c.in-Some-get.entry.now refl c.in-Some-get.ensures.lookup.3.0 c.in-Some-get.ensures.lookup.1 in
+    found_log c.args.path.now c.args.contents.now.logs.items plan.histories (Some c.in-Some.place) (Some (log_of c.in-Some-get.entry.now.1)) same (c.in-Some.ensures plan roles)
+    (ap (option_map (λ (l : Path × History). log_of l.1)) (sym there ∙ ap (λ (ls : List (Path × History)). slice_get ls c.in-Some.place) c.deref.ensures.value))
+
+pub returns-in-None : goal.returns-in-None
+returns-in-None c = λ plan roles same.
+    let ls = c.deref.result.now in
+    let there : slice_get ls c.in-Some.place ≡ None = slice_get_past ls c.in-Some.place c.in-None.ensures.lookup.3 in
+    found_log c.args.path.now c.args.contents.now.logs.items plan.histories (Some c.in-Some.place) None same (c.in-Some.ensures plan roles)
+    (ap (option_map (λ (l : Path × History). log_of l.1)) (sym there ∙ ap (λ (ls : List (Path × History)). slice_get ls c.in-Some.place) c.deref.ensures.value))

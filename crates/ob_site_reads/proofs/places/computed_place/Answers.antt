@@ -1,0 +1,18 @@
+use Rattle.std.proofs.Common.{◌≡◌, ◌++◌, sym, ◌∙◌}
+use Rattle.std.proofs.lemmas.Result.{IfOk-weaker}
+use Rattle.ob_site_rules.specs.State.{at, numbered_from}
+use Rattle.ob_site_rules.specs.Places.{fixed_places, point_places, event_places, alarm_places}
+use Rattle.ob_site_state.specs.Contents.{state_in}
+use Rattle.ob_plain_state.proofs.Placed.{first_of, later_of}
+use Rattle.ob_site_reads.proofs.places.computed_place.Goals as goal
+
+pub returns-then-is_some : goal.returns-then-is_some
+returns-then-is_some c =
+    let plan = c.args.plan.now in
+    first_of c.args.path.now (fixed_places plan) (point_places plan ++ (event_places plan ++ alarm_places plan (numbered_from 0 plan.rules) 1 (state_in c.args.contents.now).alarms)) c.fixed_place-found.result c.fixed_place-found.ensures (sym c.is_some.ensures ∙ c.if-is_some.true)
+
+pub returns : goal.returns
+returns c =
+    let plan = c.args.plan.now in
+    IfOk-weaker c.role_place.result (λ place. place ≡ at c.args.path.now (point_places plan ++ (event_places plan ++ alarm_places plan (numbered_from 0 plan.rules) 1 (state_in c.args.contents.now).alarms))) (λ place. place ≡ at c.args.path.now ((fixed_places plan) ++ (point_places plan ++ (event_places plan ++ alarm_places plan (numbered_from 0 plan.rules) 1 (state_in c.args.contents.now).alarms))))
+    (λ place is. later_of c.args.path.now (fixed_places plan) (point_places plan ++ (event_places plan ++ alarm_places plan (numbered_from 0 plan.rules) 1 (state_in c.args.contents.now).alarms)) c.fixed_place-found.result place c.fixed_place-found.ensures (sym c.is_some.ensures ∙ c.if-is_some.false) is) c.role_place.ensures

@@ -1,0 +1,58 @@
+//! Objects as watches report them.
+ghost use Rattle.std.specs.Prelude.{◌≡◌, ◌<◌, ◌+◌, ◌-◌, ◌^◌, min, Some, None, IfOk};
+ghost use Rattle.ob_object.specs.Object.{parts};
+ghost use Rattle.ob_tree.specs.Depths.{depth_at};
+ghost use Rattle.ob_tree.specs.Laid.{paths};
+ghost use Rattle.ob_tree.specs.Paths.{place_of};
+ghost use Rattle.ob_site_rules.specs.Build.{Path, nameless, under_href};
+ghost use Rattle.ob_site_rules.specs.Sites.{plain_or_empty, watched_object};
+ghost use Rattle.ob_site_state.specs.Contents.{state_in};
+ghost use Rattle.ob_site_reads.specs.Readable.{IsReadable};
+ghost use Rattle.ob_site_reads.specs.Watchable.{IsWatchableAt};
+
+use ob_contracts::Steps;
+use ob_object::{Kind, Obj};
+use ob_site_rules::Plan;
+use crate::shown_own;
+use ob_site_state::Contents;
+use ob_tree::NodeId;
+use std::alloc::{AllocError, Global};
+use std::sync::ledger::Ledger;
+
+/// An object without its name and its href; an empty obj where it is a feed or an err.
+fn unnamed(alloc: Global, mut object: Obj) -> Obj
+    ensures { result ≡ plain_or_empty (under_href None (nameless object)) }
+{
+    match object.kind() {
+        Kind::Feed | Kind::Err => Obj::new(alloc, Kind::Obj),
+        _ => match object.put_name(None) {
+            Ok(()) => {
+                object.put_href(None);
+                object
+            }
+            Err(_name) => unreachable!(),
+        },
+    }
+}
+
+/// The own node of a number as a watch reports it: without its name and its href, and the empty obj where nothing that is
+/// watched is there. Where it succeeds at a node that can be watched, it counts one step for each object round the node,
+/// and one for each object of the answer (`Obj::parts`). An error only for want of memory.
+///
+/// Source: oBIX 1.1, chapter 12 (Watches).
+pub fn watched_node<L: Ledger>(
+    alloc: Global,
+    plan: &Plan,
+    contents: &Contents,
+    node: NodeId,
+    steps: &mut Steps<L>,
+) -> Result<Obj, AllocError>
+    requires readable { IsReadable plan.now contents.now }
+    requires within { node.number < parts contents.now.ground.tree.root }
+    ensures object { IfOk result (λ o. (p : Path) → place_of p (paths contents.now.ground.tree.root) ≡ Some node.number → o ≡ watched_object plan.now (state_in contents.now) p) }
+    ensures steps { IfOk result (λ o. IsWatchableAt node.number contents.now.ground.tree.root
+        → steps.new ≡ steps.old + depth_at node.number contents.now.ground.tree.root + min (parts o) (2 ^ 64 - 1)) }
+{
+    let object = shown_own(alloc, plan, contents, node, steps)?;
+    Ok(unnamed(alloc, object))
+}

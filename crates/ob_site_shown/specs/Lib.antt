@@ -1,4 +1,0 @@
-pub mod Deriving
-pub mod Parents
-pub mod Readable
-pub mod Targets
