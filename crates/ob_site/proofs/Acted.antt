@@ -16,8 +16,8 @@ use Rattle.ob_site_rules.specs.Locating.{locate}
 use Rattle.ob_site_rules.specs.State.{State}
 use Rattle.ob_site_state.specs.Kept.{Kept, IsSoundFor}
 use Rattle.ob_site_state.specs.Stamping.{tree_of}
-use Rattle.ob_site_writes.specs.Stops.{IsDone}
-use Rattle.ob_site_calls.proofs.Batched.{with_now}
+use Rattle.ob_site_actions.specs.Stops.{IsDone}
+use Rattle.ob_site_actions.proofs.Batched.{with_now}
 use Rattle.ob_watch.specs.declared.item.Tracked.{Tracked}
 use Rattle.ob_watch.specs.declared.item.Tracked.TheVariants as tracked
 use Rattle.ob_watch.specs.declared.item.Item.{Item}

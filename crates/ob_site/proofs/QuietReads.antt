@@ -7,10 +7,10 @@ use Rattle.ob_watching.specs.Tables.{numbers_of}
 use Rattle.ob_watching.specs.Watches.{World}
 use Rattle.ob_site_rules.specs.declared.request.Request.{Request}
 use Rattle.ob_site_rules.specs.State.{State}
-use Rattle.ob_site_calls.proofs.Batched.{with_now}
+use Rattle.ob_site_actions.proofs.Batched.{with_now}
 use Rattle.ob_site_state.specs.Kept.{Kept}
 use Rattle.ob_site_state.specs.Stamping.{tree_of}
-use Rattle.ob_site_writes.specs.Stops.{IsDone}
+use Rattle.ob_site_actions.specs.Stops.{IsDone}
 use Rattle.ob_watch.specs.Counted.{of_plan}
 use Rattle.ob_watch.specs.Flags.{flags_of}
 use Rattle.ob_watch.specs.Tables.{Table, lapsed_at, live}

@@ -18,7 +18,7 @@ use ob_object::Obj;
 use ob_site_rules::Request;
 use ob_site_same::same_state;
 use ob_site_state::State;
-use ob_site_writes::passes;
+use ob_site_actions::passes;
 use ob_times::Moment;
 use ob_values::{Text, Value};
 use ob_watch::Watches;

@@ -7,7 +7,7 @@ use Rattle.ob_site_rules.specs.Actions.{act_itself, act_located}
 use Rattle.ob_site_rules.specs.Build.{Path}
 use Rattle.ob_site_rules.specs.Locating.{locate}
 use Rattle.ob_site_rules.specs.State.{State}
-use Rattle.ob_site_writes.specs.Stops.{IsDone}
+use Rattle.ob_site_actions.specs.Stops.{IsDone}
 use Rattle.ob_site.proofs.acting.act.Goals as goal
 
 pub returns-clause-done : goal.returns-clause-done

@@ -1,0 +1,8 @@
+pub mod Parts
+pub mod Limits
+pub mod Fitting
+pub mod Stops
+pub mod Targets
+pub mod Own
+pub mod Refusing
+pub mod Sources

@@ -1,0 +1,37 @@
+//! Writes to a state in place: the slot of a node, the library, the records and the alarms of a value, and whether
+//! it would store too much.
+//!
+//! Each call makes exactly the state of the definitions (`Writes.antt` of ob_site_rules).
+#![tactic(auto)]
+
+mod acks;
+mod actions;
+mod batch;
+mod calls;
+mod contracts;
+mod limits;
+mod not_done;
+mod own;
+mod passing;
+mod putting;
+mod reading;
+mod refusing;
+mod slots;
+mod stopping;
+mod value;
+mod writing;
+mod written;
+
+pub use acks::acknowledge;
+pub use actions::act_at;
+pub use batch::act_located;
+pub use calls::call;
+pub use limits::{ack_overfills, overfills};
+pub use not_done::NotDone;
+pub use own::put_own;
+pub use passing::passes;
+pub use putting::{put, write_by};
+pub use reading::{reply_object, shown};
+pub use slots::same_slot;
+pub use stopping::write_fault;
+pub use writing::{OwnNode, write, write_if_changed};

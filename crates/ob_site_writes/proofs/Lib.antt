@@ -1,6 +1,0 @@
-pub mod Nowhere
-pub mod Fitting
-pub mod Ranged
-pub mod Refused
-pub mod Targets
-mod OwnNodes

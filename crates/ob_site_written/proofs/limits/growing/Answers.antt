@@ -1,8 +1,0 @@
-use Rattle.std.proofs.Common.{◌∙◌}
-use Rattle.ob_site_written.proofs.Selected.{growing_is}
-use Rattle.ob_site_written.proofs.limits.growing.Goals as goal
-
-pub returns : goal.returns
-returns c =
-    let k = c.args.state.now in
-    c.growing.ensures ∙ growing_is k.plan c.args.source.now k.now.logs c.sound_law.ensures.apart c.sound_law.ensures.histories
