@@ -9,11 +9,11 @@ use Rattle.ob_step_laws.specs.Given.{TakesNoneAway}
 use Rattle.ob_marks_laws.specs.Tables.{AllItems}
 use Rattle.ob_marks_laws.proofs.Keeping.{all_weaker, table_keeps}
 use Rattle.ob_marks_laws.proofs.Stamping.{stamps_are_past}
-use Rattle.ob_site_defaults.specs.Ended.{EndsAll}
+use Rattle.ob_site_settling.specs.Ended.{EndsAll}
 use Rattle.ob_site_rules.specs.Build.{Path, Text}
 use Rattle.ob_site_rules.specs.State.{State, roll}
-use Rattle.ob_site_settled.specs.Ending.{IsOwn}
-use Rattle.ob_site_settled.specs.Worlds.{WorldEnds}
+use Rattle.ob_site_settling.specs.Ending.{IsOwn}
+use Rattle.ob_site_settling.specs.Worlds.{WorldEnds}
 use Rattle.ob_site_state.specs.Kept.{Kept}
 use Rattle.ob_site_state.specs.Stamping.{after_step, stamped_by, tree_of}
 use Rattle.ob_site_state.proofs.Stepping.{rooted}

@@ -8,7 +8,7 @@ use Rattle.ob_site_rules.specs.State.{State}
 use Rattle.ob_site_state.specs.declared.contents.Contents.{Contents}
 use Rattle.ob_site_state.specs.Contents.{state_in}
 use Rattle.ob_site_state.specs.Kept.{Kept}
-use Rattle.ob_site_settled.specs.Ending.{IsOwnBy, IsOwn}
+use Rattle.ob_site_settling.specs.Ending.{IsOwnBy, IsOwn}
 use Rattle.ob_site_watched.specs.Answers.{AllKnown}
 use Rattle.ob_site_watched.specs.Known.{IsSoundItem, IsPlacedBy}
 use Rattle.ob_watch.specs.declared.item.Tracked.{Tracked}

@@ -13,7 +13,7 @@ use Rattle.ob_tree.proofs.Changing.{parts-changed}
 use Rattle.ob_tree.proofs.Leaves.{others_stay}
 use Rattle.ob_site_rules.specs.Build.{Path}
 use Rattle.ob_site_rules.specs.State.{State}
-use Rattle.ob_site_settled.specs.Ending.{IsOwnBy}
+use Rattle.ob_site_settling.specs.Ending.{IsOwnBy}
 use Rattle.ob_site_state.specs.declared.change.Change.{Change}
 use Rattle.ob_site_state.specs.declared.change.Change.TheVariants as change
 use Rattle.ob_site_state.specs.Changes.{undone, rewound, CanUndo, CanRewind}

@@ -11,7 +11,7 @@ use Rattle.ob_marks_laws.proofs.Renumbering.{flags_stay_anew}
 use Rattle.ob_site_laws.specs.SiteLaws.{IsSoundSite}
 use Rattle.ob_site_rules.specs.Build.{Path, Text}
 use Rattle.ob_site_rules.specs.Sites.{SiteState}
-use Rattle.ob_site_settled.specs.Ending.{IsOwn}
+use Rattle.ob_site_settling.specs.Ending.{IsOwn}
 use Rattle.ob_site_state.specs.Kept.{Kept}
 use Rattle.ob_site_state.specs.Stamping.{tree_of}
 use Rattle.ob_watch.specs.Counted.{IsCounted}

@@ -1,15 +1,15 @@
 -- Watches that were told of the news of feeds.
 use Rattle.std.proofs.Common.{◌≡◌, ℕ, List, refl, sym, subst}
 use Rattle.ob_object.specs.Object.{Object}
-use Rattle.ob_site_feeds.specs.declared.feeds.FeedEvent.{FeedEvent}
-use Rattle.ob_site_feeds.specs.declared.feeds.FeedRoll.{FeedRoll}
-use Rattle.ob_site_feeds.specs.News.{IsNews}
-use Rattle.ob_site_feeds.specs.Told.{FeedsAreTold, Stays, StaysBy, TellsAll, all_told}
-use Rattle.ob_site_feeds.proofs.Counting.{kept_by}
+use Rattle.ob_site_settling.specs.declared.feeds.FeedEvent.{FeedEvent}
+use Rattle.ob_site_settling.specs.declared.feeds.FeedRoll.{FeedRoll}
+use Rattle.ob_site_settling.specs.News.{IsNews}
+use Rattle.ob_site_settling.specs.Told.{FeedsAreTold, Stays, StaysBy, TellsAll, all_told}
+use Rattle.ob_site_settling.proofs.Counting.{kept_by}
 use Rattle.ob_site_rules.specs.Build.{Path}
 use Rattle.ob_site_rules.specs.declared.plan.Plan.{Plan}
 use Rattle.ob_site_rules.specs.State.{State, roll}
-use Rattle.ob_site_settled.specs.Ending.{IsOwn, IsOwnBy}
+use Rattle.ob_site_settling.specs.Ending.{IsOwn, IsOwnBy}
 use Rattle.ob_watch.specs.declared.item.Tracked.{Tracked}
 use Rattle.ob_watch.specs.declared.item.Tracked.TheVariants as tracked
 use Rattle.ob_watch.specs.declared.item.Item.{Item}

@@ -15,7 +15,7 @@ use Rattle.ob_site_rules.specs.Sites.{watched_object}
 use Rattle.ob_site_rules.specs.declared.plan.Plan.{Plan}
 use Rattle.ob_site_rules.specs.State.{State, roll}
 use Rattle.ob_site_rules.specs.Watched.{SiteTarget}
-use Rattle.ob_site_settled.specs.Ending.{IsOwn}
+use Rattle.ob_site_settling.specs.Ending.{IsOwn}
 use Rattle.ob_site_state.specs.Kept.{Kept}
 use Rattle.ob_site_state.specs.Stamping.{tree_of}
 use Rattle.ob_watch.specs.AsRules.{world_of}

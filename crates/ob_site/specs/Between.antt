@@ -8,7 +8,7 @@ use Rattle.ob_site_laws.specs.SiteLaws.{IsSoundSite}
 use Rattle.ob_site_open.specs.Opens.{Opens}
 use Rattle.ob_site_rules.specs.declared.plan.Plan.{Plan}
 use Rattle.ob_site_rules.specs.State.{State, roll}
-use Rattle.ob_site_settled.specs.Ending.{IsOwn}
+use Rattle.ob_site_settling.specs.Ending.{IsOwn}
 use Rattle.ob_site_state.specs.Kept.{Kept}
 use Rattle.ob_tree.specs.Depths.{levels}
 use Rattle.ob_tree.specs.Shown.{row}

@@ -11,7 +11,7 @@ use Rattle.ob_site_rules.specs.declared.plan.Plan.{Plan}
 use Rattle.ob_site_rules.specs.State.{State, roll}
 use Rattle.ob_site_state.specs.Kept.{Kept}
 use Rattle.ob_site_state.specs.Stamping.{tree_of}
-use Rattle.ob_site_settled.specs.Ending.{IsOwn, IsOwnBy}
+use Rattle.ob_site_settling.specs.Ending.{IsOwn, IsOwnBy}
 use Rattle.ob_watch.specs.declared.item.Tracked.{Tracked}
 use Rattle.ob_watch.specs.AsRules.{world_of}
 use Rattle.ob_watch.specs.Counted.{of_plan, IsCounted}

@@ -1,5 +1,5 @@
 use Rattle.std.proofs.Common.{List, map, sym, ◌∙◌, subst}
-use Rattle.ob_site_defaults.specs.Ended.{EndsAll}
+use Rattle.ob_site_settling.specs.Ended.{EndsAll}
 use Rattle.ob_tree.specs.declared.node.NodeId.{NodeId}
 use Rattle.ob_site.proofs.ending.end_step.Goals as goal
 

@@ -1,9 +1,0 @@
-pub mod Places
-pub mod Compared
-pub mod Numbered
-pub mod Inside
-pub mod Shown
-pub mod Found
-pub mod Walked
-pub mod Ends
-pub mod Stamped

@@ -1,3 +1,0 @@
-pub mod Otherwise
-pub mod Watched
-pub mod Ended

@@ -1,8 +1,0 @@
-pub mod Counting
-pub mod Leading
-pub mod Recorded
-pub mod Alarmed
-pub mod Rolled
-pub mod Joined
-pub mod Tells
-pub mod Gathered

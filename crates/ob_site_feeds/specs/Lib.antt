@@ -1,3 +1,0 @@
-pub mod News
-pub mod Told
-pub mod Noted

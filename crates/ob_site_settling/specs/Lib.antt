@@ -1,0 +1,14 @@
+pub mod Ending
+pub mod Noted
+pub mod Telling
+pub mod Seen
+pub mod Worlds
+pub mod Spans
+pub mod Values
+pub mod Rows
+pub mod News
+pub mod Told
+pub mod FeedNotes
+pub mod Otherwise
+pub mod Watched
+pub mod Ended
