@@ -19,9 +19,9 @@ use Rattle.ob_site_state.specs.declared.contents.Contents.{Contents}
 use Rattle.ob_site_state.specs.Contents.{state_in}
 use Rattle.ob_site_state.specs.Kept.{Kept}
 use Rattle.ob_site_state.specs.Stamping.{tree_of}
-use Rattle.ob_site_watched.specs.Answers.{IsDone, IsMade}
-use Rattle.ob_site_watched.specs.Polls.{Takes, WatchTakes}
-use Rattle.ob_site_watched.proofs.Polled.{none_for}
+use Rattle.ob_site_watches.specs.Answers.{IsDone, IsMade}
+use Rattle.ob_site_watches.specs.Polls.{Takes, WatchTakes}
+use Rattle.ob_site_watches.proofs.Polled.{none_for}
 use Rattle.ob_watch.specs.AsRules.{world_of}
 use Rattle.ob_watch.specs.Counted.{of_plan}
 use Rattle.ob_watch.specs.Flags.{flagged, flags_of}

@@ -12,8 +12,8 @@ use Rattle.ob_site_rules.specs.Sites.{SiteState, step}
 use Rattle.ob_site_rules.specs.Watched.{SiteTarget}
 use Rattle.ob_site_state.specs.Kept.{Kept}
 use Rattle.ob_site_state.specs.Stamping.{tree_of}
-use Rattle.ob_site_watched.specs.Polls.{Takes, object_entries, steps_for, steps_in}
-use Rattle.ob_site_watched.proofs.Polled.{steps_at_most}
+use Rattle.ob_site_watches.specs.Polls.{Takes, object_entries, steps_for, steps_in}
+use Rattle.ob_site_watches.proofs.Polled.{steps_at_most}
 use Rattle.ob_watch.specs.AsRules.{world_of}
 use Rattle.ob_watch.specs.Counted.{of_plan}
 use Rattle.ob_watch.specs.Tables.{Table, lapsed_at}

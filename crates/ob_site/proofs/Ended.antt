@@ -6,9 +6,9 @@ use Rattle.ob_tree.specs.LastTouch.{Begins, done}
 use Rattle.ob_tree.specs.Trees.{Stamped}
 use Rattle.ob_watching.specs.Watches.{WatchOf, World}
 use Rattle.ob_step_laws.specs.Given.{TakesNoneAway}
-use Rattle.ob_marks_laws.specs.Tables.{AllItems}
-use Rattle.ob_marks_laws.proofs.Keeping.{all_weaker, table_keeps}
-use Rattle.ob_marks_laws.proofs.Stamping.{stamps_are_past}
+use Rattle.ob_site_watches.specs.Tables.{AllItems}
+use Rattle.ob_site_watches.proofs.Keeping.{all_weaker, table_keeps}
+use Rattle.ob_site_watches.proofs.Stamping.{stamps_are_past}
 use Rattle.ob_site_settling.specs.Ended.{EndsAll}
 use Rattle.ob_site_rules.specs.Build.{Path, Text}
 use Rattle.ob_site_rules.specs.State.{State, roll}

@@ -25,7 +25,7 @@ use Rattle.ob_site_rules.specs.State.{State, roll}
 use Rattle.ob_site_rules.specs.Watched.{WatchOperation}
 use Rattle.ob_site_state.specs.Kept.{Kept}
 use Rattle.ob_site_state.specs.Stamping.{tree_of}
-use Rattle.ob_site_watched.specs.Answers.{IsMade, IsOneMore}
+use Rattle.ob_site_watches.specs.Answers.{IsMade, IsOneMore}
 use Rattle.ob_site_actions.specs.Stops.{IsDone}
 use Rattle.ob_watch.specs.AsRules.{world_of}
 use Rattle.ob_watch.specs.Counted.{of_plan}

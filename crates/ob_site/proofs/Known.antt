@@ -1,7 +1,7 @@
 -- What is known of items beside contents, and beside the state that has them.
 use Rattle.std.proofs.Common.{◌≡◌, ℕ, List, [], ◌∷◌, refl, sym, ap, ◌∙◌, subst}
 use Rattle.ob_object.specs.Object.{Object}
-use Rattle.ob_marks_laws.proofs.Keeping.{all_both, all_weaker}
+use Rattle.ob_site_watches.proofs.Keeping.{all_both, all_weaker}
 use Rattle.ob_site_rules.specs.Build.{Path}
 use Rattle.ob_site_rules.specs.declared.plan.Plan.{Plan}
 use Rattle.ob_site_rules.specs.State.{State}
@@ -9,8 +9,8 @@ use Rattle.ob_site_state.specs.declared.contents.Contents.{Contents}
 use Rattle.ob_site_state.specs.Contents.{state_in}
 use Rattle.ob_site_state.specs.Kept.{Kept}
 use Rattle.ob_site_settling.specs.Ending.{IsOwnBy, IsOwn}
-use Rattle.ob_site_watched.specs.Answers.{AllKnown}
-use Rattle.ob_site_watched.specs.Known.{IsSoundItem, IsPlacedBy}
+use Rattle.ob_site_watches.specs.Answers.{AllKnown}
+use Rattle.ob_site_watches.specs.Known.{IsSoundItem, IsPlacedBy}
 use Rattle.ob_watch.specs.declared.item.Tracked.{Tracked}
 use Rattle.ob_watch.specs.declared.item.Tracked.TheVariants as tracked
 use Rattle.ob_watch.specs.declared.item.Item.{Item}

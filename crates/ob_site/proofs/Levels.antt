@@ -11,7 +11,7 @@ use Rattle.ob_site_rules.specs.Roles.{all_roles, is_dropped, role_at}
 use Rattle.ob_step_laws.proofs.Begins.{Begins, begins, words_of}
 use Rattle.ob_site_rules.specs.Build.{Path, Text}
 use Rattle.ob_site_rules.specs.Sites.{SiteState}
-use Rattle.ob_site_watched.specs.Polls.{steps_for}
+use Rattle.ob_site_watches.specs.Polls.{steps_for}
 use Rattle.ob_tree.specs.Depths.{levels}
 use Rattle.ob_tree.specs.Laid.{changed_in, changed}
 use Rattle.ob_tree.specs.Shown.{row}

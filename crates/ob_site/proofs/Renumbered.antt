@@ -4,10 +4,10 @@ use Rattle.ob_object.specs.Object.{parts}
 use Rattle.ob_history.specs.declared.records.Filter.{Filter}
 use Rattle.ob_tree.specs.Trees.{Stamped}
 use Rattle.ob_watching.specs.Watches.{WatchOf}
-use Rattle.ob_marks_laws.specs.Anew.{IsRenumbered}
-use Rattle.ob_marks_laws.specs.Items.{IsOwnNode}
-use Rattle.ob_marks_laws.proofs.Keeping.{counts_stay_anew, nodes_stay, table_keeps}
-use Rattle.ob_marks_laws.proofs.Renumbering.{flags_stay_anew}
+use Rattle.ob_site_watches.specs.Anew.{IsRenumbered}
+use Rattle.ob_site_watches.specs.Items.{IsOwnNode}
+use Rattle.ob_site_watches.proofs.Keeping.{counts_stay_anew, nodes_stay, table_keeps}
+use Rattle.ob_site_watches.proofs.Renumbering.{flags_stay_anew}
 use Rattle.ob_site_laws.specs.SiteLaws.{IsSoundSite}
 use Rattle.ob_site_rules.specs.Build.{Path, Text}
 use Rattle.ob_site_rules.specs.Sites.{SiteState}

@@ -4,7 +4,7 @@ use Rattle.ob_object.specs.Object.{Object, parts}
 use Rattle.ob_step_laws.proofs.Opening.{opens_points}
 use Rattle.ob_machine.specs.History.{entry}
 use Rattle.ob_machine.specs.declared.call.Answer.TheVariants.{Done}
-use Rattle.ob_marks_laws.proofs.Stamping.{stamps_are_past}
+use Rattle.ob_site_watches.proofs.Stamping.{stamps_are_past}
 use Rattle.ob_step_laws.proofs.Opened.{opens_consistent}
 use Rattle.ob_site_laws.specs.SiteLaws.{IsSoundSite}
 use Rattle.ob_site_laws.proofs.EventsTold.{nothing_told}

@@ -6,7 +6,7 @@ use Rattle.ob_history.specs.declared.records.Filter.{Filter}
 use Rattle.ob_tree.specs.Trees.{Stamped}
 use Rattle.ob_watching.specs.Tables.{map_values}
 use Rattle.ob_watching.specs.Watches.{TrackedOf, ItemOf, WatchOf, Object, Feed, World, ended, settled, settled_at, with_items}
-use Rattle.ob_marks_laws.proofs.Keeping.{table_keeps}
+use Rattle.ob_site_watches.proofs.Keeping.{table_keeps}
 use Rattle.ob_site_laws.proofs.Same.{object_decides}
 use Rattle.ob_site_rules.specs.declared.request.Request.{Request}
 use Rattle.ob_site_rules.specs.Build.{Path, Text}

@@ -3,7 +3,7 @@ use Rattle.std.specs.Prelude.{◌≡◌, ℕ, ◌<◌, ◌≤◌, ◌-◌, ◌^�
 use Rattle.ob_object.specs.Object.{Object, parts}
 use Rattle.ob_object.specs.WellFormed.{IsWellFormed}
 use Rattle.ob_step_laws.specs.Given.{IsMade, PointsHaveValues}
-use Rattle.ob_marks_laws.specs.Tables.{AllItems}
+use Rattle.ob_site_watches.specs.Tables.{AllItems}
 use Rattle.ob_site_laws.specs.SiteLaws.{IsSoundSite}
 use Rattle.ob_site_open.specs.Opens.{Opens}
 use Rattle.ob_site_rules.specs.declared.plan.Plan.{Plan}

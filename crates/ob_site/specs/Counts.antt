@@ -5,7 +5,7 @@ use Rattle.ob_watching.specs.Watches.{begun}
 use Rattle.ob_site_rules.specs.declared.request.Request.{Request}
 use Rattle.ob_site_rules.specs.Locating.{locate}
 use Rattle.ob_site_rules.specs.Sites.{SiteState, site}
-use Rattle.ob_site_watched.specs.Polls.{Takes}
+use Rattle.ob_site_watches.specs.Polls.{Takes}
 
 -- from how many steps to how many: what is asked of the site as the step begins, at its moment, without the watches whose lease has
 -- run out

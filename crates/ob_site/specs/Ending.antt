@@ -5,7 +5,7 @@ use Rattle.ob_tree.specs.Depths.{levels}
 use Rattle.ob_tree.specs.Shown.{row}
 use Rattle.ob_tree.specs.Trees.{Stamped}
 use Rattle.ob_watching.specs.Watches.{ended}
-use Rattle.ob_marks_laws.specs.Tables.{AllItems}
+use Rattle.ob_site_watches.specs.Tables.{AllItems}
 use Rattle.ob_site_rules.specs.Build.{Path}
 use Rattle.ob_site_rules.specs.declared.plan.Plan.{Plan}
 use Rattle.ob_site_rules.specs.State.{State, roll}

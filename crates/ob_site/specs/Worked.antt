@@ -4,7 +4,7 @@ use Rattle.ob_object.specs.declared.kind.Kind.TheVariants as kind
 use Rattle.ob_object.specs.Object.{Object, empty_head}
 use Rattle.ob_site_rules.specs.Build.{Text, whole, leaf, op_at}
 use Rattle.ob_site_rules.specs.Computed.{watch_out}
-use Rattle.ob_site_watched.specs.Polls.{object_entries, steps_for}
+use Rattle.ob_site_watches.specs.Polls.{object_entries, steps_for}
 
 abbrev pub int : Text → Object
 int name = leaf (record (empty_head kind.Int) { name = Some name })

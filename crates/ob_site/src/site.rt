@@ -3,7 +3,7 @@ ghost use Rattle.std.specs.Prelude.{◌≡◌, ◌↔◌, ◌+◌, ◌<◌, ◌�
 ghost use Rattle.ob_watching.specs.Watches.{last_number};
 ghost use Rattle.ob_site_rules.specs.Locating.{locate};
 ghost use Rattle.ob_site_rules.specs.Sites.{step};
-ghost use Rattle.ob_site_watched.specs.Polls.{object_entries, steps_for};
+ghost use Rattle.ob_site_watches.specs.Polls.{object_entries, steps_for};
 ghost use Rattle.ob_site.specs.Counts.{IsPoll, RequestTakes};
 ghost use Rattle.ob_site.specs.Bare.{is_bare};
 ghost use Rattle.ob_site.specs.Keeping.{Keeps, MayKeep, stepping};

@@ -6,7 +6,7 @@ ghost use Rattle.ob_requests.specs.Targets.{IsTarget};
 ghost use Rattle.ob_site_state.specs.Stamping.{tree_of};
 ghost use Rattle.ob_watch.specs.AsRules.{world_of};
 ghost use Rattle.ob_watch.specs.Tables.{lapsed_at};
-ghost use Rattle.ob_site_watched.specs.Polls.{Takes, object_entries, steps_for};
+ghost use Rattle.ob_site_watches.specs.Polls.{Takes, object_entries, steps_for};
 ghost use Rattle.ob_site.specs.Between.{IsBegun, IsSite};
 ghost use Rattle.ob_site.specs.Keeping.{Keeps, MayKeep, stepping};
 ghost use Rattle.ob_site.specs.Counts.{IsPoll, RequestTakes};

@@ -1,6 +1,6 @@
 use Rattle.std.proofs.Common.{inr, subst, sym}
 use Rattle.ob_site_rules.specs.declared.plan.Plan.{Plan}
-use Rattle.ob_site_watched.specs.Answers.{AllKnown}
+use Rattle.ob_site_watches.specs.Answers.{AllKnown}
 use Rattle.ob_watch.specs.Tables.{Table}
 use Rattle.ob_site.proofs.Keeping.{left_out_so, made_in, made_next}
 use Rattle.ob_site.proofs.quiet.make_kept.Goals as goal

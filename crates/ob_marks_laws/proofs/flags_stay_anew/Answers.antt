@@ -1,5 +1,0 @@
-use Rattle.ob_marks_laws.proofs.Renumbering.{flags_stay_anew}
-use Rattle.ob_marks_laws.proofs.flags_stay_anew.Goals as goal
-
-pub returns : goal.returns
-returns c = flags_stay_anew

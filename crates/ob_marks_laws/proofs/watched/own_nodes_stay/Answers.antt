@@ -1,5 +1,0 @@
-use Rattle.ob_marks_laws.proofs.Staying.{own_nodes_stay}
-use Rattle.ob_marks_laws.proofs.watched.own_nodes_stay.Goals as goal
-
-pub returns : goal.returns
-returns c = own_nodes_stay

@@ -1,5 +1,0 @@
-use Rattle.ob_site_watched.proofs.Knowing.{made_known}
-use Rattle.ob_site_watched.proofs.making.make.Goals as goal
-
-pub returns-in-Ok-clause-known : goal.returns-in-Ok-clause-known
-returns-in-Ok-clause-known c = made_known c.args.plan.now c.args.now c.args.watches.now c.make.new.self c.in-Ok.ensures.2

@@ -1,0 +1,12 @@
+pub mod Watched
+pub mod Stamps
+pub mod Tables
+pub mod Items
+pub mod Anew
+pub mod Known
+pub mod Entries
+pub mod Leaving
+pub mod Answers
+pub mod Offered
+pub mod Putting
+pub mod Polls

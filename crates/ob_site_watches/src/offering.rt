@@ -1,0 +1,93 @@
+//! What is asked for of a watch, before it is added.
+ghost use Rattle.std.specs.Prelude.{◌≡◌, IfOk};
+ghost use Rattle.ob_site_watches.specs.Watched.{IsOwnFound};
+ghost use Rattle.ob_site_reads.specs.Complete.{IsComplete};
+ghost use Rattle.ob_site_state.specs.Contents.{state_in};
+ghost use Rattle.ob_watch.specs.Marks.{AreStampsPast};
+ghost use Rattle.ob_requests.specs.Calls.{found as found_of};
+ghost use Rattle.ob_site_watches.specs.Offered.{IsFor, IsOffered, refused_entry};
+
+use ob_contracts::Steps;
+use crate::watched_are_own;
+use ob_object::Obj;
+use ob_replies::{entry, refusal};
+use ob_requests::{Found, WatchInItem};
+use ob_site_reads::{count_at, resolve_item};
+use ob_site_rules::{Fault, Plan};
+use ob_site_state::Contents;
+use ob_values::Text;
+use ob_watch::Item;
+use std::alloc::{AllocError, Global};
+use std::sync::ledger::Ledger;
+
+/// An href that is asked for: the item that it is to be added as, or the entry of its refusal.
+#[derive(Drop)]
+pub enum Offer {
+    Item(Item),
+    Refused(Obj),
+}
+
+/// The item that an href is to be added as, or why it isn't.
+#[tactic(auto, using(crate::proofs::Found::object_for, crate::proofs::Found::feed_for))]
+fn item_for(
+    alloc: Global,
+    plan: &Plan,
+    contents: &Contents,
+    text: Text,
+    found: Found,
+) -> Result<Result<Item, Fault>, AllocError>
+    requires complete { IsComplete plan.now contents.now }
+    requires past { AreStampsPast contents.now.ground.tree }
+    requires own { IsOwnFound contents.now.ground.tree.root (found_of found) }
+    ensures { IfOk result (IsFor plan.now contents.now text (found_of found)) }
+{
+    match found {
+        Found::Nothing(fault) => Ok(Err(fault)),
+        Found::Object(path) => match contents.ground.tree().get(&path) {
+            Some(node) => Ok(Ok(Item::object(text, path, node, contents.ground.tree().steps()))),
+            None => unreachable!(),
+        },
+        Found::Feed(path, filter) => {
+            let count = count_at(alloc, plan, contents, &path)?;
+            Ok(Ok(Item::feed(text, path, filter, count)))
+        }
+    }
+}
+
+/// The entry of an href that is refused. An error only for want of memory.
+pub(crate) fn refused(alloc: Global, text: &Text, fault: Fault) -> Result<Obj, AllocError>
+    ensures { IfOk result (λ o. o ≡ refused_entry text.now fault) }
+{
+    let object = refusal(alloc, fault)?;
+    let text = text.copy()?;
+    Ok(entry(object, text))
+}
+
+/// What an href that is asked for is to be added as, among watches of these numbers; of an item nothing is read for it. An
+/// error only for want of memory.
+///
+/// Source: oBIX 1.1, chapter 12 (Watch.add).
+#[tactic(auto, using(crate::proofs::Found::item_offered, crate::proofs::Found::refusal_offered))]
+pub(crate) fn offered<L: Ledger>(
+    alloc: Global,
+    plan: &Plan,
+    contents: &Contents,
+    numbers: &[u64],
+    asked: &WatchInItem,
+    steps: &mut Steps<L>,
+) -> Result<Offer, AllocError>
+    requires complete { IsComplete plan.now contents.now }
+    requires past { AreStampsPast contents.now.ground.tree }
+    ensures { IfOk result (IsOffered plan.now contents.now numbers.now asked.now) }
+{
+    watched_are_own();
+    let found = resolve_item(alloc, plan, contents, numbers, asked, steps)?;
+    let text = asked.0.copy()?;
+    match item_for(alloc, plan, contents, text, found)? {
+        Ok(item) => Ok(Offer::Item(item)),
+        Err(fault) => {
+            let entry = refused(alloc, &asked.0, fault)?;
+            Ok(Offer::Refused(entry))
+        }
+    }
+}
