@@ -13,7 +13,7 @@ use ob_command::Serve;
 use ob_io::{Clock, Door, Files, Port, Sink, write_all};
 use ob_load::{LoadFault, Loaded, Site, load, opened_is_not_refused};
 use ob_server::{Staff, WorkerEnd};
-use ob_site_desk::serve_port;
+use ob_site::serve_port;
 use ob_values::Text;
 use std::alloc::{AllocError, Global};
 use std::sync::Wait;

@@ -26,7 +26,7 @@ use ob_io::{Clock, Files, Link, Pair, Sink, Source, Ticker};
 use ob_load::{LoadFault, Loaded, load, opened_is_not_refused};
 use ob_record::record_run;
 use ob_server::LinkEnd;
-use ob_site_desk::serve_alone;
+use ob_site::serve_alone;
 use ob_times::Moment;
 use std::alloc::{AllocError, Global};
 use std::sync::Wait;

@@ -1,7 +1,7 @@
 use denote.Param.Send.{sendable}
 use Rattle.ob_site_laws.proofs.Seen.{keeps_watches}
 use Rattle.ob_site.proofs.Crossing.{site_send}
-use Rattle.ob_site_desk.proofs.serving.serve_port.Goals as goal
+use Rattle.ob_site.proofs.serving.serve_port.Goals as goal
 
 pub serve_port-requires-send-M : goal.serve_port-requires-send-M
 serve_port-requires-send-M g c κs within = search (sendable, site_send)

@@ -13,10 +13,9 @@ ghost use Rattle.ob_server.specs.Port.{ServesDoors, HasPortCause};
 ghost use Rattle.ob_site_laws.specs.SiteLaws.{acts, IsSoundSite};
 ghost use Rattle.ob_turn.specs.Standing.{mine};
 
-use crate::seen_is_lawful;
+use crate::{seen_is_lawful, Site};
 use ob_io::{Clock, Door, Link, Port};
 use ob_server::{LinkEnd, PortServed, Staff};
-use ob_site::Site;
 use ob_turn::{Desk, Pass};
 use ob_values::Text;
 use std::alloc::Global;

@@ -1,5 +1,5 @@
 use Rattle.ob_site_laws.proofs.Seen.{keeps_watches}
-use Rattle.ob_site_desk.proofs.serving.serve_alone.Goals as goal
+use Rattle.ob_site.proofs.serving.serve_alone.Goals as goal
 
 pub returns-clause-serves : goal.returns-clause-serves
 returns-clause-serves g c =
