@@ -17,7 +17,7 @@ ghost use Rattle.ob_ground.specs.Grounds.{WordsStand, alone_at, inside_at};
 use crate::told::Told;
 use ob_contracts::{Library, Steps, View};
 use ob_object::Slot;
-use ob_tree::{Standing, NodeId, Tree};
+use ob_tree::{NodeId, Standing, Tree};
 use ob_values::Text;
 use std::alloc::{AllocError, Global};
 use std::collections::BTreeMap;

@@ -8,7 +8,7 @@ ghost use Rattle.ob_tree.specs.Shown.{standing_at};
 ghost use Rattle.ob_ground.specs.Grounds.{WordsStand, words_at};
 
 use ob_contracts::{Library, Steps};
-use ob_tree::{Instead, Standing, NodeId, Tree};
+use ob_tree::{Instead, NodeId, Standing, Tree};
 use std::alloc::{AllocError, Global};
 use std::collections::BTreeMap;
 use std::marker::Model;

@@ -18,7 +18,7 @@ use ob_contracts::Steps;
 use ob_object::Obj;
 use ob_replies::refusal;
 use ob_requests::posts_list;
-use ob_site_actions::{act_located, NotDone};
+use ob_site_actions::{NotDone, act_located};
 use ob_site_rules::Request;
 use ob_site_state::State;
 use ob_step_laws::steps_take_none_away;

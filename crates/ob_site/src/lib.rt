@@ -23,19 +23,18 @@ ghost use Rattle.ob_site_laws.specs.SiteLaws.{acts, IsSoundSite};
 ghost use Rattle.ob_turn.specs.Callers.{numbers_below, own, Strangers};
 ghost use Rattle.ob_turn.specs.Standing.{mine};
 
-use ob_object::Obj;
 use crate::Site;
-use ob_site_rules::Request;
-use ob_times::Moment;
-use ob_turn::{Answer, Desk, Pass};
-use std::alloc::{AllocError, Global};
-use std::sync::Wait;
-
 pub use keeper::Keeper;
 pub use laws::worked_polls;
 pub use ob_machine::Machine;
+use ob_object::Obj;
+use ob_site_rules::Request;
+use ob_times::Moment;
+use ob_turn::{Answer, Desk, Pass};
 pub use serving::{serve_alone, serve_link, serve_port};
 pub use site::{Site, crosses_threads};
+use std::alloc::{AllocError, Global};
+use std::sync::Wait;
 
 /// A desk with this site, which is sound, and the pass that has all shares. Where memory is wanting, the
 /// site comes back as it was.

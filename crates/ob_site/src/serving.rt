@@ -13,7 +13,7 @@ ghost use Rattle.ob_server.specs.Port.{ServesDoors, HasPortCause};
 ghost use Rattle.ob_site_laws.specs.SiteLaws.{acts, IsSoundSite};
 ghost use Rattle.ob_turn.specs.Standing.{mine};
 
-use crate::{seen_is_lawful, Site};
+use crate::{Site, seen_is_lawful};
 use ob_io::{Clock, Door, Link, Port};
 use ob_server::{LinkEnd, PortServed, Staff};
 use ob_turn::{Desk, Pass};

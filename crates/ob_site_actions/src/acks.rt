@@ -9,12 +9,12 @@ ghost use Rattle.ob_site_rules.specs.Posts.{user_in, is_long_text, is_unacked, a
 ghost use Rattle.ob_requests.specs.BatchCalls.{is_ack_in};
 ghost use Rattle.ob_site_actions.specs.Stops.{IsDone, Stops};
 
+use crate::{NotDone, ack_overfills};
 use ob_alarms::Alarms;
 use ob_object::{Kind, Obj, Slot};
 use ob_replies::{ack_out, alarm_object};
 use ob_site_rules::Fault;
 use ob_site_state::State;
-use crate::{NotDone, ack_overfills};
 use ob_values::{Text, Value};
 use std::alloc::AllocError;
 

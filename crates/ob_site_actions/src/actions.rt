@@ -6,12 +6,12 @@ ghost use Rattle.ob_site_rules.specs.Actions.{put_at, act_at};
 ghost use Rattle.ob_site_actions.specs.Stops.{IsDone, Stops};
 
 use crate::calls::call;
+use crate::{NotDone, put};
 use ob_contracts::Steps;
 use ob_object::Obj;
 use ob_site_reads::object_at;
 use ob_site_rules::{Fault, Resource};
 use ob_site_state::State;
-use crate::{NotDone, put};
 use ob_values::{Text, Verb};
 use std::alloc::AllocError;
 use std::sync::ledger::Ledger;

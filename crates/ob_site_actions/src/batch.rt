@@ -11,6 +11,7 @@ ghost use Rattle.ob_site_rules.specs.Actions.{batch, batch_rows, act_located};
 ghost use Rattle.ob_requests.specs.BatchCalls.{is_batch_call};
 ghost use Rattle.ob_site_actions.specs.Stops.{IsDone, Stops};
 
+use crate::NotDone;
 use crate::actions::act_at;
 use crate::refusing::at_once;
 use ob_contracts::Steps;
@@ -21,7 +22,6 @@ use ob_requests::{is_of_watch, item_request, locate_path};
 use ob_site_reads::place_at;
 use ob_site_rules::{Fault, Request, Resource};
 use ob_site_state::State;
-use crate::NotDone;
 use ob_values::{Text, Verb};
 use std::alloc::AllocError;
 use std::sync::ledger::Ledger;

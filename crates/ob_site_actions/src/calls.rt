@@ -8,13 +8,13 @@ ghost use Rattle.ob_site_rules.specs.Posts.{child_of_obj, query, records_of, wri
 ghost use Rattle.ob_site_actions.specs.Stops.{IsDone, Stops};
 
 use crate::acks::acknowledge;
+use crate::{NotDone, shown, write_by, write_fault};
 use ob_contracts::Steps;
 use ob_object::{Kind, Obj};
 use ob_replies::nil;
 use ob_site_reads::{query_alarms, query_records};
 use ob_site_rules::{Fault, Resource};
 use ob_site_state::State;
-use crate::{NotDone, shown, write_by, write_fault};
 use ob_values::Text;
 use std::alloc::AllocError;
 use std::sync::ledger::Ledger;

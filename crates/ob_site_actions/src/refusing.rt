@@ -9,12 +9,12 @@ ghost use Rattle.ob_site_rules.specs.Places.{computed_places};
 ghost use Rattle.ob_site_actions.specs.Targets.{IsRefused};
 ghost use Rattle.ob_site_actions.specs.Refusing.{IsDoneThere, IsRefusedThere, StopsThere};
 
+use crate::{NotDone, put_own};
 use ob_contracts::Steps;
 use ob_object::Obj;
 use ob_site_reads::{computed_place, own_kind};
 use ob_site_rules::Fault;
 use ob_site_state::State;
-use crate::{NotDone, put_own};
 use ob_values::{Text, Verb};
 use std::alloc::AllocError;
 use std::sync::ledger::Ledger;

@@ -7,12 +7,12 @@ ghost use Rattle.ob_contracts.specs.Inherit.{contract_of};
 ghost use Rattle.ob_site_rules.specs.Writes.{ranged, has_child, is_listed, fault_of, verdict_fault, slot_fault, value_fault, target_fault};
 ghost use Rattle.ob_site_actions.specs.Targets.{IsTarget};
 
+use crate::overfills;
 use ob_contracts::Steps;
 use ob_object::{Attributes, Obj, Slot, WriteFault, check_write};
-use ob_site_rules::Fault;
 use ob_site_reads::shows_child;
+use ob_site_rules::Fault;
 use ob_site_state::State;
-use crate::overfills;
 use ob_values::{Text, Value};
 use std::alloc::AllocError;
 use std::sync::ledger::Ledger;

@@ -19,7 +19,7 @@ use ob_ground::Ground;
 use ob_history::Log;
 use ob_object::Obj;
 use ob_site_file::Opened;
-use ob_site_state::{RoleIndex, Contents, State};
+use ob_site_state::{Contents, RoleIndex, State};
 use ob_times::Moment;
 use ob_tree::{Tree, TreeFault};
 use ob_values::Text;

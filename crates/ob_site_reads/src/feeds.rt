@@ -12,10 +12,10 @@ ghost use Rattle.ob_site_reads.specs.Complete.{AreOfPlan, IsComplete};
 ghost use Rattle.ob_site_reads.specs.Events.{events_of, feed_of_some};
 
 use crate::events::{alarm_events, log_events};
+use crate::{event_place, kept_log};
 use ob_history::{Filter, Log};
 use ob_object::Obj;
 use ob_replies::{feed_entry, feed_there};
-use crate::{event_place, kept_log};
 use ob_site_rules::{Plan, Resource};
 use ob_site_state::Contents;
 use ob_values::Text;

@@ -13,10 +13,10 @@ ghost use Rattle.ob_site_state.specs.Contents.{state_in};
 ghost use Rattle.ob_site_reads.specs.Readable.{IsReadable};
 ghost use Rattle.ob_requests.specs.Calls.{found as found_of};
 
+use crate::{computed_place, shown_kind};
 use ob_contracts::Steps;
 use ob_object::{Kind, Obj};
 use ob_requests::{Found, WatchInItem, feed_with, is_of_watch, locate_path};
-use crate::{computed_place, shown_kind};
 use ob_site_rules::{Fault, Plan, Resource};
 use ob_site_state::Contents;
 use ob_values::Text;

@@ -5,12 +5,12 @@ ghost use Rattle.ob_site_state.specs.Contents.{state_in};
 ghost use Rattle.ob_site_reads.specs.Readable.{IsReadable};
 ghost use Rattle.ob_site_reads.specs.Complete.{IsComplete};
 
+use crate::shown_at;
 use ob_contracts::Steps;
 use ob_object::Obj;
 use ob_replies::build::nameless;
 use ob_replies::{about, ack_op, alarm_object, batch_op, make_op, refusal, service};
 use ob_site_rules::{Fault, Plan, Resource};
-use crate::shown_at;
 use ob_site_state::Contents;
 use ob_times::Moment;
 use ob_values::Text;

@@ -13,11 +13,11 @@ ghost use Rattle.ob_site_reads.specs.Readable.{IsReadable};
 ghost use Rattle.ob_plain_state.specs.Parts.{point_parts, history_parts, alarm_parts, parts_of_alarm};
 
 use crate::paths::{alarm_number, is_ended, is_followed};
+use crate::{begins_with, parent_path, shown_at};
 use ob_alarms::{Alarm, Alarms};
 use ob_contracts::Steps;
 use ob_replies::{ack_path, alarm_path, below};
 use ob_site_rules::{Plan, PointRule, Resource};
-use crate::{begins_with, parent_path, shown_at};
 use ob_site_state::Contents;
 use ob_values::Text;
 use std::alloc::{AllocError, Global};

@@ -9,11 +9,11 @@ ghost use Rattle.ob_site_state.specs.Contents.{state_in};
 ghost use Rattle.ob_site_state.specs.Kept.{log_of};
 ghost use Rattle.ob_site_reads.specs.Complete.{AreOfPlan, IsComplete};
 
+use crate::history_log;
 use ob_history::{Filter, Log, Record, read_filter};
 use ob_object::Obj;
 use ob_replies::{alarms_out, records_out, refusal};
 use ob_site_rules::{Fault, Plan};
-use crate::history_log;
 use ob_site_state::Contents;
 use ob_values::Text;
 use std::alloc::{AllocError, Global};

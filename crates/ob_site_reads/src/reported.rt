@@ -10,10 +10,10 @@ ghost use Rattle.ob_site_state.specs.Contents.{state_in};
 ghost use Rattle.ob_site_reads.specs.Readable.{IsReadable};
 ghost use Rattle.ob_site_reads.specs.Watchable.{IsWatchableAt};
 
+use crate::shown_own;
 use ob_contracts::Steps;
 use ob_object::{Kind, Obj};
 use ob_site_rules::Plan;
-use crate::shown_own;
 use ob_site_state::Contents;
 use ob_tree::NodeId;
 use std::alloc::{AllocError, Global};

@@ -27,7 +27,7 @@ use ob_ground::Told;
 use ob_history::Log;
 use ob_object::{Slot, Status};
 use ob_site_state::{Change, State};
-use ob_tree::{Standing, NodeId};
+use ob_tree::{NodeId, Standing};
 use ob_values::Text;
 use std::alloc::AllocError;
 use std::sync::ledger::Ledger;

@@ -16,11 +16,11 @@ ghost use Rattle.ob_site_reads.specs.Readable.{IsReadable};
 ghost use Rattle.ob_site_settling.specs.Otherwise.{AreOtherwise, AreOtherwiseBelow, AreShown};
 ghost use Rattle.ob_site_settling.specs.Watched.{can_be_watched};
 
+use crate::library_before;
 use ob_contracts::{Library, Steps};
 use ob_object::{Kind, Obj};
-use ob_site_rules::Plan;
-use crate::library_before;
 use ob_site_reads::derived_part;
+use ob_site_rules::Plan;
 use ob_site_state::{Contents, State};
 use ob_tree::{NodeId, Tree};
 use std::alloc::{AllocError, Global};

@@ -10,8 +10,8 @@ ghost use Rattle.ob_site_settling.specs.Telling.{ended_in_values};
 ghost use Rattle.ob_site_settling.specs.Ended.{EndsAll};
 
 use crate::otherwise::shown_otherwise;
-use ob_contracts::Steps;
 use crate::{changed_nodes, changes_values};
+use ob_contracts::Steps;
 use ob_site_state::State;
 use ob_tree::NodeId;
 use std::alloc::AllocError;

@@ -16,6 +16,7 @@ ghost use Rattle.ob_site_state.specs.Changes.{undone, rewound, settled_by, settl
 ghost use Rattle.ob_site_state.specs.Contents.{state_in, SameRest};
 ghost use Rattle.ob_site_state.specs.Stamping.{after_step};
 
+use crate::RoleIndex;
 use crate::change::Change;
 use crate::ending::end_step;
 use crate::logs::{cut_at, record_at, settle_at};
@@ -23,7 +24,6 @@ use ob_alarms::{AckResult, Alarms, Num, Turned};
 use ob_ground::Ground;
 use ob_history::{Log, Record};
 use ob_object::Slot;
-use crate::RoleIndex;
 use ob_times::Moment;
 use ob_tree::NodeId;
 use ob_values::Text;

@@ -7,8 +7,8 @@ ghost use Rattle.ob_watch.specs.Marks.{AreStampsPast};
 ghost use Rattle.ob_requests.specs.Calls.{found as found_of};
 ghost use Rattle.ob_site_watches.specs.Offered.{IsFor, IsOffered, refused_entry};
 
-use ob_contracts::Steps;
 use crate::watched_are_own;
+use ob_contracts::Steps;
 use ob_object::Obj;
 use ob_replies::{entry, refusal};
 use ob_requests::{Found, WatchInItem};

@@ -10,9 +10,9 @@ ghost use Rattle.ob_tree.specs.Shown.{part_at, standing_at, AreLaid};
 ghost use Rattle.ob_tree.specs.Told.{words_for, AreToldBy};
 
 use crate::spot::Spot;
+use crate::{Instead, Standing};
 use ob_contracts::{Library, Steps};
 use ob_object::{Attributes, Obj};
-use crate::{Instead, Standing};
 use std::alloc::{AllocError, Global};
 use std::collections::BTreeMap;
 use std::sync::ledger::Ledger;

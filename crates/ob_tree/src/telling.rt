@@ -13,9 +13,9 @@ ghost use Rattle.ob_tree.specs.Told.{IsToldAt, AreToldBy};
 
 use crate::shown::{leaf_in, spot_in};
 use crate::spot::Spot;
+use crate::{Handed, Instead, Standing};
 use ob_contracts::{Library, Tellers, tell};
 use ob_object::Obj;
-use crate::{Handed, Instead, Standing};
 use std::alloc::{AllocError, Global};
 use std::collections::BTreeMap;
 
