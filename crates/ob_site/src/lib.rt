@@ -2,6 +2,10 @@
 //!
 //! The contract of [`Site::step`] is the definition of a site's step (`ob_site_rules`). Nothing is copied: what a step
 //! has changed is noted, so that want of memory takes it back.
+//!
+//! Behind a desk, what a pass has seen is a legal history from the state that the desk was opened with; here the laws of
+//! watches are said of that history: each client that has replayed a stretch of it holds what is watched, and a watch that
+//! is gone stays gone.
 #![tactic(auto)]
 
 mod acting;
@@ -23,7 +27,6 @@ ghost use Rattle.ob_site_laws.specs.SiteLaws.{acts, IsSoundSite};
 ghost use Rattle.ob_turn.specs.Callers.{numbers_below, own, Strangers};
 ghost use Rattle.ob_turn.specs.Standing.{mine};
 
-use crate::Site;
 pub use keeper::Keeper;
 pub use laws::worked_polls;
 pub use ob_machine::Machine;

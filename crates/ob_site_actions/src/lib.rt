@@ -1,7 +1,7 @@
-//! Writes to a state in place: the slot of a node, the library, the records and the alarms of a value, and whether
-//! it would store too much.
+//! What requests to the site itself do, in place: Puts, point writes, acknowledgements, queries and batches, with their
+//! replies; the slot of a node, the library, the records and the alarms of a value, and whether it would store too much.
 //!
-//! Each call makes exactly the state of the definitions (`Writes.antt` of ob_site_rules).
+//! Each call makes exactly the state and the reply of the definitions (`Writes.antt`, `Posts.antt` and `Actions.antt` of ob_site_rules).
 #![tactic(auto)]
 
 mod acks;

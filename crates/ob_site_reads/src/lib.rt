@@ -1,7 +1,8 @@
-//! What watches read of a site, from the state in place: what an asked href names, watched objects, and feeds.
+//! What a site shows, from the state in place: of own nodes and of those that roles derive or that are computed, the
+//! answers to Gets and queries, what an asked href names, watched objects, and feeds.
 //!
-//! Nothing of the rest of the site is made or copied, and of a feed the events alone that are asked for. The only
-//! other answer of each call is want of memory.
+//! Nothing of the rest of the site is made or copied, and of a log or feed the records and events alone that are asked for.
+//! The only other answer of each call is want of memory.
 #![tactic(auto)]
 
 mod children;

@@ -1,8 +1,10 @@
-//! The end of a step on a site: which own nodes it has changed, and what tells the watches of it.
+//! The end of a step on a site: which own nodes it has changed, also by another library, and what tells the watches and
+//! their feeds of it.
 //!
-//! `specs/Noted.antt` says what the notes of a step tell of the nodes that it may have changed, `specs/Ending.antt`
-//! what the end of a step owes an item of a watch, and `specs/Worlds.antt` what it owes all watches.
-//! What is compared of a history and of an own object is in `specs/Spans.antt` and in ob_shown_laws (`same_values`).
+//! `specs/Noted.antt` says what the notes of a step tell of the nodes that it may have changed, `specs/FeedNotes.antt` what
+//! they tell of feeds, `specs/Ending.antt` what the end of a step owes an item of a watch, and `specs/Worlds.antt` what it
+//! owes all watches. What is compared of a history and of an own object is in `specs/Spans.antt` and in ob_shown_laws
+//! (`same_values`).
 #![tactic(auto)]
 
 mod changes;

@@ -1,5 +1,5 @@
 //! The state of a site in place: its own objects as a tree, the logs of its histories, its alarms and its
-//! library, and what the last step changed of them, so that it can be taken back.
+//! library, the roles of its plan for look-ups, and what the last step changed, so that it can be taken back.
 //!
 //! `specs/Kept.antt` says what a `State` stands for: the state now, and the state before the step.
 #![tactic(auto)]

@@ -1,7 +1,6 @@
-//! What a site finds to be a watched object is one of its own nodes, and what holds of the stamps of a tree and of the
-//! items of all watches goes on holding from step to step.
-//!
-//! Each function states laws by its contract and does nothing.
+//! What is asked of the watches of a site: made, renewed, added to, polled, deleted; and the laws of marks: what a site finds
+//! to be a watched object is one of its own nodes, and what holds of the stamps of a tree and of the items of all watches goes
+//! on holding from step to step.
 #![tactic(auto)]
 
 mod adding;

@@ -1,8 +1,9 @@
-//! The tree of a site: every object a place of its own, and each node found by its path.
+//! The tree of a site: every object a place of its own, each node found by its path, and where an object stands.
 //!
 //! A `Tree` stands for an object, the stamp of each part, and the number of steps (`specs/Trees.antt`).
 //! The parts of the object are numbered in document order, from 0. Each is kept as
 //! an object without children, beside the number of the part that it is in and of the first part behind it.
+//! A `Standing` is what is inherited where an object stands (`specs/Standings.antt`).
 #![tactic(auto)]
 
 mod children;
