@@ -8,3 +8,6 @@ use Rattle.ob_roles.proofs.worded.standard_table.Given as goal
 
 abbrev pub invariant-loop-contract : goal.invariant-loop-contract
 invariant-loop-contract l = (whole : Contracts) → Tells l.known whole → Holds l.table (brief_contracts whole (worded_contracts [] (take l.contract-index l.contract-items)))
+
+abbrev pub ghosts-standard_by : goal.ghosts-standard_by
+ghosts-standard_by a = record { name = a.blank.name; parts = a.blank.parts }
