@@ -117,32 +117,32 @@ fn tell_item(
     }
 }
 
-// What it comes to that a contract is added.
+// Adds a contract by a counter of its own.
 fn add_counted<L: Ledger>(
     library: &mut Library,
     word: Text,
     contract: Obj,
     blank: Blank,
-) -> &'static str
+) -> Result<(), LibFault>
     requires name { blank.name ≡ L.name }
     requires parts { blank.parts ≡ L.parts }
     requires cut { 0 < blank.parts }
 {
     let mut steps = Steps::<L>::begin(blank);
-    match library.add(word, contract, &mut steps) {
+    library.add(word, contract, &mut steps)
+}
+
+// What it comes to that a contract is added.
+fn add(alloc: Global, library: &mut Library, word: &str, contract: Obj) -> &'static str {
+    let Ok(word) = Text::from_utf8(alloc, word.as_bytes()) else {
+        return "no word";
+    };
+    match add_counted::<Brand>(library, word, contract, Blank::new(1)) {
         Ok(()) => "added",
         Err(LibFault::Twice { uri: _ }) => "Twice",
         Err(LibFault::Later { uri: _ }) => "Later",
         Err(LibFault::Large { uri: _ }) => "Large",
         Err(LibFault::Memory) => "Memory",
-    }
-}
-
-// The same, by a counter of its own.
-fn add(alloc: Global, library: &mut Library, word: &str, contract: Obj) -> &'static str {
-    match Text::from_utf8(alloc, word.as_bytes()) {
-        Ok(word) => add_counted::<Brand>(library, word, contract, Blank::new(1)),
-        Err(_) => "no word",
     }
 }
 
