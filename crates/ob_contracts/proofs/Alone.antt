@@ -1,14 +1,15 @@
--- What has nothing to inherit from shows its own head.
-use Rattle.std.proofs.Common.{◌≡◌, Bool, true, false, cond, List, [], ◌∷◌, ◌++◌, map, Option, Some, None, refl, ap, ap₂, ◌∙◌}
+-- What has nothing to inherit from, and no children, is itself.
+use Rattle.std.proofs.Common.{◌≡◌, Bool, true, false, cond, List, [], ◌∷◌, ◌++◌, map, length, Option, Some, None, refl, sym, ap, ap₂, ◌∙◌, arith}
 use Rattle.std.specs.Option.{option_copied}
 use Rattle.ob_object.specs.declared.head.Head.{Head}
 use Rattle.ob_object.specs.declared.head.Slot.{Slot}
 use Rattle.ob_object.specs.declared.head.Slot.TheVariants.{Absent, Null, Is}
 use Rattle.ob_object.specs.Kinds.{is_ref}
-use Rattle.ob_object.specs.Object.{Object}
-use Rattle.ob_contracts.specs.Inherit.{Contracts, Words, bare, contract_of, given, inherited_facets, inherited_head, or_else, present, result_of, slot_of, sources, words_in}
-use Rattle.ob_contracts.specs.Shown.{shown_result}
-use Rattle.ob_contracts.specs.declared.reading.View.{View}
+use Rattle.ob_object.specs.Object.{Object, Objects, none, node, listed, in_row, children}
+use Rattle.ob_contracts.specs.Inherit.{Contracts, Words, bare, contract_of, given, inherited_facets, inherited_head, missing, or_else, present, result_of, slot_of, sources, words_in}
+use Rattle.ob_contracts.specs.Settings.{completed_in}
+use Rattle.ob_contracts.specs.Shown.{finish}
+use Rattle.ob_contracts.specs.declared.completing.Setting.{Setting}
 
 or_nothing : {A : Type 0} (o : Option A) → or_else o None ≡ o
 or_nothing None = refl
@@ -55,11 +56,33 @@ no_sources lib h implied over e f =
     go true = refl
     go false = refl
 
-alone : (lib : Contracts) (o : Object) (implied : Option Words) (over : Option Object) → or_else o.head.is implied ≡ None → over ≡ None → inherited_head o.head (sources lib o.head implied over) ≡ o.head
-alone lib o implied over e f = ap (inherited_head o.head) (no_sources lib o.head implied over e f) ∙ own_head o.head
+leaf_alone : (lib : Contracts) (h : Head) (implied : Option Words) (over : Option Object) → or_else h.is implied ≡ None → over ≡ None
+    → result_of lib (record { head = h; inner = none }) implied over ≡ record { head = h; inner = none }
+unfolding result_of
+leaf_alone lib h implied over e f =
+    ap (λ (from : List Object). let o : Object = record { head = inherited_head h from; inner = in_row (map bare (missing [] from)) } in o) (no_sources lib h implied over e f)
+    ∙ ap (λ (x : Head). let o : Object = record { head = x; inner = none } in o) (own_head h)
 
-pub shows_own : (v : View) → v.as_it_stands ≡ false → or_else v.own.now.head.is (option_copied v.implied) ≡ None → option_copied v.over ≡ None → (shown_result v).head ≡ v.own.now.head
-unfolding shown_result result_of
-shows_own v stands e f =
-    ap (λ (b : Bool). (let o : Object = cond b (bare v.own.now) (result_of v.library.now v.own.now (option_copied v.implied) (option_copied v.over)) in o).head) stands
-    ∙ alone v.library.now v.own.now (option_copied v.implied) (option_copied v.over) e f
+no_row : (r : Objects) → length (listed r) ≡ 0 → r ≡ none
+no_row none e = refl
+no_row (node h below rest) e = absurd (omega (arith, e))
+
+finished_leaf : (d : Bool) (h : Head) → finish d (record { head = h; inner = none }) ≡ record { head = (finish d (record { head = h; inner = none })).head; inner = none }
+finished_leaf true h = refl
+finished_leaf false h = refl
+
+finished_head : (d : Bool) (h : Head) (r s : Objects) → (finish d (record { head = h; inner = r })).head ≡ (finish d (record { head = h; inner = s })).head
+finished_head true h r s = refl
+finished_head false h r s = refl
+
+-- with the default of its kind in the place of a slot that is not given
+pub alone_completed : (s : Setting) (o : Object) → length (children o) ≡ 0 → or_else o.head.is (option_copied s.implied) ≡ None → option_copied s.over ≡ None
+    → record o { head = (finish s.defaults o).head } ≡ completed_in s o
+alone_completed s o empty e f =
+    let is : o.inner ≡ none = no_row o.inner empty in
+    let of : Objects → Object = λ r. record { head = o.head; inner = r } in
+    ap (λ (x : Head). let p : Object = record { head = x; inner = o.inner } in p) (finished_head s.defaults o.head o.inner none)
+    ∙ ap (λ (r : Objects). let p : Object = record { head = (finish s.defaults (of none)).head; inner = r } in p) is
+    ∙ sym (finished_leaf s.defaults o.head)
+    ∙ ap (finish s.defaults) (sym (leaf_alone s.library.now o.head (option_copied s.implied) (option_copied s.over) e f))
+    ∙ ap (λ (r : Objects). finish s.defaults (result_of s.library.now (of r) (option_copied s.implied) (option_copied s.over))) (sym is)

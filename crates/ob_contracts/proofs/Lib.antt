@@ -9,6 +9,7 @@ pub mod Kinship
 pub mod Known
 pub mod Parts
 pub mod Giving
+pub mod Gifts
 pub mod Added
 pub mod Tabled
 pub mod Indexed
@@ -22,3 +23,4 @@ pub mod Naming
 pub mod Taught
 pub mod UpTo
 pub mod Alone
+pub mod Becoming

@@ -4,9 +4,11 @@ pub mod Index
 pub mod Parts
 pub mod Shown
 pub mod Places
+pub mod Given
 pub mod Adding
 pub mod Found
 pub mod HandedDown
+pub mod Settings
 pub mod Ancestry
 pub mod Named
 pub mod Standard

@@ -11,8 +11,10 @@ ghost use Rattle.ob_contracts.specs.Rows.{FirstContractWins, ChildOverrides, Ite
 mod adding;
 mod ancestry;
 mod build;
+mod completing;
 mod counting;
 mod fewer;
+mod given;
 mod inherited;
 mod kin;
 mod library;
@@ -28,7 +30,7 @@ pub use build::{effective, view};
 pub use fewer::{telling, told_by};
 pub use library::Library;
 pub use lookup::Sources;
-pub use reading::View;
+pub use reading::{Setting, View};
 pub use steps::Steps;
 pub use tellers::{Tellers, tell};
 

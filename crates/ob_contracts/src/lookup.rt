@@ -301,7 +301,7 @@ impl<'a> Looked<'a> {
     }
 
     /// The first that gives a part.
-    fn first_giver(&self, part: &Part) -> Option<&'a Obj>
+    pub(crate) fn first_giver(&self, part: &Part) -> Option<&'a Obj>
         requires { IsLooked self.now }
         ensures { option_copied result ≡ find (gives self.now.sources.own.now.head.kind part.now) (sources_of self.now.sources) }
     {

@@ -12,3 +12,4 @@ pub mod Pushed
 pub mod Spelled
 pub mod Write
 pub mod Kept
+pub mod Completed

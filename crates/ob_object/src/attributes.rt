@@ -1,6 +1,7 @@
 //! What an object keeps of what it says of itself, beside its children.
 ghost use Rattle.std.specs.Prelude.{◌≡◌, None, IfOk, MatchResult};
-ghost use Rattle.std.specs.Option.{option_copied};
+ghost use Rattle.std.specs.Option.{option_copied, option_or};
+ghost use Rattle.ob_object.specs.Completed.{completed, slot_or};
 ghost use Rattle.ob_object.specs.Object.{empty_head};
 ghost use Rattle.ob_object.specs.Fits.{fits_head};
 ghost use Rattle.ob_object.specs.Kept.{there, facets_lent};
@@ -10,7 +11,7 @@ use crate::facet::Facets;
 use crate::head::{Head, Slot, fits_limits, fits_name, fits_slot, fits_words};
 use crate::kind::Kind;
 use crate::lent::LentFacets;
-use crate::rare::{Rare, copy_rare, take_rare};
+use crate::rare::{Rare, completed_rare, copy_rare, take_rare};
 use crate::status::Status;
 use crate::words::Words;
 use ob_values::{Text, Value};
@@ -107,6 +108,25 @@ impl Drop for Attributes {
         drop(low);
         drop(high);
         drop(rare);
+    }
+}
+
+/// Fills a place that isn't filled from another that may be.
+fn fill<T: Drop>(place: &mut T, has: &mut bool, given: T, has_given: bool)
+    ensures { there has.new place.new ≡ option_or (there has.old place.old) (there has_given given) }
+{
+    if !*has {
+        *place = given;
+        *has = has_given;
+    }
+}
+
+/// Sets a slot, where none is given.
+fn fill_slot(own: &mut Slot, given: Slot)
+    ensures { own.new ≡ slot_or own.old given }
+{
+    if let Slot::Absent = own {
+        *own = given;
     }
 }
 
@@ -746,6 +766,45 @@ impl Attributes {
         } else {
             Ok(())
         }
+    }
+
+    /// Takes each part that it lacks from what is given: `of`, `in`, `out`, the slot and the facets. It keeps its kind, its
+    /// name, its href and its `is`. It takes no memory.
+    pub fn complete(&mut self, given: Attributes)
+        ensures { self.new ≡ completed self.old given }
+    {
+        let Attributes {
+            name,
+            href,
+            words,
+            slot,
+            unit,
+            low,
+            high,
+            places,
+            rare,
+            kind: _,
+            status,
+            writable,
+            has_name: _,
+            has_href: _,
+            has_words: _,
+            has_unit,
+            has_low,
+            has_high,
+            has_places,
+        } = given;
+        drop(name);
+        drop(href);
+        drop(words);
+        fill_slot(&mut self.slot, slot);
+        fill(&mut self.unit, &mut self.has_unit, unit, has_unit);
+        fill(&mut self.low, &mut self.has_low, low, has_low);
+        fill(&mut self.high, &mut self.has_high, high, has_high);
+        fill(&mut self.places, &mut self.has_places, places, has_places);
+        self.status = self.status.or(status);
+        self.writable = self.writable.or(writable);
+        self.rare = completed_rare(self.rare.take(), rare);
     }
 
     /// A copy without the href, and with another slot.

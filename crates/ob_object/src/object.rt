@@ -1,6 +1,7 @@
 //! Objects as trees.
 ghost use Rattle.std.specs.Prelude.{◌≡◌, ◌↔◌, ◌<◌, ◌^◌, ◌-◌, min, None, true, false, length, IsTrue, IfOk, OnOk, OnErr, MatchResult, option_map, slice_get};
 ghost use Rattle.std.specs.Option.{option_copied};
+ghost use Rattle.ob_object.specs.Completed.{completed};
 ghost use Rattle.ob_object.specs.Fits.{fits_name, fits_slot, fits_facets, fits_head};
 ghost use Rattle.ob_object.specs.Kinds.{has_of, has_input, has_output};
 ghost use Rattle.ob_object.specs.Object.{Object, none, children, parts, in_row, empty_head};
@@ -493,6 +494,24 @@ impl Obj {
         ensures { self.new ≡ self.old }
     {
         self.children.reserve(more)
+    }
+
+    /// Sets the children, whose names differ, in their order. It takes no memory, and looks at no child.
+    pub fn put_children(&mut self, children: Vec<Obj>)
+        requires { NamesDiffer children.items }
+        ensures { self.new ≡ record self.old { inner = in_row children.items } }
+    {
+        know_row(&children);
+        self.children = children;
+    }
+
+    /// Takes each part that its head lacks from what is given (`Attributes::complete`), which together fit its kind. It
+    /// takes no memory.
+    pub fn complete(&mut self, given: Attributes)
+        requires { IsTrue (fits_head (completed self.old.head given)) }
+        ensures { self.new ≡ record self.old { head = completed self.old.head given } }
+    {
+        self.head.complete(given);
     }
 
     /// Takes the children out, in their order.

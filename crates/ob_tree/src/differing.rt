@@ -10,22 +10,28 @@ use ob_contracts::{Library, Steps};
 use std::alloc::{AllocError, Global};
 use std::sync::ledger::Ledger;
 
+/// A library, and the one that takes its place.
+#[derive(Clone, Copy)]
+struct Change<'a, 'b> {
+    before: &'a Library,
+    after: &'b Library,
+}
+
 impl Tree {
     /// Whether an object is shown alike with both libraries. An error only for want of memory.
     fn is_alike<L: Ledger>(
         &self,
         alloc: Global,
-        old: &Library,
-        new: &Library,
+        change: Change<'_, '_>,
         id: NodeId,
         steps: &mut Steps<L>,
     ) -> Result<bool, AllocError>
         requires { id.number < parts self.now.root }
         ensures { IfOk result (λ alike. IsTrue alike
-            ↔ (shown_at old.now id.number self.now.root ≡ shown_at new.now id.number self.now.root)) }
+            ↔ (shown_at change.entry.before.now id.number self.now.root ≡ shown_at change.entry.after.now id.number self.now.root)) }
     {
-        let before = self.whole(alloc, old, id, steps)?;
-        let after = self.whole(alloc, new, id, steps)?;
+        let before = self.whole(alloc, change.before, id, steps)?;
+        let after = self.whole(alloc, change.after, id, steps)?;
         Ok(before.same(&after))
     }
 
@@ -40,10 +46,14 @@ impl Tree {
     ) -> Result<Vec<NodeId>, AllocError>
         ensures { IfOk result (λ ids. AreDiffering old.now new.now self.now.root (map (λ id. id.number) ids.items)) }
     {
+        let change = Change {
+            before: old,
+            after: new,
+        };
         let mut ids = Vec::new(alloc);
         for number in 0..self.len() {
             let id = NodeId { number };
-            if !self.is_alike(alloc, old, new, id, steps)? {
+            if !self.is_alike(alloc, change, id, steps)? {
                 ids.push(id)?;
             }
         }

@@ -7,7 +7,7 @@ ghost use Rattle.ob_contracts.specs.Tellers.{TellsIn};
 
 use crate::handed::Handed;
 use crate::instead::{Instead, is_of, items_of};
-use ob_contracts::{Library, Sources, Steps, Tellers, View, effective, tell};
+use ob_contracts::{Library, Setting, Sources, Steps, Tellers, View, effective, tell};
 use ob_object::{Obj, Words};
 use ob_values::Text;
 use std::alloc::{AllocError, Global};
@@ -173,20 +173,26 @@ impl<'a> Standing<'a> {
         ensures steps { steps.new ≡ steps.old + 1 }
     {
         let told = self.told_of(object, is_of(told));
-        View::with_told(self.library, object, told, self.implied, self.over, steps)
+        let setting = Setting {
+            implied: self.implied,
+            told,
+            over: self.over,
+        };
+        View::with_told(self.library, object, setting, steps)
     }
 
-    /// What an object that stands there comes to. Where it succeeds it counts one step for each object of the answer
-    /// (`Obj::parts`). An error, which is only for want of memory, counts none.
+    /// What an object that stands there comes to. It is made of the object itself, which takes what it lacks. Where it succeeds
+    /// it counts one step for each object of the answer (`Obj::parts`). An error, which is only for want of memory, counts none,
+    /// and the object is gone.
     ///
     /// Source: oBIX 1.1, chapter 7 (Contracts).
     pub fn whole<L: Ledger>(
         &self,
         alloc: Global,
-        object: &Obj,
+        object: Obj,
         steps: &mut Steps<L>,
     ) -> Result<Obj, AllocError>
-        ensures whole { IfOk result (λ made. made ≡ comes_to (context self.now) object.now) }
+        ensures whole { IfOk result (λ made. made ≡ comes_to (context self.now) object) }
         ensures steps { IfOk result (λ made. steps.new ≡ steps.old + min (parts made) (2 ^ 64 - 1)) }
         ensures none { OnErr result (steps.new ≡ steps.old) }
     {

@@ -372,6 +372,6 @@ impl Tree {
     {
         let object = self.copy(alloc, id)?;
         let standing = self.standing(library, id, steps);
-        standing.whole(alloc, &object, steps)
+        standing.whole(alloc, object, steps)
     }
 }

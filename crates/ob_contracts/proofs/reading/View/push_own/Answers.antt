@@ -1,10 +1,12 @@
-use Rattle.std.proofs.Common.{ap, length, arith, refl}
+use Rattle.std.proofs.Common.{refl, arith}
+use Rattle.ob_object.specs.Object.{children}
 use Rattle.ob_contracts.specs.Shown.{own_child_of}
 use Rattle.ob_contracts.proofs.Views.{own_more, own_all, none_put}
 use Rattle.ob_contracts.proofs.reading.View.push_own.Goals as goal
 
-pub own_child_with-requires : goal.own_child_with-requires
-own_child_with-requires c = c.in_ok-handed.ensures (omega (arith, ap length c.children-owned.ensures.value))
+pub returns-then-is_empty : goal.returns-then-is_empty
+returns-then-is_empty c =
+    own_all c.args.self.now _ (children c.args.self.now.own.now) 0 _ refl (omega (arith, c.is_empty.ensures.0 c.if-is_empty.true)) (none_put _ _ (own_child_of c.args.self.now) refl)
 
 pub loop-own-init : goal.loop-own-init
 loop-own-init c = none_put _ _ (own_child_of c.args.self.now) refl

@@ -8,4 +8,4 @@ use Rattle.ob_tree.proofs.standing.Standing.whole.Goals as goal
 pub returns-clause-whole : goal.returns-clause-whole
 returns-clause-whole g c =
     IfOk-weaker c.effective.result _ _
-    (λ made is. is ∙ told_the_same (context c.args.self.now) c.args.object.now (option_copied c.words.result) c.words.ensures) c.effective.ensures.made
+    (λ made is. is ∙ told_the_same (context c.args.self.now) c.args.object (option_copied c.words.result) c.words.ensures) c.effective.ensures.made
