@@ -9,7 +9,7 @@ ghost use Rattle.ob_xml.specs.Views.{state_of};
 ghost use Rattle.ob_xml.specs.Decoding.{HasTaken, Takes};
 ghost use Rattle.std.specs.Prelude.{drop};
 
-use crate::judge::{Outcome, run};
+use crate::judge::{Hand, Outcome, run};
 use crate::reading::Reading;
 use crate::refused::{Refused, Why};
 use crate::state::State;
@@ -68,7 +68,12 @@ pub fn go_on(
 {
     let whole = base + kept.len() as u64;
     ob_scan::well_found();
-    match run(alloc, &kept, base, false, state, at) {
+    let hand = Hand {
+        bytes: &kept,
+        base,
+        end: false,
+    };
+    match run(alloc, hand, state, at) {
         Ok(
             Outcome::Waiting {
                 state,

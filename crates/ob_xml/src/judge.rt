@@ -42,6 +42,16 @@ pub enum Outcome {
     Fault(Refused),
 }
 
+/// The bytes at hand of a document.
+#[derive(Clone, Copy)]
+pub struct Hand<'a> {
+    pub bytes: &'a [u8],
+    /// How many bytes stand before these in the document.
+    pub base: u64,
+    /// Whether no more come behind them.
+    pub end: bool,
+}
+
 fn cause(why: ob_scan::Why) -> Why
     ensures { result ≡ cause_of why }
 {
@@ -91,25 +101,18 @@ fn lost<T: Drop>(_read: T) -> Result<Turn, AllocError>
     Err(AllocError)
 }
 
-/// The construct at a place of the bytes, before which `base` others stand in the document.
-fn take_turn(
-    alloc: Global,
-    bytes: &[u8],
-    base: u64,
-    end: bool,
-    state: State,
-    at: usize,
-) -> Result<Turn, AllocError>
-    requires inside { at ≤ length bytes.now }
-    requires small { base + length bytes.now < 2 ^ 63 }
+/// The construct at a place of the bytes at hand.
+fn take_turn(alloc: Global, hand: Hand, state: State, at: usize) -> Result<Turn, AllocError>
+    requires inside { at ≤ length hand.bytes.now }
+    requires small { hand.base + length hand.bytes.now < 2 ^ 63 }
     requires unfinished { is_open (state_of state) ≡ true }
     requires sound { IsSound (state_of state) }
-    ensures { IfOk result (λ t. Turned end bytes.now base state at t) }
+    ensures { IfOk result (λ t. Turned hand.entry.end hand.entry.bytes.now hand.entry.base state at t) }
 {
     ob_scan::well_found();
-    match next_piece(bytes, at, state.place(), end) {
+    match next_piece(hand.bytes, at, state.place(), hand.end) {
         Err(fault) => {
-            let fault_at = base + fault.at as u64;
+            let fault_at = hand.base + fault.at as u64;
             Ok(told(
                 state,
                 Refused {
@@ -120,7 +123,7 @@ fn take_turn(
         }
         Ok(Found::More { wait }) => Ok(Turn::Waiting(state, wait)),
         Ok(Found::Piece { piece, first, next }) => {
-            let piece_at = base + first as u64;
+            let piece_at = hand.base + first as u64;
             match mean(alloc, state.kind(), piece) {
                 Ok(meaning) => match state.step(alloc, meaning) {
                     Ok(state) => Ok(settle(state, next)),
@@ -149,29 +152,21 @@ fn tag_begins(tag: bool, next_tag: bool, from: usize, at: usize, next: usize) ->
     if tag { from } else { at }
 }
 
-/// The constructs of the bytes from a place on, before which `base` others stand in the document. What isn't whole there
-/// begins with the bytes.
-pub fn run(
-    alloc: Global,
-    bytes: &[u8],
-    base: u64,
-    end: bool,
-    state: State,
-    at: usize,
-) -> Result<Outcome, AllocError>
-    requires inside { at ≤ length bytes.now }
-    requires small { base + length bytes.now < 2 ^ 63 }
+/// The constructs of the bytes at hand from a place on. What isn't whole there begins with the bytes.
+pub fn run(alloc: Global, hand: Hand, state: State, at: usize) -> Result<Outcome, AllocError>
+    requires inside { at ≤ length hand.bytes.now }
+    requires small { hand.base + length hand.bytes.now < 2 ^ 63 }
     requires unfinished { is_open (state_of state) ≡ true }
     requires sound { IsSound (state_of state) }
-    ensures shaped { IfOk result (λ o. Shaped end bytes.now o) }
-    ensures ran { IfOk result (λ o. (gone : List ℕ) → base ≡ length gone → Leads end (gone ++ bytes.now) (state_of state) (base + at) base → Ran end gone bytes.now o) }
+    ensures shaped { IfOk result (λ o. Shaped hand.entry.end hand.entry.bytes.now o) }
+    ensures ran { IfOk result (λ o. (gone : List ℕ) → hand.entry.base ≡ length gone → Leads hand.entry.end (gone ++ hand.entry.bytes.now) (state_of state) (hand.entry.base + at) hand.entry.base → Ran hand.entry.end gone hand.entry.bytes.now o) }
 {
     let mut state = state;
     let mut at = at;
     let mut from = 0;
     'turns: loop {
         let tag = is_tag(&state);
-        match take_turn(alloc, bytes, base, end, state, at)? {
+        match take_turn(alloc, hand, state, at)? {
             Turn::On(after, next) => {
                 from = tag_begins(tag, is_tag(&after), from, at, next);
                 state = after;

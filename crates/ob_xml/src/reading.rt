@@ -8,7 +8,7 @@ ghost use Rattle.ob_xml.specs.Views.{state_of};
 
 use crate::doc::Doc;
 use crate::going::{go_on, lost_at, wait_behind};
-use crate::judge::{Outcome, run};
+use crate::judge::{Hand, Outcome, run};
 use crate::refused::{Refused, Why};
 use crate::state::State;
 use ob_scan::Wait;
@@ -127,7 +127,12 @@ impl Reading {
         let whole = base + kept.len() as u64;
         ob_scan::judged_once();
         ob_scan::well_found();
-        match run(alloc, &kept, base, true, state, at) {
+        let hand = Hand {
+            bytes: &kept,
+            base,
+            end: true,
+        };
+        match run(alloc, hand, state, at) {
             Ok(Outcome::Document(doc)) => Ok(Box::into_inner(doc)),
             Ok(Outcome::Fault(refused)) => Err(refused),
             Ok(Outcome::Waiting { .. }) => unreachable!(),

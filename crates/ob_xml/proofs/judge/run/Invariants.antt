@@ -7,13 +7,13 @@ use Rattle.ob_xml.proofs.judge.run.Given as goal
 
 abbrev pub invariant-turns : goal.invariant-turns
 invariant-turns l = record {
-  inside : l.at ≤ length l.bytes;
+  inside : l.at ≤ length l.hand.bytes.now;
   begins : l.from ≤ l.at;
   unfinished : is_open (state_of l.state) ≡ true;
   sound : IsSound (state_of l.state);
-  leads : (gone : List ℕ) → l.base ≡ length gone → Leads l.end (gone ++ l.bytes) (state_of l.fn.state) (l.base + l.fn.at) l.base
-      → Leads l.end (gone ++ l.bytes) (state_of l.state) (l.base + l.at) (l.base + l.from);
+  leads : (gone : List ℕ) → l.hand.base ≡ length gone → Leads l.hand.end (gone ++ l.hand.bytes.now) (state_of l.fn.state) (l.hand.base + l.fn.at) l.hand.base
+      → Leads l.hand.end (gone ++ l.hand.bytes.now) (state_of l.state) (l.hand.base + l.at) (l.hand.base + l.from);
 }
 
 abbrev pub decreases-turns : goal.decreases-turns
-decreases-turns l = length l.bytes - l.at
+decreases-turns l = length l.hand.bytes.now - l.at
