@@ -29,14 +29,14 @@ due_of zone schedules schedule s low to d here p of after upto =
       due = record { schedule = of; entry = refl; day = p.day; time = p.time; fires = p.fires; within = (after, upto) };
     }
 
--- where a firing is known, something is due from it on
-pub some_due : (zone : TimeZone) (schedule : ℕ) (entries : List Entry) (first to known : ℤ) (e : Entry) (dues : List Due)
-    → AreAll (IsDueIn zone schedule entries (first -ℤ pos 1) to) dues → slice_get entries 0 ≡ Some e → FiresAt zone e known → first ≡ known → known ≤ℤ to → 1 ≤ length dues
-some_due zone schedule entries first to known e dues due here fires same upto =
+-- where a firing is known in a span, something is due there
+pub some_due : (zone : TimeZone) (schedule : ℕ) (entries : List Entry) (low to known : ℤ) (e : Entry) (dues : List Due)
+    → AreAll (IsDueIn zone schedule entries low to) dues → slice_get entries 0 ≡ Some e → FiresAt zone e known → low <ℤ known → known ≤ℤ to → 1 ≤ length dues
+some_due zone schedule entries low to known e dues due here fires after upto =
     let c = (due.exact (record { at = known; schedule = schedule; day = e.day; at_ms = e.at_ms; entry = 0 })).1 (record {
       it = e;
       it_is = here;
-      due = record { schedule = refl; entry = refl; day = refl; time = refl; fires = fires; within = (omega (arith, ints, same), upto) };
+      due = record { schedule = refl; entry = refl; day = refl; time = refl; fires = fires; within = (after, upto) };
     }) in
     omega (arith, c.1)
 

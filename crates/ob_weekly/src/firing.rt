@@ -71,29 +71,20 @@ fn known_firing(zone: &TimeZone<'static>, entry: &Entry, to: i64) -> i64
     some_firing(zone, day_of(to) - 9, entry)
 }
 
-/// All that is due of one schedule from an instant on and up to another, in order.
+/// All that is due of one schedule in a span, in order.
 fn due_in(
     alloc: Global,
     zone: &TimeZone<'static>,
     schedule: u32,
     entries: &[Entry],
-    from: i64,
-    to: i64,
+    span: Span,
 ) -> Result<Vec<Due>, AllocError>
     requires few { length entries.now ≤ 100 }
     requires each { All IsEntry entries.now }
-    requires low { neg_ℤ (pos 1_036_799_999) ≤ℤ from }
-    requires within { (from ≤ℤ to) × (to ≤ℤ pos 253_402_300_799_999) }
-    ensures { IfOk result (λ dues. AreAll (IsDueIn (plain_zone zone.now) schedule entries.now (from -ℤ pos 1) to) dues.items) }
+    ensures { IfOk result (λ dues. AreAll (IsDueIn (plain_zone zone.now) schedule entries.now span.low span.to) dues.items) }
 {
     let mut dues = Vec::new(alloc);
-    push_entries(
-        &mut dues,
-        zone,
-        schedule,
-        entries,
-        Span::between(from - 1, to),
-    )?;
+    push_entries(&mut dues, zone, schedule, entries, span)?;
     put_in_order(&mut dues)?;
     Ok(dues)
 }
@@ -160,7 +151,8 @@ impl Schedules {
         let entries = entries_at(&self.list, schedule as usize);
         // The last firing isn't before one that is known.
         let known = known_firing(&self.zone, entry_at(entries, 0), to);
-        let dues = due_in(alloc, &self.zone, schedule, entries, known, to)?;
+        let span = Span::between(known - 1, to);
+        let dues = due_in(alloc, &self.zone, schedule, entries, span)?;
         let last = last_due(&dues);
         Ok(slot_at(entries, last.entry as usize))
     }
