@@ -41,33 +41,6 @@ fn body_of(alloc: Global, body: Option<&Obj>) -> Result<Vec<u8>, AllocError>
     }
 }
 
-// Writes a request.
-fn ask<L: Link>(
-    alloc: Global,
-    link: &mut L,
-    host: &Text,
-    verb: Verb,
-    target: &Text,
-    body: Option<&Obj>,
-) -> Result<(), CallFault>
-    ensures asks { Asks (L.held link.old) (L.held link.new) (request_text verb target.now host.now (body_text (option_copied body.entry))) result }
-    ensures apart { (L.left link.new ≡ L.left link.old) × (L.taken link.new ≡ L.taken link.old) × (L.read_faults link.new ≡ L.read_faults link.old) }
-    ensures later { L.write_faults link.old ≤ L.write_faults link.new }
-    ensures cause { Fails result fault.Link → Rose (L.write_faults link.old) (L.write_faults link.new) }
-    ensures causes { IfErr result (λ e. is_of_asking e ≡ true) }
-{
-    let Ok(bytes) = body_of(alloc, body) else {
-        return Err(CallFault::Memory);
-    };
-    let Ok(request) = write_request(alloc, verb, target, host, &bytes) else {
-        return Err(CallFault::Memory);
-    };
-    match send(link, &request) {
-        Ok(()) => Ok(()),
-        Err(_) => Err(CallFault::Link),
-    }
-}
-
 // Reads a piece, and gives it to the framer.
 fn read_piece<L: Link>(link: &mut L, framer: &mut ReplyFramer) -> Result<(), CallFault>
     ensures piece { ReadsPiece (inlet (L.left link.old) (L.taken link.old)) (inlet (L.left link.new) (L.taken link.new)) framer.old framer.new result }
@@ -154,28 +127,6 @@ fn refusal_of(refused: Refused) -> CallFault
     }
 }
 
-// Writes a request and reads its reply.
-fn exchange<L: Link>(
-    alloc: Global,
-    link: &mut L,
-    framer: &mut ReplyFramer,
-    host: &Text,
-    verb: Verb,
-    target: &Text,
-    body: Option<&Obj>,
-) -> Result<Obj, CallFault>
-    ensures asks { Asks (L.held link.old) (L.held link.new) (request_text verb target.now host.now (body_text (option_copied body.entry))) result }
-    ensures reads { Reads Answers (inlet (L.left link.old) (L.taken link.old)) (inlet (L.left link.new) (L.taken link.new)) framer.old framer.new result }
-    ensures later { (L.read_faults link.old ≤ L.read_faults link.new) × (L.write_faults link.old ≤ L.write_faults link.new) }
-    ensures cause { Fails result fault.Link → Rose (L.read_faults link.old) (L.read_faults link.new) ⊎ Rose (L.write_faults link.old) (L.write_faults link.new) }
-    ensures alive { Fails result fault.Dead → ⊥ }
-{
-    match ask(alloc, link, host, verb, target, body) {
-        Ok(()) => answer(alloc, link, framer),
-        Err(fault) => Err(fault),
-    }
-}
-
 // Reads a reply, and gives what it tells.
 fn answer<L: Link>(alloc: Global, link: &mut L, framer: &mut ReplyFramer) -> Result<Obj, CallFault>
     ensures reads { Reads Answers (inlet (L.left link.old) (L.taken link.old)) (inlet (L.left link.new) (L.taken link.new)) framer.old framer.new result }
@@ -221,6 +172,42 @@ impl<L: Link> Session<L> {
         }
     }
 
+    // Writes a request.
+    fn ask(&mut self, verb: Verb, target: &Text, body: Option<&Obj>) -> Result<(), CallFault>
+        ensures asks { Asks (L.held self.old.link) (L.held self.new.link) (request_text verb target.now self.old.host (body_text (option_copied body.entry))) result }
+        ensures apart { (L.left self.new.link ≡ L.left self.old.link) × (L.taken self.new.link ≡ L.taken self.old.link) × (L.read_faults self.new.link ≡ L.read_faults self.old.link) }
+        ensures stands { (self.new.host ≡ self.old.host) × (self.new.framer ≡ self.old.framer) }
+        ensures later { L.write_faults self.old.link ≤ L.write_faults self.new.link }
+        ensures cause { Fails result fault.Link → Rose (L.write_faults self.old.link) (L.write_faults self.new.link) }
+        ensures causes { IfErr result (λ e. is_of_asking e ≡ true) }
+    {
+        let Ok(bytes) = body_of(self.alloc, body) else {
+            return Err(CallFault::Memory);
+        };
+        let Ok(request) = write_request(self.alloc, verb, target, &self.host, &bytes) else {
+            return Err(CallFault::Memory);
+        };
+        match send(&mut self.link, &request) {
+            Ok(()) => Ok(()),
+            Err(_) => Err(CallFault::Link),
+        }
+    }
+
+    // Writes a request and reads its reply.
+    fn exchange(&mut self, verb: Verb, target: &Text, body: Option<&Obj>) -> Result<Obj, CallFault>
+        ensures asks { Asks (L.held self.old.link) (L.held self.new.link) (request_text verb target.now self.old.host (body_text (option_copied body.entry))) result }
+        ensures reads { Reads Answers (inlet (L.left self.old.link) (L.taken self.old.link)) (inlet (L.left self.new.link) (L.taken self.new.link)) self.old.framer self.new.framer result }
+        ensures host { self.new.host ≡ self.old.host }
+        ensures later { (L.read_faults self.old.link ≤ L.read_faults self.new.link) × (L.write_faults self.old.link ≤ L.write_faults self.new.link) }
+        ensures cause { Fails result fault.Link → Rose (L.read_faults self.old.link) (L.read_faults self.new.link) ⊎ Rose (L.write_faults self.old.link) (L.write_faults self.new.link) }
+        ensures alive { Fails result fault.Dead → ⊥ }
+    {
+        match self.ask(verb, target, body) {
+            Ok(()) => answer(self.alloc, &mut self.link, &mut self.framer),
+            Err(fault) => Err(fault),
+        }
+    }
+
     /// Writes a request and gives the object of the next reply. Link where a read or a write failed; PeerStatus where
     /// the reply's status isn't 200; PeerDocument where its body is refused; PeerFrame where no reply comes next; Ended
     /// where the link ended before it was whole; Dead, and nothing is done, where an earlier call answered Link,
@@ -237,15 +224,7 @@ impl<L: Link> Session<L> {
         if self.is_dead {
             return Err(CallFault::Dead);
         }
-        let answer = exchange(
-            self.alloc,
-            &mut self.link,
-            &mut self.framer,
-            &self.host,
-            verb,
-            target,
-            body,
-        );
+        let answer = self.exchange(verb, target, body);
         self.is_dead = is_last(&answer);
         answer
     }
