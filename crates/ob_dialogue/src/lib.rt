@@ -14,6 +14,7 @@ mod plan;
 mod request;
 mod stage;
 mod taking;
+mod talk;
 
 pub use driver::converse;
 pub use ending::{Ending, Peer, frame_word};

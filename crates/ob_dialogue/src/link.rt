@@ -1,5 +1,5 @@
 //! A dialogue on one link.
-ghost use Rattle.std.specs.Prelude.{◌≡◌, ◌≢◌, ◌⊎◌, ◌≤◌, Ok, false};
+ghost use Rattle.std.specs.Prelude.{◌≡◌, ◌≢◌, ◌⊎◌, ◌≤◌, Ok, false, nat_lt};
 ghost use Rattle.ob_io.specs.Faults.{Rose};
 ghost use Rattle.ob_io.specs.Links.{inlet};
 ghost use Rattle.ob_client.specs.declared.call_fault.CallFault.TheVariants as calls;
@@ -12,6 +12,7 @@ use crate::plan::DialoguePlan;
 use crate::request::request_at;
 use crate::stage::{Stage, is_poll, mended};
 use crate::taking::{Outcome, taken};
+use crate::talk::Talk;
 use ob_client::{CallFault, Session};
 use ob_console::acknowledge_at;
 use ob_io::{Link, Sink, write_all};
@@ -180,65 +181,58 @@ fn give<K: Sink>(
     }
 }
 
-// Writes a request, reads its reply and prints what it gives.
-fn turn<L: Link, K: Sink>(
-    alloc: Global,
-    plan: &DialoguePlan,
-    stage: Stage,
-    session: &mut Session<L>,
-    sink: &mut K,
-    mends: bool,
-) -> Turned
-    requires live { in_hand.IsLive stage }
-    requires alive { session.old.is_dead ≡ false }
-    ensures turns { in_hand.Turns plan.now session.old.host mends (in_hand.stage stage)
-        (had (inlet (L.left session.old.link) (L.taken session.old.link)) (L.held session.old.link) session.old.framer (K.held sink.old))
-        (had (inlet (L.left session.new.link) (L.taken session.new.link)) (L.held session.new.link) session.new.framer (K.held sink.new))
-        result }
-    ensures live { in_hand.TurnedIsLive result }
-    ensures alive { in_hand.IsNext result → session.new.is_dead ≡ false }
-    ensures host { session.new.host ≡ session.old.host }
-    ensures later { (L.read_faults session.old.link ≤ L.read_faults session.new.link)
-        × (L.write_faults session.old.link ≤ L.write_faults session.new.link) × (K.faults sink.old ≤ K.faults sink.new) }
-    ensures link { in_hand.TurnsByLink result → Rose (L.read_faults session.old.link) (L.read_faults session.new.link)
-        ⊎ Rose (L.write_faults session.old.link) (L.write_faults session.new.link) }
-    ensures sink { in_hand.TurnsBySink result → Rose (K.faults sink.old) (K.faults sink.new) }
-    ensures onward { in_hand.GoesOn plan.now (in_hand.stage stage) result }
-{
-    match ask(alloc, &stage, session) {
-        Exchange::Over => Turned::Paused(Pause::Ended(Ending::Done)),
-        Exchange::Memory => Turned::Paused(Pause::Ended(Ending::Memory)),
-        Exchange::Fault(fault) => Turned::Paused(broken(stage, fault, mends)),
-        Exchange::Reply(reply) => give(alloc, plan, stage, reply, sink),
+impl Talk<'_> {
+    // Writes a request, reads its reply and prints what it gives.
+    fn turn<L: Link, K: Sink>(&self, stage: Stage, session: &mut Session<L>, sink: &mut K) -> Turned
+        requires live { in_hand.IsLive stage }
+        requires alive { session.old.is_dead ≡ false }
+        ensures turns { in_hand.Turns self.now.plan.now session.old.host (nat_lt 0 self.now.retries) (in_hand.stage stage)
+            (had (inlet (L.left session.old.link) (L.taken session.old.link)) (L.held session.old.link) session.old.framer (K.held sink.old))
+            (had (inlet (L.left session.new.link) (L.taken session.new.link)) (L.held session.new.link) session.new.framer (K.held sink.new))
+            result }
+        ensures live { in_hand.TurnedIsLive result }
+        ensures alive { in_hand.IsNext result → session.new.is_dead ≡ false }
+        ensures host { session.new.host ≡ session.old.host }
+        ensures later { (L.read_faults session.old.link ≤ L.read_faults session.new.link)
+            × (L.write_faults session.old.link ≤ L.write_faults session.new.link) × (K.faults sink.old ≤ K.faults sink.new) }
+        ensures link { in_hand.TurnsByLink result → Rose (L.read_faults session.old.link) (L.read_faults session.new.link)
+            ⊎ Rose (L.write_faults session.old.link) (L.write_faults session.new.link) }
+        ensures sink { in_hand.TurnsBySink result → Rose (K.faults sink.old) (K.faults sink.new) }
+        ensures onward { in_hand.GoesOn self.now.plan.now (in_hand.stage stage) result }
+    {
+        match ask(self.alloc, &stage, session) {
+            Exchange::Over => Turned::Paused(Pause::Ended(Ending::Done)),
+            Exchange::Memory => Turned::Paused(Pause::Ended(Ending::Memory)),
+            Exchange::Fault(fault) => Turned::Paused(broken(stage, fault, self.retries > 0)),
+            Exchange::Reply(reply) => give(self.alloc, self.plan, stage, reply, sink),
+        }
     }
-}
 
-/// The dialogue from a stage on, on one link. It ends: each reply leads nearer to the end of the polls.
-pub(crate) fn on_link<L: Link, K: Sink>(
-    alloc: Global,
-    plan: &DialoguePlan,
-    stage: Stage,
-    session: &mut Session<L>,
-    sink: &mut K,
-    mends: bool,
-) -> Pause
-    requires live { in_hand.IsLive stage }
-    requires alive { session.old.is_dead ≡ false }
-    ensures leg { Leg plan.now session.old.host mends (Ok (in_hand.stage stage))
-        (had (inlet (L.left session.old.link) (L.taken session.old.link)) (L.held session.old.link) session.old.framer (K.held sink.old))
-        (had (inlet (L.left session.new.link) (L.taken session.new.link)) (L.held session.new.link) session.new.framer (K.held sink.new))
-        (in_hand.pause result) }
-    ensures live { in_hand.PauseIsLive result }
-    ensures later { K.faults sink.old ≤ K.faults sink.new }
-    ensures link { in_hand.IsLinkFault result → Rose (L.read_faults session.old.link) (L.read_faults session.new.link)
-        ⊎ Rose (L.write_faults session.old.link) (L.write_faults session.new.link) }
-    ensures sink { in_hand.IsSinkFault result → Rose (K.faults sink.old) (K.faults sink.new) }
-{
-    let mut stage = stage;
-    'turns: loop {
-        match turn(alloc, plan, stage, session, sink, mends) {
-            Turned::Next(next) => stage = next,
-            Turned::Paused(pause) => return pause,
+    /// The dialogue from a stage on, on one link. It ends: each reply leads nearer to the end of the polls.
+    pub(crate) fn on_link<L: Link, K: Sink>(
+        &self,
+        stage: Stage,
+        session: &mut Session<L>,
+        sink: &mut K,
+    ) -> Pause
+        requires live { in_hand.IsLive stage }
+        requires alive { session.old.is_dead ≡ false }
+        ensures leg { Leg self.now.plan.now session.old.host (nat_lt 0 self.now.retries) (Ok (in_hand.stage stage))
+            (had (inlet (L.left session.old.link) (L.taken session.old.link)) (L.held session.old.link) session.old.framer (K.held sink.old))
+            (had (inlet (L.left session.new.link) (L.taken session.new.link)) (L.held session.new.link) session.new.framer (K.held sink.new))
+            (in_hand.pause result) }
+        ensures live { in_hand.PauseIsLive result }
+        ensures later { K.faults sink.old ≤ K.faults sink.new }
+        ensures link { in_hand.IsLinkFault result → Rose (L.read_faults session.old.link) (L.read_faults session.new.link)
+            ⊎ Rose (L.write_faults session.old.link) (L.write_faults session.new.link) }
+        ensures sink { in_hand.IsSinkFault result → Rose (K.faults sink.old) (K.faults sink.new) }
+    {
+        let mut stage = stage;
+        'turns: loop {
+            match self.turn(stage, session, sink) {
+                Turned::Next(next) => stage = next,
+                Turned::Paused(pause) => return pause,
+            }
         }
     }
 }
