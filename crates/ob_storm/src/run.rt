@@ -91,23 +91,6 @@ fn begin<M: Machine<Request = Request, Reply = Obj>, R: Wait>(
     Ok(())
 }
 
-// A client asks at a moment what it asks at a draw.
-fn ask_at<M: Machine<Request = Request, Reply = Obj>, R: Wait>(
-    rt: &R,
-    alloc: Global,
-    clients: &mut Clients<M>,
-    client: u32,
-    draw: u64,
-    at: u64,
-) -> Result<Obj, AllocError>
-    requires some { 0 < client }
-    requires moment { IsMoment at }
-    ensures { IfOk result (λ reply. M.act clients.old (request_at client draw) at ≡ (clients.new, reply)) }
-{
-    let request = requests::request_at(alloc, client, draw)?;
-    clients.ask(rt, client, &request, moment(at))
-}
-
 // The requests of a storm, the first at a moment, with what is counted in the replies.
 fn pour<M: Machine<Request = Request, Reply = Obj>, R: Wait>(
     rt: &R,
@@ -130,14 +113,8 @@ fn pour<M: Machine<Request = Request, Reply = Obj>, R: Wait>(
     for place in 0..storm.requests {
         state = next_state(state);
         let client = place % storm.clients + 1;
-        let reply = ask_at(
-            rt,
-            alloc,
-            clients,
-            client,
-            drawn_at(state),
-            first + place as u64,
-        )?;
+        let request = requests::request_at(alloc, client, drawn_at(state))?;
+        let reply = clients.ask(rt, client, &request, moment(first + place as u64))?;
         tally.count(&reply);
     }
     Ok(tally)
