@@ -10,7 +10,8 @@ ghost use Rattle.ob_roles.specs.Given.{IsGiven, IsAbove};
 
 use crate::given::{Above, Given, above_of, base_of, given_by, gives_of, nothing, over_names};
 use crate::kinds::Known;
-use crate::roles::roles_by;
+use crate::learned::Learned;
+use crate::roles::{Place, roles_by};
 use crate::taking::Table;
 use crate::told::is_below;
 use ob_object::Obj;
@@ -18,39 +19,58 @@ use ob_site_rules::Roles;
 use std::alloc::{AllocError, Global};
 use std::collections::BTreeMap;
 
+/// What stands round a row of objects.
+#[derive(Clone, Copy)]
+struct Round<'a, 'l, 'v> {
+    /// Whether the row is that of the root alone.
+    root: bool,
+    /// Whether the row is that of the root's children.
+    under: bool,
+    /// Whether the row is inside the contracts of the site.
+    inside: bool,
+    /// What the words of a list or a feed give to the objects.
+    list: &'l Given<'a>,
+    /// The children that the objects may override.
+    above: Above<'a, 'v>,
+}
+
 /// Puts last the roles of the objects of a row and of what is in them.
 fn put_row<'a>(
     alloc: Global,
-    table: &'a Table,
-    known: &Known,
+    learned: &Learned<'a, '_>,
     all: &mut Vec<Roles>,
-    root: bool,
-    under: bool,
-    inside: bool,
-    list: &Given<'a>,
-    above: &Above<'a, '_>,
+    round: &Round<'a, '_, '_>,
     objects: &'a [Obj],
 ) -> Result<(), AllocError>
-    ensures { IfOk result (λ _. (lib : Contracts) (ss : List Object) → Holds table.now lib → Tells known.now lib → IsGiven list.now lib → IsAbove above.now ss
-        → all.new.items ≡ all.old.items ++ row_roles lib root under inside (option_copied list.now.words) ss (in_row objects.now)) }
+    ensures { IfOk result (λ _. (lib : Contracts) (ss : List Object) → Holds learned.now.table.now lib → Tells learned.now.known.now lib → IsGiven round.now.list.now lib → IsAbove round.now.above ss
+        → all.new.items ≡ all.old.items ++ row_roles lib round.now.root round.now.under round.now.inside (option_copied round.now.list.now.words) ss (in_row objects.now)) }
 {
     for object in objects {
         let head = object.head();
-        let over = above.over(head);
-        let below = is_below(inside, under, head);
-        let roles = roles_by(known, root, below, head, list, over);
+        let over = round.above.over(head);
+        let below = is_below(round.inside, round.under, head);
+        let place = Place {
+            root: round.root,
+            inside: below,
+        };
+        let roles = roles_by(learned.known, place, head, round.list, over);
         all.push(roles)?;
         let children = object.children();
         if children.len() > 0 {
-            let own = given_by(alloc, table, known, head.is())?;
-            let base = base_of(&own, &*list);
+            let own = given_by(alloc, learned.table, learned.known, head.is())?;
+            let base = base_of(&own, &*round.list);
             let gives = gives_of(head, base, over);
-            let handed = given_by(alloc, table, known, gives)?;
+            let handed = given_by(alloc, learned.table, learned.known, gives)?;
             let names = over_names(alloc, head, over)?;
-            let within = above_of(head, base, &names);
-            put_row(
-                alloc, table, known, all, false, root, below, &handed, &within, children,
-            )?;
+            let above = above_of(head, base, &names);
+            let within = Round {
+                root: false,
+                under: round.root,
+                inside: below,
+                list: &handed,
+                above,
+            };
+            put_row(alloc, learned, all, &within, children)?;
         }
     }
     Ok(())
@@ -73,9 +93,15 @@ pub fn all_roles(
         over: &names,
     };
     let list = nothing(alloc);
+    let round = Round {
+        root: true,
+        under: false,
+        inside: false,
+        list: &list,
+        above,
+    };
+    let learned = Learned { table, known };
     let row = std::slice::from_ref(root);
-    put_row(
-        alloc, table, known, &mut all, true, false, false, &list, &above, row,
-    )?;
+    put_row(alloc, &learned, &mut all, &round, row)?;
     Ok(all)
 }

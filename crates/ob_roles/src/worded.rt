@@ -19,6 +19,7 @@ ghost use Rattle.ob_roles.specs.Worded.{worded_at};
 
 use crate::few::{copied, few_given, few_own};
 use crate::kinds::Known;
+use crate::learned::Learned;
 use crate::library::standard_by;
 use crate::naming::{find_over, names_in, names_of};
 use crate::summed::{put_if_new, put_missing, sum_given};
@@ -61,38 +62,51 @@ fn thin_head(object: &Obj, words: Option<&Words>, gives: Option<&Words>) -> Resu
     })
 }
 
-/// The result of an object with these words as `is`, each part with few, where a list or a feed round it gives it this object
-/// in place of the contracts of its words, and where it overrides a child of a source.
-fn worded<'a>(
+/// An object, and what it is given from outside.
+#[derive(Clone, Copy)]
+struct Placed<'o, 'w, 'l, 'v> {
+    object: &'o Obj,
+    /// The words that it has as `is`.
+    words: Option<&'w Words>,
+    /// What a list or a feed round it gives it in place of the contracts of its words.
+    list: Option<&'l Obj>,
+    /// The child of a source that it overrides.
+    over: Option<&'v Obj>,
+}
+
+/// The result of an object that is placed, each part with few words.
+fn worded(
     alloc: Global,
-    known: &Known,
-    table: &'a Table,
-    object: &'a Obj,
-    words: Option<&Words>,
-    list: Option<&'a Obj>,
-    over: Option<&'a Obj>,
+    learned: &Learned<'_, '_>,
+    placed: &Placed<'_, '_, '_, '_>,
 ) -> Result<Obj, AllocError>
-    ensures { IfOk result (λ made. (whole lib : Contracts) (implied : Option Words) (o : Option Object) → Tells known.now whole → Holds table.now (brief_contracts whole lib)
-        → IsGivenBy (option_copied list.entry) (brief_contracts whole lib) object.now.head implied → option_copied over.entry ≡ option_map (brief whole) o
-        → made ≡ briefly whole (option_copied words.entry) (worded_at lib implied o object.now)) }
+    ensures { IfOk result (λ made. (whole lib : Contracts) (implied : Option Words) (o : Option Object) → Tells learned.now.known.now whole → Holds learned.now.table.now (brief_contracts whole lib)
+        → IsGivenBy (option_copied placed.now.list) (brief_contracts whole lib) placed.now.object.now.head implied → option_copied placed.now.over ≡ option_map (brief whole) o
+        → made ≡ briefly whole (option_copied placed.now.words) (worded_at lib implied o placed.now.object.now)) }
 {
-    let head = object.head();
-    let from = sources(alloc, table, head, list, over)?;
+    let head = placed.object.head();
+    let from = sources(alloc, learned.table, head, placed.list, placed.over)?;
     let gives = implied_by(head, from.as_slice());
-    let sum = sum_given(alloc, table, object, gives)?;
+    let sum = sum_given(alloc, learned.table, placed.object, gives)?;
     let items = sum.as_ref();
-    let few = few_given(alloc, known, object, gives)?;
+    let few = few_given(alloc, learned.known, placed.object, gives)?;
     let given = few.as_ref();
     let names = names_in(alloc, from.as_slice())?;
-    let mut made = Obj::from_head(alloc, thin_head(object, words, gives)?)?;
-    for child in object.children() {
+    let mut made = Obj::from_head(alloc, thin_head(placed.object, placed.words, gives)?)?;
+    for child in placed.object.children() {
         let part = child.head();
-        let below = find_over(&names, part);
-        let own = few_own(alloc, known, part, given, below)?;
-        let inner = worded(alloc, known, table, child, own.as_ref(), items, below)?;
+        let over = find_over(&names, part);
+        let own = few_own(alloc, learned.known, part, given, over)?;
+        let below = Placed {
+            object: child,
+            words: own.as_ref(),
+            list: items,
+            over,
+        };
+        let inner = worded(alloc, learned, &below)?;
         put_if_new(&mut made, inner)?;
     }
-    let mut there = names_of(alloc, object)?;
+    let mut there = names_of(alloc, placed.object)?;
     for source in &from {
         put_missing(&mut made, &mut there, source)?;
     }
@@ -120,7 +134,17 @@ fn put_contract(
 ) -> Result<(), AllocError>
     ensures { IfOk result (λ _. (whole lib : Contracts) → Tells known.now whole → Holds table.old (brief_contracts whole lib) → Holds table.new (brief_contracts whole (lib ++ (word.now, worded lib object.now) ∷ []))) }
 {
-    let made = worded(alloc, known, table, object, object.is(), None, None)?;
+    let learned = Learned {
+        table: &*table,
+        known,
+    };
+    let alone = Placed {
+        object,
+        words: object.is(),
+        list: None,
+        over: None,
+    };
+    let made = worded(alloc, &learned, &alone)?;
     put_first(table, word, made)?;
     Ok(())
 }

@@ -156,12 +156,13 @@ fn sources<'a>(
     Ok(from)
 }
 
-/// What the children of an object inherit from: the words that a list or a feed gives, and what stands under their names in
-/// the sources.
+/// What the children of an object inherit from: the words that a list or a feed gives, the sources, and what stands under
+/// their names in these.
 #[derive(Clone, Copy)]
 struct Above<'a, 'b> {
     library: &'a Library,
     gives: Option<&'a Words>,
+    from: &'b [&'a Obj],
     names: &'b Names<'a>,
 }
 
@@ -254,17 +255,16 @@ fn left_after_added<'a>(
     counting: &Counting,
     object: &'a Obj,
     above: &Above<'a, '_>,
-    from: &[&'a Obj],
     most: u64,
 ) -> Result<u64, AllocError>
     ensures { IfOk result (λ n. (plan : Plan) (s : SiteState) (ss : List Object) → IsCounting counting.now plan s → ((k : List ℕ) → found above.now.names.now k ≡ overridden (Some k) ss)
         → n ≡ most - (row_count above.now.library.now (option_copied above.now.gives) ss (in_row (derived plan s (node_path object.now.head)))
-        + count (in_row (missing (listed (with_roles plan s object.now.inner) ++ derived plan s (node_path object.now.head)) (lent from.now))))) }
+        + count (in_row (missing (listed (with_roles plan s object.now.inner) ++ derived plan s (node_path object.now.head)) (lent above.now.from.now))))) }
 {
     let derived = derived_children(alloc, counting, object.head())?;
     let left = left_after_derived(alloc, above, derived.as_slice(), most)?;
     let mut there = names_there(alloc, object, derived.as_slice())?;
-    left_after_missing(&mut there, from, left)
+    left_after_missing(&mut there, above.from, left)
 }
 
 // The words that tell the same to the own children of an object, if it has any.
@@ -282,29 +282,39 @@ fn told_if<'a>(
     telling(alloc, library, gives)
 }
 
-// What is left of a limit behind the parts that an own object shows, where a list or a feed round it gives words, and where
-// it overrides a child of a source. Nothing is looked at behind the child with which nothing is left.
+/// An own object, the words that a list or a feed round it gives, and the child of a source that it overrides.
+#[derive(Clone, Copy)]
+struct Placed<'a, 'w> {
+    object: &'a Obj,
+    implied: Option<&'w Words>,
+    over: Option<&'a Obj>,
+}
+
+// What is left of a limit behind the parts that an own object shows. Nothing is looked at behind the child with which nothing
+// is left.
 fn left_after_shown<'a>(
     alloc: Global,
     counting: &Counting<'a>,
-    object: &'a Obj,
-    implied: Option<&Words>,
-    over: Option<&'a Obj>,
+    placed: Placed<'a, '_>,
     most: u64,
 ) -> Result<u64, AllocError>
     ensures { IfOk result (λ n. (plan : Plan) (s : SiteState) → IsCounting counting.now plan s
-        → n ≡ most - parts (result_of s.library (dressed_at plan s object.now) (option_copied implied.entry) (option_copied over.entry))) }
+        → n ≡ most - parts (result_of s.library (dressed_at plan s placed.entry.object.now) (option_copied placed.entry.implied) (option_copied placed.entry.over))) }
 {
-    let head = object.head();
-    let from = sources(alloc, counting.library, head, implied, over)?;
+    let head = placed.object.head();
+    let from = sources(alloc, counting.library, head, placed.implied, placed.over)?;
     let gives = implied_by(head, from.as_slice());
     let names = names_in(alloc, from.as_slice())?;
-    let told = told_if(alloc, counting.library, object, gives)?;
+    let told = told_if(alloc, counting.library, placed.object, gives)?;
     let given = told_by(&told, gives);
     let mut left = most.saturating_sub(1);
-    for child in object.children() {
-        let below = find_over(&names, child.head());
-        left = left_after_shown(alloc, counting, child, given, below, left)?;
+    for child in placed.object.children() {
+        let inner = Placed {
+            object: child,
+            implied: given,
+            over: find_over(&names, child.head()),
+        };
+        left = left_after_shown(alloc, counting, inner, left)?;
         if left == 0 {
             return Ok(0);
         }
@@ -312,9 +322,10 @@ fn left_after_shown<'a>(
     let above = Above {
         library: counting.library,
         gives,
+        from: from.as_slice(),
         names: &names,
     };
-    left_after_added(alloc, counting, object, &above, from.as_slice(), left)
+    left_after_added(alloc, counting, placed.object, &above, left)
 }
 
 /// The number of parts that a root shows, or the limit where there are more. It takes no view and builds none of them. An error
@@ -327,7 +338,12 @@ fn parts_up_to<'a>(
 ) -> Result<u64, AllocError>
     ensures { IfOk result (λ n. (plan : Plan) (s : SiteState) → IsCounting counting.now plan s → s.tree ≡ root.now → n ≡ min limit (parts (shown_root plan s))) }
 {
-    let left = left_after_shown(alloc, counting, root, None, None, limit)?;
+    let alone = Placed {
+        object: root,
+        implied: None,
+        over: None,
+    };
+    let left = left_after_shown(alloc, counting, alone, limit)?;
     Ok(limit.saturating_sub(left))
 }
 

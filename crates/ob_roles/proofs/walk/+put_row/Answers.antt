@@ -28,10 +28,10 @@ loop-object-preserved t c = λ lib ss holds tells given finds.
     let i = c.loop-object.object-index in
     let x = c.object-item.result in
     let cs = c.children-children.result.now in
-    let root = c.args.root in
-    let under = c.args.under in
-    let inside = c.args.inside in
-    let implied = option_copied c.args.list.now.words in
+    let root = c.args.round.now.root in
+    let under = c.args.round.now.under in
+    let inside = c.args.round.now.inside in
+    let implied = option_copied c.args.round.now.list.now.words in
     let h = c.head-head.result.now in
     let o = option_copied c.over-over.result in
     let b = c.is_below-below.result in
@@ -49,7 +49,7 @@ loop-object-preserved t c = λ lib ss holds tells given finds.
           let put = row_roles lib false root b (option_copied w.in_ok-handed.handed.words) (sources lib h implied o) (in_row cs) in
           goes_more lib root under inside implied ss os i x c.args.all.now.items c.loop-object.all.items mid c.if-children-gt0.all.items put c.roles_by-roles.result c.loop-object-test.true c.object-item.is which c.in_ok-push.ensures.items
           (ap (λ v. v.items) w.all-is
-          ∙ w.in_ok-put_row.ensures lib (sources lib h implied o) holds tells (w.in_ok-handed.ensures.given lib holds tells) (w.above_of-within.ensures lib implied o base (λ n. w.in_ok-names.ensures n)))
+          ∙ w.in_ok-put_row.ensures lib (sources lib h implied o) holds tells (w.in_ok-handed.ensures.given lib holds tells) (w.above_of-above.ensures lib implied o base (λ n. w.in_ok-names.ensures n)))
           (inner_put lib root under inside implied ss x h o b (option_copied w.in_ok-handed.handed.words) (option_copied w.gives_of-gives.result) cs head over below w.in_ok-handed.ensures.words (w.gives_of-gives.ensures lib implied base) c.children-children.ensures.value)
           kept
       | else-children-gt0 w ↦

@@ -20,7 +20,7 @@ use Rattle.ob_roles.proofs.worded.+worded.Goals as goal
 
 pub worded-requires : goal.worded-requires
 worded-requires t c =
-    let o = c.args.object.now in
+    let o = c.args.placed.now.object.now in
     let i = c.loop-child.child-index in
     let x = c.child-item.result in
     let here : Some x ≡ slice_get (children o) i = child_here o x _ _ c.children-child-items.ensures.value c.loop-child-test.true c.child-item.is in
@@ -28,19 +28,19 @@ worded-requires t c =
 
 pub loop-child-init : goal.loop-child-init
 loop-child-init t c = λ whole lib implied o tells holds given is.
-    let x = c.args.object.now in
+    let x = c.args.placed.now.object.now in
     let gives = option_copied c.implied_by-gives.result in
     let fs = lent c.as_slice.result.now in
     let like : TellFew whole fs (sources lib x.head implied o) =
-    from_few whole lib x c.head-head.result.now implied (option_copied c.args.list) (option_copied c.args.over) o fs c.head-head.ensures.value (ap lent c.as_slice.ensures.value ∙ c.in_ok-from.ensures (brief_contracts whole lib) holds) is given in
+    from_few whole lib x c.head-head.result.now implied (option_copied c.args.placed.now.list) (option_copied c.args.placed.now.over) o fs c.head-head.ensures.value (ap lent c.as_slice.ensures.value ∙ c.in_ok-from.ensures (brief_contracts whole lib) holds) is given in
     let which : gives ≡ gives_of lib x.head implied o = gives_are whole lib x c.head-head.result.now implied gives o fs c.head-head.ensures.value c.implied_by-gives.ensures like in (
       rows_first whole lib (gives_of lib x.head implied o) (sources lib x.head implied o) c.children-child-items.result.now (children c.in_ok-made.made) (ap children c.in_ok-made.ensures),
-      ap (λ (y : Object). y.head) c.in_ok-made.ensures ∙ head_is lib x c.in_ok-thin_head.field-0 implied (option_copied c.args.words) gives o which c.in_ok-thin_head.ensures.thin,
+      ap (λ (y : Object). y.head) c.in_ok-made.ensures ∙ head_is lib x c.in_ok-thin_head.field-0 implied (option_copied c.args.placed.now.words) gives o which c.in_ok-thin_head.ensures.thin,
     )
 
 pub loop-child-preserved : goal.loop-child-preserved
 loop-child-preserved t c = λ whole lib implied o tells holds given is.
-    let y = c.args.object.now in
+    let y = c.args.placed.now.object.now in
     let gives = option_copied c.implied_by-gives.result in
     let all = c.children-child-items.result.now in
     let i = c.loop-child.child-index in
@@ -49,13 +49,13 @@ loop-child-preserved t c = λ whole lib implied o tells holds given is.
     let from = sources lib y.head implied o in
     let g = gives_of lib y.head implied o in
     let like : TellFew whole fs from =
-    from_few whole lib y c.head-head.result.now implied (option_copied c.args.list) (option_copied c.args.over) o fs c.head-head.ensures.value (ap lent c.as_slice.ensures.value ∙ c.in_ok-from.ensures (brief_contracts whole lib) holds) is given in
+    from_few whole lib y c.head-head.result.now implied (option_copied c.args.placed.now.list) (option_copied c.args.placed.now.over) o fs c.head-head.ensures.value (ap lent c.as_slice.ensures.value ∙ c.in_ok-from.ensures (brief_contracts whole lib) holds) is given in
     let which : gives ≡ g = gives_are whole lib y c.head-head.result.now implied gives o fs c.head-head.ensures.value c.implied_by-gives.ensures like in
     let same : lent c.as_slice-2.result.now ≡ fs = ap lent (c.as_slice-2.ensures.value ∙ sym c.as_slice.ensures.value) in
     let named : (n : List ℕ) → found c.in_ok-names.names n ≡ overridden (Some n) fs = λ n. c.in_ok-names.ensures n ∙ ap (λ (l : List Object). overridden (Some n) l) same in
     let over = overridden x.head.name from in
-    let below : option_copied c.find_over-below.result ≡ option_map (brief whole) over =
-    c.find_over-below.ensures fs named ∙ ap (λ (k : Head). overridden k.name fs) c.head-part.ensures.value ∙ like.over x.head.name in
+    let below : option_copied c.find_over-over.result ≡ option_map (brief whole) over =
+    c.find_over-over.ensures fs named ∙ ap (λ (k : Head). overridden k.name fs) c.head-part.ensures.value ∙ like.over x.head.name in
     let here : Some x ≡ slice_get (children y) i = child_here y x _ _ c.children-child-items.ensures.value c.loop-child-test.true c.child-item.is in
     let few : option_copied c.as_ref-given.result ≡ option_map (few_words whole) g = c.as_ref-given.ensures.value ∙ c.in_ok-few.ensures whole i x here tells ∙ ap (option_map (few_words whole)) which in
     let own : option_copied c.as_ref.result ≡ option_map (few_words whole) (own_words x.head g over) =
@@ -71,7 +71,7 @@ loop-child-preserved t c = λ whole lib implied o tells holds given is.
 
 pub loop-source-init : goal.loop-source-init
 loop-source-init t c = λ whole lib implied o tells holds given is.
-    let y = c.args.object.now in
+    let y = c.args.placed.now.object.now in
     let kids = c.children-child-items.result.now in
     let all = c.deref-source-items.result.now in
     let from = sources lib y.head implied o in
@@ -99,10 +99,10 @@ loop-source-preserved t c = λ whole lib implied o tells holds given is.
 
 pub returns : goal.returns
 returns t c = λ whole lib implied o tells holds given is.
-    let y = c.args.object.now in
+    let y = c.args.placed.now.object.now in
     let all = c.deref-source-items.result.now in
     let kept = c.loop-source.invariant whole lib implied o tells holds given is in
     let like : TellFew whole (lent all) (sources lib y.head implied o) =
-    from_few whole lib y c.head-head.result.now implied (option_copied c.args.list) (option_copied c.args.over) o (lent all) c.head-head.ensures.value (ap lent c.deref-source-items.ensures.value ∙ c.in_ok-from.ensures (brief_contracts whole lib) holds) is given in
-    whole_is whole lib y c.loop-source.made (option_copied c.args.words) implied o (lent all) like kept.1
+    from_few whole lib y c.head-head.result.now implied (option_copied c.args.placed.now.list) (option_copied c.args.placed.now.over) o (lent all) c.head-head.ensures.value (ap lent c.deref-source-items.ensures.value ∙ c.in_ok-from.ensures (brief_contracts whole lib) holds) is given in
+    whole_is whole lib y c.loop-source.made (option_copied c.args.placed.now.words) implied o (lent all) like kept.1
     (missing_all all c.loop-source.source-index _ (children c.loop-source.made) c.loop-source-test.false kept.0)

@@ -13,18 +13,18 @@ use Rattle.ob_roles.proofs.WordRows.{Rows, gives_of, few_row}
 use Rattle.ob_roles.proofs.worded.+worded.Given as goal
 
 abbrev pub decreases-worded : goal.decreases-worded
-decreases-worded l = parts l.object.now
+decreases-worded l = parts l.placed.now.object.now
 
 abbrev pub invariant-loop-child : goal.invariant-loop-child
-invariant-loop-child l = (whole lib : Contracts) (implied : Option Words) (o : Option Object) → Tells l.known whole → Holds l.table (brief_contracts whole lib)
-    → IsGivenBy (option_copied l.list) (brief_contracts whole lib) l.object.head implied → option_copied l.over ≡ option_map (brief whole) o
-    → Rows whole lib (gives_of lib l.object.head implied o) (sources lib l.object.head implied o) l.child-items l.child-index (children l.made)
-    × (l.made.head ≡ thin l.object.head (option_copied l.words) (gives_of lib l.object.head implied o))
+invariant-loop-child l = (whole lib : Contracts) (implied : Option Words) (o : Option Object) → Tells l.learned.known.now whole → Holds l.learned.table.now (brief_contracts whole lib)
+    → IsGivenBy (option_copied l.placed.list) (brief_contracts whole lib) l.placed.object.now.head implied → option_copied l.placed.over ≡ option_map (brief whole) o
+    → Rows whole lib (gives_of lib l.placed.object.now.head implied o) (sources lib l.placed.object.now.head implied o) l.child-items l.child-index (children l.made)
+    × (l.made.head ≡ thin l.placed.object.now.head (option_copied l.placed.words) (gives_of lib l.placed.object.now.head implied o))
 
 abbrev pub invariant-loop-source : goal.invariant-loop-source
-invariant-loop-source l = (whole lib : Contracts) (implied : Option Words) (o : Option Object) → Tells l.known whole → Holds l.table (brief_contracts whole lib)
-    → IsGivenBy (option_copied l.list) (brief_contracts whole lib) l.object.head implied → option_copied l.over ≡ option_map (brief whole) o
+invariant-loop-source l = (whole lib : Contracts) (implied : Option Words) (o : Option Object) → Tells l.learned.known.now whole → Holds l.learned.table.now (brief_contracts whole lib)
+    → IsGivenBy (option_copied l.placed.list) (brief_contracts whole lib) l.placed.object.now.head implied → option_copied l.placed.over ≡ option_map (brief whole) o
     → Missing l.source-items l.source-index
-    (few_row whole lib (gives_of lib l.object.head implied o) (sources lib l.object.head implied o) l.object.inner ++ missing (children l.object) (lent l.source-items))
+    (few_row whole lib (gives_of lib l.placed.object.now.head implied o) (sources lib l.placed.object.now.head implied o) l.placed.object.now.inner ++ missing (children l.placed.object.now) (lent l.source-items))
     (children l.made)
-    × (l.made.head ≡ thin l.object.head (option_copied l.words) (gives_of lib l.object.head implied o)) × HasNames l.there l.made
+    × (l.made.head ≡ thin l.placed.object.now.head (option_copied l.placed.words) (gives_of lib l.placed.object.now.head implied o)) × HasNames l.there l.made

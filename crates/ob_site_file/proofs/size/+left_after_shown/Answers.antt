@@ -20,7 +20,7 @@ use Rattle.ob_site_file.proofs.size.+left_after_shown.Goals as goal
 
 pub left_after_shown-requires : goal.left_after_shown-requires
 left_after_shown-requires t c =
-    let o = c.args.object.now in
+    let o = c.args.placed.object.now in
     let i = c.loop-child.child-index in
     let x = c.child-item.result in
     let here : Some x ≡ slice_get (children o) i = child_here o x _ _ c.children-child-items.ensures.value c.loop-child-test.true c.child-item.is in
@@ -85,47 +85,47 @@ under lib own plan s o x h implied gives over below fs left n e same there g b p
 pub loop-child-init : goal.loop-child-init
 loop-child-init t c = λ plan s k.
     let lib = s.library in
-    let h = c.args.object.now.head in
-    let F = sources lib h (option_copied c.args.implied) (option_copied c.args.over) in
+    let h = c.args.placed.object.now.head in
+    let F = sources lib h (option_copied c.args.placed.implied) (option_copied c.args.placed.over) in
     left_one c.args.most c.saturating_sub-left.result (row_count lib (implied_by (inherited_head h F)) F (with_roles plan s (in_row c.children-child-items.result.now))) c.saturating_sub-left.ensures
 
 pub loop-child-preserved : goal.loop-child-preserved
 loop-child-preserved t c = λ plan s k.
-    let o = c.args.object.now in
+    let o = c.args.placed.object.now in
     let lib = s.library in
     let own = c.args.counting.now.library.now in
     let h = c.head-head.result.now in
-    let implied = option_copied c.args.implied in
-    let over = option_copied c.args.over in
+    let implied = option_copied c.args.placed.implied in
+    let over = option_copied c.args.placed.over in
     let x = c.child-item.result in
     let fs = lent c.in_ok-from.from.items in
     let there : fs ≡ sources lib o.head implied over = from_is lib own o h implied over fs fs refl c.in_ok-from.ensures k.library c.head-head.ensures.value in
     let names : (n : List ℕ) → found c.in_ok-names.names n ≡ overridden (Some n) fs = λ n. c.in_ok-names.ensures n ∙ ap (λ (l : List Object). overridden (Some n) l) (ap lent c.as_slice-2.ensures.value) in
-    let below : option_copied c.find_over-below.result ≡ overridden x.head.name fs = c.find_over-below.ensures fs names ∙ ap (λ (j : Head). overridden j.name fs) c.head.ensures.value in
+    let below : option_copied c.find_over.result ≡ overridden x.head.name fs = c.find_over.ensures fs names ∙ ap (λ (j : Head). overridden j.name fs) c.head.ensures.value in
     let gives : option_copied c.implied_by-gives.result ≡ implied_by (inherited_head h fs) = c.implied_by-gives.ensures ∙ ap (λ (l : List Object). implied_by (inherited_head h l)) (ap lent c.as_slice.ensures.value) in
     step c.args.most lib plan s o implied over c.children-child-items.result.now c.loop-child.child-index c.loop-child.left c.in_ok-left.left x c.loop-child-test.true c.child-item.is
-    (under lib own plan s o x h implied (option_copied c.implied_by-gives.result) over (option_copied c.find_over-below.result) fs c.loop-child.left c.in_ok-left.left k.library c.head-head.ensures.value there gives below
-    (as_told lib own plan s x (option_copied c.told_by-given.result) c.in_ok-told.told (option_copied c.implied_by-gives.result) (option_copied c.find_over-below.result) c.loop-child.left c.in_ok-left.left k.library c.told_by-given.ensures c.in_ok-told.ensures (c.in_ok-left.ensures plan s k)))
+    (under lib own plan s o x h implied (option_copied c.implied_by-gives.result) over (option_copied c.find_over.result) fs c.loop-child.left c.in_ok-left.left k.library c.head-head.ensures.value there gives below
+    (as_told lib own plan s x (option_copied c.told_by-given.result) c.in_ok-told.told (option_copied c.implied_by-gives.result) (option_copied c.find_over.result) c.loop-child.left c.in_ok-left.left k.library c.told_by-given.ensures c.in_ok-told.ensures (c.in_ok-left.ensures plan s k)))
     (c.loop-child.invariant plan s k)
 
 pub returns-then-left-eq0 : goal.returns-then-left-eq0
 returns-then-left-eq0 t c = λ plan s k.
-    let o = c.args.object.now in
+    let o = c.args.placed.object.now in
     let lib = s.library in
     let own = c.args.counting.now.library.now in
     let h = c.head-head.result.now in
-    let implied = option_copied c.args.implied in
-    let over = option_copied c.args.over in
+    let implied = option_copied c.args.placed.implied in
+    let over = option_copied c.args.placed.over in
     let x = c.child-item.result in
     let fs = lent c.in_ok-from.from.items in
     let there : fs ≡ sources lib o.head implied over = from_is lib own o h implied over fs fs refl c.in_ok-from.ensures k.library c.head-head.ensures.value in
     let names : (n : List ℕ) → found c.in_ok-names.names n ≡ overridden (Some n) fs = λ n. c.in_ok-names.ensures n ∙ ap (λ (l : List Object). overridden (Some n) l) (ap lent c.as_slice-2.ensures.value) in
-    let below : option_copied c.find_over-below.result ≡ overridden x.head.name fs = c.find_over-below.ensures fs names ∙ ap (λ (j : Head). overridden j.name fs) c.head.ensures.value in
+    let below : option_copied c.find_over.result ≡ overridden x.head.name fs = c.find_over.ensures fs names ∙ ap (λ (j : Head). overridden j.name fs) c.head.ensures.value in
     let gives : option_copied c.implied_by-gives.result ≡ implied_by (inherited_head h fs) = c.implied_by-gives.ensures ∙ ap (λ (l : List Object). implied_by (inherited_head h l)) (ap lent c.as_slice.ensures.value) in
     over_limit c.args.most lib plan s o implied over c.children-child-items.result.now (c.loop-child.child-index + 1) c.in_ok-left.left c.children-child-items.ensures.value c.if-left-eq0.true
     (step c.args.most lib plan s o implied over c.children-child-items.result.now c.loop-child.child-index c.loop-child.left c.in_ok-left.left x c.loop-child-test.true c.child-item.is
-    (under lib own plan s o x h implied (option_copied c.implied_by-gives.result) over (option_copied c.find_over-below.result) fs c.loop-child.left c.in_ok-left.left k.library c.head-head.ensures.value there gives below
-    (as_told lib own plan s x (option_copied c.told_by-given.result) c.in_ok-told.told (option_copied c.implied_by-gives.result) (option_copied c.find_over-below.result) c.loop-child.left c.in_ok-left.left k.library c.told_by-given.ensures c.in_ok-told.ensures (c.in_ok-left.ensures plan s k)))
+    (under lib own plan s o x h implied (option_copied c.implied_by-gives.result) over (option_copied c.find_over.result) fs c.loop-child.left c.in_ok-left.left k.library c.head-head.ensures.value there gives below
+    (as_told lib own plan s x (option_copied c.told_by-given.result) c.in_ok-told.told (option_copied c.implied_by-gives.result) (option_copied c.find_over.result) c.loop-child.left c.in_ok-left.left k.library c.told_by-given.ensures c.in_ok-told.ensures (c.in_ok-left.ensures plan s k)))
     (c.loop-child.invariant plan s k))
 
 -- what is added, by the sources and the words
@@ -141,12 +141,12 @@ pub returns : goal.returns
 returns t c =
     IfOk-weaker c.left_after_added.result _ _
     (λ n is plan s k.
-    let o = c.args.object.now in
+    let o = c.args.placed.object.now in
     let lib = s.library in
     let own = c.args.counting.now.library.now in
     let h = c.head-head.result.now in
-    let implied = option_copied c.args.implied in
-    let over = option_copied c.args.over in
+    let implied = option_copied c.args.placed.implied in
+    let over = option_copied c.args.placed.over in
     let fs = lent c.in_ok-from.from.items in
     let F = sources lib o.head implied over in
     let more = derived plan s (node_path o.head) in

@@ -9,11 +9,11 @@ use Rattle.ob_site_file.specs.Sizes.{IsCounting, row_count}
 use Rattle.ob_site_file.proofs.size.+left_after_shown.Given as goal
 
 abbrev pub decreases-left_after_shown : goal.decreases-left_after_shown
-decreases-left_after_shown l = parts l.object.now
+decreases-left_after_shown l = parts l.placed.object.now
 
 abbrev pub invariant-loop-child : goal.invariant-loop-child
 invariant-loop-child l = (plan : Plan) (s : State) → IsCounting l.counting plan s
-    → l.left - row_count s.library (implied_by (inherited_head l.object.head (sources s.library l.object.head (option_copied l.implied) (option_copied l.over)))) (sources s.library l.object.head (option_copied l.implied) (option_copied l.over))
+    → l.left - row_count s.library (implied_by (inherited_head l.placed.object.now.head (sources s.library l.placed.object.now.head (option_copied l.placed.implied) (option_copied l.placed.over)))) (sources s.library l.placed.object.now.head (option_copied l.placed.implied) (option_copied l.placed.over))
     (with_roles plan s (in_row (drop l.child-index l.child-items)))
-    ≡ l.most - (1 + row_count s.library (implied_by (inherited_head l.object.head (sources s.library l.object.head (option_copied l.implied) (option_copied l.over)))) (sources s.library l.object.head (option_copied l.implied) (option_copied l.over))
+    ≡ l.most - (1 + row_count s.library (implied_by (inherited_head l.placed.object.now.head (sources s.library l.placed.object.now.head (option_copied l.placed.implied) (option_copied l.placed.over)))) (sources s.library l.placed.object.now.head (option_copied l.placed.implied) (option_copied l.placed.over))
     (with_roles plan s (in_row l.child-items)))

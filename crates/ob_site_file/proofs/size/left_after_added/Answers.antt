@@ -32,4 +32,4 @@ returns c =
     c.in_ok-there.ensures q ∙ taken-append q (children o) (map stood c.as_slice-2.result.now)
     ∙ ap₂ (λ a b. a || b) (sym (dressed_names plan s q o.inner)) (ap (is_taken (Some q)) (ap (map stood) c.as_slice-2.ensures.value ∙ same) ∙ plain_names q more)
     ∙ sym (taken-append q kids more) in
-    left_both c.args.most c.in_ok-left.left n (row_count lib g ss (in_row more)) (count (in_row (missing (kids ++ more) (lent c.args.from.now)))) first (is (kids ++ more) names)) c.left_after_missing.ensures
+    left_both c.args.most c.in_ok-left.left n (row_count lib g ss (in_row more)) (count (in_row (missing (kids ++ more) (lent c.args.above.now.from.now)))) first (is (kids ++ more) names)) c.left_after_missing.ensures
