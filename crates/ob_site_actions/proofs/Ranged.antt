@@ -34,7 +34,7 @@ named_node plan s r place none here =
     ap₂ (λ (q : Option Object) (b : Bool). or_else q (cond b (shown plan s r) None)) (sym none) (is_there r s.tree ∙ ap is_some (sym here))
 
 -- then an own node
-node_has : (plan : Plan) (s : State) (r : Path) (n : Text) (k : ℕ) (has : Bool) → PathsDiffer (row (dressed plan s)) → None ≡ contract_of s.library r → Some k ≡ place_of r (paths s.tree)
+pub node_has : (plan : Plan) (s : State) (r : Path) (n : Text) (k : ℕ) (has : Bool) → PathsDiffer (row (dressed plan s)) → None ≡ contract_of s.library r → Some k ≡ place_of r (paths s.tree)
     → option_map (λ (o : Object). is_some (child n o)) (own_shown_at plan s k) ≡ Some has → has ≡ has_child n (ranged plan s r)
 node_has plan s r n k has differ none here is =
     has_if n (own_shown_at plan s k) has is
@@ -43,8 +43,3 @@ node_has plan s r n k has differ none here is =
 -- and what names nothing holds no value back
 pub nothing_has : (plan : Plan) (s : State) (r : Path) (n : Text) → None ≡ contract_of s.library r → None ≡ place_of r (paths s.tree) → true ≡ has_child n (ranged plan s r)
 nothing_has plan s r n none here = sym (ap (has_child n) (named_node plan s r None none here))
-
-pub node_told : (plan shows : Plan) (s t : State) (r : Path) (n : Text) (k : ℕ) (has : Bool) → shows ≡ plan → t ≡ s → PathsDiffer (row (dressed plan s)) → Some k ≡ place_of r (paths s.tree)
-    → option_map (λ (o : Object). is_some (child n o)) (own_shown_at shows t k) ≡ Some has → contract_of s.library r ≡ None → has ≡ has_child n (ranged plan s r)
-node_told plan shows s t r n k has e f differ here is none =
-    node_has plan s r n k has differ (sym none) here (ap₂ (λ (x : Plan) (y : State). option_map (λ (o : Object). is_some (child n o)) (own_shown_at x y k)) (sym e) (sym f) ∙ is)

@@ -1,5 +1,5 @@
 -- What is wrong with a write is told by what is asked of its target.
-use Rattle.std.proofs.Common.{◌≡◌, ℕ, Bool, true, false, not, cond, ◌∷◌, [], Option, Some, None, option_map, refl, sym, ap, ap₂, ◌∙◌}
+use Rattle.std.proofs.Common.{◌≡◌, ℕ, Bool, true, false, not, cond, ◌∷◌, [], Option, Some, None, option_map, refl, sym, ap, ◌∙◌}
 use Rattle.std.specs.Prelude.{is_some, unwrap_or, IfSome}
 use Rattle.std.specs.Option.{option_or}
 use Rattle.ob_values.specs.declared.value.Value.{Value}
@@ -36,9 +36,9 @@ is_target plan s p o e = go (shown plan s p) refl e
     go None f g = absurd (none_same g)
     go (Some x) f g = (x, (f, ap target (some_same g)))
 
-pub all_targets : (plan shows : Plan) (s t : State) (p : Path) (found : Option Object) → shows ≡ plan → t ≡ s → IfSome found (λ o. option_map target (shown shows t p) ≡ Some o) → IfSome found (λ o. IsTarget plan s p o)
-all_targets plan shows s t p None e f is = tt
-all_targets plan shows s t p (Some o) e f is = is_target plan s p o (ap₂ (λ (x : Plan) (y : State). option_map target (shown x y p)) (sym e) (sym f) ∙ is)
+pub all_targets : (plan : Plan) (s : State) (p : Path) (found : Option Object) → IfSome found (λ o. option_map target (shown plan s p) ≡ Some o) → IfSome found (λ o. IsTarget plan s p o)
+all_targets plan s p None is = tt
+all_targets plan s p (Some o) is = is_target plan s p o is
 
 -- a value is held against a target as against the object
 listed_same : (plan : Plan) (s : State) (h : Head) (v : Value) → is_listed plan s (target_head h) v ≡ is_listed plan s h v

@@ -1,7 +1,7 @@
 //! One action at a place.
 ghost use Rattle.std.specs.Prelude.{◌≡◌, Some, IfOk, IfErr};
 ghost use Rattle.std.specs.Option.{option_copied};
-ghost use Rattle.ob_site_rules.specs.Places.{place_at, object_at};
+ghost use Rattle.ob_site_rules.specs.Places.{place_at};
 ghost use Rattle.ob_site_rules.specs.Actions.{put_at, act_at};
 ghost use Rattle.ob_site_actions.specs.Stops.{IsDone, Stops};
 
@@ -10,10 +10,9 @@ use crate::{NotDone, put};
 use ob_contracts::Steps;
 use ob_object::Obj;
 use ob_site_reads::object_at;
-use ob_site_rules::{Fault, Resource};
+use ob_site_rules::{Fault, Request, Resource};
 use ob_site_state::State;
 use ob_values::{Text, Verb};
-use std::alloc::AllocError;
 use std::sync::ledger::Ledger;
 
 /// A write at a place: only a node is put to.
@@ -46,47 +45,26 @@ fn put_at<L: Ledger>(
     }
 }
 
-/// The object that is read at a path, which names this place.
-fn read_at<L: Ledger>(
-    state: &State,
-    path: &Text,
-    place: Resource,
-    steps: &mut Steps<L>,
-) -> Result<Obj, AllocError>
-    ensures { IfOk result (λ o. o ≡ object_at state.now.plan state.now.now state.now.time path.now place) }
-{
-    state.sound_law();
-    object_at(
-        state.allocator(),
-        state.plan(),
-        state.contents(),
-        state.time(),
-        path,
-        place,
-        steps,
-    )
-}
-
-/// One action at a place.
+/// One action at a place: what a request asks of a path, which names this place.
 ///
 /// Source: oBIX 1.1, chapter 10 (Networking: Read, Write and Invoke).
 pub fn act_at<L: Ledger>(
     state: &mut State,
+    request: &Request,
     path: &Text,
-    verb: Verb,
     place: Resource,
-    body: Option<&Obj>,
     steps: &mut Steps<L>,
 ) -> Result<Obj, NotDone>
     requires { place_at state.old.plan state.old.now path.now ≡ Some place }
     ensures ok { IfOk result (IsDone state.old state.new
-        (act_at state.old.plan state.old.now state.old.time path.now verb place (option_copied body.entry))) }
+        (act_at state.old.plan state.old.now state.old.time path.now request.now.verb place request.now.body)) }
     ensures stop { IfErr result (Stops state.old state.new
-        (act_at state.old.plan state.old.now state.old.time path.now verb place (option_copied body.entry))) }
+        (act_at state.old.plan state.old.now state.old.time path.now request.now.verb place request.now.body)) }
 {
-    match verb {
+    let body = request.body.as_ref();
+    match request.verb {
         Verb::Get => {
-            let reply = read_at(state, path, place, steps)?;
+            let reply = object_at(state, path, place, steps)?;
             Ok(reply)
         }
         Verb::Put => put_at(state, path, &place, body, steps),

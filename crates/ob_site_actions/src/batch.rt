@@ -5,7 +5,6 @@ ghost use Rattle.std.specs.Option.{option_copied};
 ghost use Rattle.ob_site_rules.specs.declared.fault.Fault.TheVariants.{NotInBatch, NoSuchObject};
 ghost use Rattle.ob_site_rules.specs.Faults.{first_fault};
 ghost use Rattle.ob_site_rules.specs.Locating.{locate};
-ghost use Rattle.ob_site_rules.specs.Places.{place_at};
 ghost use Rattle.ob_site_rules.specs.Actions.{is_of_watch, is_post, is_left_out, item_on, act_item, act_all, item_request};
 ghost use Rattle.ob_site_rules.specs.Actions.{batch, batch_rows, act_located};
 ghost use Rattle.ob_requests.specs.BatchCalls.{is_batch_call};
@@ -45,24 +44,6 @@ fn is_left_out(place: &Resource) -> bool
     }
 }
 
-/// What a path names, if it names something.
-fn named<L: Ledger>(
-    state: &State,
-    path: &Text,
-    steps: &mut Steps<L>,
-) -> Result<Option<Resource>, AllocError>
-    ensures { IfOk result (λ place. place ≡ place_at state.now.plan state.now.now path.now) }
-{
-    state.sound_law();
-    place_at(
-        state.allocator(),
-        state.plan(),
-        state.contents(),
-        path,
-        steps,
-    )
-}
-
 /// Why an item whose path names nothing is refused.
 fn nowhere(state: &State, numbers: &[u64], path: &Text) -> Fault
     ensures { result ≡ cond (is_of_watch state.now.plan numbers.now path.now) NotInBatch NoSuchObject }
@@ -88,20 +69,13 @@ fn item_there<L: Ledger>(
     ensures stop { IfErr result (Stops state.old state.new
         (item_on state.old.plan state.old.now numbers.now state.old.time request.now (Some path.now))) }
 {
-    let Some(place) = named(state, path, steps)? else {
+    let Some(place) = place_at(state, path, steps)? else {
         return Err(NotDone::Refused(nowhere(state, numbers, path)));
     };
     if is_left_out(&place) {
         return Err(NotDone::Refused(Fault::NotInBatch));
     }
-    act_at(
-        state,
-        path,
-        request.verb,
-        place,
-        request.body.as_ref(),
-        steps,
-    )
+    act_at(state, request, path, place, steps)
 }
 
 /// An item of a batch at its path.
@@ -282,14 +256,13 @@ fn act_there<L: Ledger>(
     ensures stop { IfErr result (Stops state.old state.new
         (act_located locate state.old.plan state.old.now numbers.now state.old.time request.now (Some path.now))) }
 {
-    let Some(place) = named(state, path, steps)? else {
+    let Some(place) = place_at(state, path, steps)? else {
         return Err(NotDone::Refused(Fault::NoSuchObject));
     };
-    let body = request.body.as_ref();
     if is_batch_call(&place, request.verb) {
-        return batch(state, numbers, body, steps);
+        return batch(state, numbers, request.body.as_ref(), steps);
     }
-    act_at(state, path, request.verb, place, body, steps)
+    act_at(state, request, path, place, steps)
 }
 
 /// A request at its path.

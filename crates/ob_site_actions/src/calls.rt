@@ -1,22 +1,20 @@
 //! Calls of ops.
 ghost use Rattle.std.specs.Prelude.{◌≡◌, Some, true, IfOk, IfErr};
 ghost use Rattle.std.specs.Option.{option_copied};
-ghost use Rattle.ob_site_rules.specs.State.{board, is_among};
+ghost use Rattle.ob_site_rules.specs.State.{is_among};
 ghost use Rattle.ob_site_rules.specs.Places.{place_at};
-ghost use Rattle.ob_site_rules.specs.Entries.{records_out, alarms_out};
-ghost use Rattle.ob_site_rules.specs.Posts.{child_of_obj, query, records_of, write_point, call, acknowledge, or_nil};
+ghost use Rattle.ob_site_rules.specs.Posts.{child_of_obj, write_point, call, acknowledge, or_nil};
 ghost use Rattle.ob_site_actions.specs.Stops.{IsDone, Stops};
 
 use crate::acks::acknowledge;
-use crate::{NotDone, shown, write_by, write_fault};
+use crate::{NotDone, write_by, write_fault};
 use ob_contracts::Steps;
 use ob_object::{Kind, Obj};
 use ob_replies::nil;
-use ob_site_reads::{query_alarms, query_records};
+use ob_site_reads::{query_alarms, query_records, shown_at};
 use ob_site_rules::{Fault, Resource};
 use ob_site_state::State;
 use ob_values::Text;
-use std::alloc::AllocError;
 use std::sync::ledger::Ledger;
 
 /// The child of an obj.
@@ -44,7 +42,7 @@ fn write_shown<L: Ledger>(
         (write_point state.old.plan state.old.now state.old.time point.now (Some new.now))) }
 {
     state.sound_law();
-    match shown(state, point, steps)? {
+    match shown_at(state, point, steps)? {
         Some(target) => write_by(state, point, &target, new, steps),
         None => unreachable!(),
     }
@@ -74,23 +72,6 @@ fn write_point<L: Ledger>(
         return Err(NotDone::Refused(fault));
     }
     write_shown(state, point, new, steps)
-}
-
-/// The answer to a query of a history.
-fn records_asked(state: &State, history: &Text, input: Option<&Obj>) -> Result<Obj, AllocError>
-    ensures { IfOk result (λ o. o
-        ≡ query (λ f. records_out f (records_of state.now.now history.now)) (option_copied input.entry)) }
-{
-    state.sound_law();
-    query_records(state.allocator(), state.contents(), history, input)
-}
-
-/// The answer to a query of the alarms.
-fn alarms_asked(state: &State, input: Option<&Obj>) -> Result<Obj, AllocError>
-    ensures { IfOk result (λ o. o ≡ query (alarms_out (board state.now.plan state.now.now)) (option_copied input.entry)) }
-{
-    state.sound_law();
-    query_alarms(state.allocator(), state.plan(), state.contents(), input)
 }
 
 /// An acknowledgement whose input may be left out: then it is Nil.
@@ -132,11 +113,11 @@ pub fn call<L: Ledger>(
             None => write_point(state, point, None, steps),
         },
         Resource::QueryOf(history) => {
-            let reply = records_asked(state, history, input)?;
+            let reply = query_records(state, history, input)?;
             Ok(reply)
         }
         Resource::AlarmQuery => {
-            let reply = alarms_asked(state, input)?;
+            let reply = query_alarms(state, input)?;
             Ok(reply)
         }
         Resource::About

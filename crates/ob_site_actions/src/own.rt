@@ -41,33 +41,26 @@ fn own_reply<L: Ledger>(
     requires { node.number < parts state.now.now.tree }
     ensures { IfOk result (λ reply. (p : Path) (d : Object) → place_of p (paths state.now.now.tree) ≡ Some node.number → reply ≡ reply_at state.now.plan state.now.now p d) }
 {
-    state.sound_law();
-    let shown = shown_own(
-        state.allocator(),
-        state.plan(),
-        state.contents(),
-        node,
-        steps,
-    )?;
+    let shown = shown_own(state, node, steps)?;
     Ok(nameless(shown))
 }
 
 /// Writes a value in which nothing is wrong to an own node, of which this is asked, and answers what is shown there then.
 fn show_own<L: Ledger>(
     state: &mut State,
-    node: NodeId,
-    path: &Text,
+    at: OwnNode<'_>,
     own: &Obj,
     slot: &Slot,
     steps: &mut Steps<L>,
 ) -> Result<Obj, AllocError>
-    requires place { place_of path.now (paths state.old.now.tree) ≡ Some node.number }
-    requires can { CanBeWritten state.old.plan state.old.now path.now own.now.head.kind slot.now }
-    requires room { overfills state.old.plan state.old.now state.old.time path.now own.now.head slot.now ≡ false }
-    ensures ok { IfOk result (λ reply. (d : Object) → IsDone state.old state.new (showing state.old.plan path.now d (written state.old.plan state.old.time path.now own.now slot.now state.old.now)) reply) }
+    requires place { place_of at.path.now (paths state.old.now.tree) ≡ Some at.node.number }
+    requires can { CanBeWritten state.old.plan state.old.now at.path.now own.now.head.kind slot.now }
+    requires room { overfills state.old.plan state.old.now state.old.time at.path.now own.now.head slot.now ≡ false }
+    ensures ok { IfOk result (λ reply. (d : Object) → IsDone state.old state.new (showing state.old.plan at.entry.path.now d (written state.old.plan state.old.time at.entry.path.now own.now slot.now state.old.now)) reply) }
     ensures stays { state.new ≡ record state.old { now = state.new.now } }
 {
-    write_if_changed(state, OwnNode { node, path }, own.head(), slot, steps)?;
+    let node = at.node;
+    write_if_changed(state, at, own.head(), slot, steps)?;
     own_reply(state, node, steps)
 }
 
@@ -75,63 +68,60 @@ fn show_own<L: Ledger>(
 /// then.
 fn write_head<L: Ledger>(
     state: &mut State,
-    node: NodeId,
-    path: &Text,
+    at: OwnNode<'_>,
     own: &Obj,
     new: &Attributes,
     steps: &mut Steps<L>,
 ) -> Result<Obj, NotDone>
-    requires place { place_of path.now (paths state.old.now.tree) ≡ Some node.number }
-    requires asked { IsTarget state.old.plan state.old.now path.now own.now }
+    requires place { place_of at.path.now (paths state.old.now.tree) ≡ Some at.node.number }
+    requires asked { IsTarget state.old.plan state.old.now at.path.now own.now }
     requires values { has_values own.now.head.kind ≡ true }
     requires held { has_values new.now.kind ≡ true → IsTrue (fits_slot new.now.kind new.now.slot) → IsTrue (holds_value new.now.kind new.now.slot) }
-    ensures ok { IfOk result (DoneBy state.old state.new (head_faults state.old path.now own.now new.now) (head_makes state.old path.now own.now new.now)) }
-    ensures stop { IfErr result (StopsBy state.old state.new (head_faults state.old path.now own.now new.now)) }
+    ensures ok { IfOk result (DoneBy state.old state.new (head_faults state.old at.entry.path.now own.now new.now) (head_makes state.old at.entry.path.now own.now new.now)) }
+    ensures stop { IfErr result (StopsBy state.old state.new (head_faults state.old at.entry.path.now own.now new.now)) }
 {
     state.sound_law();
-    if let Some(fault) = value_fault(state, path, own, new, steps)? {
+    if let Some(fault) = value_fault(state, at.path, own, new, steps)? {
         return Err(NotDone::Refused(fault));
     }
-    let reply = show_own(state, node, path, own, new.slot(), steps)?;
+    let reply = show_own(state, at, own, new.slot(), steps)?;
     Ok(reply)
 }
 
 /// Puts the value that a body gives to an own node, of which this is asked, where nothing is wrong with the node.
 fn put_body<L: Ledger>(
     state: &mut State,
-    node: NodeId,
-    path: &Text,
+    at: OwnNode<'_>,
     own: &Obj,
     body: &Obj,
     steps: &mut Steps<L>,
 ) -> Result<Obj, NotDone>
-    requires place { place_of path.now (paths state.old.now.tree) ≡ Some node.number }
-    requires asked { IsTarget state.old.plan state.old.now path.now own.now }
+    requires place { place_of at.path.now (paths state.old.now.tree) ≡ Some at.node.number }
+    requires asked { IsTarget state.old.plan state.old.now at.path.now own.now }
     requires free { target_fault own.now.head ≡ None }
-    ensures ok { IfOk result (DoneBy state.old state.new (head_faults state.old path.now own.now (writes.given_by state.old.now body.now)) (head_makes state.old path.now own.now (writes.given_by state.old.now body.now))) }
-    ensures stop { IfErr result (StopsBy state.old state.new (head_faults state.old path.now own.now (writes.given_by state.old.now body.now))) }
+    ensures ok { IfOk result (DoneBy state.old state.new (head_faults state.old at.entry.path.now own.now (writes.given_by state.old.now body.now)) (head_makes state.old at.entry.path.now own.now (writes.given_by state.old.now body.now))) }
+    ensures stop { IfErr result (StopsBy state.old state.new (head_faults state.old at.entry.path.now own.now (writes.given_by state.old.now body.now))) }
 {
     let given = given_by(state.allocator(), state.library(), body, steps)?;
-    write_head(state, node, path, own, &given, steps)
+    write_head(state, at, own, &given, steps)
 }
 
 /// The same with a body or none.
 fn put_free<L: Ledger>(
     state: &mut State,
-    node: NodeId,
-    path: &Text,
+    at: OwnNode<'_>,
     own: &Obj,
     body: Option<&Obj>,
     steps: &mut Steps<L>,
 ) -> Result<Obj, NotDone>
-    requires place { place_of path.now (paths state.old.now.tree) ≡ Some node.number }
-    requires asked { IsTarget state.old.plan state.old.now path.now own.now }
+    requires place { place_of at.path.now (paths state.old.now.tree) ≡ Some at.node.number }
+    requires asked { IsTarget state.old.plan state.old.now at.path.now own.now }
     requires free { target_fault own.now.head ≡ None }
-    ensures ok { IfOk result (DoneBy state.old state.new (put_faults state.old path.now own.now (option_copied body.entry)) (put_makes state.old path.now own.now (option_copied body.entry))) }
-    ensures stop { IfErr result (StopsBy state.old state.new (put_faults state.old path.now own.now (option_copied body.entry))) }
+    ensures ok { IfOk result (DoneBy state.old state.new (put_faults state.old at.entry.path.now own.now (option_copied body.entry)) (put_makes state.old at.entry.path.now own.now (option_copied body.entry))) }
+    ensures stop { IfErr result (StopsBy state.old state.new (put_faults state.old at.entry.path.now own.now (option_copied body.entry))) }
 {
     match body {
-        Some(body) => put_body(state, node, path, own, body, steps),
+        Some(body) => put_body(state, at, own, body, steps),
         None => Err(NotDone::Refused(Fault::OtherShape)),
     }
 }
@@ -139,38 +129,36 @@ fn put_free<L: Ledger>(
 /// A Put to an own node, of which this is asked.
 fn put_node<L: Ledger>(
     state: &mut State,
-    node: NodeId,
-    path: &Text,
+    at: OwnNode<'_>,
     own: &Obj,
     body: Option<&Obj>,
     steps: &mut Steps<L>,
 ) -> Result<Obj, NotDone>
-    requires place { place_of path.now (paths state.old.now.tree) ≡ Some node.number }
-    requires asked { IsTarget state.old.plan state.old.now path.now own.now }
-    ensures ok { IfOk result (DoneBy state.old state.new (put_faults state.old path.now own.now (option_copied body.entry)) (put_makes state.old path.now own.now (option_copied body.entry))) }
-    ensures stop { IfErr result (StopsBy state.old state.new (put_faults state.old path.now own.now (option_copied body.entry))) }
+    requires place { place_of at.path.now (paths state.old.now.tree) ≡ Some at.node.number }
+    requires asked { IsTarget state.old.plan state.old.now at.path.now own.now }
+    ensures ok { IfOk result (DoneBy state.old state.new (put_faults state.old at.entry.path.now own.now (option_copied body.entry)) (put_makes state.old at.entry.path.now own.now (option_copied body.entry))) }
+    ensures stop { IfErr result (StopsBy state.old state.new (put_faults state.old at.entry.path.now own.now (option_copied body.entry))) }
 {
     match target_fault(own.head()) {
         Some(fault) => Err(NotDone::Refused(fault)),
-        None => put_free(state, node, path, own, body, steps),
+        None => put_free(state, at, own, body, steps),
     }
 }
 
 /// The same, as the definition has it of what is shown at the path.
 fn put_shown<L: Ledger>(
     state: &mut State,
-    node: NodeId,
-    path: &Text,
+    at: OwnNode<'_>,
     own: &Obj,
     body: Option<&Obj>,
     steps: &mut Steps<L>,
 ) -> Result<Option<Obj>, NotDone>
-    requires place { place_of path.now (paths state.old.now.tree) ≡ Some node.number }
-    requires asked { IsTarget state.old.plan state.old.now path.now own.now }
-    ensures ok { IfOk result (λ done. MatchOption done (state.new ≡ state.old) (IsPut state.old state.new path.now (option_copied body.entry))) }
-    ensures stop { IfErr result (StopsPut state.old state.new path.now (option_copied body.entry)) }
+    requires place { place_of at.path.now (paths state.old.now.tree) ≡ Some at.node.number }
+    requires asked { IsTarget state.old.plan state.old.now at.path.now own.now }
+    ensures ok { IfOk result (λ done. MatchOption done (state.new ≡ state.old) (IsPut state.old state.new at.entry.path.now (option_copied body.entry))) }
+    ensures stop { IfErr result (StopsPut state.old state.new at.entry.path.now (option_copied body.entry)) }
 {
-    match put_node(state, node, path, own, body, steps) {
+    match put_node(state, at, own, body, steps) {
         Ok(reply) => Ok(Some(reply)),
         Err(stop) => Err(stop),
     }
@@ -189,7 +177,7 @@ fn put_at<L: Ledger>(
     ensures stop { IfErr result (StopsPut state.old state.new path.now (option_copied body.entry)) }
 {
     match target_at(state, path, steps)? {
-        Some(own) => put_shown(state, node, path, &own, body, steps),
+        Some(own) => put_shown(state, OwnNode { node, path }, &own, body, steps),
         None => Ok(None),
     }
 }

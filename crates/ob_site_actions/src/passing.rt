@@ -2,11 +2,11 @@
 ghost use Rattle.std.specs.Prelude.{◌≡◌, not, is_some, IfOk};
 ghost use Rattle.ob_points.specs.Points.{suits, passes};
 
-use crate::reading::shown;
 use crate::stopping::target_at;
 use crate::value::held_fault;
 use ob_contracts::Steps;
 use ob_object::Obj;
+use ob_site_reads::shown_at;
 use ob_site_rules::Fault;
 use ob_site_state::State;
 use ob_values::{Text, Value};
@@ -45,7 +45,7 @@ fn shown_suits<L: Ledger>(
 ) -> Result<bool, AllocError>
     ensures { IfOk result (λ yes. yes ≡ passes state.now.plan state.now.now path.now value.now) }
 {
-    match shown(state, path, steps)? {
+    match shown_at(state, path, steps)? {
         Some(object) => suits(state, &object, value, steps),
         None => Ok(false),
     }

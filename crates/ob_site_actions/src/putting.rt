@@ -12,11 +12,11 @@ ghost use Rattle.ob_site_actions.specs.Fitting.{CanBeWritten};
 ghost use Rattle.ob_site_actions.specs.Stops.{IsDone, Stops};
 
 use crate::not_done::NotDone;
-use crate::reading::reply_object;
 use crate::value::{target_fault, value_fault};
 use crate::written::written_at;
 use ob_contracts::{Library, Steps, View};
 use ob_object::{Attributes, Obj, Slot};
+use ob_site_reads::reply_at;
 use ob_site_rules::Fault;
 use ob_site_state::State;
 use ob_values::Text;
@@ -38,7 +38,7 @@ fn show_written<L: Ledger>(
 {
     written_at(state, path, object.head(), slot, steps)?;
     let default = object.copy()?;
-    reply_object(state, path, default, steps)
+    reply_at(state, path, default, steps)
 }
 
 /// Writes the value of a head to the object shown at a path, where nothing is wrong, and answers what is shown there

@@ -23,8 +23,7 @@ use std::sync::ledger::Ledger;
 fn is_free(state: &State, path: &Text) -> Result<bool, AllocError>
     ensures { IfOk result (λ free. free ≡ true → at path.now (computed_places state.now.plan state.now.now) ≡ None) }
 {
-    state.sound_law();
-    let found = computed_place(state.allocator(), state.plan(), state.contents(), path)?;
+    let found = computed_place(state, path)?;
     Ok(found.is_none())
 }
 
@@ -32,8 +31,7 @@ fn is_free(state: &State, path: &Text) -> Result<bool, AllocError>
 fn post_fault(state: &State, path: &Text, body: Option<&Obj>) -> Option<Fault>
     ensures { IfSome result (λ f. IsRefused state.now.plan state.now.now path.now (λ o. act_at state.now.plan state.now.now state.now.time path.now Post (Node o) (option_copied body.entry)) f) }
 {
-    state.sound_law();
-    match own_kind(state.plan(), state.contents(), path) {
+    match own_kind(state, path) {
         Some(_kind) => Some(Fault::NotSupported),
         None => None,
     }

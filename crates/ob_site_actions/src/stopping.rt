@@ -22,14 +22,7 @@ pub(crate) fn target_at<L: Ledger>(
 ) -> Result<Option<Obj>, AllocError>
     ensures { IfOk result (λ found. IfSome found (λ o. IsTarget state.now.plan state.now.now path.now o)) }
 {
-    state.sound_law();
-    own_target(
-        state.allocator(),
-        state.plan(),
-        state.contents(),
-        path,
-        steps,
-    )
+    own_target(state, path, steps)
 }
 
 /// What is wrong with the value that a body gives for a target.

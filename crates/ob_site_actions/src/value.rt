@@ -42,14 +42,7 @@ fn node_has<L: Ledger>(
     match state.tree().get(range) {
         Some(node) => {
             state.sound_law();
-            shows_child(
-                state.allocator(),
-                state.plan(),
-                state.contents(),
-                node,
-                name,
-                steps,
-            )
+            shows_child(state, node, name, steps)
         }
         None => Ok(true),
     }

@@ -18,29 +18,13 @@ use Rattle.ob_site_rules.specs.State.{Log, State, at, board}
 use Rattle.ob_site_rules.specs.Locating.{locate}
 use Rattle.ob_site_rules.specs.Entries.{record_object, event_object, event_objects, first_events, is_within}
 use Rattle.ob_site_rules.specs.declared.resource.Resource.{Resource}
-use Rattle.ob_site_rules.specs.declared.resource.Resource.TheVariants.{About, Batch, Service, Make, AlarmAt, AckOf, WritePointOf, QueryOf, FeedOf, AlarmQuery, AlarmFeed, Node}
+use Rattle.ob_site_rules.specs.declared.resource.Resource.TheVariants.{FeedOf, AlarmFeed}
 use Rattle.ob_site_rules.specs.Places.{event_places}
 use Rattle.ob_site_rules.specs.Posts.{kept_in}
 use Rattle.ob_site_rules.specs.Replies.{content_object}
 use Rattle.ob_site_rules.specs.Sites.{site}
 use Rattle.ob_site_rules.specs.Watched.{passes, events_at, gone_in, gone_at, feed_there}
-use Rattle.ob_site_reads.specs.Events.{events_of, feed_of_some}
-
--- what the definitions call the events of a feed
-pub events_are : (plan : Plan) (s : State) (b : Board) (place : Option Resource) → (let c : Board = record b { spare = 0 } in c) ≡ board plan s → events_of s b place ≡ events_at plan s place
-events_are plan s b None e = refl
-events_are plan s b (Some (FeedOf h)) e = refl
-events_are plan s b (Some AlarmFeed) e = ap (λ (c : Board). event_objects c) e
-events_are plan s b (Some About) e = refl
-events_are plan s b (Some Batch) e = refl
-events_are plan s b (Some Service) e = refl
-events_are plan s b (Some Make) e = refl
-events_are plan s b (Some (AlarmAt n)) e = refl
-events_are plan s b (Some (AckOf n)) e = refl
-events_are plan s b (Some (WritePointOf p)) e = refl
-events_are plan s b (Some (QueryOf h)) e = refl
-events_are plan s b (Some AlarmQuery) e = refl
-events_are plan s b (Some (Node o)) e = refl
+use Rattle.ob_site_reads.specs.Events.{feed_of_some}
 
 -- a record passes by its time
 pub record_passes : (f : Filter) (r : Record) → passes f (record_object r) ≡ is_within f r.time
@@ -158,20 +142,20 @@ length-map_records : (rs : List Record) → length rs ≡ length (map record_obj
 length-map_records [] = refl
 length-map_records (r ∷ rs) = ap suc (length-map_records rs)
 
-pub log_ever : (s : State) (b : Board) (h : Path) (l : Log) (place : Option Resource) (n : ℕ) → place ≡ Some (FeedOf h) → Some l ≡ at h s.logs → n ≡ l.gone + length l.kept
-    → n ≡ gone_at s place + length (events_of s b place)
-log_ever s b h l place n here found is =
+pub log_ever : (plan : Plan) (s : State) (h : Path) (l : Log) (place : Option Resource) (n : ℕ) → place ≡ Some (FeedOf h) → Some l ≡ at h s.logs → n ≡ l.gone + length l.kept
+    → n ≡ gone_at s place + length (events_at plan s place)
+log_ever plan s h l place n here found is =
     is
     ∙ ap (λ (k : ℕ). l.gone + k) (length-map_records l.kept)
     ∙ ap (λ (o : Option Log). gone_in o + length (map record_object (kept_in o))) found
-    ∙ sym (ap (λ (o : Option Resource). gone_at s o + length (events_of s b o)) here)
+    ∙ sym (ap (λ (o : Option Resource). gone_at s o + length (events_at plan s o)) here)
 
-pub alarms_ever : (s : State) (b : Board) (place : Option Resource) (n : ℕ) → place ≡ Some AlarmFeed → n ≡ length b.events → n ≡ gone_at s place + length (events_of s b place)
-alarms_ever s b place n here is =
+pub alarms_ever : (plan : Plan) (s : State) (place : Option Resource) (n : ℕ) → place ≡ Some AlarmFeed → n ≡ length s.events → n ≡ gone_at s place + length (events_at plan s place)
+alarms_ever plan s place n here is =
     is
-    ∙ sym (length-first_events b (length b.events))
-    ∙ from_none (length (event_objects b))
-    ∙ sym (ap (λ (o : Option Resource). gone_at s o + length (events_of s b o)) here)
+    ∙ sym (length-first_events (board plan s) (length s.events))
+    ∙ from_none (length (event_objects (board plan s)))
+    ∙ sym (ap (λ (o : Option Resource). gone_at s o + length (events_at plan s o)) here)
   where
     from_none : (k : ℕ) → k ≡ 0 + k
     from_none k = omega arith

@@ -2,13 +2,11 @@ pub mod ByRole
 pub mod ChildNames
 pub mod Frees
 pub mod Leaves
-pub mod Lookups
 pub mod Nowhere
 pub mod OwnHeads
 pub mod Slashes
 pub mod Spans
 pub mod Stands
-pub mod NothingPut
 pub mod Alone
 pub mod Asked
 pub mod Fronts

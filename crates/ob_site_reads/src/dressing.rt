@@ -1,35 +1,36 @@
-//! Own objects with the children that roles derive, and the status of each rule's source.
-ghost use Rattle.std.specs.Prelude.{◌≡◌, ◌++◌, [], true, map, is_some, IfOk};
-ghost use Rattle.ob_object.specs.Object.{node, none};
-ghost use Rattle.ob_object.specs.Paths.{node_path};
-ghost use Rattle.ob_site_rules.specs.declared.plan.Plan.{Plan};
-ghost use Rattle.ob_site_rules.specs.State.{numbered_from};
-ghost use Rattle.ob_site_rules.specs.Shown.{derived as derived_by, rule_of, with_status};
+//! Own objects to which the children that roles derive are put, and the status of each rule's source.
+ghost use Rattle.std.specs.Prelude.{◌≡◌, ◌++◌, map, IfOk, OnOk};
+ghost use Rattle.std.specs.Option.{option_or};
+ghost use Rattle.ob_object.specs.Object.{in_row, node, none};
+ghost use Rattle.ob_site_rules.specs.Shown.{with_status};
 ghost use Rattle.ob_shown_laws.specs.Own.{derived_own};
 ghost use Rattle.ob_plain_state.specs.States.{NamesAreFree};
-ghost use Rattle.ob_site_state.specs.Roles.{AreRoles};
-ghost use Rattle.ob_site_state.specs.Contents.{state_in};
-ghost use Rattle.ob_site_state.specs.Kept.{keys};
 
 use crate::roles::derived;
-use ob_object::{Attributes, Obj};
-use ob_site_rules::Plan;
-use ob_site_state::Contents;
-use ob_values::Text;
-use std::alloc::{AllocError, Global};
+use ob_object::{Attributes, Obj, Status};
+use ob_site_state::State;
+use std::alloc::AllocError;
 
-/// A copy of a head, with the status of the alarms of its rule if it has one.
-fn dressed_head(contents: &Contents, head: &Attributes) -> Result<Attributes, AllocError>
-    ensures { (plan : Plan) → AreRoles contents.now.roles plan → contents.now.board.rules ≡ numbered_from 0 plan.rules
-        → IfOk result (λ h. h ≡ with_status plan (state_in contents.now) head.now) }
+/// The status of the alarms of a head's rule, if it has one.
+fn status_of(state: &State, head: &Attributes) -> Option<Status>
+    ensures { record head.now { facets = record head.now.facets { status = option_or result head.now.facets.status } } ≡ with_status state.now.plan state.now.now head.now }
 {
-    let mut dressed = head.copy()?;
-    if let Some(path) = head.node_path() {
-        if let Some(rule) = contents.roles.rule_of(path) {
-            dressed.put_status(Some(contents.board.status_of(rule as u64)));
-        }
+    match head.node_path() {
+        Some(path) => match state.rule_of(path) {
+            Some(rule) => Some(state.alarms().status_of(rule)),
+            None => None,
+        },
+        None => None,
     }
-    Ok(dressed)
+}
+
+/// Puts the status of the alarms of its rule to an object, if it has one.
+fn put_status(state: &State, object: &mut Obj)
+    ensures { object.new ≡ record object.old { head = with_status state.now.plan state.now.now object.old.head } }
+{
+    if let Some(status) = status_of(state, object.head()) {
+        let _old = object.replace_status(Some(status));
+    }
 }
 
 /// Objects behind others.
@@ -40,95 +41,30 @@ fn joined(mut first: Vec<Obj>, mut others: Vec<Obj>) -> Result<Vec<Obj>, AllocEr
     Ok(first)
 }
 
-/// An own object with the status of each source in it, and behind the own children of each node those that its
-/// roles derive. An error only for want of memory.
-pub fn with_derived(
-    alloc: Global,
-    plan: &Plan,
-    contents: &Contents,
-    object: &Obj,
-) -> Result<Obj, AllocError>
-    requires rules { contents.now.board.rules ≡ numbered_from 0 plan.now.rules }
-    requires roles { AreRoles contents.now.roles plan.now }
-    requires histories { keys (state_in contents.now).logs ≡ map (λ h. h.0) plan.now.histories }
-    requires free { NamesAreFree plan.now (state_in contents.now) (node object.now.head object.now.inner none) }
-    ensures { IfOk result (λ o. o ≡ derived_own plan.now (state_in contents.now) object.now) }
+/// Dresses each of some own objects.
+#[cycle(dressing)]
+fn dress_each(state: &State, objects: &mut [Obj]) -> Result<(), AllocError>
+    requires { NamesAreFree state.now.plan state.now.now (in_row objects.old) }
+    ensures { OnOk result (objects.new ≡ map (derived_own state.now.plan state.now.now) objects.old) }
 {
-    let head = dressed_head(contents, object.head())?;
-    let mut own = Vec::with_capacity(alloc, object.len())?;
-    for child in object.children() {
-        own.push(with_derived(alloc, plan, contents, child)?)?;
+    for object in objects.iter_mut() {
+        dress(state, object)?;
     }
-    let derived = derived(alloc, plan, contents, object.head().node_path())?;
-    let all = joined(own, derived)?;
-    Ok(Obj::with_children(head, all))
+    Ok(())
 }
 
-/// Whether a node has a rule.
-fn has_rule(contents: &Contents, path: &Text) -> bool
-    ensures { (plan : Plan) → AreRoles contents.now.roles plan → result ≡ is_some (rule_of plan path.now) }
+/// Puts to an own object the status of each source in it, and behind the own children of each node those that its roles
+/// derive. An error only for want of memory: what is left of the object then is not said.
+#[cycle(dressing)]
+pub(crate) fn dress(state: &State, object: &mut Obj) -> Result<(), AllocError>
+    requires { NamesAreFree state.now.plan state.now.now (node object.old.head object.old.inner none) }
+    ensures { OnOk result (object.new ≡ derived_own state.now.plan state.now.now object.old) }
 {
-    contents.roles.rule_of(path).is_some()
-}
-
-/// Whether a head shows no status of a rule.
-fn has_no_rule(contents: &Contents, head: &Attributes) -> bool
-    ensures { result ≡ true → (plan : Plan) → AreRoles contents.now.roles plan → with_status plan (state_in contents.now) head.now ≡ head.now }
-{
-    match head.node_path() {
-        Some(path) => !has_rule(contents, path),
-        None => true,
-    }
-}
-
-/// Whether no role derives a child of a head. An error only for want of memory.
-fn derives_none(
-    alloc: Global,
-    plan: &Plan,
-    contents: &Contents,
-    head: &Attributes,
-) -> Result<bool, AllocError>
-    requires roles { AreRoles contents.now.roles plan.now }
-    requires histories { keys (state_in contents.now).logs ≡ map (λ h. h.0) plan.now.histories }
-    ensures { IfOk result (λ none. none ≡ true → derived_by plan.now (state_in contents.now) (node_path head.now) ≡ []) }
-{
-    let children = derived(alloc, plan, contents, head.node_path())?;
-    Ok(children.as_slice().is_empty())
-}
-
-/// Whether nothing is put to an object: it has no children, no rule looks at it, and no role derives a child of it. An error only
-/// for want of memory.
-fn stays(alloc: Global, plan: &Plan, contents: &Contents, object: &Obj) -> Result<bool, AllocError>
-    requires roles { AreRoles contents.now.roles plan.now }
-    requires histories { keys (state_in contents.now).logs ≡ map (λ h. h.0) plan.now.histories }
-    ensures { IfOk result (λ stays. stays ≡ true → derived_own plan.now (state_in contents.now) object.now ≡ object.now) }
-{
-    if !object.is_empty() {
-        return Ok(false);
-    }
-    if !has_no_rule(contents, object.head()) {
-        return Ok(false);
-    }
-    derives_none(alloc, plan, contents, object.head())
-}
-
-/// The same as `with_derived`, of an object that stays where nothing is put to it.
-pub(crate) fn own_with_derived(
-    alloc: Global,
-    plan: &Plan,
-    contents: &Contents,
-    object: Obj,
-) -> Result<Obj, AllocError>
-    requires rules { contents.now.board.rules ≡ numbered_from 0 plan.now.rules }
-    requires roles { AreRoles contents.now.roles plan.now }
-    requires histories { keys (state_in contents.now).logs ≡ map (λ h. h.0) plan.now.histories }
-    requires free { NamesAreFree plan.now (state_in contents.now) (node object.head object.inner none) }
-    ensures { IfOk result (λ o. o ≡ derived_own plan.now (state_in contents.now) object) }
-{
-    let same = stays(alloc, plan, contents, &object)?;
-    if same {
-        Ok(object)
-    } else {
-        with_derived(alloc, plan, contents, &object)
-    }
+    let mut children = object.take_children();
+    dress_each(state, children.as_mut_slice())?;
+    let derived = derived(state, object.head().node_path())?;
+    let all = joined(children, derived)?;
+    put_status(state, object);
+    object.put_children(all);
+    Ok(())
 }

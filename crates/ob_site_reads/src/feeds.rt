@@ -6,18 +6,16 @@ ghost use Rattle.ob_site_rules.specs.Build.{Text as Href};
 ghost use Rattle.ob_site_rules.specs.Locating.{locate};
 ghost use Rattle.ob_site_rules.specs.Replies.{content_object};
 ghost use Rattle.ob_site_rules.specs.Sites.{site};
-ghost use Rattle.ob_site_rules.specs.Watched.{passes, gone_at};
-ghost use Rattle.ob_site_state.specs.Contents.{state_in};
-ghost use Rattle.ob_site_reads.specs.Complete.{AreOfPlan, IsComplete};
-ghost use Rattle.ob_site_reads.specs.Events.{events_of, feed_of_some};
+ghost use Rattle.ob_site_rules.specs.Watched.{passes, events_at, gone_at};
+ghost use Rattle.ob_site_reads.specs.Events.{feed_of_some};
 
+use crate::event_place;
 use crate::events::{alarm_events, log_events};
-use crate::{event_place, kept_log};
 use ob_history::{Filter, Log};
 use ob_object::Obj;
 use ob_replies::{feed_entry, feed_there};
 use ob_site_rules::{Plan, Resource};
-use ob_site_state::Contents;
+use ob_site_state::State;
 use ob_values::Text;
 use std::alloc::{AllocError, Global};
 
@@ -30,37 +28,34 @@ pub struct Since {
 
 /// The events of a feed that are asked for.
 fn events_since(
-    alloc: Global,
-    contents: &Contents,
+    state: &State,
     place: &Option<Resource>,
     since: &Since,
 ) -> Result<Vec<Obj>, AllocError>
-    requires { AreOfPlan contents.now }
-    ensures { IfOk result (λ events. events.items ≡ filter (passes since.now.filter) (drop (since.now.given - gone_at (state_in contents.now) (place.now)) (events_of (state_in contents.now) contents.now.board (place.now)))) }
+    ensures { IfOk result (λ events. events.items ≡ filter (passes since.now.filter) (drop (since.now.given - gone_at state.now.now place.now) (events_at state.now.plan state.now.now place.now))) }
 {
     match place {
-        Some(Resource::FeedOf(history)) => match kept_log(contents, history) {
-            Some(log) => log_events(alloc, log, &since.filter, since.given),
-            None => Ok(Vec::new(alloc)),
+        Some(Resource::FeedOf(history)) => match state.log_at(history) {
+            Some(log) => log_events(state.allocator(), log, &since.filter, since.given),
+            None => Ok(Vec::new(state.allocator())),
         },
         Some(Resource::AlarmFeed) => alarm_events(
-            alloc,
-            &contents.board,
+            state.allocator(),
+            state.alarms(),
             &since.filter,
             since.given,
         ),
-        _ => Ok(Vec::new(alloc)),
+        _ => Ok(Vec::new(state.allocator())),
     }
 }
 
 /// How many events of a feed rolled off; alarm events don't.
-fn gone_at(contents: &Contents, place: &Option<Resource>) -> u64
-    requires { AreOfPlan contents.now }
-    ensures value { result ≡ gone_at (state_in contents.now) (place.now) }
+fn gone_at(state: &State, place: &Option<Resource>) -> u64
+    ensures value { result ≡ gone_at state.now.now place.now }
     ensures bounded { result < 2 ^ 63 }
 {
     match place {
-        Some(Resource::FeedOf(history)) => match kept_log(contents, history) {
+        Some(Resource::FeedOf(history)) => match state.log_at(history) {
             Some(log) => {
                 let _counted = log.len();
                 log.gone()
@@ -79,67 +74,52 @@ fn records_ever(log: &Log) -> u64
 }
 
 /// How many events the feed of a place has had; another place has none.
-fn place_events_ever(contents: &Contents, place: &Resource) -> u64
-    requires { AreOfPlan contents.now }
-    ensures { result ≡ gone_at (state_in contents.now) (Some place.now) + length (events_of (state_in contents.now) contents.now.board (Some place.now)) }
+fn place_events_ever(state: &State, place: &Resource) -> u64
+    ensures { result ≡ gone_at state.now.now (Some place.now) + length (events_at state.now.plan state.now.now (Some place.now)) }
 {
     match place {
-        Resource::FeedOf(history) => match kept_log(contents, history) {
+        Resource::FeedOf(history) => match state.log_at(history) {
             Some(log) => records_ever(log),
             None => 0,
         },
-        Resource::AlarmFeed => contents.board.events(0).len() as u64,
+        Resource::AlarmFeed => state.alarms().events(0).len() as u64,
         _ => 0,
     }
 }
 
 /// How many events a feed has had.
-fn events_ever(contents: &Contents, place: &Option<Resource>) -> u64
-    requires { AreOfPlan contents.now }
-    ensures { result ≡ gone_at (state_in contents.now) (place.now) + length (events_of (state_in contents.now) contents.now.board (place.now)) }
+fn events_ever(state: &State, place: &Option<Resource>) -> u64
+    ensures { result ≡ gone_at state.now.now place.now + length (events_at state.now.plan state.now.now place.now) }
 {
     match place {
-        Some(place) => place_events_ever(contents, place),
+        Some(place) => place_events_ever(state, place),
         None => 0,
     }
 }
 
 /// How many events the feed at a path has had, those that rolled off counted. An error only for want of memory.
-pub fn count_at(
-    alloc: Global,
-    plan: &Plan,
-    contents: &Contents,
-    path: &Text,
-) -> Result<u64, AllocError>
-    requires { IsComplete plan.now contents.now }
-    ensures { IfOk result (λ n. n ≡ count (site locate plan.now) (state_in contents.now) path.now) }
+pub fn count_at(state: &State, path: &Text) -> Result<u64, AllocError>
+    ensures { IfOk result (λ n. n ≡ count (site locate state.now.plan) state.now.now path.now) }
 {
-    let place = event_place(alloc, plan, contents, path)?;
-    Ok(events_ever(contents, &place))
+    let place = event_place(state, path)?;
+    Ok(events_ever(state, &place))
 }
 
 /// A feed with all kept events that pass a filter. An error only for want of memory.
 ///
 /// Source: oBIX 1.1, chapter 12 (Watch.pollRefresh).
 #[tactic(auto, using(crate::proofs::Nameless::some_nameless))]
-pub fn whole_feed(
-    alloc: Global,
-    plan: &Plan,
-    contents: &Contents,
-    path: &Text,
-    filter: &Filter,
-) -> Result<Obj, AllocError>
-    requires { IsComplete plan.now contents.now }
-    ensures { IfOk result (λ o. (given : ℕ) → o ≡ content_object (content_now (site locate plan.now) (state_in contents.now) path.now (Feed filter.now given))) }
+pub fn whole_feed(state: &State, path: &Text, filter: &Filter) -> Result<Obj, AllocError>
+    ensures { IfOk result (λ o. (given : ℕ) → o ≡ content_object (content_now (site locate state.now.plan) state.now.now path.now (Feed filter.now given))) }
 {
-    let place = event_place(alloc, plan, contents, path)?;
+    let place = event_place(state, path)?;
     let all = Since {
         filter: *filter,
         given: 0,
     };
-    let events = events_since(alloc, contents, &place, &all)?;
-    let feed = feed_there(alloc, plan, path)?;
-    feed_entry(alloc, &feed, 0, events)
+    let events = events_since(state, &place, &all)?;
+    let feed = feed_there(state.allocator(), state.plan(), path)?;
+    feed_entry(state.allocator(), &feed, 0, events)
 }
 
 /// A feed with events, if there are some or some rolled off unreported.
@@ -166,18 +146,11 @@ fn feed_if_some(
 /// error only for want of memory.
 ///
 /// Source: oBIX 1.1, chapter 12 (Watch.pollChanges).
-pub fn feed_since(
-    alloc: Global,
-    plan: &Plan,
-    contents: &Contents,
-    path: &Text,
-    since: &Since,
-) -> Result<Option<Obj>, AllocError>
-    requires { IsComplete plan.now contents.now }
-    ensures { IfOk result (λ o. (text : Href) → option_to_list o ≡ map (λ r. content_object r.content) (changes_of (site locate plan.now) (state_in contents.now) text path.now (Feed since.now.filter since.now.given))) }
+pub fn feed_since(state: &State, path: &Text, since: &Since) -> Result<Option<Obj>, AllocError>
+    ensures { IfOk result (λ o. (text : Href) → option_to_list o ≡ map (λ r. content_object r.content) (changes_of (site locate state.now.plan) state.now.now text path.now (Feed since.now.filter since.now.given))) }
 {
-    let place = event_place(alloc, plan, contents, path)?;
-    let dropped = gone_at(contents, &place).saturating_sub(since.given);
-    let events = events_since(alloc, contents, &place, since)?;
-    feed_if_some(alloc, plan, path, dropped, events)
+    let place = event_place(state, path)?;
+    let dropped = gone_at(state, &place).saturating_sub(since.given);
+    let events = events_since(state, &place, since)?;
+    feed_if_some(state.allocator(), state.plan(), path, dropped, events)
 }

@@ -3,16 +3,13 @@ ghost use Rattle.std.specs.Prelude.{◌≡◌, ℕ, Bool, List, Option, Some, op
 ghost use Rattle.ob_contracts.specs.Shown.{shown as shown_by};
 ghost use Rattle.ob_object.specs.Facets.{facet_value, limit, truth, words};
 ghost use Rattle.ob_site_rules.specs.Shown.{shown};
-ghost use Rattle.ob_site_state.specs.Contents.{state_in};
-ghost use Rattle.ob_site_reads.specs.Readable.{IsReadable};
 ghost use Rattle.ob_site_reads.specs.Targets.{target, target_head};
 ghost use Rattle.ob_values.specs.declared.value.Value.{Value};
 
 use crate::shown::shown_at;
 use ob_contracts::{Steps, View};
 use ob_object::{Attributes, Facet, FacetRef, Kind, Obj};
-use ob_site_rules::Plan;
-use ob_site_state::Contents;
+use ob_site_state::State;
 use ob_values::{Text, Value};
 use std::alloc::{AllocError, Global};
 use std::sync::ledger::Ledger;
@@ -72,33 +69,31 @@ fn target_head(alloc: Global, view: &View<'_>) -> Result<Attributes, AllocError>
 /// What of the own node of a path is asked when a value is to be written to it, which is what is asked of what is shown
 /// there. An error only for want of memory.
 pub fn own_target<L: Ledger>(
-    alloc: Global,
-    plan: &Plan,
-    contents: &Contents,
+    state: &State,
     path: &Text,
     steps: &mut Steps<L>,
 ) -> Result<Option<Obj>, AllocError>
-    requires { IsReadable plan.now contents.now }
-    ensures { IfOk result (λ found. IfSome found (λ o. option_map target (shown plan.now (state_in contents.now) path.now) ≡ Some o)) }
+    ensures { IfOk result (λ found. IfSome found (λ o. option_map target (shown state.now.plan state.now.now path.now) ≡ Some o)) }
 {
-    let tree = contents.ground.tree();
+    state.sound_law();
+    let tree = state.tree();
     let Some(node) = tree.get(path) else {
         return Ok(None);
     };
-    let head = target_head(alloc, &contents.ground.view(node, steps))?;
+    let head = target_head(state.allocator(), &state.view(node, steps))?;
     if head.fits() {
-        Ok(Some(Obj::from_attributes(alloc, head)))
+        Ok(Some(Obj::from_attributes(state.allocator(), head)))
     } else {
         Ok(None)
     }
 }
 
 /// The kind of the own node of a path, which is that of what is shown there.
-pub fn own_kind(plan: &Plan, contents: &Contents, path: &Text) -> Option<Kind>
-    requires { IsReadable plan.now contents.now }
-    ensures { IfSome result (λ kind. option_map (λ o. o.head.kind) (shown plan.now (state_in contents.now) path.now) ≡ Some kind) }
+pub fn own_kind(state: &State, path: &Text) -> Option<Kind>
+    ensures { IfSome result (λ kind. option_map (λ o. o.head.kind) (shown state.now.plan state.now.now path.now) ≡ Some kind) }
 {
-    let tree = contents.ground.tree();
+    state.sound_law();
+    let tree = state.tree();
     match tree.get(path) {
         Some(node) => Some(tree.own(node).kind()),
         None => None,
@@ -108,20 +103,17 @@ pub fn own_kind(plan: &Plan, contents: &Contents, path: &Text) -> Option<Kind>
 /// The kind of what is shown at a path, and `None` where nothing is. Of an own node nothing is shown for it. An error only
 /// for want of memory.
 pub fn shown_kind<L: Ledger>(
-    alloc: Global,
-    plan: &Plan,
-    contents: &Contents,
+    state: &State,
     path: &Text,
     steps: &mut Steps<L>,
 ) -> Result<Option<Kind>, AllocError>
-    requires { IsReadable plan.now contents.now }
-    ensures { IfOk result (λ kind. kind ≡ option_map (λ o. o.head.kind) (shown plan.now (state_in contents.now) path.now)) }
+    ensures { IfOk result (λ kind. kind ≡ option_map (λ o. o.head.kind) (shown state.now.plan state.now.now path.now)) }
 {
-    let kind = own_kind(plan, contents, path);
+    let kind = own_kind(state, path);
     if kind.is_some() {
         return Ok(kind);
     }
-    match shown_at(alloc, plan, contents, path, steps)? {
+    match shown_at(state, path, steps)? {
         Some(object) => Ok(Some(object.kind())),
         None => Ok(None),
     }

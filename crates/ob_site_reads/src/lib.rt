@@ -23,16 +23,14 @@ mod roles;
 mod shown;
 
 pub use children::shows_child;
-pub use dressing::with_derived;
 pub use feeds::{Since, count_at, feed_since, whole_feed};
 pub use finding::resolve_item;
 pub use heads::{own_kind, own_target, shown_kind};
-pub use logs::history_log;
 pub use objects::{object_at, reply_at};
 pub use owners::{begins_with, shown_derived};
 pub use parents::parent_path;
 pub use places::{computed_place, event_place, place_at};
-pub use queries::{kept_log, query_alarms, query_records};
+pub use queries::{query_alarms, query_records};
 pub use reported::watched_node;
 pub use roles::derived;
 pub use shown::{derived_part, shown_at, shown_own};

@@ -1,36 +1,14 @@
-//! The logs of histories by their paths, and what they show.
-ghost use Rattle.std.specs.Prelude.{◌≡◌, ◌++◌, map, option_map, IfOk};
-ghost use Rattle.std.specs.Option.{option_copied};
+//! What the logs of histories show.
+ghost use Rattle.std.specs.Prelude.{◌≡◌, ◌++◌, IfOk};
 ghost use Rattle.ob_replies.specs.Histories.{span_children, query_child, feed_child};
 ghost use Rattle.ob_site_rules.specs.Shown.{history_children};
-ghost use Rattle.ob_site_rules.specs.State.{at};
-ghost use Rattle.ob_site_rules.specs.declared.plan.Plan.{Plan};
-ghost use Rattle.ob_site_state.specs.Roles.{AreRoles};
-ghost use Rattle.ob_site_state.specs.Contents.{state_in};
-ghost use Rattle.ob_site_state.specs.Kept.{keys, log_of};
 
 use ob_history::{Log, Record, first_time, last_time};
 use ob_object::Obj;
 use ob_replies::build::{feed_at, op_at, put, timed};
 use ob_replies::{Contract, below, count_child};
-use ob_site_state::Contents;
 use ob_values::Text;
 use std::alloc::{AllocError, Global};
-
-/// The log of the history at a path, by a look-up: of the contents of a plan whose histories have these logs, in their order,
-/// the log that stands first under the path.
-pub fn history_log<'a>(contents: &'a Contents, path: &Text) -> Option<&'a Log>
-    ensures { (plan : Plan) → AreRoles contents.now.roles plan → keys (state_in contents.now).logs ≡ map (λ h. h.0) plan.histories
-        → option_map log_of (option_copied result) ≡ at path.now (state_in contents.now).logs }
-{
-    let Some(place) = contents.roles.history_at(path) else {
-        return None;
-    };
-    match contents.logs.get(place) {
-        Some(entry) => Some(&entry.1),
-        None => None,
-    }
-}
 
 /// All records that a history keeps, in two slices.
 #[tactic(auto, using(crate::proofs::Spans::from_start))]

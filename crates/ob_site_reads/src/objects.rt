@@ -1,35 +1,28 @@
 //! The answer to a Get.
 ghost use Rattle.std.specs.Prelude.{◌≡◌, IfOk};
 ghost use Rattle.ob_site_rules.specs.Places.{object_at, reply_at};
-ghost use Rattle.ob_site_state.specs.Contents.{state_in};
-ghost use Rattle.ob_site_reads.specs.Readable.{IsReadable};
-ghost use Rattle.ob_site_reads.specs.Complete.{IsComplete};
 
 use crate::shown_at;
 use ob_contracts::Steps;
 use ob_object::Obj;
 use ob_replies::build::nameless;
 use ob_replies::{about, ack_op, alarm_object, batch_op, make_op, refusal, service};
-use ob_site_rules::{Fault, Plan, Resource};
-use ob_site_state::Contents;
-use ob_times::Moment;
+use ob_site_rules::{Fault, Resource};
+use ob_site_state::State;
 use ob_values::Text;
-use std::alloc::{AllocError, Global};
+use std::alloc::AllocError;
 use std::sync::ledger::Ledger;
 
 /// What is shown at a path, or else a given object; without its name. An error only for want of memory.
 pub fn reply_at<L: Ledger>(
-    alloc: Global,
-    plan: &Plan,
-    contents: &Contents,
+    state: &State,
     path: &Text,
     default: Obj,
     steps: &mut Steps<L>,
 ) -> Result<Obj, AllocError>
-    requires { IsReadable plan.now contents.now }
-    ensures { IfOk result (λ o. o ≡ reply_at plan.now (state_in contents.now) path.now default) }
+    ensures { IfOk result (λ o. o ≡ reply_at state.now.plan state.now.now path.now default) }
 {
-    match shown_at(alloc, plan, contents, path, steps)? {
+    match shown_at(state, path, steps)? {
         Some(node) => Ok(nameless(node)),
         None => Ok(nameless(default)),
     }
@@ -40,31 +33,27 @@ pub fn reply_at<L: Ledger>(
 ///
 /// Source: oBIX 1.1, chapter 10 (Networking: Read).
 pub fn object_at<L: Ledger>(
-    alloc: Global,
-    plan: &Plan,
-    contents: &Contents,
-    now: Moment,
+    state: &State,
     path: &Text,
     place: Resource,
     steps: &mut Steps<L>,
 ) -> Result<Obj, AllocError>
-    requires { IsComplete plan.now contents.now }
-    ensures { IfOk result (λ o. o ≡ object_at plan.now (state_in contents.now) now path.now place) }
+    ensures { IfOk result (λ o. o ≡ object_at state.now.plan state.now.now state.now.time path.now place) }
 {
     match place {
-        Resource::About => about(alloc, plan, now),
+        Resource::About => about(state.allocator(), state.plan(), state.time()),
         Resource::Batch => {
-            let op = batch_op(alloc, plan)?;
-            reply_at(alloc, plan, contents, path, op, steps)
+            let op = batch_op(state.allocator(), state.plan())?;
+            reply_at(state, path, op, steps)
         }
-        Resource::Service => service(alloc, plan),
+        Resource::Service => service(state.allocator(), state.plan()),
         Resource::Make => {
-            let op = make_op(alloc, plan)?;
+            let op = make_op(state.allocator(), state.plan())?;
             Ok(nameless(op))
         }
-        Resource::AlarmAt(number) => alarm_object(alloc, &contents.board, number),
+        Resource::AlarmAt(number) => alarm_object(state.allocator(), state.alarms(), number),
         Resource::AckOf(number) => {
-            let op = ack_op(alloc, plan, number)?;
+            let op = ack_op(state.allocator(), state.plan(), number)?;
             Ok(nameless(op))
         }
         Resource::Node(node) => Ok(nameless(node)),
@@ -73,8 +62,8 @@ pub fn object_at<L: Ledger>(
         | Resource::FeedOf(_)
         | Resource::AlarmQuery
         | Resource::AlarmFeed => {
-            let missing = refusal(alloc, Fault::NoSuchObject)?;
-            reply_at(alloc, plan, contents, path, missing, steps)
+            let missing = refusal(state.allocator(), Fault::NoSuchObject)?;
+            reply_at(state, path, missing, steps)
         }
     }
 }

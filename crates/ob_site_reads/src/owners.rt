@@ -8,20 +8,17 @@ ghost use Rattle.ob_tree.specs.Shown.{standing_at};
 ghost use Rattle.ob_tree.specs.Laid.{AreLeaves, head_at};
 ghost use Rattle.ob_shown_laws.specs.Alike.{row};
 ghost use Rattle.ob_shown_laws.specs.OwnShown.{IsNotDerived};
-ghost use Rattle.ob_site_state.specs.Contents.{state_in};
 ghost use Rattle.ob_site_reads.specs.Deriving.{IsOff, IsOffBelow, IsAmong, ShownOr};
-ghost use Rattle.ob_site_reads.specs.Readable.{IsReadable};
 
 use crate::parents::parent_path;
 use crate::roles::derived;
 use ob_contracts::Steps;
 use ob_object::Obj;
 use ob_plain_state::is_path;
-use ob_site_rules::Plan;
-use ob_site_state::Contents;
+use ob_site_state::State;
 use ob_tree::NodeId;
 use ob_values::Text;
-use std::alloc::{AllocError, Global};
+use std::alloc::AllocError;
 use std::sync::ledger::Ledger;
 
 /// Whether a path begins with another.
@@ -47,42 +44,40 @@ fn among<'a>(objects: &'a [Obj], path: &Text) -> Option<&'a Obj>
 
 /// What is shown of a child that the own object of a number has, where it stands.
 fn shown_inside<L: Ledger>(
-    alloc: Global,
-    contents: &Contents,
+    state: &State,
     node: NodeId,
     child: &Obj,
     steps: &mut Steps<L>,
 ) -> Result<Obj, AllocError>
-    requires { node.number < parts contents.now.ground.tree.root }
-    ensures { IfOk result (λ o. Some o ≡ option_and_then (λ h. option_map (λ c. comes_to (under (handed_down c h) child.now.head.name) child.now) (standing_at contents.now.ground.library node.number contents.now.ground.tree.root)) (head_at node.number contents.now.ground.tree.root)) }
+    requires { node.number < parts state.now.now.tree }
+    ensures { IfOk result (λ o. Some o ≡ option_and_then (λ h. option_map (λ c. comes_to (under (handed_down c h) child.now.head.name) child.now) (standing_at state.now.now.library node.number state.now.now.tree)) (head_at node.number state.now.now.tree)) }
 {
-    let inside = contents.ground.inside(node, child.head().name(), steps);
-    inside.whole(alloc, child, steps)
+    let inside = state.inside(node, child.head().name(), steps);
+    let copy = child.copy()?;
+    inside.whole(state.allocator(), copy, steps)
 }
 
 /// What is shown at a path that the roles of the own node at another derive.
 fn shown_by<L: Ledger>(
-    alloc: Global,
-    plan: &Plan,
-    contents: &Contents,
+    state: &State,
     owner: &Text,
     path: &Text,
     steps: &mut Steps<L>,
 ) -> Result<Option<Obj>, AllocError>
-    requires { IsReadable plan.now contents.now }
-    ensures { IfOk result (ShownOr plan.now (state_in contents.now) path.now (IsOff plan.now (state_in contents.now) path.now owner.now)) }
+    ensures { IfOk result (ShownOr state.now.plan state.now.now path.now (IsOff state.now.plan state.now.now path.now owner.now)) }
 {
     if !begins_with(path, owner) {
         return Ok(None);
     }
-    let tree = contents.ground.tree();
+    state.sound_law();
+    let tree = state.tree();
     let Some(node) = tree.get(owner) else {
         return Ok(None);
     };
-    let children = derived(alloc, plan, contents, Some(owner))?;
+    let children = derived(state, Some(owner))?;
     match among(&children, path) {
         Some(child) => {
-            let shown = shown_inside(alloc, contents, node, child, steps)?;
+            let shown = shown_inside(state, node, child, steps)?;
             Ok(Some(shown))
         }
         None => Ok(None),
@@ -91,37 +86,31 @@ fn shown_by<L: Ledger>(
 
 /// What is shown at a path that the roles of a node of this path derive, or of this path with a slash behind it.
 fn shown_by_parent<L: Ledger>(
-    alloc: Global,
-    plan: &Plan,
-    contents: &Contents,
+    state: &State,
     parent: &Text,
     path: &Text,
     steps: &mut Steps<L>,
 ) -> Result<Option<Obj>, AllocError>
-    requires { IsReadable plan.now contents.now }
-    ensures { IfOk result (ShownOr plan.now (state_in contents.now) path.now (IsOff plan.now (state_in contents.now) path.now parent.now × IsOff plan.now (state_in contents.now) path.now (parent.now ++ 47 ∷ []))) }
+    ensures { IfOk result (ShownOr state.now.plan state.now.now path.now (IsOff state.now.plan state.now.now path.now parent.now × IsOff state.now.plan state.now.now path.now (parent.now ++ 47 ∷ []))) }
 {
-    let shown = shown_by(alloc, plan, contents, parent, path, steps)?;
+    let shown = shown_by(state, parent, path, steps)?;
     if shown.is_some() {
         return Ok(shown);
     }
-    let parent = parent.followed_by(alloc, "/")?;
-    shown_by(alloc, plan, contents, &parent, path, steps)
+    let parent = parent.followed_by(state.allocator(), "/")?;
+    shown_by(state, &parent, path, steps)
 }
 
 /// What is shown at a path that the roles of the node in front of it derive.
 fn shown_below<L: Ledger>(
-    alloc: Global,
-    plan: &Plan,
-    contents: &Contents,
+    state: &State,
     path: &Text,
     steps: &mut Steps<L>,
 ) -> Result<Option<Obj>, AllocError>
-    requires { IsReadable plan.now contents.now }
-    ensures { IfOk result (ShownOr plan.now (state_in contents.now) path.now (IsOffBelow plan.now (state_in contents.now) path.now)) }
+    ensures { IfOk result (ShownOr state.now.plan state.now.now path.now (IsOffBelow state.now.plan state.now.now path.now)) }
 {
-    match parent_path(alloc, path)? {
-        Some(parent) => shown_by_parent(alloc, plan, contents, &parent, path, steps),
+    match parent_path(state.allocator(), path)? {
+        Some(parent) => shown_by_parent(state, &parent, path, steps),
         None => Ok(None),
     }
 }
@@ -131,18 +120,15 @@ fn shown_below<L: Ledger>(
 ///
 /// Source: that roles derive children is this profile's own.
 pub fn shown_derived<L: Ledger>(
-    alloc: Global,
-    plan: &Plan,
-    contents: &Contents,
+    state: &State,
     path: &Text,
     steps: &mut Steps<L>,
 ) -> Result<Option<Obj>, AllocError>
-    requires { IsReadable plan.now contents.now }
-    ensures { IfOk result (ShownOr plan.now (state_in contents.now) path.now (IsNotDerived plan.now (state_in contents.now) path.now (row contents.now.ground.tree.root))) }
+    ensures { IfOk result (ShownOr state.now.plan state.now.now path.now (IsNotDerived state.now.plan state.now.now path.now (row state.now.now.tree))) }
 {
-    let shown = shown_by(alloc, plan, contents, &plan.root, path, steps)?;
+    let shown = shown_by(state, &state.plan().root, path, steps)?;
     if shown.is_some() {
         return Ok(shown);
     }
-    shown_below(alloc, plan, contents, path, steps)
+    shown_below(state, path, steps)
 }

@@ -6,10 +6,7 @@ ghost use Rattle.ob_contracts.specs.Inherit.{or_else};
 ghost use Rattle.ob_site_rules.specs.State.{at, numbered_from};
 ghost use Rattle.ob_site_rules.specs.declared.plan.Plan.{Plan as SitePlan};
 ghost use Rattle.ob_site_rules.specs.Places.{fixed_places, point_places, history_places, subject_places, event_places, alarm_places, computed_places, place_at};
-ghost use Rattle.ob_site_state.specs.Roles.{AreRoles};
-ghost use Rattle.ob_site_state.specs.Contents.{state_in};
 ghost use Rattle.ob_site_reads.specs.Parents.{IsParent};
-ghost use Rattle.ob_site_reads.specs.Readable.{IsReadable};
 ghost use Rattle.ob_plain_state.specs.Parts.{point_parts, history_parts, alarm_parts, parts_of_alarm};
 
 use crate::paths::{alarm_number, is_ended, is_followed};
@@ -18,7 +15,7 @@ use ob_alarms::{Alarm, Alarms};
 use ob_contracts::Steps;
 use ob_replies::{ack_path, alarm_path, below};
 use ob_site_rules::{Plan, PointRule, Resource};
-use ob_site_state::Contents;
+use ob_site_state::State;
 use ob_values::Text;
 use std::alloc::{AllocError, Global};
 use std::sync::ledger::Ledger;
@@ -75,49 +72,36 @@ fn point_of_two(
 
 /// The op of a writable point whose path is what stands in front of the path's last slash, or that with a slash behind it.
 /// Where both are points, the first one of the plan that has it counts.
-fn point_in(
-    alloc: Global,
-    plan: &Plan,
-    contents: &Contents,
-    parent: &Text,
-    path: &Text,
-) -> Result<Option<Resource>, AllocError>
-    requires roles { AreRoles contents.now.roles plan.now }
-    requires parent { IsParent path.now (Some parent.now) }
-    ensures { IfOk result (λ place. place ≡ at path.now (point_places plan.now)) }
+fn point_in(state: &State, parent: &Text, path: &Text) -> Result<Option<Resource>, AllocError>
+    requires { IsParent path.now (Some parent.now) }
+    ensures { IfOk result (λ place. place ≡ at path.now (point_places state.now.plan)) }
 {
-    let slashed = parent.followed_by(alloc, "/")?;
-    let plain_at = contents.roles.point_at(parent);
-    let Some(slashed_at) = contents.roles.point_at(&slashed) else {
+    let slashed = parent.followed_by(state.allocator(), "/")?;
+    let plain_at = state.point_at(parent);
+    let Some(slashed_at) = state.point_at(&slashed) else {
         if plain_at.is_some() {
-            return one_point(alloc, parent, path);
+            return one_point(state.allocator(), parent, path);
         }
         return Ok(None);
     };
     let Some(plain_at) = plain_at else {
-        return one_point(alloc, &slashed, path);
+        return one_point(state.allocator(), &slashed, path);
     };
     if plain_at < slashed_at {
-        return point_of_two(alloc, parent, &slashed, path);
+        return point_of_two(state.allocator(), parent, &slashed, path);
     }
-    point_of_two(alloc, &slashed, parent, path)
+    point_of_two(state.allocator(), &slashed, parent, path)
 }
 
 /// The op of a writable point, by look-ups. Nothing is looked up for a path without its name at the end.
-fn point_place(
-    alloc: Global,
-    plan: &Plan,
-    contents: &Contents,
-    path: &Text,
-) -> Result<Option<Resource>, AllocError>
-    requires { AreRoles contents.now.roles plan.now }
-    ensures { IfOk result (λ place. place ≡ at path.now (point_places plan.now)) }
+fn point_place(state: &State, path: &Text) -> Result<Option<Resource>, AllocError>
+    ensures { IfOk result (λ place. place ≡ at path.now (point_places state.now.plan)) }
 {
     if !is_ended(path, "writePoint") {
         return Ok(None);
     }
-    match parent_path(alloc, path)? {
-        Some(parent) => point_in(alloc, plan, contents, &parent, path),
+    match parent_path(state.allocator(), path)? {
+        Some(parent) => point_in(state, &parent, path),
         None => Ok(None),
     }
 }
@@ -160,46 +144,33 @@ fn history_of_two(
 
 /// The op or the feed of a history whose path is what stands in front of the path's last slash, or that with a slash behind
 /// it. Where both are histories, the first one of the plan that has one counts.
-fn history_in(
-    alloc: Global,
-    plan: &Plan,
-    contents: &Contents,
-    parent: &Text,
-    path: &Text,
-) -> Result<Option<Resource>, AllocError>
-    requires roles { AreRoles contents.now.roles plan.now }
-    requires parent { IsParent path.now (Some parent.now) }
-    ensures { IfOk result (λ place. place ≡ at path.now (history_places plan.now)) }
+fn history_in(state: &State, parent: &Text, path: &Text) -> Result<Option<Resource>, AllocError>
+    requires { IsParent path.now (Some parent.now) }
+    ensures { IfOk result (λ place. place ≡ at path.now (history_places state.now.plan)) }
 {
-    let slashed = parent.followed_by(alloc, "/")?;
-    let plain_at = contents.roles.history_at(parent);
-    let Some(slashed_at) = contents.roles.history_at(&slashed) else {
+    let slashed = parent.followed_by(state.allocator(), "/")?;
+    let plain_at = state.history_at(parent);
+    let Some(slashed_at) = state.history_at(&slashed) else {
         if plain_at.is_some() {
-            return one_history(alloc, parent, path);
+            return one_history(state.allocator(), parent, path);
         }
         return Ok(None);
     };
     let Some(plain_at) = plain_at else {
-        return one_history(alloc, &slashed, path);
+        return one_history(state.allocator(), &slashed, path);
     };
     if plain_at < slashed_at {
-        return history_of_two(alloc, parent, &slashed, path);
+        return history_of_two(state.allocator(), parent, &slashed, path);
     }
-    history_of_two(alloc, &slashed, parent, path)
+    history_of_two(state.allocator(), &slashed, parent, path)
 }
 
 /// The op or the feed of a history, by look-ups.
-fn history_place(
-    alloc: Global,
-    plan: &Plan,
-    contents: &Contents,
-    path: &Text,
-) -> Result<Option<Resource>, AllocError>
-    requires { AreRoles contents.now.roles plan.now }
-    ensures { IfOk result (λ place. place ≡ at path.now (history_places plan.now)) }
+fn history_place(state: &State, path: &Text) -> Result<Option<Resource>, AllocError>
+    ensures { IfOk result (λ place. place ≡ at path.now (history_places state.now.plan)) }
 {
-    match parent_path(alloc, path)? {
-        Some(parent) => history_in(alloc, plan, contents, &parent, path),
+    match parent_path(state.allocator(), path)? {
+        Some(parent) => history_in(state, &parent, path),
         None => Ok(None),
     }
 }
@@ -239,23 +210,17 @@ fn is_event_name(path: &Text) -> bool
 
 /// The op or the feed of a history or of the alarm subject, if a path is one of theirs. Nothing is looked up for a path without
 /// one of their names at the end. An error only for want of memory.
-pub fn event_place(
-    alloc: Global,
-    plan: &Plan,
-    contents: &Contents,
-    path: &Text,
-) -> Result<Option<Resource>, AllocError>
-    requires { AreRoles contents.now.roles plan.now }
-    ensures { IfOk result (λ place. place ≡ at path.now (event_places plan.now)) }
+pub fn event_place(state: &State, path: &Text) -> Result<Option<Resource>, AllocError>
+    ensures { IfOk result (λ place. place ≡ at path.now (event_places state.now.plan)) }
 {
     if !is_event_name(path) {
         return Ok(None);
     }
-    let found = history_place(alloc, plan, contents, path)?;
+    let found = history_place(state, path)?;
     if found.is_some() {
         return Ok(found);
     }
-    subject_place(alloc, plan, path)
+    subject_place(state.allocator(), state.plan(), path)
 }
 
 /// The rule at a place.
@@ -331,72 +296,51 @@ fn alarm_place(
 }
 
 /// The place of an event's op or feed, or of an alarm.
-fn event_or_alarm(
-    alloc: Global,
-    plan: &Plan,
-    contents: &Contents,
-    path: &Text,
-) -> Result<Option<Resource>, AllocError>
-    requires { AreRoles contents.now.roles plan.now }
-    ensures { IfOk result (λ place. place ≡ at path.now (event_places plan.now ++ alarm_places plan.now (numbered_from 0 plan.now.rules) 1 (state_in contents.now).alarms)) }
+fn event_or_alarm(state: &State, path: &Text) -> Result<Option<Resource>, AllocError>
+    ensures { IfOk result (λ place. place ≡ at path.now (event_places state.now.plan ++ alarm_places state.now.plan (numbered_from 0 state.now.plan.rules) 1 state.now.now.alarms)) }
 {
-    let found = event_place(alloc, plan, contents, path)?;
+    let found = event_place(state, path)?;
     if found.is_some() {
         return Ok(found);
     }
-    alarm_place(alloc, plan, &contents.board, path)
+    alarm_place(state.allocator(), state.plan(), state.alarms(), path)
 }
 
 /// The place of what a role derives, or of an alarm.
-fn role_place(
-    alloc: Global,
-    plan: &Plan,
-    contents: &Contents,
-    path: &Text,
-) -> Result<Option<Resource>, AllocError>
-    requires { AreRoles contents.now.roles plan.now }
-    ensures { IfOk result (λ place. place ≡ at path.now (point_places plan.now ++ (event_places plan.now ++ alarm_places plan.now (numbered_from 0 plan.now.rules) 1 (state_in contents.now).alarms))) }
+fn role_place(state: &State, path: &Text) -> Result<Option<Resource>, AllocError>
+    ensures { IfOk result (λ place. place ≡ at path.now (point_places state.now.plan ++ (event_places state.now.plan ++ alarm_places state.now.plan (numbered_from 0 state.now.plan.rules) 1 state.now.now.alarms))) }
 {
-    let found = point_place(alloc, plan, contents, path)?;
+    let found = point_place(state, path)?;
     if found.is_some() {
         return Ok(found);
     }
-    event_or_alarm(alloc, plan, contents, path)
+    event_or_alarm(state, path)
 }
 
 /// The place among those whose paths are computed, but those of watches. Nothing is shown for it.
-pub fn computed_place(
-    alloc: Global,
-    plan: &Plan,
-    contents: &Contents,
-    path: &Text,
-) -> Result<Option<Resource>, AllocError>
-    requires { AreRoles contents.now.roles plan.now }
-    ensures { IfOk result (λ place. place ≡ at path.now (computed_places plan.now (state_in contents.now))) }
+pub fn computed_place(state: &State, path: &Text) -> Result<Option<Resource>, AllocError>
+    ensures { IfOk result (λ place. place ≡ at path.now (computed_places state.now.plan state.now.now)) }
 {
-    let found = fixed_place(plan, path);
+    let found = fixed_place(state.plan(), path);
     if found.is_some() {
         return Ok(found);
     }
-    role_place(alloc, plan, contents, path)
+    role_place(state, path)
 }
 
 /// What a path names, if it names something: a computed place, or else a node with what it shows.
 pub fn place_at<L: Ledger>(
-    alloc: Global,
-    plan: &Plan,
-    contents: &Contents,
+    state: &State,
     path: &Text,
     steps: &mut Steps<L>,
 ) -> Result<Option<Resource>, AllocError>
-    requires { IsReadable plan.now contents.now }
-    ensures { IfOk result (λ place. place ≡ place_at plan.now (state_in contents.now) path.now) }
+    ensures { IfOk result (λ place. place ≡ place_at state.now.plan state.now.now path.now) }
 {
-    let found = computed_place(alloc, plan, contents, path)?;
+    let found = computed_place(state, path)?;
     if found.is_some() {
         return Ok(found);
     }
-    match shown_at(alloc, plan, contents, path, steps)? {
+    match shown_at(state, path, steps)? {
         Some(node) => Ok(Some(Resource::Node(node))),
         None => Ok(None),
     }

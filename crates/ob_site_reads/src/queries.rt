@@ -1,30 +1,18 @@
 //! What queries answer.
-ghost use Rattle.std.specs.Prelude.{◌≡◌, ◌++◌, All, option_map, IfOk};
+ghost use Rattle.std.specs.Prelude.{◌≡◌, ◌++◌, All, IfOk};
 ghost use Rattle.std.specs.Option.{option_copied};
 ghost use Rattle.ob_history.specs.Records.{asked, IsRecord};
-ghost use Rattle.ob_site_rules.specs.State.{at, board};
+ghost use Rattle.ob_site_rules.specs.State.{board};
 ghost use Rattle.ob_site_rules.specs.Entries.{records_out, alarms_out};
 ghost use Rattle.ob_site_rules.specs.Posts.{query, records_of};
-ghost use Rattle.ob_site_state.specs.Contents.{state_in};
-ghost use Rattle.ob_site_state.specs.Kept.{log_of};
-ghost use Rattle.ob_site_reads.specs.Complete.{AreOfPlan, IsComplete};
 
-use crate::history_log;
 use ob_history::{Filter, Log, Record, read_filter};
 use ob_object::Obj;
 use ob_replies::{alarms_out, records_out, refusal};
-use ob_site_rules::{Fault, Plan};
-use ob_site_state::Contents;
+use ob_site_rules::Fault;
+use ob_site_state::State;
 use ob_values::Text;
 use std::alloc::{AllocError, Global};
-
-/// The log of the history at a path, if one is there, found by a look-up.
-pub fn kept_log<'a>(contents: &'a Contents, history: &Text) -> Option<&'a Log>
-    requires { AreOfPlan contents.now }
-    ensures { option_map log_of (option_copied result) ≡ at history.now (state_in contents.now).logs }
-{
-    history_log(contents, history)
-}
 
 /// Puts copies of records last.
 fn put_copies(records: &mut Vec<Record>, others: &[Record]) -> Result<(), AllocError>
@@ -64,38 +52,26 @@ fn records_asked(alloc: Global, filter: &Filter, log: &Log) -> Result<Obj, Alloc
 /// The answer to a query of a history. An error only for want of memory.
 ///
 /// Source: oBIX 1.1, chapter 14 (History.query).
-pub fn query_records(
-    alloc: Global,
-    contents: &Contents,
-    history: &Text,
-    input: Option<&Obj>,
-) -> Result<Obj, AllocError>
-    requires { AreOfPlan contents.now }
-    ensures { IfOk result (λ o. o ≡ query (λ f. records_out f (records_of (state_in contents.now) history.now)) (option_copied input.entry)) }
+pub fn query_records(state: &State, history: &Text, input: Option<&Obj>) -> Result<Obj, AllocError>
+    ensures { IfOk result (λ o. o ≡ query (λ f. records_out f (records_of state.now.now history.now)) (option_copied input.entry)) }
 {
     let Some(filter) = read_filter(input) else {
-        return refusal(alloc, Fault::OtherShape);
+        return refusal(state.allocator(), Fault::OtherShape);
     };
-    match kept_log(contents, history) {
-        Some(log) => records_asked(alloc, &filter, log),
-        None => records_out(alloc, &filter, &[]),
+    match state.log_at(history) {
+        Some(log) => records_asked(state.allocator(), &filter, log),
+        None => records_out(state.allocator(), &filter, &[]),
     }
 }
 
 /// The answer to a query of the alarms. An error only for want of memory.
 ///
 /// Source: oBIX 1.1, chapter 15 (AlarmSubject.query).
-pub fn query_alarms(
-    alloc: Global,
-    plan: &Plan,
-    contents: &Contents,
-    input: Option<&Obj>,
-) -> Result<Obj, AllocError>
-    requires { IsComplete plan.now contents.now }
-    ensures { IfOk result (λ o. o ≡ query (alarms_out (board plan.now (state_in contents.now))) (option_copied input.entry)) }
+pub fn query_alarms(state: &State, input: Option<&Obj>) -> Result<Obj, AllocError>
+    ensures { IfOk result (λ o. o ≡ query (alarms_out (board state.now.plan state.now.now)) (option_copied input.entry)) }
 {
     match read_filter(input) {
-        Some(filter) => alarms_out(alloc, &filter, &contents.board),
-        None => refusal(alloc, Fault::OtherShape),
+        Some(filter) => alarms_out(state.allocator(), &filter, state.alarms()),
+        None => refusal(state.allocator(), Fault::OtherShape),
     }
 }

@@ -6,15 +6,12 @@ ghost use Rattle.ob_tree.specs.Laid.{paths};
 ghost use Rattle.ob_tree.specs.Paths.{place_of};
 ghost use Rattle.ob_site_rules.specs.Build.{Path, nameless, under_href};
 ghost use Rattle.ob_site_rules.specs.Sites.{plain_or_empty, watched_object};
-ghost use Rattle.ob_site_state.specs.Contents.{state_in};
-ghost use Rattle.ob_site_reads.specs.Readable.{IsReadable};
 ghost use Rattle.ob_site_reads.specs.Watchable.{IsWatchableAt};
 
 use crate::shown_own;
 use ob_contracts::Steps;
 use ob_object::{Kind, Obj};
-use ob_site_rules::Plan;
-use ob_site_state::Contents;
+use ob_site_state::State;
 use ob_tree::NodeId;
 use std::alloc::{AllocError, Global};
 use std::sync::ledger::Ledger;
@@ -41,18 +38,15 @@ fn unnamed(alloc: Global, mut object: Obj) -> Obj
 ///
 /// Source: oBIX 1.1, chapter 12 (Watches).
 pub fn watched_node<L: Ledger>(
-    alloc: Global,
-    plan: &Plan,
-    contents: &Contents,
+    state: &State,
     node: NodeId,
     steps: &mut Steps<L>,
 ) -> Result<Obj, AllocError>
-    requires readable { IsReadable plan.now contents.now }
-    requires within { node.number < parts contents.now.ground.tree.root }
-    ensures object { IfOk result (λ o. (p : Path) → place_of p (paths contents.now.ground.tree.root) ≡ Some node.number → o ≡ watched_object plan.now (state_in contents.now) p) }
-    ensures steps { IfOk result (λ o. IsWatchableAt node.number contents.now.ground.tree.root
-        → steps.new ≡ steps.old + depth_at node.number contents.now.ground.tree.root + min (parts o) (2 ^ 64 - 1)) }
+    requires { node.number < parts state.now.now.tree }
+    ensures object { IfOk result (λ o. (p : Path) → place_of p (paths state.now.now.tree) ≡ Some node.number → o ≡ watched_object state.now.plan state.now.now p) }
+    ensures steps { IfOk result (λ o. IsWatchableAt node.number state.now.now.tree
+        → steps.new ≡ steps.old + depth_at node.number state.now.now.tree + min (parts o) (2 ^ 64 - 1)) }
 {
-    let object = shown_own(alloc, plan, contents, node, steps)?;
-    Ok(unnamed(alloc, object))
+    let object = shown_own(state, node, steps)?;
+    Ok(unnamed(state.allocator(), object))
 }

@@ -1,20 +1,18 @@
 //! What the roles of a node derive.
-ghost use Rattle.std.specs.Prelude.{◌≡◌, cond, ◌&&◌, [], ◌∷◌, length, map, option_map, IfOk};
+ghost use Rattle.std.specs.Prelude.{◌≡◌, cond, ◌&&◌, [], ◌∷◌, length, option_map, IfOk};
 ghost use Rattle.std.specs.Str.{bytes_eq};
 ghost use Rattle.std.specs.Option.{option_copied};
 ghost use Rattle.ob_object.specs.Paths.{is_path};
 ghost use Rattle.ob_site_rules.specs.Shown.{lobby_children, write_point_op, subject_children, history_part, derived_at, derived};
-ghost use Rattle.ob_site_state.specs.Roles.{AreRoles};
-ghost use Rattle.ob_site_state.specs.Contents.{state_in};
-ghost use Rattle.ob_site_state.specs.Kept.{keys, log_of};
+ghost use Rattle.ob_site_state.specs.Kept.{log_of};
 
-use crate::logs::{history_children, history_log};
+use crate::logs::history_children;
 use ob_history::Log;
 use ob_object::Obj;
 use ob_plain_state::is_path;
 use ob_replies::{lobby_children, subject_children, write_point_op};
 use ob_site_rules::Plan;
-use ob_site_state::Contents;
+use ob_site_state::State;
 use ob_values::Text;
 use std::alloc::{AllocError, Global};
 
@@ -50,35 +48,23 @@ fn history_part(alloc: Global, path: &Text, log: Option<&Log>) -> Result<Vec<Obj
 }
 
 /// What the alarm subject has.
-fn subject_part(
-    alloc: Global,
-    plan: &Plan,
-    contents: &Contents,
-    path: &Text,
-) -> Result<Vec<Obj>, AllocError>
-    ensures { IfOk result (λ os. os.items ≡ cond (is_path path.now plan.now.subject) (subject_children path.now (length (state_in contents.now).alarms)) []) }
+fn subject_part(state: &State, path: &Text) -> Result<Vec<Obj>, AllocError>
+    ensures { IfOk result (λ os. os.items ≡ cond (is_path path.now state.now.plan.subject) (subject_children path.now (length state.now.now.alarms)) []) }
 {
-    if !is_path(path, plan.subject.as_ref()) {
-        return Ok(Vec::new(alloc));
+    if !is_path(path, state.plan().subject.as_ref()) {
+        return Ok(Vec::new(state.allocator()));
     }
-    subject_children(alloc, path, contents.board.len())
+    subject_children(state.allocator(), path, state.alarms().len())
 }
 
 /// What the roles of the node at a path derive.
-fn derived_at(
-    alloc: Global,
-    plan: &Plan,
-    contents: &Contents,
-    path: &Text,
-) -> Result<Vec<Obj>, AllocError>
-    requires roles { AreRoles contents.now.roles plan.now }
-    requires histories { keys (state_in contents.now).logs ≡ map (λ h. h.0) plan.now.histories }
-    ensures { IfOk result (λ os. os.items ≡ derived_at plan.now (state_in contents.now) path.now) }
+fn derived_at(state: &State, path: &Text) -> Result<Vec<Obj>, AllocError>
+    ensures { IfOk result (λ os. os.items ≡ derived_at state.now.plan state.now.now path.now) }
 {
-    let mut children = lobby_part(alloc, plan, path)?;
-    let mut point = point_part(alloc, contents.roles.is_point(path), path)?;
-    let mut history = history_part(alloc, path, history_log(contents, path))?;
-    let mut subject = subject_part(alloc, plan, contents, path)?;
+    let mut children = lobby_part(state.allocator(), state.plan(), path)?;
+    let mut point = point_part(state.allocator(), state.is_point(path), path)?;
+    let mut history = history_part(state.allocator(), path, state.log_at(path))?;
+    let mut subject = subject_part(state, path)?;
     history.append(&mut subject)?;
     point.append(&mut history)?;
     children.append(&mut point)?;
@@ -87,18 +73,11 @@ fn derived_at(
 
 /// The children that the roles of a node derive, in the order of the roles; without a path none. The roles of the node are
 /// looked up. An error only for want of memory.
-pub fn derived(
-    alloc: Global,
-    plan: &Plan,
-    contents: &Contents,
-    path: Option<&Text>,
-) -> Result<Vec<Obj>, AllocError>
-    requires roles { AreRoles contents.now.roles plan.now }
-    requires histories { keys (state_in contents.now).logs ≡ map (λ h. h.0) plan.now.histories }
-    ensures { IfOk result (λ os. os.items ≡ derived plan.now (state_in contents.now) (option_copied path.entry)) }
+pub fn derived(state: &State, path: Option<&Text>) -> Result<Vec<Obj>, AllocError>
+    ensures { IfOk result (λ os. os.items ≡ derived state.now.plan state.now.now (option_copied path.entry)) }
 {
     match path {
-        Some(path) => derived_at(alloc, plan, contents, path),
-        None => Ok(Vec::new(alloc)),
+        Some(path) => derived_at(state, path),
+        None => Ok(Vec::new(state.allocator())),
     }
 }

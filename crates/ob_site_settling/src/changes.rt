@@ -1,16 +1,13 @@
 //! Which own nodes a step has changed, told by its notes.
-ghost use Rattle.std.specs.Prelude.{◌≡◌, ◌<◌, All, List, [], ◌∷◌, ◌++◌, map, length, option_map, option_to_list, slice_get, Option, Some, IfOk, OnOk};
+ghost use Rattle.std.specs.Prelude.{◌≡◌, ◌<◌, All, List, [], ◌∷◌, ◌++◌, map, length, option_map, option_to_list, Option, Some, IfOk, OnOk};
 ghost use Rattle.std.specs.Option.{option_copied};
 ghost use Rattle.ob_object.specs.Object.{parts};
 ghost use Rattle.ob_contracts.specs.Inherit.{only_if};
 ghost use Rattle.ob_tree.specs.Laid.{head_at};
 ghost use Rattle.ob_tree.specs.Shown.{standing_at};
 ghost use Rattle.ob_tree.specs.Standings.{context};
-ghost use Rattle.ob_site_rules.specs.Build.{Path};
-ghost use Rattle.ob_site_rules.specs.State.{Log as SiteLog, roll};
-ghost use Rattle.ob_site_rules.specs.Shown.{rule_of};
+ghost use Rattle.ob_site_rules.specs.State.{roll};
 ghost use Rattle.ob_shown_laws.specs.Alike.{DifferInValues};
-ghost use Rattle.ob_site_state.specs.Kept.{entry_of};
 ghost use Rattle.ob_site_state.specs.declared.change.Change.{Change as Note};
 ghost use Rattle.ob_site_state.specs.declared.change.Change.TheVariants as note;
 ghost use Rattle.ob_site_settling.specs.Ending.{AreChanged};
@@ -24,11 +21,9 @@ use crate::spans::shows_other_span;
 use crate::values::{same_status, shows_other_values};
 use ob_contracts::Steps;
 use ob_ground::Told;
-use ob_history::Log;
 use ob_object::{Slot, Status};
 use ob_site_state::{Change, State};
 use ob_tree::{NodeId, Standing};
-use ob_values::Text;
 use std::alloc::AllocError;
 use std::sync::ledger::Ledger;
 
@@ -46,7 +41,7 @@ fn standing_before<'a, L: Ledger>(
 {
     match replaced {
         Some(told) => told.standing(state.tree(), node, steps),
-        None => state.contents().ground.standing(node, steps),
+        None => state.standing(node, steps),
     }
 }
 
@@ -91,14 +86,6 @@ fn changed_slot<L: Ledger>(
     }
 }
 
-/// The path of the history of a place.
-fn path_at(logs: &[(Text, Log)], place: usize) -> &Text
-    requires { place < length logs.now }
-    ensures { (l : Path × SiteLog) → slice_get (map entry_of logs.now) place ≡ Some l → result.now ≡ l.0 }
-{
-    &logs[place].0
-}
-
 /// The node of a history that kept so many records, if it shows another count, start or end.
 fn changed_records(state: &State, place: usize, len: u64) -> Option<NodeId>
     requires { IsComparable state.now.now (note.Records place len) }
@@ -106,20 +93,9 @@ fn changed_records(state: &State, place: usize, len: u64) -> Option<NodeId>
 {
     let capacity = state.capacity(place);
     if shows_other_span(state.log(place), len, capacity) {
-        let contents = state.contents();
-        state.tree().get(path_at(&contents.logs, place))
+        state.tree().get(&state.history(place).0)
     } else {
         None
-    }
-}
-
-/// The place of the rule of a node, if it has one.
-fn rule_of(state: &State, source: &Text) -> Option<u64>
-    ensures { result ≡ rule_of state.now.plan source.now }
-{
-    match state.contents().roles.rule_of(source) {
-        Some(place) => Some(place as u64),
-        None => None,
     }
 }
 
@@ -142,7 +118,7 @@ fn node_with(state: &State, rule: u64) -> Option<NodeId>
         return None;
     }
     let source = &rules[rule as usize].source;
-    if is_rule(rule, rule_of(state, source)) {
+    if is_rule(rule, state.rule_of(source)) {
         state.tree().get(source)
     } else {
         None
@@ -195,28 +171,27 @@ fn push_some(found: &mut Vec<NodeId>, node: Option<NodeId>) -> Result<(), AllocE
     }
 }
 
-/// Puts last the own node that a note tells of, if it is the first one of its kind.
-fn push_told<L: Ledger>(
+/// The own node that a note tells of, if the note is the first one of its kind and the node shows itself otherwise than before.
+fn first_told<L: Ledger>(
     state: &State,
     replaced: Option<&Told>,
     seen: &mut Seen,
     change: &Change,
-    found: &mut Vec<NodeId>,
     steps: &mut Steps<L>,
-) -> Result<(), AllocError>
+) -> Result<Option<NodeId>, AllocError>
     requires comparable { IsComparable state.now.now change.now }
     requires told { TellsOf (option_copied replaced) state.now.now }
     ensures seen { OnOk result ((earlier : List Note) → HasSeen earlier seen.old
         → HasSeen (earlier ++ change.now ∷ []) seen.new) }
-    ensures found { OnOk result ((earlier : List Note) → HasSeen earlier seen.old
-        → map (λ node. node.number) found.new.items ≡ map (λ node. node.number) found.old.items
-        ++ option_to_list (only_if (is_first earlier change.now) (told_by (replaced_or (option_copied replaced.entry) state.now.now) state.now.plan state.now.now change.now))) }
+    ensures found { IfOk result (λ found. (earlier : List Note) → HasSeen earlier seen.old
+        → option_map (λ node. node.number) found
+        ≡ only_if (is_first earlier change.now) (told_by (replaced_or (option_copied replaced.entry) state.now.now) state.now.plan state.now.now change.now)) }
 {
-    if !seen.is_first(change)? {
-        return Ok(());
+    if seen.is_first(change)? {
+        told_by(state, replaced, change, steps)
+    } else {
+        Ok(None)
     }
-    let node = told_by(state, replaced, change, steps)?;
-    push_some(found, node)
 }
 
 /// Puts last the own nodes that notes tell of.
@@ -234,7 +209,8 @@ fn push_all<L: Ledger>(
 {
     let mut seen = Seen::new(state.allocator());
     for change in changes {
-        push_told(state, replaced, &mut seen, change, found, steps)?;
+        let node = first_told(state, replaced, &mut seen, change, steps)?;
+        push_some(found, node)?;
     }
     Ok(())
 }

@@ -1,5 +1,5 @@
 //! The news of a step, from what it has noted.
-ghost use Rattle.std.specs.Prelude.{◌≡◌, ◌++◌, ◌+◌, ◌-◌, ◌^◌, ◌<◌, All, Some, count_by, drop, length, slice_get, IfOk};
+ghost use Rattle.std.specs.Prelude.{◌≡◌, ◌++◌, ◌+◌, ◌-◌, ◌^◌, ◌<◌, All, count_by, drop, length, slice_get, IfOk};
 ghost use Rattle.std.specs.List.{flat_map};
 ghost use Rattle.std.specs.Option.{option_copied};
 ghost use Rattle.ob_site_rules.specs.State.{rolled};
@@ -14,14 +14,6 @@ use ob_replies::below;
 use ob_site_state::{Change, State};
 use ob_values::Text;
 use std::alloc::{AllocError, Global};
-
-/// The history of a place, under its path.
-fn history_at(state: &State, place: usize) -> &(Text, Log)
-    requires { place < length state.now.now.logs }
-    ensures { slice_get state.now.now.logs place ≡ Some (entry_of result.now) }
-{
-    &state.contents().logs[place]
-}
 
 /// The record at a place among those that a history keeps.
 fn record_at(log: &Log, place: u64) -> Option<&Record>
@@ -64,7 +56,7 @@ fn put_noted(events: &mut Vec<FeedEvent>, state: &State, change: &Change) -> Res
 {
     match change {
         Change::Records { place, len } => {
-            let history = history_at(state, *place);
+            let history = state.history(*place);
             put_record(state.allocator(), events, history, *len)
         }
         _ => Ok(()),
@@ -212,7 +204,7 @@ fn put_noted_roll(
 {
     match change {
         Change::Records { place, len } => {
-            let history = history_at(state, *place);
+            let history = state.history(*place);
             let capacity = state.capacity(*place);
             put_roll(state.allocator(), rolls, history, *len, capacity)
         }

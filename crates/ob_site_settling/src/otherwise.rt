@@ -1,18 +1,11 @@
 //! The own nodes of which a watch shows something else with another library.
-ghost use Rattle.std.specs.Prelude.{◌≡◌, ◌<◌, ◌+◌, ◌^◌, All, [], ◌∷◌, map, Some, option_map, IfOk, OnOk};
+ghost use Rattle.std.specs.Prelude.{◌≡◌, ◌<◌, ◌+◌, ◌^◌, All, map, Some, IfOk, OnOk};
 ghost use Rattle.ob_object.specs.Object.{parts};
 ghost use Rattle.ob_contracts.specs.Inherit.{Contracts};
-ghost use Rattle.ob_tree.specs.Laid.{paths};
-ghost use Rattle.ob_tree.specs.Paths.{first_twice};
-ghost use Rattle.ob_tree.specs.Shown.{standing_at};
 ghost use Rattle.ob_shown_laws.specs.OwnTree.{own_shown_at};
-ghost use Rattle.ob_tree.specs.Contexts.{comes_to};
-ghost use Rattle.ob_tree.specs.Standings.{context};
 ghost use Rattle.ob_site_rules.specs.declared.plan.Plan.{Plan};
 ghost use Rattle.ob_site_rules.specs.State.{State as SiteState};
 ghost use Rattle.ob_step_laws.specs.Defaults.{with_library};
-ghost use Rattle.ob_site_state.specs.Contents.{state_in};
-ghost use Rattle.ob_site_reads.specs.Readable.{IsReadable};
 ghost use Rattle.ob_site_settling.specs.Otherwise.{AreOtherwise, AreOtherwiseBelow, AreShown};
 ghost use Rattle.ob_site_settling.specs.Watched.{can_be_watched};
 
@@ -20,10 +13,9 @@ use crate::library_before;
 use ob_contracts::{Library, Steps};
 use ob_object::{Kind, Obj};
 use ob_site_reads::derived_part;
-use ob_site_rules::Plan;
-use ob_site_state::{Contents, State};
+use ob_site_state::State;
 use ob_tree::{NodeId, Tree};
-use std::alloc::{AllocError, Global};
+use std::alloc::AllocError;
 use std::sync::ledger::Ledger;
 
 /// Whether an own object is a node that can be watched: any but a feed.
@@ -63,26 +55,24 @@ fn put_otherwise(
     Ok(())
 }
 
-/// What is shown of the root by the library that contents have and by another one: before and after. An error only for want of
+/// What is shown of the root by the library of a state and by another one: before and after. An error only for want of
 /// memory.
 fn both_shown<L: Ledger>(
-    alloc: Global,
-    plan: &Plan,
-    contents: &Contents,
+    state: &State,
     old: &Library,
     root: NodeId,
     steps: &mut Steps<L>,
 ) -> Result<(Obj, Obj), AllocError>
-    requires readable { IsReadable plan.now contents.now }
-    requires within { root.number < parts contents.now.ground.tree.root }
-    ensures before { IfOk result (λ both. Some both.0 ≡ own_shown_at plan.now (with_library old.now (state_in contents.now)) root.number) }
-    ensures after { IfOk result (λ both. Some both.1 ≡ own_shown_at plan.now (state_in contents.now) root.number) }
+    requires { root.number < parts state.now.now.tree }
+    ensures before { IfOk result (λ both. Some both.0 ≡ own_shown_at state.now.plan (with_library old.now state.now.now) root.number) }
+    ensures after { IfOk result (λ both. Some both.1 ≡ own_shown_at state.now.plan state.now.now root.number) }
 {
-    let dressed = derived_part(alloc, plan, contents, root)?;
-    let before = contents.ground.tree().standing(old, root, steps);
-    let after = contents.ground.standing(root, steps);
-    let old_root = before.whole(alloc, &dressed, steps)?;
-    let new_root = after.whole(alloc, &dressed, steps)?;
+    let dressed = derived_part(state, root)?;
+    let before = state.tree().standing(old, root, steps);
+    let after = state.standing(root, steps);
+    let copy = dressed.copy()?;
+    let old_root = before.whole(state.allocator(), copy, steps)?;
+    let new_root = after.whole(state.allocator(), dressed, steps)?;
     Ok((old_root, new_root))
 }
 
@@ -93,26 +83,23 @@ fn is_counted(tree: &Tree)
     let _ = tree.len();
 }
 
-/// The own nodes of which a watch shows something else with the library that contents have than with another one, each
+/// The own nodes of which a watch shows something else with the library of a state than with another one, each
 /// once, in document order. The root is shown once by each of the two.
 fn nodes_otherwise<L: Ledger>(
-    alloc: Global,
-    plan: &Plan,
-    contents: &Contents,
+    state: &State,
     old: &Library,
     steps: &mut Steps<L>,
 ) -> Result<Vec<NodeId>, AllocError>
-    requires readable { IsReadable plan.now contents.now }
-    requires differ { first_twice [] (paths contents.now.ground.tree.root) ≡ None }
-    ensures others { IfOk result (λ nodes. AreOtherwise plan.now (with_library old.now (state_in contents.now)) contents.now.ground.library (map (λ node. node.number) nodes.items)) }
-    ensures within { IfOk result (λ nodes. All (λ node. node.number < parts contents.now.ground.tree.root) nodes.items) }
+    ensures others { IfOk result (λ nodes. AreOtherwise state.now.plan (with_library old.now state.now.now) state.now.now.library (map (λ node. node.number) nodes.items)) }
+    ensures within { IfOk result (λ nodes. All (λ node. node.number < parts state.now.now.tree) nodes.items) }
 {
-    let tree = contents.ground.tree();
+    state.sound_law();
+    let tree = state.tree();
     is_counted(tree);
     let root = NodeId { number: 0 };
-    let own = tree.copy(alloc, root)?;
-    let (before, after) = both_shown(alloc, plan, contents, old, root, steps)?;
-    let mut nodes = Vec::new(alloc);
+    let own = tree.copy(state.allocator(), root)?;
+    let (before, after) = both_shown(state, old, root, steps)?;
+    let mut nodes = Vec::new(state.allocator());
     put_otherwise(&own, 0, &before, &after, &mut nodes)?;
     Ok(nodes)
 }
@@ -128,13 +115,5 @@ pub fn shown_otherwise<L: Ledger>(
     ensures others { IfOk result (λ nodes. AreOtherwise state.now.plan (with_library state.now.before.library state.now.now) state.now.now.library (map (λ node. node.number) nodes.items)) }
     ensures within { IfOk result (λ nodes. All (λ node. node.number < parts state.now.now.tree) nodes.items) }
 {
-    state.sound_law();
-    let old = library_before(state);
-    nodes_otherwise(
-        state.allocator(),
-        state.plan(),
-        state.contents(),
-        old,
-        steps,
-    )
+    nodes_otherwise(state, library_before(state), steps)
 }

@@ -19,3 +19,4 @@ pub mod Aligned
 pub mod Stepping
 pub mod Again
 pub mod Crossing
+pub mod Lookups

@@ -1,5 +1,5 @@
 //! The state of a site in place.
-ghost use Rattle.std.specs.Prelude.{◌≡◌, ℕ, All, ◌-◌, List, Option, nat_lt, true, false, ◌<◌, ◌≤◌, ◌+◌, ◌^◌, [], None, max, map, option_map, length, replicate, slice_get, Some, IsTrue, IfOk, OnOk, OnErr};
+ghost use Rattle.std.specs.Prelude.{◌≡◌, ℕ, All, ◌-◌, List, Option, nat_lt, true, false, ◌<◌, ◌≤◌, ◌+◌, ◌^◌, [], None, max, map, option_map, length, replicate, slice_get, Some, IsTrue, IfOk, OnOk, OnErr, IfSome};
 ghost use Rattle.ob_times.specs.Times.{moment_instant};
 ghost use Rattle.ob_object.specs.declared.head.Head.{Head};
 ghost use Rattle.ob_object.specs.Fits.{fits_slot};
@@ -9,7 +9,7 @@ ghost use Rattle.ob_alarms.specs.Limits.{Takes};
 ghost use Rattle.ob_alarms.specs.Changes.{on_value, on_ack};
 ghost use Rattle.ob_history.specs.Records.{IsRecord};
 ghost use Rattle.ob_site_rules.specs.Build.{Path};
-ghost use Rattle.ob_site_rules.specs.State.{Log as SiteLog, numbered_from, board, with_board, roll};
+ghost use Rattle.ob_site_rules.specs.State.{Log as SiteLog, numbered_from, board, with_board, roll, at, is_among};
 ghost use Rattle.ob_site_rules.specs.Writes.{stored, events_ever, records_from, with_record, recorded, board_after};
 ghost use Rattle.ob_object.specs.WellFormed.{IsWellFormed};
 ghost use Rattle.ob_tree.specs.Laid.{paths};
@@ -17,29 +17,38 @@ ghost use Rattle.ob_tree.specs.Paths.{first_twice};
 ghost use Rattle.ob_step_laws.specs.Laws.{Apart};
 ghost use Rattle.ob_site_rules.specs.Shown.{rule_of};
 ghost use Rattle.ob_plain_state.specs.Fitting.{TakesIfRule};
-ghost use Rattle.ob_site_state.specs.Roles.{recorders_of, AreRoles};
+ghost use Rattle.ob_site_state.specs.Roles.{recorders_of, AreRoles, is_at, stands_at};
 ghost use Rattle.ob_site_state.specs.Recorded.{TakesRecord};
 ghost use Rattle.std.specs.List.{list_any};
 ghost use Rattle.ob_site_state.specs.Changes.{with_log, is_library, rewound, CanRewind, ChangesTell, IsNode, HasEvents};
 ghost use Rattle.ob_site_state.specs.Stamping.{stamped_by};
-ghost use Rattle.ob_site_state.specs.Kept.{keys, log_of, LogsAreBy, IsSoundFor};
+ghost use Rattle.ob_site_state.specs.Kept.{keys, log_of, LogsAreBy, IsSoundFor, entry_of};
 ghost use Rattle.ob_site_state.specs.Contents.{state_in};
 ghost use Rattle.ob_site_state.specs.Tallies.{capacities_of, growing_in};
+ghost use Rattle.ob_contracts.specs.Shown.{shown};
+ghost use Rattle.ob_tree.specs.Children.{child_at};
+ghost use Rattle.ob_tree.specs.Depths.{depth_at};
+ghost use Rattle.ob_tree.specs.Shown.{standing_at};
+ghost use Rattle.ob_tree.specs.Standings.{context};
+ghost use Rattle.ob_ground.specs.Grounds.{alone_at, inside_at};
+ghost use Rattle.std.specs.Option.{option_copied};
+ghost use Rattle.ob_alarms.specs.Lists.{first_place};
 
 use crate::change::Change;
 use crate::contents::Contents;
 use crate::numbers::number_in;
 use crate::tally::{Tally, count_at};
 use ob_alarms::{Alarms, Num};
-use ob_contracts::Library;
+use ob_contracts::{Library, Steps, View};
 use ob_history::{Log, Record};
 use ob_object::{Kind, Slot};
 use ob_site_rules::Plan;
 use ob_times::Moment;
-use ob_tree::{NodeId, Tree};
+use ob_tree::{NodeId, Standing, Tree};
 use ob_values::Text;
 use std::alloc::{AllocError, Global};
 use std::marker::Model;
+use std::sync::ledger::Ledger;
 
 /// The state of a site, apart from its watches: what is fixed, the time, the library, the own objects, the log
 /// of each history under its path, and the alarms.
@@ -163,20 +172,6 @@ impl State {
         &self.plan
     }
 
-    /// What changes, as it is now: the library, the own objects, the logs and the alarms. Its alarms are those of the
-    /// plan's rules and root, its roles are those of the plan, and no two of its nodes have one path.
-    pub fn contents(&self) -> &Contents
-        ensures value { state_in result.now ≡ self.now.now }
-        ensures root { result.now.board.root ≡ self.now.plan.root }
-        ensures rules { result.now.board.rules ≡ numbered_from 0 self.now.plan.rules }
-        ensures stamps { result.now.ground.tree.stamps ≡ self.now.stamps }
-        ensures steps { result.now.ground.tree.steps ≡ self.now.steps }
-        ensures roles { AreRoles result.now.roles self.now.plan }
-        ensures differ { first_twice [] (paths result.now.ground.tree.root) ≡ None }
-    {
-        &self.contents
-    }
-
     /// The allocator of the state.
     pub fn allocator(&self) -> Global {
         self.alloc
@@ -197,6 +192,48 @@ impl State {
         self.contents.ground.tree()
     }
 
+    /// Where an own object stands. It takes a view of each object round it, which counts one step each.
+    pub fn standing<L: Ledger>(&self, node: NodeId, steps: &mut Steps<L>) -> Standing<'_>
+        requires { node.number < parts self.now.now.tree }
+        ensures stands { Some (context result) ≡ standing_at self.now.now.library node.number self.now.now.tree }
+        ensures steps { steps.new ≡ steps.old + depth_at node.number self.now.now.tree }
+    {
+        self.contents.ground.standing(node, steps)
+    }
+
+    /// The child of a name that an own object has itself: looked up where it has more than eight, else looked for one by one.
+    pub fn child(&self, node: NodeId, name: &str) -> Option<NodeId>
+        requires { node.number < parts self.now.now.tree }
+        ensures child { option_map (λ id. id.number) result ≡ child_at node.number name.now self.now.now.tree }
+        ensures within { IfSome result (λ child. child.number < parts self.now.now.tree) }
+    {
+        self.contents.ground.child(node, name)
+    }
+
+    /// What an own object shows where it stands, but for its own children, lent. It counts one step, and one for each object
+    /// round it.
+    pub fn view<L: Ledger>(&self, node: NodeId, steps: &mut Steps<L>) -> View<'_>
+        requires { node.number < parts self.now.now.tree }
+        ensures view { Some (shown result) ≡ alone_at self.now.now.library node.number self.now.now.tree }
+        ensures steps { steps.new ≡ steps.old + depth_at node.number self.now.now.tree + 1 }
+    {
+        self.contents.ground.view(node, steps)
+    }
+
+    /// Where a child of a name stands, or would stand, in an own object. It counts one step, and one for each object round it.
+    pub fn inside<'a, L: Ledger>(
+        &'a self,
+        node: NodeId,
+        name: Option<&Text>,
+        steps: &mut Steps<L>,
+    ) -> Standing<'a>
+        requires { node.number < parts self.now.now.tree }
+        ensures inside { Some (context result) ≡ inside_at self.now.now.library node.number (option_copied name.entry) self.now.now.tree }
+        ensures steps { steps.new ≡ steps.old + depth_at node.number self.now.now.tree + 1 }
+    {
+        self.contents.ground.inside(node, name, steps)
+    }
+
     /// The alarms, with the plan's rules and its root.
     pub fn alarms(&self) -> &Alarms
         ensures { result.now ≡ record (board self.now.plan self.now.now) { spare = result.now.spare } }
@@ -210,6 +247,48 @@ impl State {
         ensures { (l : Path × SiteLog) → slice_get self.now.now.logs place ≡ Some l → log_of result.now ≡ l.1 }
     {
         &self.contents.logs[place].1
+    }
+
+    /// The log of a place, under its path.
+    pub fn history(&self, place: usize) -> &(Text, Log)
+        requires { place < length self.now.now.logs }
+        ensures { slice_get self.now.now.logs place ≡ Some (entry_of result.now) }
+    {
+        &self.contents.logs[place]
+    }
+
+    /// The log of the history at a path, by a look-up: the one that stands first under the path.
+    pub fn log_at(&self, path: &Text) -> Option<&Log>
+        ensures { option_map log_of (option_copied result) ≡ at path.now self.now.now.logs }
+    {
+        let Some(place) = self.contents.roles.history_at(path) else {
+            return None;
+        };
+        match self.contents.logs.get(place) {
+            Some(entry) => Some(&entry.1),
+            None => None,
+        }
+    }
+
+    /// The place of the history at a path, if there is one.
+    pub fn history_at(&self, path: &Text) -> Option<usize>
+        ensures { result ≡ first_place (stands_at path.now) self.now.plan.histories }
+    {
+        self.contents.roles.history_at(path)
+    }
+
+    /// The place of the writable point at a path, if there is one.
+    pub fn point_at(&self, path: &Text) -> Option<usize>
+        ensures { result ≡ first_place (is_at path.now) self.now.plan.points }
+    {
+        self.contents.roles.point_at(path)
+    }
+
+    /// Whether there is a writable point at a path.
+    pub fn is_point(&self, path: &Text) -> bool
+        ensures { result ≡ is_among path.now self.now.plan.points }
+    {
+        self.contents.roles.is_point(path)
     }
 
     /// How many events the history of a place has had.
@@ -416,7 +495,7 @@ impl State {
     }
 
     /// The place of the rule of a node, if it has one.
-    fn rule_of(&self, source: &Text) -> Option<u64>
+    pub fn rule_of(&self, source: &Text) -> Option<u64>
         ensures { result ≡ rule_of self.now.plan source.now }
     {
         match self.contents.roles.rule_of(source) {

@@ -14,15 +14,14 @@ use Rattle.ob_site_rules.specs.Build.{Text}
 use Rattle.ob_site_rules.specs.declared.fault.Fault.{Fault}
 use Rattle.ob_site_rules.specs.declared.fault.Fault.TheVariants.{NoSuchObject}
 use Rattle.ob_site_rules.specs.Faults.{err}
-use Rattle.ob_site_rules.specs.declared.plan.Plan.{Plan}
 use Rattle.ob_site_rules.specs.State.{State}
 use Rattle.ob_requests.specs.Calls.{lease_in}
 use Rattle.ob_watch.proofs.TableLemmas.{elsewhere}
 use Rattle.ob_site_watches.proofs.Leased.{asked_fits}
 use Rattle.ob_site_rules.specs.Replies.{sent}
 use Rattle.ob_site_rules.specs.Watched.{WatchOperation, lease_asked}
-use Rattle.ob_site_state.specs.declared.contents.Contents.{Contents}
-use Rattle.ob_site_state.specs.Contents.{state_in}
+use Rattle.ob_site_state.specs.Kept.{Kept}
+use Rattle.ob_site_state.specs.Stamping.{tree_of}
 use Rattle.ob_tree.specs.Trees.{Stamped}
 use Rattle.ob_watch.specs.declared.item.Item.{Item}
 use Rattle.ob_watch.specs.AsRules.{world_of}
@@ -83,21 +82,21 @@ pub same_lease : (s : State) (input : Option Node) → lease_in s.library input 
 same_lease s None = refl
 same_lease s (Some o) = refl
 
-module _ (plan : Plan) (c : Contents) where
+module _ (k : Kept) where
   abbrev m : Site
-  m = of_plan plan
+  m = of_plan k.plan
 
   abbrev t : Stamped
-  t = c.ground.tree
+  t = tree_of k
 
-  pub known_there : (now n : ℕ) (table : Table) (w : Leased) → AllKnown plan c table → lookup n (live now table.watches) ≡ Some w → AreSoundItems plan c w.items
+  pub known_there : (now n : ℕ) (table : Table) (w : Leased) → AllKnown k table → lookup n (live now table.watches) ≡ Some w → AreSoundItems k w.items
   known_there now n table w known there =
-      all_there (λ (v : Leased). AreSoundItems plan c v.items) n (live now table.watches) w (all_live (λ (v : Leased). AreSoundItems plan c v.items) now table.watches known) there
+      all_there (λ (v : Leased). AreSoundItems k v.items) n (live now table.watches) w (all_live (λ (v : Leased). AreSoundItems k v.items) now table.watches known) there
 
-  all_reported_flags : (items : List Item) → AreStampsPast t → AreSoundItems plan c items → map (reported m (state_in c)) (map (flags t) items) ≡ map (flags t) (map (reported_at t.steps) items)
+  all_reported_flags : (items : List Item) → AreStampsPast t → AreSoundItems k items → map (reported m k.now) (map (flags t) items) ≡ map (flags t) (map (reported_at t.steps) items)
   all_reported_flags [] past known = refl
   all_reported_flags (i ∷ items) past known =
-      ap (λ (f : ItemOf Text Text Filter). f ∷ map (reported m (state_in c)) (map (flags t) items)) ((reports_agree plan t).reports past (state_in c) i known.0.counted)
+      ap (λ (f : ItemOf Text Text Filter). f ∷ map (reported m k.now) (map (flags t) items)) ((reports_agree k.plan t).reports past k.now i known.0.counted)
       ∙ ap (λ (fs : List (ItemOf Text Text Filter)). flags t (reported_at t.steps i) ∷ fs) (all_reported_flags items past known.1)
 
   leased_flags : (r : Result ℕ Fault) (v : Leased) → Some (with_lease m (flagged t v) r) ≡ Some (flagged t (leased_if r v))
@@ -105,13 +104,13 @@ module _ (plan : Plan) (c : Contents) where
   leased_flags (Err fault) v = refl
 
   -- what is left of a watch
-  pub agrees : (now : ℕ) (ns : List ℕ) (op : WatchOperation) (w : Leased) → AreStampsPast t → AreSoundItems plan c w.items → is_add op ≡ false
-      → watch_after m (state_in c) ns (touched m now (flagged t w)) op ≡ option_map (flagged t) (marks_after c now op w)
+  pub agrees : (now : ℕ) (ns : List ℕ) (op : WatchOperation) (w : Leased) → AreStampsPast t → AreSoundItems k w.items → is_add op ≡ false
+      → watch_after m k.now ns (touched m now (flagged t w)) op ≡ option_map (flagged t) (marks_after k now op w)
   agrees now ns (Look part) w past known other = refl
-  agrees now ns (Renew input) w past known other = leased_flags (lease_asked (state_in c) input) (touched_at now w)
+  agrees now ns (Renew input) w past known other = leased_flags (lease_asked k.now input) (touched_at now w)
   agrees now ns (Add asked) w past known other = absurd (let e : true ≡ false = other in cc)
   agrees now ns (Remove texts) w past known other =
-      ap (λ (fs : List (ItemOf Text Text Filter)). Some (with_items m (touched m now (flagged t w)) fs)) ((items_agree plan t).removes texts w.items)
+      ap (λ (fs : List (ItemOf Text Text Filter)). Some (with_items m (touched m now (flagged t w)) fs)) ((items_agree k.plan t).removes texts w.items)
   agrees now ns PollChanges w past known other =
       ap (λ (fs : List (ItemOf Text Text Filter)). Some (with_items m (touched m now (flagged t w)) fs)) (all_reported_flags w.items past known)
   agrees now ns PollRefresh w past known other =
@@ -124,13 +123,13 @@ module _ (plan : Plan) (c : Contents) where
   Lasts now None = Unit {0}
   Lasts now (Some v) = is_over now v ≡ false
 
-  renewed_lasts : (now : ℕ) (input : Option Node) (w : Leased) → IsLease w.lease → (r : Result ℕ Fault) → r ≡ lease_in (state_in c).library input → Lasts now (Some (leased_if r (touched_at now w)))
-  renewed_lasts now input w fits (Ok lease) e = fresh now lease (asked_fits (state_in c).library input lease e)
+  renewed_lasts : (now : ℕ) (input : Option Node) (w : Leased) → IsLease w.lease → (r : Result ℕ Fault) → r ≡ lease_in k.now.library input → Lasts now (Some (leased_if r (touched_at now w)))
+  renewed_lasts now input w fits (Ok lease) e = fresh now lease (asked_fits k.now.library input lease e)
   renewed_lasts now input w fits (Err fault) e = fresh now w.lease fits
 
-  pub marks_last : (now : ℕ) (op : WatchOperation) (w : Leased) → IsLease w.lease → Lasts now (marks_after c now op w)
+  pub marks_last : (now : ℕ) (op : WatchOperation) (w : Leased) → IsLease w.lease → Lasts now (marks_after k now op w)
   marks_last now (Look part) w fits = fresh now w.lease fits
-  marks_last now (Renew input) w fits = renewed_lasts now input w fits (lease_asked (state_in c) input) (sym (same_lease (state_in c) input))
+  marks_last now (Renew input) w fits = renewed_lasts now input w fits (lease_asked k.now input) (sym (same_lease k.now input))
   marks_last now (Add asked) w fits = fresh now w.lease fits
   marks_last now (Remove texts) w fits = fresh now w.lease fits
   marks_last now PollChanges w fits = fresh now w.lease fits
@@ -144,37 +143,37 @@ module _ (plan : Plan) (c : Contents) where
   live_left now n ws w (Some v) distinct there lasts = (lapses_commute now).replaces n v ws w distinct there lasts
 
   -- no watch of the number stands
-  pub none_stands : (now n : ℕ) (old : Table) (op : WatchOperation) (o : Node) → lookup n (live now old.watches) ≡ None → o ≡ err NoSuchObject → IsDone plan c now old old n op o
+  pub none_stands : (now n : ℕ) (old : Table) (op : WatchOperation) (o : Node) → lookup n (live now old.watches) ≡ None → o ≡ err NoSuchObject → IsDone k now old old n op o
   none_stands now n old op o gone e = record {
-    watches = sym (ap (λ (v : Option (WatchOf Text Text Filter)). (on_watch m (world_of plan now (state_in c) t (lapsed_at now old)) n op v).0) nothing);
-    reply = e ∙ sym (ap (λ (v : Option (WatchOf Text Text Filter)). sent plan (on_watch m (world_of plan now (state_in c) t (lapsed_at now old)) n op v).1) nothing);
+    watches = sym (ap (λ (v : Option (WatchOf Text Text Filter)). (on_watch m (world_of k.plan now k.now t (lapsed_at now old)) n op v).0) nothing);
+    reply = e ∙ sym (ap (λ (v : Option (WatchOf Text Text Filter)). sent k.plan (on_watch m (world_of k.plan now k.now t (lapsed_at now old)) n op v).1) nothing);
   }
     where
       nothing : lookup n (flags_of t (live now old.watches)) ≡ None
-      nothing = (tables_agree plan t).looks_up n (live now old.watches) ∙ ap (option_map (flagged t)) gone
+      nothing = (tables_agree k.plan t).looks_up n (live now old.watches) ∙ ap (option_map (flagged t)) gone
 
   -- one does
   pub one_stands : (now n : ℕ) (old new : Table) (op : WatchOperation) (w : Leased) (left : Option Leased) (o : Node)
       → IsDistinct nat_eq (numbers_of old.watches) → lookup n (live now old.watches) ≡ Some w
       → new ≡ holding (replace n left old.watches) old → Lasts now left
-      → watch_after m (state_in c) (numbers_of (live now old.watches)) (touched m now (flagged t w)) op ≡ option_map (flagged t) left
-      → IsReply plan c now (numbers_of (live now old.watches)) n w op o → IsDone plan c now old new n op o
+      → watch_after m k.now (numbers_of (live now old.watches)) (touched m now (flagged t w)) op ≡ option_map (flagged t) left
+      → IsReply k now (numbers_of (live now old.watches)) n w op o → IsDone k now old new n op o
   one_stands now n old new op w left o distinct there put lasts after reply = record {
     watches =
-        ap (λ (u : Table). world_of plan now (state_in c) t (lapsed_at now u)) put
-        ∙ ap (λ (ws : Numbered). world_of plan now (state_in c) t (record { watches = ws; next = old.next })) (live_left now n old.watches w left distinct there lasts)
-        ∙ ap (λ (fs : List (ℕ × WatchOf Text Text Filter)). record { time = now; site = state_in c; watches = fs; next = old.next })
-        (sym ((tables_agree plan t).replaces n left (live now old.watches))
+        ap (λ (u : Table). world_of k.plan now k.now t (lapsed_at now u)) put
+        ∙ ap (λ (ws : Numbered). world_of k.plan now k.now t (record { watches = ws; next = old.next })) (live_left now n old.watches w left distinct there lasts)
+        ∙ ap (λ (fs : List (ℕ × WatchOf Text Text Filter)). record { time = now; site = k.now; watches = fs; next = old.next })
+        (sym ((tables_agree k.plan t).replaces n left (live now old.watches))
         ∙ ap (λ (v : Option (WatchOf Text Text Filter)). replace n v (flags_of t (live now old.watches)))
-        (sym after ∙ ap (λ (ns : List ℕ). watch_after m (state_in c) ns (touched m now (flagged t w)) op) (sym numbers)))
-        ∙ sym (ap (λ (v : Option (WatchOf Text Text Filter)). (on_watch m (world_of plan now (state_in c) t (lapsed_at now old)) n op v).0) something);
+        (sym after ∙ ap (λ (ns : List ℕ). watch_after m k.now ns (touched m now (flagged t w)) op) (sym numbers)))
+        ∙ sym (ap (λ (v : Option (WatchOf Text Text Filter)). (on_watch m (world_of k.plan now k.now t (lapsed_at now old)) n op v).0) something);
     reply =
-        subst (λ (ns : List ℕ). IsReply plan c now ns n w op o) (sym numbers) reply
-        ∙ sym (ap (λ (v : Option (WatchOf Text Text Filter)). sent plan (on_watch m (world_of plan now (state_in c) t (lapsed_at now old)) n op v).1) something);
+        subst (λ (ns : List ℕ). IsReply k now ns n w op o) (sym numbers) reply
+        ∙ sym (ap (λ (v : Option (WatchOf Text Text Filter)). sent k.plan (on_watch m (world_of k.plan now k.now t (lapsed_at now old)) n op v).1) something);
   }
     where
       something : lookup n (flags_of t (live now old.watches)) ≡ Some (flagged t w)
-      something = (tables_agree plan t).looks_up n (live now old.watches) ∙ ap (option_map (flagged t)) there
+      something = (tables_agree k.plan t).looks_up n (live now old.watches) ∙ ap (option_map (flagged t)) there
 
       numbers : numbers_of (flags_of t (live now old.watches)) ≡ numbers_of (live now old.watches)
-      numbers = (tables_agree plan t).numbers (live now old.watches)
+      numbers = (tables_agree k.plan t).numbers (live now old.watches)

@@ -14,8 +14,8 @@ use Rattle.ob_site_rules.specs.Build.{Text, Path, under_href}
 use Rattle.ob_site_rules.specs.declared.plan.Plan.{Plan}
 use Rattle.ob_site_rules.specs.State.{State}
 use Rattle.ob_site_rules.specs.Replies.{content_object, entry}
-use Rattle.ob_site_state.specs.declared.contents.Contents.{Contents}
-use Rattle.ob_site_state.specs.Contents.{state_in}
+use Rattle.ob_site_state.specs.Kept.{Kept}
+use Rattle.ob_site_state.specs.Stamping.{tree_of}
 use Rattle.ob_watch.specs.declared.item.Item.{Item}
 use Rattle.ob_watch.specs.Counted.{of_plan}
 use Rattle.ob_watch.specs.Flags.{flags, flag_of}
@@ -58,45 +58,49 @@ module _ (plan : Plan) where
   under_text s text path (Object true) = refl
   under_text s text path (Feed bounds given) = lists_under text path (m.gone s path - given) (filter (m.passes bounds) (since m s path given))
 
+module _ (k : Kept) where
+  abbrev site : Site
+  site = of_plan k.plan
+
   -- an item that isn't due has no entry
-  pub nothing_due : (c : Contents) (i : Item) → IsSoundItem plan c i → is_due c.ground.tree i ≡ false → map entry (changes_in plan c i) ≡ []
-  nothing_due c i known h = ap (map entry) ((reports_agree plan c.ground.tree).not_due (state_in c) i known.counted h)
+  pub nothing_due : (i : Item) → IsSoundItem k i → is_due (tree_of k) i ≡ false → map entry (changes_in k i) ≡ []
+  nothing_due i known h = ap (map entry) ((reports_agree k.plan (tree_of k)).not_due k.now i known.counted h)
 
   -- the entry of what is due
-  pub entry_due : (c : Contents) (i : Item) (o : Option Node) → option_to_list o ≡ map (λ r. content_object r.content) (changes_in plan c i)
-      → map entry (changes_in plan c i) ≡ option_to_list (option_map (under_href (Some i.text)) o)
-  entry_due c i o h = under_text (state_in c) i.text i.path (flag_of c.ground.tree i.tracked) ∙ ap (map (under_href (Some i.text))) (sym h) ∙ listed o
+  pub entry_due : (i : Item) (o : Option Node) → option_to_list o ≡ map (λ r. content_object r.content) (changes_in k i)
+      → map entry (changes_in k i) ≡ option_to_list (option_map (under_href (Some i.text)) o)
+  entry_due i o h = under_text k.plan k.now i.text i.path (flag_of (tree_of k) i.tracked) ∙ ap (map (under_href (Some i.text))) (sym h) ∙ listed o
     where
       listed : (o : Option Node) → map (under_href (Some i.text)) (option_to_list o) ≡ option_to_list (option_map (under_href (Some i.text)) o)
       listed None = refl
       listed (Some x) = refl
 
   -- what has changed of one more item
-  pub changes_more : (c : Contents) (items : List Item) (k : ℕ) (i : Item) → k < length items → i ≡ get_or items k i
-      → all_changes plan c (take (k + 1) items) ≡ all_changes plan c (take k items) ++ map entry (changes_in plan c i)
-  changes_more c items k i l at =
-      ap (all_changes plan c) (take_more items k i l ∙ ap (λ j. take k items ++ j ∷ []) (sym at))
-      ∙ ap (λ is. map entry (changes m (state_in c) is)) (map-append (flags c.ground.tree) (take k items) (i ∷ []))
-      ∙ ap (map entry) (changes_push m (state_in c) (map (flags c.ground.tree) (take k items)) (flags c.ground.tree i))
-      ∙ map-append entry (changes m (state_in c) (map (flags c.ground.tree) (take k items))) (changes_in plan c i)
+  pub changes_more : (items : List Item) (n : ℕ) (i : Item) → n < length items → i ≡ get_or items n i
+      → all_changes k (take (n + 1) items) ≡ all_changes k (take n items) ++ map entry (changes_in k i)
+  changes_more items n i l at =
+      ap (all_changes k) (take_more items n i l ∙ ap (λ j. take n items ++ j ∷ []) (sym at))
+      ∙ ap (λ is. map entry (changes site k.now is)) (map-append (flags (tree_of k)) (take n items) (i ∷ []))
+      ∙ ap (map entry) (changes_push site k.now (map (flags (tree_of k)) (take n items)) (flags (tree_of k) i))
+      ∙ map-append entry (changes site k.now (map (flags (tree_of k)) (take n items))) (changes_in k i)
 
   -- what is read of one more item
-  pub read_more : (c : Contents) (items : List Item) (k : ℕ) (i : Item) → k < length items → i ≡ get_or items k i
-      → all_readings plan c (take (k + 1) items) ≡ all_readings plan c (take k items) ++ reading_entry plan c i ∷ []
-  read_more c items k i l at =
-      ap (all_readings plan c) (take_more items k i l ∙ ap (λ j. take k items ++ j ∷ []) (sym at))
-      ∙ ap (λ is. map entry (map (reading m (state_in c)) is)) (map-append (flags c.ground.tree) (take k items) (i ∷ []))
-      ∙ ap (map entry) (map-append (reading m (state_in c)) (map (flags c.ground.tree) (take k items)) (flags c.ground.tree i ∷ []))
-      ∙ map-append entry (map (reading m (state_in c)) (map (flags c.ground.tree) (take k items))) (reading m (state_in c) (flags c.ground.tree i) ∷ [])
+  pub read_more : (items : List Item) (n : ℕ) (i : Item) → n < length items → i ≡ get_or items n i
+      → all_readings k (take (n + 1) items) ≡ all_readings k (take n items) ++ reading_entry k i ∷ []
+  read_more items n i l at =
+      ap (all_readings k) (take_more items n i l ∙ ap (λ j. take n items ++ j ∷ []) (sym at))
+      ∙ ap (λ is. map entry (map (reading site k.now) is)) (map-append (flags (tree_of k)) (take n items) (i ∷ []))
+      ∙ ap (map entry) (map-append (reading site k.now) (map (flags (tree_of k)) (take n items)) (flags (tree_of k) i ∷ []))
+      ∙ map-append entry (map (reading site k.now) (map (flags (tree_of k)) (take n items))) (reading site k.now (flags (tree_of k) i) ∷ [])
 
   -- where nothing is due, nothing has an entry
-  pub none_due : (c : Contents) (items : List Item) → AreSoundItems plan c items → list_any (is_due c.ground.tree) items ≡ false → all_changes plan c items ≡ []
-  none_due c [] known none = refl
-  none_due c (i ∷ items) known none =
-      let here : is_due c.ground.tree i ≡ false = (none_of (is_due c.ground.tree i) (list_any (is_due c.ground.tree) items) none).0 in
-      map-append entry (changes_in plan c i) (changes m (state_in c) (map (flags c.ground.tree) items))
-      ∙ ap (λ es. es ++ all_changes plan c items) (nothing_due c i known.0 here)
-      ∙ none_due c items known.1 (none_of (is_due c.ground.tree i) (list_any (is_due c.ground.tree) items) none).1
+  pub none_due : (items : List Item) → AreSoundItems k items → list_any (is_due (tree_of k)) items ≡ false → all_changes k items ≡ []
+  none_due [] known none = refl
+  none_due (i ∷ items) known none =
+      let now : is_due (tree_of k) i ≡ false = (none_of (is_due (tree_of k) i) (list_any (is_due (tree_of k)) items) none).0 in
+      map-append entry (changes_in k i) (changes site k.now (map (flags (tree_of k)) items))
+      ∙ ap (λ es. es ++ all_changes k items) (nothing_due i known.0 now)
+      ∙ none_due items known.1 (none_of (is_due (tree_of k) i) (list_any (is_due (tree_of k)) items) none).1
     where
       none_of : (a b : Bool) → (a || b) ≡ false → (a ≡ false) × (b ≡ false)
       none_of true b none = absurd (let e : true ≡ false = none in cc)

@@ -14,57 +14,55 @@ use Rattle.ob_site_rules.specs.Faults.{err}
 use Rattle.ob_site_rules.specs.Locating.{locate}
 use Rattle.ob_site_rules.specs.Replies.{Reading, entry}
 use Rattle.ob_site_rules.specs.Sites.{found}
-use Rattle.ob_site_rules.specs.declared.plan.Plan.{Plan}
 use Rattle.ob_site_rules.specs.State.{State}
 use Rattle.ob_site_rules.specs.Watched.{Asked, SiteFound}
 use Rattle.ob_site_rules.specs.declared.fault.Fault.{Fault}
-use Rattle.ob_site_state.specs.declared.contents.Contents.{Contents}
-use Rattle.ob_site_state.specs.Contents.{state_in}
+use Rattle.ob_site_state.specs.Kept.{Kept}
+use Rattle.ob_site_state.specs.Stamping.{tree_of}
 use Rattle.ob_watch.specs.declared.item.Item.{Item}
 use Rattle.ob_watch.specs.Counted.{of_plan}
 use Rattle.ob_watch.specs.Items.{feed_item, object_item}
 use Rattle.ob_watch.specs.Marks.{AreStampsPast}
 use Rattle.ob_watch.proofs.LawLemmas.{counts_stay, reports_agree}
-use Rattle.ob_site_watches.specs.declared.offering.Offer.{Offer}
 use Rattle.ob_site_watches.specs.declared.offering.Offer.TheVariants as offer
 use Rattle.ob_site_watches.specs.Offered.{IsItemFor, IsOffered, IsRefusedFor, refused_entry}
 
-module _ (plan : Plan) (c : Contents) where
+module _ (k : Kept) where
   abbrev m : Site
-  m = of_plan plan
+  m = of_plan k.plan
 
   abbrev s : State
-  s = state_in c
+  s = k.now
 
   -- an own node
-  pub object_for : (text : Text) (path : Path) (node : NodeId) → AreStampsPast c.ground.tree → IsOwnFound c.ground.tree.root (ObjectAt path) → Some node.number ≡ place_of path (paths c.ground.tree.root)
-      → IsItemFor plan c text (ObjectAt path) (object_item text path node c.ground.tree.steps)
+  pub object_for : (text : Text) (path : Path) (node : NodeId) → AreStampsPast (tree_of k) → IsOwnFound k.now.tree (ObjectAt path) → Some node.number ≡ place_of path (paths k.now.tree)
+      → IsItemFor k text (ObjectAt path) (object_item text path node k.steps)
   object_for text path node past own there = record {
-    adds = λ items. ap (added m s items) (sym ((reports_agree plan c.ground.tree).adds past text path node));
-    known = record { placed = (sym there, λ h e. own.2 h (ap (λ (k : ℕ). head_at k c.ground.tree.root) (same_number own.0 node.number (sym own.1 ∙ sym there)) ∙ e)); counted = record {}; past = (let e : c.ground.tree.steps ≤ c.ground.tree.steps = omega arith in e) };
+    adds = λ items. ap (added m s items) (sym ((reports_agree k.plan (tree_of k)).adds past text path node));
+    known = record { placed = (sym there, λ h e. own.2 h (ap (λ (n : ℕ). head_at n k.now.tree) (same_number own.0 node.number (sym own.1 ∙ sym there)) ∙ e)); counted = record {}; past = (let e : k.steps ≤ k.steps = omega arith in e) };
   }
     where
       same_number : (a b : ℕ) → (let r : Option ℕ = Some a in r) ≡ Some b → a ≡ b
       same_number a b e = cc
 
   -- a feed
-  pub feed_for : (text : Text) (path : Path) (filter : Filter) (n : ℕ) → n ≡ count m s path → IsItemFor plan c text (FeedAt path filter) (feed_item text path filter n)
-  feed_for text path filter n counted = subst (λ (k : ℕ). IsItemFor plan c text (FeedAt path filter) (feed_item text path filter k)) (sym counted) (record {
+  pub feed_for : (text : Text) (path : Path) (filter : Filter) (n : ℕ) → n ≡ count m s path → IsItemFor k text (FeedAt path filter) (feed_item text path filter n)
+  feed_for text path filter n counted = subst (λ (total : ℕ). IsItemFor k text (FeedAt path filter) (feed_item text path filter total)) (sym counted) (record {
     adds = λ items. refl;
-    known = record { placed = record {}; counted = (counts_stay plan).adds s text path filter; past = record {} };
+    known = record { placed = record {}; counted = (counts_stay k.plan).adds s text path filter; past = record {} };
   })
 
   abbrev there : List ℕ → Asked → SiteFound
-  there ns asked = found locate plan s ns asked.0 asked.1
+  there ns asked = found locate k.plan s ns asked.0 asked.1
 
   -- what is found is offered
   pub item_offered : (ns : List ℕ) (asked : Asked) (text : Text) (f : SiteFound) (item : Item) → text ≡ asked.0 → f ≡ there ns asked
-      → IsItemFor plan c text f item → IsOffered plan c ns asked (offer.Item item)
+      → IsItemFor k text f item → IsOffered k ns asked (offer.Item item)
   item_offered ns asked text f item same_text same_found is =
-      subst (λ (g : SiteFound). IsItemFor plan c asked.0 g item) same_found (subst (λ (x : Text). IsItemFor plan c x f item) same_text is)
+      subst (λ (g : SiteFound). IsItemFor k asked.0 g item) same_found (subst (λ (x : Text). IsItemFor k x f item) same_text is)
 
   pub refusal_offered : (ns : List ℕ) (asked : Asked) (text : Text) (f : SiteFound) (fault : Fault) (o : Node) → text ≡ asked.0 → f ≡ there ns asked
-      → IsRefusedFor plan c text f fault → o ≡ refused_entry asked.0 fault → IsOffered plan c ns asked (offer.Refused o)
+      → IsRefusedFor k text f fault → o ≡ refused_entry asked.0 fault → IsOffered k ns asked (offer.Refused o)
   refusal_offered ns asked text f fault o same_text same_found is e =
       λ items. (ap (λ (p : List (Flagged m) × Reading). p.0) (here items), ap (λ (p : List (Flagged m) × Reading). entry p.1) (here items) ∙ sym e)
     where

@@ -21,9 +21,8 @@ use Rattle.ob_watch.specs.Undo.{Undo, Undoes}
 use Rattle.ob_watch.proofs.LawLemmas.{lapses_commute, Numbered}
 use Rattle.ob_site_watches.specs.declared.offering.Offer.{Offer}
 use Rattle.ob_site_watches.specs.declared.offering.Offer.TheVariants as offer
-use Rattle.ob_site_rules.specs.declared.plan.Plan.{Plan}
 use Rattle.ob_site_rules.specs.Watched.{Asked}
-use Rattle.ob_site_state.specs.declared.contents.Contents.{Contents}
+use Rattle.ob_site_state.specs.Kept.{Kept}
 use Rattle.ob_site_watches.specs.Entries.{reading_entry}
 use Rattle.ob_site_watches.specs.Offered.{IsOffered, refused_entry}
 use Rattle.ob_site_watches.specs.Putting.{ArePut, Grows, HasAdded, HasPut, IsPut}
@@ -31,10 +30,10 @@ use Rattle.ob_site_watches.proofs.Put.{added_more, added_none}
 use Rattle.ob_site_watches.proofs.Undone.{same_put, undone}
 
 -- What was put into the watch of a number of what is asked for, and the entries.
-pub record IsOnTheWay (plan : Plan) (c : Contents) (ns : List ℕ) (asked : List Asked) (n : ℕ) (old new : Table) (undo undone : Undo) (es : List Object) (w : Leased) : Type 0 where
+pub record IsOnTheWay (k : Kept) (ns : List ℕ) (asked : List Asked) (n : ℕ) (old new : Table) (undo undone : Undo) (es : List Object) (w : Leased) : Type 0 where
   pub left : Leased
   pub grows : Grows n w left old new undo undone
-  pub added : HasAdded plan c ns asked w left es
+  pub added : HasAdded k ns asked w left es
 
 -- ---- the watch of a number
 
@@ -97,29 +96,29 @@ module _ (n : ℕ) where
       undone n old mid new w left distinct there grows.table grows.same
       (subst (λ (o : Option Leased). IfSome o (λ (v : Leased). Undoes undone_by v.items w.items → new ≡ holding (at_number n (watching w.items) mid.watches) mid)) (grown_there old mid undo undone_by w left there grows) (takes w.items) (grows.back w.items nothing))
 
-  module _ (plan : Plan) (c : Contents) where
+  module _ (k : Kept) where
     -- ---- one that is offered
 
     -- nothing is put, as there is no memory
     pub put_nothing : (o : Offer) (old : Table) (undo : Undo) (w : Leased) (result : Result Object AllocError) → IsErr result → IsDistinct nat_eq (numbers_of old.watches)
-        → lookup n old.watches ≡ Some w → IsPut plan c n o old old undo undo result w
+        → lookup n old.watches ≡ Some w → IsPut k n o old old undo undo result w
     put_nothing o old undo w result cut distinct there = record { left = w; grows = grows_none old undo w distinct there; put = IfOk-from_err result _ cut }
 
     -- an href that was refused before
     pub put_refused : (o : Object) (old : Table) (undo : Undo) (w : Leased) → IsDistinct nat_eq (numbers_of old.watches) → lookup n old.watches ≡ Some w
-        → IsPut plan c n (offer.Refused o) old old undo undo (Ok o) w
+        → IsPut k n (offer.Refused o) old old undo undo (Ok o) w
     put_refused o old undo w distinct there = record { left = w; grows = grows_none old undo w distinct there; put = (refl, refl) }
 
     -- an item that the watch has no room for
     pub put_aside : (item : Item) (old : Table) (undo : Undo) (w : Leased) (result : Result Object AllocError) → IsDistinct nat_eq (numbers_of old.watches) → lookup n old.watches ≡ Some w
-        → is_refused w item.text ≡ true → IfOk result (λ o. o ≡ refused_entry item.text TooManyItems) → IsPut plan c n (offer.Item item) old old undo undo result w
+        → is_refused w item.text ≡ true → IfOk result (λ o. o ≡ refused_entry item.text TooManyItems) → IsPut k n (offer.Item item) old old undo undo result w
     put_aside item old undo w result distinct there full told = record {
       left = w;
       grows = grows_none old undo w distinct there;
       put = IfOk-weaker result _ _
           (λ o e. (
             ap (λ (b : Bool). (let v : Leased = cond b w (watching (put_item item w.items) w) in v)) (sym full),
-            e ∙ ap (λ (b : Bool). (let p : Object = cond b (refused_entry item.text TooManyItems) (reading_entry plan c item) in p)) (sym full),
+            e ∙ ap (λ (b : Bool). (let p : Object = cond b (refused_entry item.text TooManyItems) (reading_entry k item) in p)) (sym full),
           )) told;
     }
 
@@ -131,11 +130,11 @@ module _ (n : ℕ) where
       Taken b = cond b w (watching (put_item item w.items) w)
 
       abbrev Entry : Bool → Object
-      Entry b = cond b (refused_entry item.text TooManyItems) (reading_entry plan c item)
+      Entry b = cond b (refused_entry item.text TooManyItems) (reading_entry k item)
 
       -- it is added
-      pub put_added : (done : Unit {0}) (own : Object) → lookup n old.watches ≡ Some w → own ≡ reading_entry plan c item → r ≡ Ok done → AddsAt n item old new undo undone_by r
-          → IsPut plan c n (offer.Item item) old new undo undone_by (Ok own) w
+      pub put_added : (done : Unit {0}) (own : Object) → lookup n old.watches ≡ Some w → own ≡ reading_entry k item → r ≡ Ok done → AddsAt n item old new undo undone_by r
+          → IsPut k n (offer.Item item) old new undo undone_by (Ok own) w
       put_added done own there told is adds =
           let to : AddsTo n item old new undo undone_by (Ok done) w = subst (λ (x : Added). AddsTo n item old new undo undone_by x w) is (to_held there adds) in
           let fact : (is_refused w item.text ≡ false) × (to.left ≡ watching (put_item item w.items) w) = to.adds in
@@ -146,8 +145,8 @@ module _ (n : ℕ) where
           }
 
       -- it is refused
-      pub put_full : (result : Result Object AllocError) (own : Object) → lookup n old.watches ≡ Some w → own ≡ reading_entry plan c item → r ≡ Err ItemsFull → AddsAt n item old new undo undone_by r
-          → IfOk result (λ o. o ≡ under_href own.head.href (err TooManyItems)) → IsPut plan c n (offer.Item item) old new undo undone_by result w
+      pub put_full : (result : Result Object AllocError) (own : Object) → lookup n old.watches ≡ Some w → own ≡ reading_entry k item → r ≡ Err ItemsFull → AddsAt n item old new undo undone_by r
+          → IfOk result (λ o. o ≡ under_href own.head.href (err TooManyItems)) → IsPut k n (offer.Item item) old new undo undone_by result w
       put_full result own there read is adds told =
           let to : AddsTo n item old new undo undone_by (Err ItemsFull) w = subst (λ (x : Added). AddsTo n item old new undo undone_by x w) is (to_held there adds) in
           let fact : (to.left ≡ w) × (is_refused w item.text ≡ true) = to.adds in
@@ -159,7 +158,7 @@ module _ (n : ℕ) where
 
       -- there is no memory
       pub put_failed : (fault : WatchFault) (why : AllocError) → lookup n old.watches ≡ Some w → r ≡ Err fault → AddsAt n item old new undo undone_by r
-          → IsPut plan c n (offer.Item item) old new undo undone_by (Err why) w
+          → IsPut k n (offer.Item item) old new undo undone_by (Err why) w
       put_failed fault why there is adds =
           let to : AddsTo n item old new undo undone_by (Err fault) w = subst (λ (x : Added). AddsTo n item old new undo undone_by x w) is (to_held there adds) in
           let fact : (to.left ≡ w) × IsNotAdded w item fault = to.adds in
@@ -173,48 +172,48 @@ module _ (n : ℕ) where
 
     module _ (ns : List ℕ) where
       -- nothing was put
-      pub way_starts : (old : Table) (undo : Undo) (w : Leased) → IsDistinct nat_eq (numbers_of old.watches) → lookup n old.watches ≡ Some w → IsOnTheWay plan c ns [] n old old undo undo [] w
-      way_starts old undo w distinct there = record { left = w; grows = grows_none old undo w distinct there; added = added_none plan c ns w }
+      pub way_starts : (old : Table) (undo : Undo) (w : Leased) → IsDistinct nat_eq (numbers_of old.watches) → lookup n old.watches ≡ Some w → IsOnTheWay k ns [] n old old undo undo [] w
+      way_starts old undo w distinct there = record { left = w; grows = grows_none old undo w distinct there; added = added_none k ns w }
 
       -- no memory was found before
       pub none_put : (asked : List Asked) (old : Table) (undo : Undo) (w : Leased) (result : Result Object AllocError) → IsErr result → IsDistinct nat_eq (numbers_of old.watches)
-          → lookup n old.watches ≡ Some w → ArePut plan c ns asked n old old undo undo result w
+          → lookup n old.watches ≡ Some w → ArePut k ns asked n old old undo undo result w
       none_put asked old undo w result cut distinct there = record { left = w; grows = grows_none old undo w distinct there; put = IfOk-from_err result _ cut }
 
-      module _ (all : List Asked) (k : ℕ) (old mid new : Table) (undo kept undone_by : Undo) (es : List Object) (w : Leased) (way : IsOnTheWay plan c ns (take k all) n old mid undo kept es w) where
+      module _ (all : List Asked) (next : ℕ) (old mid new : Table) (undo kept undone_by : Undo) (es : List Object) (w : Leased) (way : IsOnTheWay k ns (take next all) n old mid undo kept es w) where
         -- what is put next goes into the watch that has grown
         pub way_there : lookup n old.watches ≡ Some w → lookup n mid.watches ≡ Some way.left
         way_there there = grown_there old mid undo kept w way.left there way.grows
 
         -- one more was put
-        pub way_more : (a : Asked) (o : Offer) (e : Object) → k < length all → a ≡ get_or all k a → IsOffered plan c ns a o → IsPut plan c n o mid new kept undone_by (Ok e) way.left
-            → IsOnTheWay plan c ns (take (k + 1) all) n old new undo undone_by (es ++ e ∷ []) w
+        pub way_more : (a : Asked) (o : Offer) (e : Object) → next < length all → a ≡ get_or all next a → IsOffered k ns a o → IsPut k n o mid new kept undone_by (Ok e) way.left
+            → IsOnTheWay k ns (take (next + 1) all) n old new undo undone_by (es ++ e ∷ []) w
         way_more a o e l is offered one = record {
           left = one.left;
           grows = grows_more old mid new undo kept undone_by w way.left one.left way.grows one.grows;
-          added = subst (λ (asked : List Asked). HasAdded plan c ns asked w one.left (es ++ e ∷ [])) (sym more) (added_more plan c ns (take k all) a o w way.left one.left es e way.added offered one.put.0 one.put.1);
+          added = subst (λ (asked : List Asked). HasAdded k ns asked w one.left (es ++ e ∷ [])) (sym more) (added_more k ns (take next all) a o w way.left one.left es e way.added offered one.put.0 one.put.1);
         }
           where
-            more : take (k + 1) all ≡ take k all ++ a ∷ []
-            more = take_more all k a l ∙ ap (λ (y : Asked). take k all ++ y ∷ []) (sym is)
+            more : take (next + 1) all ≡ take next all ++ a ∷ []
+            more = take_more all next a l ∙ ap (λ (y : Asked). take next all ++ y ∷ []) (sym is)
 
         -- no memory was found for the next
-        pub way_stops : (asked : List Asked) (result : Result Object AllocError) → IsErr result → ArePut plan c ns asked n old mid undo kept result w
+        pub way_stops : (asked : List Asked) (result : Result Object AllocError) → IsErr result → ArePut k ns asked n old mid undo kept result w
         way_stops asked result cut = record { left = way.left; grows = way.grows; put = IfOk-from_err result _ cut }
 
-        pub way_cut : (asked : List Asked) (o : Offer) (r result : Result Object AllocError) → IsErr result → IsPut plan c n o mid new kept undone_by r way.left → ArePut plan c ns asked n old new undo undone_by result w
+        pub way_cut : (asked : List Asked) (o : Offer) (r result : Result Object AllocError) → IsErr result → IsPut k n o mid new kept undone_by r way.left → ArePut k ns asked n old new undo undone_by result w
         way_cut asked o r result cut one = record { left = one.left; grows = grows_more old mid new undo kept undone_by w way.left one.left way.grows one.grows; put = IfOk-from_err result _ cut }
 
         -- all was put
-        pub way_ends : (asked : List Asked) (result : Result Object AllocError) → take k all ≡ asked → IfOk result (λ o. o ≡ watch_out es) → ArePut plan c ns asked n old mid undo kept result w
+        pub way_ends : (asked : List Asked) (result : Result Object AllocError) → take next all ≡ asked → IfOk result (λ o. o ≡ watch_out es) → ArePut k ns asked n old mid undo kept result w
         way_ends asked result whole told = record {
           left = way.left;
           grows = way.grows;
-          put = IfOk-weaker result _ _ (λ o e. (es, (subst (λ (these : List Asked). HasAdded plan c ns these w way.left es) whole way.added, e))) told;
+          put = IfOk-weaker result _ _ (λ o e. (es, (subst (λ (these : List Asked). HasAdded k ns these w way.left es) whole way.added, e))) told;
         }
 
       -- all was put, or taken back
-      pub has_put : (asked : List Asked) (old new : Table) (undo undone_by : Undo) (o : Object) (w : Leased) → ArePut plan c ns asked n old new undo undone_by (Ok o) w → HasPut plan c ns asked n old new o w
+      pub has_put : (asked : List Asked) (old new : Table) (undo undone_by : Undo) (o : Object) (w : Leased) → ArePut k ns asked n old new undo undone_by (Ok o) w → HasPut k ns asked n old new o w
       has_put asked old new undo undone_by o w are = record {
         left = are.left;
         table = are.grows.table;
@@ -225,5 +224,5 @@ module _ (n : ℕ) where
       }
 
       pub all_back : (asked : List Asked) (old mid new : Table) (undo undone_by : Undo) (result : Result Object AllocError) (w : Leased) → IsDistinct nat_eq (numbers_of old.watches) → lookup n old.watches ≡ Some w
-          → ArePut plan c ns asked n old mid undo undone_by result w → Undoes undo w.items w.items → TakesBack n undone_by mid new → new ≡ old
+          → ArePut k ns asked n old mid undo undone_by result w → Undoes undo w.items w.items → TakesBack n undone_by mid new → new ≡ old
       all_back asked old mid new undo undone_by result w distinct there are nothing takes = grown_back old mid new undo undone_by w are.left distinct there are.grows nothing takes

@@ -7,12 +7,10 @@ use Rattle.ob_watching.specs.Operations.{Look, Renew, Add, Remove, PollChanges, 
 use Rattle.ob_watching.specs.Tables.{lookup, replace}
 use Rattle.ob_site_rules.specs.Build.{Path}
 use Rattle.ob_site_rules.specs.declared.fault.Fault.{Fault}
-use Rattle.ob_site_rules.specs.declared.plan.Plan.{Plan}
 use Rattle.ob_site_rules.specs.Watched.{WatchOperation, lease_asked}
-use Rattle.ob_site_state.specs.declared.contents.Contents.{Contents}
-use Rattle.ob_site_state.specs.Contents.{state_in}
+use Rattle.ob_site_state.specs.Kept.{Kept}
 use Rattle.ob_watch.specs.declared.item.Tracked.{Tracked}
-use Rattle.ob_watch.specs.declared.item.Tracked.TheVariants as kept
+use Rattle.ob_watch.specs.declared.item.Tracked.TheVariants as tracked
 use Rattle.ob_watch.specs.declared.item.Item.{Item}
 use Rattle.ob_watch.specs.Items.{among, reported_at, reported_by}
 use Rattle.ob_watch.specs.Marks.{IsMarkPastBy}
@@ -23,48 +21,48 @@ use Rattle.ob_site_watches.specs.Known.{AreSoundItems, IsPlacedBy}
 use Rattle.ob_site_watches.specs.Leaving.{leased_if, leaving, marks_after}
 use Rattle.ob_site_watches.proofs.Answering.{all_there}
 
-module _ (plan : Plan) (c : Contents) where
+placed_reported : (root : Node) (path : Path) (steps : ℕ) (t : Tracked) → IsPlacedBy root path t → IsPlacedBy root path (reported_by steps t)
+placed_reported root path steps (tracked.Object node mark) placed = placed
+placed_reported root path steps (tracked.Feed bounds given total due) placed = placed
+
+past_reported : (steps : ℕ) (t : Tracked) → IsMarkPastBy steps (reported_by steps t)
+past_reported steps (tracked.Object node mark) = (let e : steps ≤ steps = omega arith in e)
+past_reported steps (tracked.Feed bounds given total due) = record {}
+
+module _ (k : Kept) where
   abbrev Known : ℕ × Leased → Type 0
-  Known e = AreSoundItems plan c e.1.items
+  Known e = AreSoundItems k e.1.items
 
   abbrev LeftKnown : Option Leased → Type 0
   LeftKnown None = Unit {0}
-  LeftKnown (Some w) = AreSoundItems plan c w.items
+  LeftKnown (Some w) = AreSoundItems k w.items
 
-  placed_reported : (root : Node) (path : Path) (steps : ℕ) (k : Tracked) → IsPlacedBy root path k → IsPlacedBy root path (reported_by steps k)
-  placed_reported root path steps (kept.Object node mark) placed = placed
-  placed_reported root path steps (kept.Feed bounds given total due) placed = placed
-
-  past_reported : (steps : ℕ) (k : Tracked) → IsMarkPastBy steps (reported_by steps k)
-  past_reported steps (kept.Object node mark) = (let e : steps ≤ steps = omega arith in e)
-  past_reported steps (kept.Feed bounds given total due) = record {}
-
-  reported_known : (items : List Item) → AreSoundItems plan c items → AreSoundItems plan c (map (reported_at c.ground.tree.steps) items)
+  reported_known : (items : List Item) → AreSoundItems k items → AreSoundItems k (map (reported_at k.steps) items)
   reported_known [] known = known
   reported_known (i ∷ items) known = (
     record {
-      placed = placed_reported c.ground.tree.root i.path c.ground.tree.steps i.tracked known.0.placed;
-      counted = (counts_stay plan).reports (state_in c) c.ground.tree.steps i known.0.counted;
-      past = past_reported c.ground.tree.steps i.tracked;
+      placed = placed_reported k.now.tree i.path k.steps i.tracked known.0.placed;
+      counted = (counts_stay k.plan).reports k.now k.steps i known.0.counted;
+      past = past_reported k.steps i.tracked;
     },
     reported_known items known.1,
   )
 
-  some_known : (p : Item → Bool) (items : List Item) → AreSoundItems plan c items → AreSoundItems plan c (filter p items)
+  some_known : (p : Item → Bool) (items : List Item) → AreSoundItems k items → AreSoundItems k (filter p items)
   some_known p [] known = known
   some_known p (i ∷ items) known = go (p i) (some_known p items known.1)
     where
-      go : (b : Bool) → AreSoundItems plan c (filter p items) → AreSoundItems plan c (cond b (i ∷ filter p items) (filter p items))
+      go : (b : Bool) → AreSoundItems k (filter p items) → AreSoundItems k (cond b (i ∷ filter p items) (filter p items))
       go true rest = (known.0, rest)
       go false rest = rest
 
-  leased_known : (r : Result ℕ Fault) (w : Leased) → AreSoundItems plan c w.items → AreSoundItems plan c (leased_if r w).items
+  leased_known : (r : Result ℕ Fault) (w : Leased) → AreSoundItems k w.items → AreSoundItems k (leased_if r w).items
   leased_known (Ok lease) w known = known
   leased_known (Err fault) w known = known
 
-  marks_known : (now : ℕ) (op : WatchOperation) (w : Leased) → AreSoundItems plan c w.items → LeftKnown (marks_after c now op w)
+  marks_known : (now : ℕ) (op : WatchOperation) (w : Leased) → AreSoundItems k w.items → LeftKnown (marks_after k now op w)
   marks_known now (Look part) w known = known
-  marks_known now (Renew input) w known = leased_known (lease_asked (state_in c) input) (touched_at now w) known
+  marks_known now (Renew input) w known = leased_known (lease_asked k.now input) (touched_at now w) known
   marks_known now (Add asked) w known = known
   marks_known now (Remove texts) w known = some_known (λ i. not (among texts i.text)) w.items known
   marks_known now PollChanges w known = reported_known w.items known
@@ -80,11 +78,11 @@ module _ (plan : Plan) (c : Contents) where
       go true rest = rest
       go false rest = (known.0, rest)
 
-  pub one_known : (n : ℕ) (v : Leased) (ws : Numbered) → AreSoundItems plan c v.items → AllByRecursion Known ws → AllByRecursion Known (replace n (Some v) ws)
+  pub one_known : (n : ℕ) (v : Leased) (ws : Numbered) → AreSoundItems k v.items → AllByRecursion Known ws → AllByRecursion Known (replace n (Some v) ws)
   one_known n v [] own known = known
   one_known n v (w ∷ ws) own known = (go (w.0 == n), one_known n v ws own known.1)
     where
-      go : (b : Bool) → AreSoundItems plan c (let x : Leased = cond b v w.1 in x).items
+      go : (b : Bool) → AreSoundItems k (let x : Leased = cond b v w.1 in x).items
       go true = own
       go false = known.0
 
@@ -93,17 +91,17 @@ module _ (plan : Plan) (c : Contents) where
   replaced_known n (Some v) ws own known = one_known n v ws own known
 
   -- what an operation leaves is known
-  pub left_known : (now n : ℕ) (op : WatchOperation) (old : Table) → AllKnown plan c old → AllKnown plan c (leaving c now n op old)
-  left_known now n op old known = replaced_known n (option_and_then (marks_after c now op) (lookup n old.watches)) old.watches (go (lookup n old.watches) refl) known
+  pub left_known : (now n : ℕ) (op : WatchOperation) (old : Table) → AllKnown k old → AllKnown k (leaving k now n op old)
+  left_known now n op old known = replaced_known n (option_and_then (marks_after k now op) (lookup n old.watches)) old.watches (go (lookup n old.watches) refl) known
     where
-      go : (o : Option Leased) → lookup n old.watches ≡ o → LeftKnown (option_and_then (marks_after c now op) o)
+      go : (o : Option Leased) → lookup n old.watches ≡ o → LeftKnown (option_and_then (marks_after k now op) o)
       go None e = record {}
-      go (Some w) e = marks_known now op w (all_there (λ (v : Leased). AreSoundItems plan c v.items) n old.watches w known e)
+      go (Some w) e = marks_known now op w (all_there (λ (v : Leased). AreSoundItems k v.items) n old.watches w known e)
 
 -- and so it is where a watch is made
-pushed_known : (plan : Plan) (c : Contents) (ws : Numbered) (n now : ℕ) → AllByRecursion (λ (e : ℕ × Leased). AreSoundItems plan c e.1.items) ws → AllByRecursion (λ (e : ℕ × Leased). AreSoundItems plan c e.1.items) (ws ++ (n, new_watch now) ∷ [])
-pushed_known plan c [] n now known = (record {}, record {})
-pushed_known plan c (w ∷ ws) n now known = (known.0, pushed_known plan c ws n now known.1)
+pushed_known : (k : Kept) (ws : Numbered) (n now : ℕ) → AllByRecursion (λ (e : ℕ × Leased). AreSoundItems k e.1.items) ws → AllByRecursion (λ (e : ℕ × Leased). AreSoundItems k e.1.items) (ws ++ (n, new_watch now) ∷ [])
+pushed_known k [] n now known = (record {}, record {})
+pushed_known k (w ∷ ws) n now known = (known.0, pushed_known k ws n now known.1)
 
-pub made_known : (plan : Plan) (now : ℕ) (old new : Table) → new ≡ with_new now old → (c : Contents) → AllKnown plan c old → AllKnown plan c new
-made_known plan now old new is c known = subst (λ (t : Table). AllKnown plan c t) (sym is) (pushed_known plan c old.watches old.next now known)
+pub made_known : (now : ℕ) (old new : Table) → new ≡ with_new now old → (k : Kept) → AllKnown k old → AllKnown k new
+made_known now old new is k known = subst (λ (t : Table). AllKnown k t) (sym is) (pushed_known k old.watches old.next now known)

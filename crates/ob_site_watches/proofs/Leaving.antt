@@ -5,7 +5,7 @@ use Rattle.ob_watching.specs.Tables.{lookup, replace}
 use Rattle.ob_watch.specs.Tables.{Leased, Table, at_number, holding, leased_for}
 use Rattle.ob_site_rules.specs.declared.fault.Fault.{Fault}
 use Rattle.ob_site_rules.specs.Watched.{WatchOperation}
-use Rattle.ob_site_state.specs.declared.contents.Contents.{Contents}
+use Rattle.ob_site_state.specs.Kept.{Kept}
 use Rattle.ob_watching.specs.Operations.{PollChanges}
 use Rattle.ob_requests.specs.declared.target.Operation.{Operation}
 use Rattle.ob_requests.specs.declared.target.Operation.TheVariants as asks
@@ -68,7 +68,7 @@ none_left n g old mid new first second =
     ∙ ap (λ (o : Option Leased). holding (replace n o old.watches) old) (none_of (lookup n old.watches))
 
 -- a poll of either kind
-pub polled_left : (c : Contents) (now n : ℕ) (old new : Table) (asked : Operation) → (asked ≡ asks.PollChanges) ⊎ (asked ≡ asks.PollRefresh)
-    → new ≡ leaving c now n PollChanges old → new ≡ leaving c now n (operation_of asked) old
-polled_left c now n old new asked (inl is) e = subst (λ (op : WatchOperation). new ≡ leaving c now n op old) (sym (ap operation_of is)) e
-polled_left c now n old new asked (inr is) e = subst (λ (op : WatchOperation). new ≡ leaving c now n op old) (sym (ap operation_of is)) e
+pub polled_left : (k : Kept) (now n : ℕ) (old new : Table) (asked : Operation) → (asked ≡ asks.PollChanges) ⊎ (asked ≡ asks.PollRefresh)
+    → new ≡ leaving k now n PollChanges old → new ≡ leaving k now n (operation_of asked) old
+polled_left k now n old new asked (inl is) e = subst (λ (op : WatchOperation). new ≡ leaving k now n op old) (sym (ap operation_of is)) e
+polled_left k now n old new asked (inr is) e = subst (λ (op : WatchOperation). new ≡ leaving k now n op old) (sym (ap operation_of is)) e

@@ -17,11 +17,10 @@ use Rattle.ob_site_rules.specs.Faults.{err}
 use Rattle.ob_site_rules.specs.Locating.{locate}
 use Rattle.ob_site_rules.specs.Replies.{Reading, entry}
 use Rattle.ob_site_rules.specs.Sites.{found}
-use Rattle.ob_site_rules.specs.declared.plan.Plan.{Plan}
 use Rattle.ob_site_rules.specs.State.{State}
 use Rattle.ob_site_rules.specs.Watched.{Asked}
-use Rattle.ob_site_state.specs.declared.contents.Contents.{Contents}
-use Rattle.ob_site_state.specs.Contents.{state_in}
+use Rattle.ob_site_state.specs.Kept.{Kept}
+use Rattle.ob_site_state.specs.Stamping.{tree_of}
 use Rattle.ob_watch.specs.declared.item.Item.{Item}
 use Rattle.ob_watch.specs.Adding.{is_refused}
 use Rattle.ob_watch.specs.Counted.{of_plan}
@@ -43,15 +42,15 @@ use Rattle.ob_site_watches.proofs.Knowing.{one_known}
 use Rattle.ob_site_watches.proofs.Leaving.{two_left}
 use Rattle.ob_site_watches.proofs.Named.{added_all_named}
 
-module _ (plan : Plan) (c : Contents) where
+module _ (k : Kept) where
   abbrev m : Site
-  m = of_plan plan
+  m = of_plan k.plan
 
   abbrev s : State
-  s = state_in c
+  s = k.now
 
   abbrev t : Stamped
-  t = c.ground.tree
+  t = tree_of k
 
   abbrev Shown : Type 0
   Shown = ItemOf Text Text Filter
@@ -63,7 +62,7 @@ module _ (plan : Plan) (c : Contents) where
 
   -- whether an href can be added
   same_test : (w : Leased) (item : Item) → (nat_le max_items (length (map (flags t) w.items)) && not (has_flagged m (map (flags t) w.items) item.text)) ≡ is_refused w item.text
-  same_test w item = ap₂ (λ (a b : Bool). a && not b) ((items_agree plan t).full w) ((items_agree plan t).has w.items item.text)
+  same_test w item = ap₂ (λ (a b : Bool). a && not b) ((items_agree k.plan t).full w) ((items_agree k.plan t).has w.items item.text)
 
   abbrev refusal_in : Leased → Item → Answer
   refusal_in w item = (map (flags t) w.items, record { text = item.text; content = Refuses (err TooManyItems) })
@@ -78,49 +77,49 @@ module _ (plan : Plan) (c : Contents) where
     where
       go : (b : Bool) → map (flags t) (let v : Leased = cond b w (watching (put_item item w.items) w) in v).items ≡ (let a : Answer = cond b (refusal_in w item) (adding w item) in a).0
       go true = refl
-      go false = sym ((items_agree plan t).puts item w.items)
+      go false = sym ((items_agree k.plan t).puts item w.items)
 
-  added_entry : (w : Leased) (item : Item) → entry_put plan c (offer.Item item) w ≡ entry (added m s (map (flags t) w.items) (flags t item)).1
+  added_entry : (w : Leased) (item : Item) → entry_put k (offer.Item item) w ≡ entry (added m s (map (flags t) w.items) (flags t item)).1
   added_entry w item =
       go (is_refused w item.text)
       ∙ sym (ap (λ (b : Bool). entry (let a : Answer = cond b (refusal_in w item) (adding w item) in a).1) (same_test w item))
     where
-      go : (b : Bool) → (let p : Node = cond b (refused_entry item.text TooManyItems) (reading_entry plan c item) in p) ≡ entry (let a : Answer = cond b (refusal_in w item) (adding w item) in a).1
+      go : (b : Bool) → (let p : Node = cond b (refused_entry item.text TooManyItems) (reading_entry k item) in p) ≡ entry (let a : Answer = cond b (refusal_in w item) (adding w item) in a).1
       go true = refl
       go false = refl
 
   module _ (ns : List ℕ) where
     abbrev adds_of : List Shown → Asked → Answer
-    adds_of items a = add_found m s items a.0 (found locate plan s ns a.0 a.1)
+    adds_of items a = add_found m s items a.0 (found locate k.plan s ns a.0 a.1)
 
-    one_items : (a : Asked) (o : Offer) (w : Leased) → IsOffered plan c ns a o → map (flags t) (put_offer o w).items ≡ (adds_of (map (flags t) w.items) a).0
+    one_items : (a : Asked) (o : Offer) (w : Leased) → IsOffered k ns a o → map (flags t) (put_offer o w).items ≡ (adds_of (map (flags t) w.items) a).0
     one_items a (offer.Item item) w is = added_items w item ∙ sym (ap (λ (p : Answer). p.0) (is.adds (map (flags t) w.items)))
     one_items a (offer.Refused o) w is = sym (is (map (flags t) w.items)).0
 
-    one_entry : (a : Asked) (o : Offer) (w : Leased) → IsOffered plan c ns a o → entry_put plan c o w ≡ entry (adds_of (map (flags t) w.items) a).1
+    one_entry : (a : Asked) (o : Offer) (w : Leased) → IsOffered k ns a o → entry_put k o w ≡ entry (adds_of (map (flags t) w.items) a).1
     one_entry a (offer.Item item) w is = added_entry w item ∙ sym (ap (λ (p : Answer). entry p.1) (is.adds (map (flags t) w.items)))
     one_entry a (offer.Refused o) w is = sym (is (map (flags t) w.items)).1
 
     -- what is offered can be read
-    pub placed : (a : Asked) (o : Offer) → IsOffered plan c ns a o → IsPlaced c o
+    pub placed : (a : Asked) (o : Offer) → IsOffered k ns a o → IsPlaced k o
     placed a (offer.Item item) is = is.known.placed
     placed a (offer.Refused o) is = record {}
 
     -- ---- what is known of the items
 
-    one_item_known : (item : Item) (items : List Item) → IsSoundItem plan c item → AreSoundItems plan c items → AreSoundItems plan c (put_item item items)
+    one_item_known : (item : Item) (items : List Item) → IsSoundItem k item → AreSoundItems k items → AreSoundItems k (put_item item items)
     one_item_known item [] own known = (own, record {})
     one_item_known item (x ∷ xs) own known = go (bytes_eq x.text item.text) (one_item_known item xs own known.1)
       where
-        go : (b : Bool) → AreSoundItems plan c (put_item item xs) → AreSoundItems plan c (cond b (item ∷ xs) (x ∷ put_item item xs))
+        go : (b : Bool) → AreSoundItems k (put_item item xs) → AreSoundItems k (cond b (item ∷ xs) (x ∷ put_item item xs))
         go true rest = (own, known.1)
         go false rest = (known.0, rest)
 
-    one_offer_known : (a : Asked) (o : Offer) (w : Leased) → IsOffered plan c ns a o → AreSoundItems plan c w.items → AreSoundItems plan c (put_offer o w).items
+    one_offer_known : (a : Asked) (o : Offer) (w : Leased) → IsOffered k ns a o → AreSoundItems k w.items → AreSoundItems k (put_offer o w).items
     one_offer_known a (offer.Refused o) w is known = known
     one_offer_known a (offer.Item item) w is known = go (is_refused w item.text)
       where
-        go : (b : Bool) → AreSoundItems plan c (let v : Leased = cond b w (watching (put_item item w.items) w) in v).items
+        go : (b : Bool) → AreSoundItems k (let v : Leased = cond b w (watching (put_item item w.items) w) in v).items
         go true = known
         go false = one_item_known item w.items is.known known
 
@@ -136,12 +135,12 @@ module _ (plan : Plan) (c : Contents) where
     entries_push items (x ∷ xs) a = ap (λ (es : List Node). entry (adds_of items x).1 ∷ es) (entries_push (adds_of items x).0 xs a)
 
     -- nothing was added
-    pub added_none : (w : Leased) → HasAdded plan c ns [] w w []
+    pub added_none : (w : Leased) → HasAdded k ns [] w w []
     added_none w = record { items = refl; entries = refl; known = λ known. known }
 
     -- one more was added
-    pub added_more : (asked : List Asked) (a : Asked) (o : Offer) (w half left : Leased) (es : List Node) (e : Node) → HasAdded plan c ns asked w half es → IsOffered plan c ns a o
-        → left ≡ put_offer o half → e ≡ entry_put plan c o half → HasAdded plan c ns (asked ++ a ∷ []) w left (es ++ e ∷ [])
+    pub added_more : (asked : List Asked) (a : Asked) (o : Offer) (w half left : Leased) (es : List Node) (e : Node) → HasAdded k ns asked w half es → IsOffered k ns a o
+        → left ≡ put_offer o half → e ≡ entry_put k o half → HasAdded k ns (asked ++ a ∷ []) w left (es ++ e ∷ [])
     added_more asked a o w half left es e has is is_left is_entry = record {
       items =
           ap (λ (v : Leased). map (flags t) v.items) is_left ∙ one_items a o half is
@@ -149,13 +148,13 @@ module _ (plan : Plan) (c : Contents) where
       entries =
           ap₂ (λ (fs : List Node) (f : Node). fs ++ f ∷ []) has.entries (is_entry ∙ one_entry a o half is ∙ ap (λ (items : List Shown). entry (adds_of items a).1) has.items)
           ∙ sym (entries_push (map (flags t) w.items) asked a);
-      known = λ known. subst (λ (v : Leased). AreSoundItems plan c v.items) (sym is_left) (one_offer_known a o half is (has.known known));
+      known = λ known. subst (λ (v : Leased). AreSoundItems k v.items) (sym is_left) (one_offer_known a o half is (has.known known));
     }
 
     -- no entry has a name
-    pub all_named : (asked : List Asked) (w left : Leased) (es : List Node) → HasAdded plan c ns asked w left es → list_all (λ (o : Node). is_none o.head.name) es ≡ true
+    pub all_named : (asked : List Asked) (w left : Leased) (es : List Node) → HasAdded k ns asked w left es → list_all (λ (o : Node). is_none o.head.name) es ≡ true
     all_named asked w left es has =
-        subst (λ (fs : List Node). list_all (λ (o : Node). is_none o.head.name) fs ≡ true) (sym has.entries) (added_all_named plan s ns (map (flags t) w.items) asked)
+        subst (λ (fs : List Node). list_all (λ (o : Node). is_none o.head.name) fs ≡ true) (sym has.entries) (added_all_named k.plan s ns (map (flags t) w.items) asked)
 
   -- ---- the watches
 
@@ -167,12 +166,12 @@ module _ (plan : Plan) (c : Contents) where
       ∙ ap (λ (o : Option Leased). holding (replace n (option_and_then (λ _. Some (touched_at now left)) o) old.watches) old) there
 
   -- what Watch.add leaves and replies is what the definitions say
-  pub added_stands : (now n : ℕ) (old mid new : Table) (asked : List Asked) (w : Leased) (o : Node) → IsAsRules plan
+  pub added_stands : (now n : ℕ) (old mid new : Table) (asked : List Asked) (w : Leased) (o : Node) → IsAsRules k.plan
       → IsDistinct nat_eq (numbers_of old.watches) → lookup n old.watches ≡ Some w → lookup n (live now old.watches) ≡ Some w → IsLease w.lease
-      → HasPut plan c (numbers_of (live now old.watches)) (firsts asked) n old mid o w
-      → new ≡ holding (at_number n (touched_at now) mid.watches) mid → IsDone plan c now old new n (Add asked) o
+      → HasPut k (numbers_of (live now old.watches)) (firsts asked) n old mid o w
+      → new ≡ holding (at_number n (touched_at now) mid.watches) mid → IsDone k now old new n (Add asked) o
   added_stands now n old mid new asked w o rules distinct there standing fits put touch =
-      one_stands plan c now n old new (Add asked) w (Some (touched_at now left)) o distinct standing (left_put now n w left old mid new there put.table touch) lasts after
+      one_stands k now n old new (Add asked) w (Some (touched_at now left)) o distinct standing (left_put now n w left old mid new there put.table touch) lasts after
       (put.reply ∙ ap watch_out (put.added.entries ∙ ap (λ (all : List Asked). map entry (readings_added m s ns (map (flags t) w.items) all)) (sym (rules.first_asked asked))))
     where
       ns : List ℕ
@@ -195,8 +194,8 @@ module _ (plan : Plan) (c : Contents) where
 
   -- and what is known of all items is known again
   pub added_known : (now n : ℕ) (old mid new : Table) (asked : List Asked) (ns : List ℕ) (w : Leased) (o : Node) → lookup n old.watches ≡ Some w
-      → AllKnown plan c old → AreSoundItems plan c w.items → HasPut plan c ns asked n old mid o w
-      → new ≡ holding (at_number n (touched_at now) mid.watches) mid → AllKnown plan c new
+      → AllKnown k old → AreSoundItems k w.items → HasPut k ns asked n old mid o w
+      → new ≡ holding (at_number n (touched_at now) mid.watches) mid → AllKnown k new
   added_known now n old mid new asked ns w o there all known put touch =
-      subst (AllKnown plan c) (sym (left_put now n w put.left old mid new there put.table touch))
-      (one_known plan c n (touched_at now put.left) old.watches (put.added.known known) all)
+      subst (AllKnown k) (sym (left_put now n w put.left old mid new there put.table touch))
+      (one_known k n (touched_at now put.left) old.watches (put.added.known known) all)

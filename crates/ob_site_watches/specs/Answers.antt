@@ -13,8 +13,8 @@ use Rattle.ob_site_rules.specs.State.{State}
 use Rattle.ob_tree.specs.Trees.{Stamped}
 use Rattle.ob_site_rules.specs.Watched.{WatchOperation}
 use Rattle.ob_site_rules.specs.Replies.{sent}
-use Rattle.ob_site_state.specs.declared.contents.Contents.{Contents}
-use Rattle.ob_site_state.specs.Contents.{state_in}
+use Rattle.ob_site_state.specs.Kept.{Kept}
+use Rattle.ob_site_state.specs.Stamping.{tree_of}
 use Rattle.ob_watch.specs.AsRules.{world_of}
 use Rattle.ob_watch.specs.Counted.{of_plan}
 use Rattle.ob_watch.specs.Flags.{flagged, flags_of}
@@ -22,19 +22,19 @@ use Rattle.ob_watch.specs.Tables.{Leased, Table, lapsed_at, live, with_new}
 use Rattle.ob_site_watches.specs.Known.{AreSoundItems}
 
 -- what is known of the items of each watch
-abbrev pub AllKnown : Plan → Contents → Table → Type 0
-AllKnown plan c table = AllByRecursion (λ e. AreSoundItems plan c e.1.items) table.watches
+abbrev pub AllKnown : Kept → Table → Type 0
+AllKnown k table = AllByRecursion (λ e. AreSoundItems k e.1.items) table.watches
 
 -- the reply to an operation on a watch, among watches of these numbers
-abbrev pub IsReply : Plan → Contents → ℕ → List ℕ → ℕ → Leased → WatchOperation → Object → Type 0
-IsReply plan c now numbers n w op o = o ≡ sent plan (reply_to (of_plan plan) (state_in c) numbers n (touched (of_plan plan) now (flagged c.ground.tree w)) op)
+abbrev pub IsReply : Kept → ℕ → List ℕ → ℕ → Leased → WatchOperation → Object → Type 0
+IsReply k now numbers n w op o = o ≡ sent k.plan (reply_to (of_plan k.plan) k.now numbers n (touched (of_plan k.plan) now (flagged (tree_of k) w)) op)
 
 -- The watches after an operation on the one of a number, and the reply. Watches whose lease has run out at this moment count
 -- as gone, before and after.
-pub record IsDone (plan : Plan) (c : Contents) (now : ℕ) (old new : Table) (n : ℕ) (op : WatchOperation) (o : Object) : Type 0 where
-  pub watches : world_of plan now (state_in c) c.ground.tree (lapsed_at now new)
-      ≡ (on_watch (of_plan plan) (world_of plan now (state_in c) c.ground.tree (lapsed_at now old)) n op (lookup n (flags_of c.ground.tree (live now old.watches)))).0
-  pub reply : o ≡ sent plan (on_watch (of_plan plan) (world_of plan now (state_in c) c.ground.tree (lapsed_at now old)) n op (lookup n (flags_of c.ground.tree (live now old.watches)))).1
+pub record IsDone (k : Kept) (now : ℕ) (old new : Table) (n : ℕ) (op : WatchOperation) (o : Object) : Type 0 where
+  pub watches : world_of k.plan now k.now (tree_of k) (lapsed_at now new)
+      ≡ (on_watch (of_plan k.plan) (world_of k.plan now k.now (tree_of k) (lapsed_at now old)) n op (lookup n (flags_of (tree_of k) (live now old.watches)))).0
+  pub reply : o ≡ sent k.plan (on_watch (of_plan k.plan) (world_of k.plan now k.now (tree_of k) (lapsed_at now old)) n op (lookup n (flags_of (tree_of k) (live now old.watches)))).1
 
 -- The watches after a new one is asked for, and the reply, whatever the state of the site and its tree.
 pub record IsMade (plan : Plan) (now : ℕ) (old new : Table) (o : Object) : Type 0 where

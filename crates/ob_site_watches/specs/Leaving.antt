@@ -4,8 +4,7 @@ use Rattle.ob_watching.specs.Operations.{Add, Renew, Remove, PollChanges, PollRe
 use Rattle.ob_watching.specs.Tables.{lookup, replace}
 use Rattle.ob_site_rules.specs.declared.fault.Fault.{Fault}
 use Rattle.ob_site_rules.specs.Watched.{WatchOperation, lease_asked}
-use Rattle.ob_site_state.specs.declared.contents.Contents.{Contents}
-use Rattle.ob_site_state.specs.Contents.{state_in}
+use Rattle.ob_site_state.specs.Kept.{Kept}
 use Rattle.ob_watch.specs.Tables.{Leased, Table, at_number, holding, leased_for, touched_at, without}
 use Rattle.ob_watch.specs.Reported.{all_reported}
 
@@ -23,14 +22,14 @@ abbrev pub Renews : ℕ → Table → Table → Result ℕ Fault → Type 0
 Renews n old new (Ok lease) = new ≡ holding (at_number n (leased_for lease) old.watches) old
 Renews n old new (Err fault) = new ≡ old
 
-abbrev pub marks_after : Contents → ℕ → WatchOperation → Leased → Option Leased
-marks_after c now (Renew input) w = Some (leased_if (lease_asked (state_in c) input) (touched_at now w))
-marks_after c now (Remove texts) w = Some (without texts (touched_at now w))
-marks_after c now PollChanges w = Some (all_reported c.ground.tree.steps (touched_at now w))
-marks_after c now PollRefresh w = Some (all_reported c.ground.tree.steps (touched_at now w))
-marks_after c now Delete w = None
-marks_after c now _ w = Some (touched_at now w)
+abbrev pub marks_after : Kept → ℕ → WatchOperation → Leased → Option Leased
+marks_after k now (Renew input) w = Some (leased_if (lease_asked k.now input) (touched_at now w))
+marks_after k now (Remove texts) w = Some (without texts (touched_at now w))
+marks_after k now PollChanges w = Some (all_reported k.steps (touched_at now w))
+marks_after k now PollRefresh w = Some (all_reported k.steps (touched_at now w))
+marks_after k now Delete w = None
+marks_after k now _ w = Some (touched_at now w)
 
 -- the watches after an operation on the one of a number
-abbrev pub leaving : Contents → ℕ → ℕ → WatchOperation → Table → Table
-leaving c now n op table = holding (replace n (option_and_then (marks_after c now op) (lookup n table.watches)) table.watches) table
+abbrev pub leaving : Kept → ℕ → ℕ → WatchOperation → Table → Table
+leaving k now n op table = holding (replace n (option_and_then (marks_after k now op) (lookup n table.watches)) table.watches) table

@@ -8,11 +8,10 @@ use Rattle.ob_site_rules.specs.Faults.{err}
 use Rattle.ob_site_rules.specs.Locating.{locate}
 use Rattle.ob_site_rules.specs.Replies.{Reading, entry}
 use Rattle.ob_site_rules.specs.Sites.{found}
-use Rattle.ob_site_rules.specs.declared.plan.Plan.{Plan}
 use Rattle.ob_site_rules.specs.Watched.{Asked, SiteFound}
 use Rattle.ob_site_rules.specs.declared.fault.Fault.{Fault}
-use Rattle.ob_site_state.specs.declared.contents.Contents.{Contents}
-use Rattle.ob_site_state.specs.Contents.{state_in}
+use Rattle.ob_site_state.specs.Kept.{Kept}
+use Rattle.ob_site_state.specs.Stamping.{tree_of}
 use Rattle.ob_watch.specs.declared.item.Item.{Item}
 use Rattle.ob_watch.specs.Counted.{of_plan}
 use Rattle.ob_watch.specs.Flags.{flags}
@@ -21,18 +20,18 @@ use Rattle.ob_site_watches.specs.declared.offering.Offer.TheVariants as offer
 use Rattle.ob_site_watches.specs.Known.{IsSoundItem}
 
 -- what adding what is found under a text is, whatever items there are: adding this item
-pub record IsItemFor (plan : Plan) (c : Contents) (text : Text) (f : SiteFound) (item : Item) : Type 0 where
-  pub adds : (items : List (Flagged (of_plan plan))) → add_found (of_plan plan) (state_in c) items text f ≡ added (of_plan plan) (state_in c) items (flags c.ground.tree item)
-  pub known : IsSoundItem plan c item
+pub record IsItemFor (k : Kept) (text : Text) (f : SiteFound) (item : Item) : Type 0 where
+  pub adds : (items : List (Flagged (of_plan k.plan))) → add_found (of_plan k.plan) k.now items text f ≡ added (of_plan k.plan) k.now items (flags (tree_of k) item)
+  pub known : IsSoundItem k item
 
 -- or leaving them, with this refusal
-abbrev pub IsRefusedFor : Plan → Contents → Text → SiteFound → Fault → Type 0
-IsRefusedFor plan c text f fault =
-    (items : List (Flagged (of_plan plan))) → add_found (of_plan plan) (state_in c) items text f ≡ (items, record { text = text; content = Refuses (err fault) })
+abbrev pub IsRefusedFor : Kept → Text → SiteFound → Fault → Type 0
+IsRefusedFor k text f fault =
+    (items : List (Flagged (of_plan k.plan))) → add_found (of_plan k.plan) k.now items text f ≡ (items, record { text = text; content = Refuses (err fault) })
 
-abbrev pub IsFor : Plan → Contents → Text → SiteFound → Result Item Fault → Type 0
-IsFor plan c text f (Ok item) = IsItemFor plan c text f item
-IsFor plan c text f (Err fault) = IsRefusedFor plan c text f fault
+abbrev pub IsFor : Kept → Text → SiteFound → Result Item Fault → Type 0
+IsFor k text f (Ok item) = IsItemFor k text f item
+IsFor k text f (Err fault) = IsRefusedFor k text f fault
 
 -- the items are left, and this is the entry
 abbrev pub IsLeft : {I : Type 0} → List I → List I × Reading → Object → Type 0
@@ -43,7 +42,7 @@ abbrev pub refused_entry : Text → Fault → Object
 refused_entry text fault = entry (record { text = text; content = Refuses (err fault) })
 
 -- what it is to be added as
-abbrev pub IsOffered : Plan → Contents → List ℕ → Asked → Offer → Type 0
-IsOffered plan c numbers asked (offer.Item item) = IsItemFor plan c asked.0 (found locate plan (state_in c) numbers asked.0 asked.1) item
-IsOffered plan c numbers asked (offer.Refused o) =
-    (items : List (Flagged (of_plan plan))) → IsLeft items (add_found (of_plan plan) (state_in c) items asked.0 (found locate plan (state_in c) numbers asked.0 asked.1)) o
+abbrev pub IsOffered : Kept → List ℕ → Asked → Offer → Type 0
+IsOffered k numbers asked (offer.Item item) = IsItemFor k asked.0 (found locate k.plan k.now numbers asked.0 asked.1) item
+IsOffered k numbers asked (offer.Refused o) =
+    (items : List (Flagged (of_plan k.plan))) → IsLeft items (add_found (of_plan k.plan) k.now items asked.0 (found locate k.plan k.now numbers asked.0 asked.1)) o

@@ -7,10 +7,9 @@ use Rattle.ob_watching.specs.Watches.{items_added, readings_added}
 use Rattle.ob_site_rules.specs.Computed.{watch_out}
 use Rattle.ob_site_rules.specs.declared.fault.Fault.TheVariants.{TooManyItems}
 use Rattle.ob_site_rules.specs.Replies.{entry}
-use Rattle.ob_site_rules.specs.declared.plan.Plan.{Plan}
 use Rattle.ob_site_rules.specs.Watched.{Asked}
-use Rattle.ob_site_state.specs.declared.contents.Contents.{Contents}
-use Rattle.ob_site_state.specs.Contents.{state_in}
+use Rattle.ob_site_state.specs.Kept.{Kept}
+use Rattle.ob_site_state.specs.Stamping.{tree_of}
 use Rattle.ob_watch.specs.Adding.{is_refused}
 use Rattle.ob_watch.specs.Counted.{of_plan}
 use Rattle.ob_watch.specs.Flags.{flags}
@@ -29,14 +28,14 @@ put_offer (offer.Item item) w = cond (is_refused w item.text) w (watching (put_i
 put_offer (offer.Refused o) w = w
 
 -- and the entry of that: a refusal where the watch has its most items and none of that href
-abbrev pub entry_put : Plan → Contents → Offer → Leased → Object
-entry_put plan c (offer.Item item) w = cond (is_refused w item.text) (refused_entry item.text TooManyItems) (reading_entry plan c item)
-entry_put plan c (offer.Refused o) w = o
+abbrev pub entry_put : Kept → Offer → Leased → Object
+entry_put k (offer.Item item) w = cond (is_refused w item.text) (refused_entry item.text TooManyItems) (reading_entry k item)
+entry_put k (offer.Refused o) w = o
 
 -- an object that is offered is the own node of its path, and can be watched
-abbrev pub IsPlaced : Contents → Offer → Type 0
-IsPlaced c (offer.Item item) = IsPlacedBy c.ground.tree.root item.path item.tracked
-IsPlaced c (offer.Refused o) = Unit {0}
+abbrev pub IsPlaced : Kept → Offer → Type 0
+IsPlaced k (offer.Item item) = IsPlacedBy k.now.tree item.path item.tracked
+IsPlaced k (offer.Refused o) = Unit {0}
 
 -- of the watch of a number, where one is held
 abbrev pub OfHeld : ℕ → Table → (Leased → Type 0) → Type 0
@@ -49,28 +48,28 @@ pub record Grows (n : ℕ) (w left : Leased) (old new : Table) (undo undone : Un
   pub back : StillUndoes undo undone w.items left.items
 
 -- The watches after what is offered was put into the one of a number, and its entry; for want of memory some other items.
-pub record IsPut (plan : Plan) (c : Contents) (n : ℕ) (o : Offer) (old new : Table) (undo undone : Undo) (result : Result Object AllocError) (w : Leased) : Type 0 where
+pub record IsPut (k : Kept) (n : ℕ) (o : Offer) (old new : Table) (undo undone : Undo) (result : Result Object AllocError) (w : Leased) : Type 0 where
   pub left : Leased
   pub grows : Grows n w left old new undo undone
-  pub put : IfOk result (λ entry. (left ≡ put_offer o w) × (entry ≡ entry_put plan c o w))
+  pub put : IfOk result (λ entry. (left ≡ put_offer o w) × (entry ≡ entry_put k o w))
 
 -- A watch with all that is asked for added, among watches of these numbers, and the entries of that.
-pub record HasAdded (plan : Plan) (c : Contents) (ns : List ℕ) (asked : List Asked) (w left : Leased) (es : List Object) : Type 0 where
-  pub items : map (flags c.ground.tree) left.items ≡ items_added (of_plan plan) (state_in c) ns (map (flags c.ground.tree) w.items) asked
-  pub entries : es ≡ map entry (readings_added (of_plan plan) (state_in c) ns (map (flags c.ground.tree) w.items) asked)
-  pub known : AreSoundItems plan c w.items → AreSoundItems plan c left.items
+pub record HasAdded (k : Kept) (ns : List ℕ) (asked : List Asked) (w left : Leased) (es : List Object) : Type 0 where
+  pub items : map (flags (tree_of k)) left.items ≡ items_added (of_plan k.plan) k.now ns (map (flags (tree_of k)) w.items) asked
+  pub entries : es ≡ map entry (readings_added (of_plan k.plan) k.now ns (map (flags (tree_of k)) w.items) asked)
+  pub known : AreSoundItems k w.items → AreSoundItems k left.items
 
 -- The same of all that is asked for, and the WatchOut of the entries.
-pub record ArePut (plan : Plan) (c : Contents) (ns : List ℕ) (asked : List Asked) (n : ℕ) (old new : Table) (undo undone : Undo) (result : Result Object AllocError) (w : Leased) : Type 0 where
+pub record ArePut (k : Kept) (ns : List ℕ) (asked : List Asked) (n : ℕ) (old new : Table) (undo undone : Undo) (result : Result Object AllocError) (w : Leased) : Type 0 where
   pub left : Leased
   pub grows : Grows n w left old new undo undone
-  pub put : IfOk result (λ out. (es : List Object) × (HasAdded plan c ns asked w left es × (out ≡ watch_out es)))
+  pub put : IfOk result (λ out. (es : List Object) × (HasAdded k ns asked w left es × (out ≡ watch_out es)))
 
 -- the watches after all that is asked for was put into the one of a number, and the WatchOut of the entries
-pub record HasPut (plan : Plan) (c : Contents) (ns : List ℕ) (asked : List Asked) (n : ℕ) (old new : Table) (out : Object) (w : Leased) : Type 0 where
+pub record HasPut (k : Kept) (ns : List ℕ) (asked : List Asked) (n : ℕ) (old new : Table) (out : Object) (w : Leased) : Type 0 where
   pub left : Leased
   pub table : new ≡ holding (at_number n (λ _. left) old.watches) old
   pub same : left ≡ watching left.items w
   pub entries : List Object
-  pub added : HasAdded plan c ns asked w left entries
+  pub added : HasAdded k ns asked w left entries
   pub reply : out ≡ watch_out entries

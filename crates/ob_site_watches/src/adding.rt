@@ -1,6 +1,5 @@
 //! What is asked for is put into a watch, or taken back.
 ghost use Rattle.std.specs.Prelude.{◌≡◌, true, IfOk, OnErr, is_some};
-ghost use Rattle.ob_site_reads.specs.Complete.{IsComplete};
 ghost use Rattle.ob_site_rules.specs.Build.{under_href};
 ghost use Rattle.ob_site_rules.specs.declared.fault.Fault.TheVariants.{TooManyItems};
 ghost use Rattle.ob_site_rules.specs.Faults.{err};
@@ -13,6 +12,7 @@ ghost use Rattle.ob_watching.specs.Operations.{Add};
 ghost use Rattle.ob_watching.specs.Tables.{lookup, numbers_of};
 ghost use Rattle.ob_site_watches.specs.Answers.{AllKnown, IsDone};
 ghost use Rattle.ob_site_watches.specs.Putting.{ArePut, HasPut, IsPlaced, IsPut, OfHeld};
+ghost use Rattle.ob_site_state.specs.Stamping.{tree_of};
 
 use crate::entries::reading;
 use crate::offering::{Offer, offered, refused};
@@ -20,8 +20,8 @@ use ob_contracts::Steps;
 use ob_object::{Obj, copy_text};
 use ob_replies::{refusal, watch_out};
 use ob_requests::{WatchInItem, as_the_site_says, firsts};
-use ob_site_rules::{Fault, Plan};
-use ob_site_state::Contents;
+use ob_site_rules::Fault;
+use ob_site_state::State;
 use ob_times::Moment;
 use ob_values::Text;
 use ob_watch::{Additions, WatchFault, Watches};
@@ -36,12 +36,20 @@ pub struct Adding<'a> {
     pub asked: &'a [WatchInItem],
 }
 
+/// What is offered to the watch of a number, and when.
+#[derive(Drop)]
+struct OfferTo {
+    number: u64,
+    moment: Moment,
+    offer: Offer,
+}
+
 /// Whether a watch whose lease hasn't run out has its most items, and none of this href.
-fn is_refused(watches: &Watches, adding: &Adding<'_>, text: &Text) -> bool
-    ensures { result ≡ true → OfHeld adding.now.number watches.now (λ w. is_refused w text.now ≡ true) }
+fn is_refused(watches: &Watches, number: u64, moment: Moment, text: &Text) -> bool
+    ensures { result ≡ true → OfHeld number watches.now (λ w. is_refused w text.now ≡ true) }
 {
     let _numbers = watches.numbers();
-    match watches.get(adding.number, adding.moment) {
+    match watches.get(number, moment) {
         Some(watch) => watch.is_full() && !watch.has(text),
         None => false,
     }
@@ -59,31 +67,32 @@ fn too_many(alloc: Global, own: &Obj) -> Result<Obj, AllocError>
 
 /// Puts what is offered into a watch, and gives its entry. Nothing is read for an href that the watch has no room for.
 fn put_offer<L: Ledger>(
-    alloc: Global,
-    plan: &Plan,
-    contents: &Contents,
+    state: &State,
     watches: &mut Watches,
-    adding: &Adding<'_>,
-    offer: Offer,
+    offered: OfferTo,
     undo: &mut Additions,
     steps: &mut Steps<L>,
 ) -> Result<Obj, AllocError>
-    requires complete { IsComplete plan.now contents.now }
-    requires placed { IsPlaced contents.now offer }
-    ensures { OfHeld adding.now.number watches.old (IsPut plan.now contents.now adding.now.number offer watches.old watches.new undo.old undo.new result) }
+    requires { IsPlaced state.now offered.offer }
+    ensures { OfHeld offered.number watches.old (IsPut state.now offered.number offered.offer watches.old watches.new undo.old undo.new result) }
 {
     let _numbers = watches.numbers();
+    let OfferTo {
+        number,
+        moment,
+        offer,
+    } = offered;
     let item = match offer {
         Offer::Refused(entry) => return Ok(entry),
         Offer::Item(item) => item,
     };
-    if is_refused(watches, adding, item.text()) {
-        return refused(alloc, item.text(), Fault::TooManyItems);
+    if is_refused(watches, number, moment, item.text()) {
+        return refused(state.allocator(), item.text(), Fault::TooManyItems);
     }
-    let entry = reading(alloc, plan, contents, &item, steps)?;
-    match watches.add(adding.number, item, undo) {
+    let entry = reading(state, &item, steps)?;
+    match watches.add(number, item, undo) {
         Ok(()) => Ok(entry),
-        Err(WatchFault::ItemsFull) => too_many(alloc, &entry),
+        Err(WatchFault::ItemsFull) => too_many(state.allocator(), &entry),
         Err(_) => Err(AllocError),
     }
 }
@@ -91,50 +100,49 @@ fn put_offer<L: Ledger>(
 /// Puts the first of each of equal hrefs into a watch, in their order, and gives the reply. What an href names is read when
 /// it is put, and not before. After an error `undo` takes back what was put.
 fn put_all<L: Ledger>(
-    alloc: Global,
-    plan: &Plan,
-    contents: &Contents,
+    state: &State,
     watches: &mut Watches,
     adding: &Adding<'_>,
     undo: &mut Additions,
     steps: &mut Steps<L>,
 ) -> Result<Obj, AllocError>
-    requires complete { IsComplete plan.now contents.now }
-    requires past { AreStampsPast contents.now.ground.tree }
+    requires past { AreStampsPast (tree_of state.now) }
     requires held { is_some (lookup adding.now.number watches.old.watches) ≡ true }
-    ensures { OfHeld adding.now.number watches.old (ArePut plan.now contents.now (numbers_of (lapsed_at adding.now.moment watches.old).watches) (firsts_of adding.now.asked.now) adding.now.number watches.old watches.new undo.old undo.new result) }
+    ensures { OfHeld adding.now.number watches.old (ArePut state.now (numbers_of (lapsed_at adding.now.moment watches.old).watches) (firsts_of adding.now.asked.now) adding.now.number watches.old watches.new undo.old undo.new result) }
 {
     let _numbers = watches.numbers();
     let numbers = watches.live_numbers(adding.moment)?;
-    let firsts = firsts(alloc, adding.asked)?;
-    let mut entries = Vec::new(alloc);
+    let firsts = firsts(state.allocator(), adding.asked)?;
+    let mut entries = Vec::new(state.allocator());
     for a in &firsts {
-        let offer = offered(alloc, plan, contents, &numbers, a, steps)?;
-        let entry = put_offer(alloc, plan, contents, watches, adding, offer, undo, steps)?;
+        let offer = offered(state, &numbers, a, steps)?;
+        let to = OfferTo {
+            number: adding.number,
+            moment: adding.moment,
+            offer,
+        };
+        let entry = put_offer(state, watches, to, undo, steps)?;
         entries.push(entry)?;
     }
-    watch_out(alloc, entries)
+    watch_out(state.allocator(), entries)
 }
 
 /// The same, and an error leaves the watches as they were.
 fn put_or_leave<L: Ledger>(
-    alloc: Global,
-    plan: &Plan,
-    contents: &Contents,
+    state: &State,
     watches: &mut Watches,
     adding: &Adding<'_>,
     mut undo: Additions,
     steps: &mut Steps<L>,
 ) -> Result<Obj, AllocError>
-    requires complete { IsComplete plan.now contents.now }
-    requires past { AreStampsPast contents.now.ground.tree }
+    requires past { AreStampsPast (tree_of state.now) }
     requires held { is_some (lookup adding.now.number watches.old.watches) ≡ true }
     requires nothing { OfHeld adding.now.number watches.old (λ w. Undoes undo w.items w.items) }
-    ensures put { IfOk result (λ out. OfHeld adding.now.number watches.old (HasPut plan.now contents.now (numbers_of (lapsed_at adding.now.moment watches.old).watches) (firsts_of adding.now.asked.now) adding.now.number watches.old watches.new out)) }
+    ensures put { IfOk result (λ out. OfHeld adding.now.number watches.old (HasPut state.now (numbers_of (lapsed_at adding.now.moment watches.old).watches) (firsts_of adding.now.asked.now) adding.now.number watches.old watches.new out)) }
     ensures err { OnErr result (watches.new ≡ watches.old) }
 {
     let _numbers = watches.numbers();
-    match put_all(alloc, plan, contents, watches, adding, &mut undo, steps) {
+    match put_all(state, watches, adding, &mut undo, steps) {
         Ok(reply) => Ok(reply),
         Err(AllocError) => {
             watches.take_back(adding.number, undo);
@@ -148,28 +156,25 @@ fn put_or_leave<L: Ledger>(
 ///
 /// Source: oBIX 1.1, chapter 12 (Watch.add).
 pub(crate) fn add<L: Ledger>(
-    alloc: Global,
-    plan: &Plan,
-    contents: &Contents,
+    state: &State,
     watches: &mut Watches,
     adding: &Adding<'_>,
     steps: &mut Steps<L>,
 ) -> Result<Obj, AllocError>
-    requires complete { IsComplete plan.now contents.now }
-    requires past { AreStampsPast contents.now.ground.tree }
-    requires known { AllKnown plan.now contents.now watches.old }
-    ensures done { IfOk result (IsDone plan.now contents.now adding.now.moment watches.old watches.new adding.now.number (Add adding.now.asked.now)) }
+    requires past { AreStampsPast (tree_of state.now) }
+    requires known { AllKnown state.now watches.old }
+    ensures done { IfOk result (IsDone state.now adding.now.moment watches.old watches.new adding.now.number (Add adding.now.asked.now)) }
     ensures err { OnErr result (watches.new ≡ watches.old) }
-    ensures known { AllKnown plan.now contents.now watches.new }
+    ensures known { AllKnown state.now watches.new }
 {
     as_the_site_says();
     let _numbers = watches.numbers();
     let Some(watch) = watches.get(adding.number, adding.moment) else {
-        return refusal(alloc, Fault::NoSuchObject);
+        return refusal(state.allocator(), Fault::NoSuchObject);
     };
     let _lease = watch.lease();
-    let undo = Additions::new(alloc, watch.items());
-    let reply = put_or_leave(alloc, plan, contents, watches, adding, undo, steps)?;
+    let undo = Additions::new(state.allocator(), watch.items());
+    let reply = put_or_leave(state, watches, adding, undo, steps)?;
     watches.touch(adding.number, adding.moment);
     Ok(reply)
 }

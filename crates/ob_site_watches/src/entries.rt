@@ -1,47 +1,42 @@
 //! The entries of WatchOut.
 ghost use Rattle.std.specs.Prelude.{◌≡◌, ◌+◌, ◌++◌, map, option_to_list, true, IfOk};
-ghost use Rattle.ob_site_state.specs.Contents.{state_in};
 ghost use Rattle.ob_watch.specs.Flags.{flag_of, flags};
 ghost use Rattle.ob_watch.specs.Items.{is_due};
 ghost use Rattle.ob_watch.specs.Marks.{AreStampsPast};
 ghost use Rattle.ob_site_rules.specs.Replies.{content_object, entry};
-ghost use Rattle.ob_site_reads.specs.Complete.{IsComplete};
 ghost use Rattle.ob_site_watches.specs.Entries.{all_changes, all_readings, changes_in, object_now, reading_entry};
 ghost use Rattle.ob_site_watches.specs.Known.{AreSoundItems, IsSoundItem, IsPlacedBy};
 ghost use Rattle.ob_site_watches.specs.Polls.{item_steps, poll_steps, reading_steps, refresh_steps};
+ghost use Rattle.ob_site_state.specs.Stamping.{tree_of};
 
 use ob_contracts::Steps;
 use ob_object::Obj;
 use ob_replies::entry;
 use ob_site_reads::{Since, feed_since, watched_node, whole_feed};
-use ob_site_rules::Plan;
-use ob_site_state::Contents;
+use ob_site_state::State;
 use ob_watch::{Item, Tracked, Watch};
-use std::alloc::{AllocError, Global};
+use std::alloc::AllocError;
 use std::sync::ledger::Ledger;
 
 /// What is read of an item now: the object, or the feed with all kept events that pass its filter. Only an object counts steps.
 #[tactic(auto, using(crate::proofs::Due::placed_within))]
 fn object_now<L: Ledger>(
-    alloc: Global,
-    plan: &Plan,
-    contents: &Contents,
+    state: &State,
     item: &Item,
     steps: &mut Steps<L>,
 ) -> Result<Obj, AllocError>
-    requires complete { IsComplete plan.now contents.now }
-    requires placed { IsPlacedBy contents.now.ground.tree.root item.now.path item.now.tracked }
-    ensures object { IfOk result (λ o. o ≡ object_now plan.now contents.now item.now) }
-    ensures steps { IfOk result (λ _. steps.new ≡ steps.old + reading_steps plan.now (state_in contents.now) item.now.path (flag_of contents.now.ground.tree item.now.tracked)) }
+    requires { IsPlacedBy state.now.now.tree item.now.path item.now.tracked }
+    ensures object { IfOk result (λ o. o ≡ object_now state.now item.now) }
+    ensures steps { IfOk result (λ _. steps.new ≡ steps.old + reading_steps state.now.plan state.now.now item.now.path (flag_of (tree_of state.now) item.now.tracked)) }
 {
     match item.tracked() {
-        Tracked::Object { node, mark: _ } => watched_node(alloc, plan, contents, *node, steps),
+        Tracked::Object { node, mark: _ } => watched_node(state, *node, steps),
         Tracked::Feed {
             filter,
             given: _,
             total: _,
             due: _,
-        } => whole_feed(alloc, plan, contents, item.path(), filter),
+        } => whole_feed(state, item.path(), filter),
     }
 }
 
@@ -50,18 +45,15 @@ fn object_now<L: Ledger>(
 ///
 /// Source: oBIX 1.1, chapter 12 (Watch.pollRefresh).
 pub fn reading<L: Ledger>(
-    alloc: Global,
-    plan: &Plan,
-    contents: &Contents,
+    state: &State,
     item: &Item,
     steps: &mut Steps<L>,
 ) -> Result<Obj, AllocError>
-    requires complete { IsComplete plan.now contents.now }
-    requires placed { IsPlacedBy contents.now.ground.tree.root item.now.path item.now.tracked }
-    ensures entry { IfOk result (λ o. o ≡ reading_entry plan.now contents.now item.now) }
-    ensures steps { IfOk result (λ _. steps.new ≡ steps.old + reading_steps plan.now (state_in contents.now) item.now.path (flag_of contents.now.ground.tree item.now.tracked)) }
+    requires { IsPlacedBy state.now.now.tree item.now.path item.now.tracked }
+    ensures entry { IfOk result (λ o. o ≡ reading_entry state.now item.now) }
+    ensures steps { IfOk result (λ _. steps.new ≡ steps.old + reading_steps state.now.plan state.now.now item.now.path (flag_of (tree_of state.now) item.now.tracked)) }
 {
-    let object = object_now(alloc, plan, contents, item, steps)?;
+    let object = object_now(state, item, steps)?;
     let text = item.text().copy()?;
     Ok(entry(object, text))
 }
@@ -71,20 +63,17 @@ pub fn reading<L: Ledger>(
 /// Source: oBIX 1.1, chapter 12 (Watch.pollRefresh).
 #[tactic(auto, using(crate::proofs::Due::known_at))]
 pub fn readings<L: Ledger>(
-    alloc: Global,
-    plan: &Plan,
-    contents: &Contents,
+    state: &State,
     items: &[Item],
     steps: &mut Steps<L>,
 ) -> Result<Vec<Obj>, AllocError>
-    requires complete { IsComplete plan.now contents.now }
-    requires known { AreSoundItems plan.now contents.now items.now }
-    ensures entries { IfOk result (λ os. os.items ≡ all_readings plan.now contents.now items.now) }
-    ensures steps { IfOk result (λ _. steps.new ≡ steps.old + refresh_steps plan.now (state_in contents.now) (map (flags contents.now.ground.tree) items.now)) }
+    requires { AreSoundItems state.now items.now }
+    ensures entries { IfOk result (λ os. os.items ≡ all_readings state.now items.now) }
+    ensures steps { IfOk result (λ _. steps.new ≡ steps.old + refresh_steps state.now.plan state.now.now (map (flags (tree_of state.now)) items.now)) }
 {
-    let mut entries = Vec::new(alloc);
+    let mut entries = Vec::new(state.allocator());
     for item in items {
-        entries.push(reading(alloc, plan, contents, item, steps)?)?;
+        entries.push(reading(state, item, steps)?)?;
     }
     Ok(entries)
 }
@@ -92,21 +81,18 @@ pub fn readings<L: Ledger>(
 /// What has changed of an item that is to be reported. Only an object counts steps.
 #[tactic(auto, using(crate::proofs::Due::placed_within))]
 fn change_due<L: Ledger>(
-    alloc: Global,
-    plan: &Plan,
-    contents: &Contents,
+    state: &State,
     item: &Item,
     steps: &mut Steps<L>,
 ) -> Result<Option<Obj>, AllocError>
-    requires complete { IsComplete plan.now contents.now }
-    requires placed { IsPlacedBy contents.now.ground.tree.root item.now.path item.now.tracked }
-    requires due { is_due contents.now.ground.tree item.now ≡ true }
-    ensures content { IfOk result (λ o. option_to_list o ≡ map (λ r. content_object r.content) (changes_in plan.now contents.now item.now)) }
-    ensures steps { IfOk result (λ _. steps.new ≡ steps.old + item_steps plan.now (state_in contents.now) item.now.path (flag_of contents.now.ground.tree item.now.tracked)) }
+    requires placed { IsPlacedBy state.now.now.tree item.now.path item.now.tracked }
+    requires due { is_due (tree_of state.now) item.now ≡ true }
+    ensures content { IfOk result (λ o. option_to_list o ≡ map (λ r. content_object r.content) (changes_in state.now item.now)) }
+    ensures steps { IfOk result (λ _. steps.new ≡ steps.old + item_steps state.now.plan state.now.now item.now.path (flag_of (tree_of state.now) item.now.tracked)) }
 {
     match item.tracked() {
         Tracked::Object { node, mark: _ } => {
-            let object = watched_node(alloc, plan, contents, *node, steps)?;
+            let object = watched_node(state, *node, steps)?;
             Ok(Some(object))
         }
         Tracked::Feed {
@@ -119,7 +105,7 @@ fn change_due<L: Ledger>(
                 filter: *filter,
                 given: *given,
             };
-            feed_since(alloc, plan, contents, item.path(), &since)
+            feed_since(state, item.path(), &since)
         }
     }
 }
@@ -129,20 +115,17 @@ fn change_due<L: Ledger>(
 #[inline(never)]
 #[tactic(auto, using(crate::proofs::Due::entry_due))]
 fn push_due<L: Ledger>(
-    alloc: Global,
-    plan: &Plan,
-    contents: &Contents,
+    state: &State,
     item: &Item,
     entries: &mut Vec<Obj>,
     steps: &mut Steps<L>,
 ) -> Result<(), AllocError>
-    requires complete { IsComplete plan.now contents.now }
-    requires known { IsSoundItem plan.now contents.now item.now }
-    requires due { is_due contents.now.ground.tree item.now ≡ true }
-    ensures entries { IfOk result (λ _. entries.new.items ≡ entries.old.items ++ map entry (changes_in plan.now contents.now item.now)) }
-    ensures steps { IfOk result (λ _. steps.new ≡ steps.old + item_steps plan.now (state_in contents.now) item.now.path (flag_of contents.now.ground.tree item.now.tracked)) }
+    requires known { IsSoundItem state.now item.now }
+    requires due { is_due (tree_of state.now) item.now ≡ true }
+    ensures entries { IfOk result (λ _. entries.new.items ≡ entries.old.items ++ map entry (changes_in state.now item.now)) }
+    ensures steps { IfOk result (λ _. steps.new ≡ steps.old + item_steps state.now.plan state.now.now item.now.path (flag_of (tree_of state.now) item.now.tracked)) }
 {
-    let Some(content) = change_due(alloc, plan, contents, item, steps)? else {
+    let Some(content) = change_due(state, item, steps)? else {
         return Ok(());
     };
     let text = item.text().copy()?;
@@ -153,22 +136,19 @@ fn push_due<L: Ledger>(
 /// Puts the entry of what has changed of an item last, if something has. Nothing is read of an item that isn't due.
 #[tactic(auto, using(crate::proofs::Due::nothing_due))]
 fn push_change<L: Ledger>(
-    alloc: Global,
-    plan: &Plan,
-    contents: &Contents,
+    state: &State,
     item: &Item,
     entries: &mut Vec<Obj>,
     steps: &mut Steps<L>,
 ) -> Result<(), AllocError>
-    requires complete { IsComplete plan.now contents.now }
-    requires known { IsSoundItem plan.now contents.now item.now }
-    ensures entries { IfOk result (λ _. entries.new.items ≡ entries.old.items ++ map entry (changes_in plan.now contents.now item.now)) }
-    ensures steps { IfOk result (λ _. steps.new ≡ steps.old + item_steps plan.now (state_in contents.now) item.now.path (flag_of contents.now.ground.tree item.now.tracked)) }
+    requires { IsSoundItem state.now item.now }
+    ensures entries { IfOk result (λ _. entries.new.items ≡ entries.old.items ++ map entry (changes_in state.now item.now)) }
+    ensures steps { IfOk result (λ _. steps.new ≡ steps.old + item_steps state.now.plan state.now.now item.now.path (flag_of (tree_of state.now) item.now.tracked)) }
 {
-    if !item.is_due(contents.ground.tree()) {
+    if !item.is_due(state.tree()) {
         return Ok(());
     }
-    push_due(alloc, plan, contents, item, entries, steps)
+    push_due(state, item, entries, steps)
 }
 
 /// The entries of what has changed of items since it was last reported. Only the items that are due are read: for each on an
@@ -177,20 +157,17 @@ fn push_change<L: Ledger>(
 /// Source: oBIX 1.1, chapter 12 (Watch.pollChanges).
 #[tactic(auto, using(crate::proofs::Due::changes_more, crate::proofs::Due::known_at))]
 pub fn changes<L: Ledger>(
-    alloc: Global,
-    plan: &Plan,
-    contents: &Contents,
+    state: &State,
     items: &[Item],
     steps: &mut Steps<L>,
 ) -> Result<Vec<Obj>, AllocError>
-    requires complete { IsComplete plan.now contents.now }
-    requires known { AreSoundItems plan.now contents.now items.now }
-    ensures entries { IfOk result (λ os. os.items ≡ all_changes plan.now contents.now items.now) }
-    ensures steps { IfOk result (λ _. steps.new ≡ steps.old + poll_steps plan.now (state_in contents.now) (map (flags contents.now.ground.tree) items.now)) }
+    requires { AreSoundItems state.now items.now }
+    ensures entries { IfOk result (λ os. os.items ≡ all_changes state.now items.now) }
+    ensures steps { IfOk result (λ _. steps.new ≡ steps.old + poll_steps state.now.plan state.now.now (map (flags (tree_of state.now)) items.now)) }
 {
-    let mut entries = Vec::new(alloc);
+    let mut entries = Vec::new(state.allocator());
     for item in items {
-        push_change(alloc, plan, contents, item, &mut entries, steps)?;
+        push_change(state, item, &mut entries, steps)?;
     }
     Ok(entries)
 }
@@ -201,20 +178,17 @@ pub fn changes<L: Ledger>(
 /// Source: oBIX 1.1, chapter 12 (Watch.pollChanges).
 #[tactic(auto, using(crate::proofs::Due::none_due))]
 pub fn watch_changes<L: Ledger>(
-    alloc: Global,
-    plan: &Plan,
-    contents: &Contents,
+    state: &State,
     watch: &Watch,
     steps: &mut Steps<L>,
 ) -> Result<Vec<Obj>, AllocError>
-    requires complete { IsComplete plan.now contents.now }
-    requires past { AreStampsPast contents.now.ground.tree }
-    requires known { AreSoundItems plan.now contents.now watch.now.items }
-    ensures entries { IfOk result (λ os. os.items ≡ all_changes plan.now contents.now watch.now.items) }
-    ensures steps { IfOk result (λ _. steps.new ≡ steps.old + poll_steps plan.now (state_in contents.now) (map (flags contents.now.ground.tree) watch.now.items)) }
+    requires past { AreStampsPast (tree_of state.now) }
+    requires known { AreSoundItems state.now watch.now.items }
+    ensures entries { IfOk result (λ os. os.items ≡ all_changes state.now watch.now.items) }
+    ensures steps { IfOk result (λ _. steps.new ≡ steps.old + poll_steps state.now.plan state.now.now (map (flags (tree_of state.now)) watch.now.items)) }
 {
-    if !watch.has_due(contents.ground.tree()) {
-        return Ok(Vec::new(alloc));
+    if !watch.has_due(state.tree()) {
+        return Ok(Vec::new(state.allocator()));
     }
-    changes(alloc, plan, contents, watch.items(), steps)
+    changes(state, watch.items(), steps)
 }

@@ -1,6 +1,6 @@
 //! What is asked of the watch service.
 ghost use Rattle.std.specs.Prelude.{◌≡◌, IfOk, OnErr, false};
-ghost use Rattle.ob_site_state.specs.declared.contents.Contents.{Contents};
+ghost use Rattle.ob_site_state.specs.Kept.{Kept};
 ghost use Rattle.ob_site_watches.specs.Answers.{AllKnown, IsMade, IsOneMore};
 ghost use Rattle.ob_watch.specs.Tables.{has_no_place, lapsed_at};
 
@@ -25,7 +25,7 @@ pub fn make(
     ensures done { IfOk result (IsMade plan.now now watches.old watches.new) }
     ensures one_more { IfOk result (λ o. has_no_place (lapsed_at now watches.old) ≡ false → IsOneMore plan.now now watches.old watches.new o) }
     ensures err { OnErr result (watches.new ≡ watches.old) }
-    ensures known { (c : Contents) → AllKnown plan.now c watches.old → AllKnown plan.now c watches.new }
+    ensures known { (k : Kept) → AllKnown k watches.old → AllKnown k watches.new }
 {
     if watches.is_full(now) {
         return refusal(alloc, Fault::TooManyWatches);

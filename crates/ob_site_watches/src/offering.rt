@@ -1,11 +1,10 @@
 //! What is asked for of a watch, before it is added.
 ghost use Rattle.std.specs.Prelude.{◌≡◌, IfOk};
 ghost use Rattle.ob_site_watches.specs.Watched.{IsOwnFound};
-ghost use Rattle.ob_site_reads.specs.Complete.{IsComplete};
-ghost use Rattle.ob_site_state.specs.Contents.{state_in};
 ghost use Rattle.ob_watch.specs.Marks.{AreStampsPast};
 ghost use Rattle.ob_requests.specs.Calls.{found as found_of};
 ghost use Rattle.ob_site_watches.specs.Offered.{IsFor, IsOffered, refused_entry};
+ghost use Rattle.ob_site_state.specs.Stamping.{tree_of};
 
 use crate::watched_are_own;
 use ob_contracts::Steps;
@@ -13,8 +12,8 @@ use ob_object::Obj;
 use ob_replies::{entry, refusal};
 use ob_requests::{Found, WatchInItem};
 use ob_site_reads::{count_at, resolve_item};
-use ob_site_rules::{Fault, Plan};
-use ob_site_state::Contents;
+use ob_site_rules::Fault;
+use ob_site_state::State;
 use ob_values::Text;
 use ob_watch::Item;
 use std::alloc::{AllocError, Global};
@@ -29,26 +28,19 @@ pub enum Offer {
 
 /// The item that an href is to be added as, or why it isn't.
 #[tactic(auto, using(crate::proofs::Found::object_for, crate::proofs::Found::feed_for))]
-fn item_for(
-    alloc: Global,
-    plan: &Plan,
-    contents: &Contents,
-    text: Text,
-    found: Found,
-) -> Result<Result<Item, Fault>, AllocError>
-    requires complete { IsComplete plan.now contents.now }
-    requires past { AreStampsPast contents.now.ground.tree }
-    requires own { IsOwnFound contents.now.ground.tree.root (found_of found) }
-    ensures { IfOk result (IsFor plan.now contents.now text (found_of found)) }
+fn item_for(state: &State, text: Text, found: Found) -> Result<Result<Item, Fault>, AllocError>
+    requires past { AreStampsPast (tree_of state.now) }
+    requires own { IsOwnFound state.now.now.tree (found_of found) }
+    ensures { IfOk result (IsFor state.now text (found_of found)) }
 {
     match found {
         Found::Nothing(fault) => Ok(Err(fault)),
-        Found::Object(path) => match contents.ground.tree().get(&path) {
-            Some(node) => Ok(Ok(Item::object(text, path, node, contents.ground.tree().steps()))),
+        Found::Object(path) => match state.tree().get(&path) {
+            Some(node) => Ok(Ok(Item::object(text, path, node, state.tree().steps()))),
             None => unreachable!(),
         },
         Found::Feed(path, filter) => {
-            let count = count_at(alloc, plan, contents, &path)?;
+            let count = count_at(state, &path)?;
             Ok(Ok(Item::feed(text, path, filter, count)))
         }
     }
@@ -69,24 +61,21 @@ pub(crate) fn refused(alloc: Global, text: &Text, fault: Fault) -> Result<Obj, A
 /// Source: oBIX 1.1, chapter 12 (Watch.add).
 #[tactic(auto, using(crate::proofs::Found::item_offered, crate::proofs::Found::refusal_offered))]
 pub(crate) fn offered<L: Ledger>(
-    alloc: Global,
-    plan: &Plan,
-    contents: &Contents,
+    state: &State,
     numbers: &[u64],
     asked: &WatchInItem,
     steps: &mut Steps<L>,
 ) -> Result<Offer, AllocError>
-    requires complete { IsComplete plan.now contents.now }
-    requires past { AreStampsPast contents.now.ground.tree }
-    ensures { IfOk result (IsOffered plan.now contents.now numbers.now asked.now) }
+    requires { AreStampsPast (tree_of state.now) }
+    ensures { IfOk result (IsOffered state.now numbers.now asked.now) }
 {
     watched_are_own();
-    let found = resolve_item(alloc, plan, contents, numbers, asked, steps)?;
+    let found = resolve_item(state, numbers, asked, steps)?;
     let text = asked.0.copy()?;
-    match item_for(alloc, plan, contents, text, found)? {
+    match item_for(state, text, found)? {
         Ok(item) => Ok(Offer::Item(item)),
         Err(fault) => {
-            let entry = refused(alloc, &asked.0, fault)?;
+            let entry = refused(state.allocator(), &asked.0, fault)?;
             Ok(Offer::Refused(entry))
         }
     }

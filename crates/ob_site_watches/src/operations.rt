@@ -1,8 +1,6 @@
 //! What is asked of a watch.
 ghost use Rattle.std.specs.Prelude.{◌≡◌, ◌+◌, List, ℕ, map, Option, Some, false, IfOk, OnErr};
 ghost use Rattle.ob_requests.specs.Targets.{operation_of};
-ghost use Rattle.ob_site_reads.specs.Complete.{IsComplete};
-ghost use Rattle.ob_site_state.specs.Contents.{state_in};
 ghost use Rattle.ob_watch.specs.Flags.{flagged, flags, flags_of};
 ghost use Rattle.ob_watch.specs.Tables.{live};
 ghost use Rattle.ob_watching.specs.Tables.{lookup};
@@ -20,6 +18,7 @@ ghost use Rattle.ob_site_watches.specs.Answers.{AllKnown, IsDone, IsReply};
 ghost use Rattle.ob_site_rules.specs.State.{State as SiteState};
 ghost use Rattle.ob_site_rules.specs.declared.plan.Plan.{Plan as SitePlan};
 ghost use Rattle.ob_site_watches.specs.Polls.{SiteWatch, WatchTakes, poll_steps, refresh_steps};
+ghost use Rattle.ob_site_state.specs.Stamping.{tree_of};
 
 use crate::adding::{Adding, add};
 use crate::entries::{readings, watch_changes};
@@ -27,11 +26,11 @@ use ob_contracts::{Library, Steps};
 use ob_object::Obj;
 use ob_replies::{nil, refusal, watch_out, watch_part};
 use ob_requests::{Operation, lease_asked};
-use ob_site_rules::{Fault, Plan, WatchPart};
-use ob_site_state::Contents;
+use ob_site_rules::{Fault, WatchPart};
+use ob_site_state::State;
 use ob_times::Moment;
 use ob_watch::{Item, Watch, Watches};
-use std::alloc::{AllocError, Global};
+use std::alloc::AllocError;
 use std::sync::ledger::Ledger;
 
 /// What is asked of the watch of a number, and when.
@@ -44,80 +43,77 @@ pub struct Call {
 
 /// The reply to a lease that is asked for.
 fn lease_told<L: Ledger>(
-    alloc: Global,
-    plan: &Plan,
-    contents: &Contents,
+    state: &State,
     number: u64,
     input: &Option<Obj>,
     steps: &mut Steps<L>,
 ) -> Result<Obj, AllocError>
-    ensures { IfOk result (λ o. o ≡ sent plan.now (told_lease (of_plan plan.now) number (lease_asked (state_in contents.now) input.now))) }
+    ensures { IfOk result (λ o. o ≡ sent state.now.plan (told_lease (of_plan state.now.plan) number (lease_asked state.now.now input.now))) }
 {
-    match lease_asked(contents.ground.library(), input, steps) {
-        Ok(lease) => watch_part(alloc, plan, number, lease, WatchPart::Lease),
-        Err(fault) => refusal(alloc, fault),
+    match lease_asked(state.library(), input, steps) {
+        Ok(lease) => watch_part(
+            state.allocator(),
+            state.plan(),
+            number,
+            lease,
+            WatchPart::Lease,
+        ),
+        Err(fault) => refusal(state.allocator(), fault),
     }
 }
 
 /// The reply to Watch.pollChanges.
-fn poll<L: Ledger>(
-    alloc: Global,
-    plan: &Plan,
-    contents: &Contents,
-    watch: &Watch,
-    steps: &mut Steps<L>,
-) -> Result<Obj, AllocError>
-    requires complete { IsComplete plan.now contents.now }
-    requires past { AreStampsPast contents.now.ground.tree }
-    requires known { AreSoundItems plan.now contents.now watch.now.items }
-    ensures reply { IfOk result (λ o. o ≡ watch_out (all_changes plan.now contents.now watch.now.items)) }
-    ensures steps { IfOk result (λ _. steps.new ≡ steps.old + poll_steps plan.now (state_in contents.now) (map (flags contents.now.ground.tree) watch.now.items)) }
+fn poll<L: Ledger>(state: &State, watch: &Watch, steps: &mut Steps<L>) -> Result<Obj, AllocError>
+    requires past { AreStampsPast (tree_of state.now) }
+    requires known { AreSoundItems state.now watch.now.items }
+    ensures reply { IfOk result (λ o. o ≡ watch_out (all_changes state.now watch.now.items)) }
+    ensures steps { IfOk result (λ _. steps.new ≡ steps.old + poll_steps state.now.plan state.now.now (map (flags (tree_of state.now)) watch.now.items)) }
 {
-    let entries = watch_changes(alloc, plan, contents, watch, steps)?;
-    watch_out(alloc, entries)
+    let entries = watch_changes(state, watch, steps)?;
+    watch_out(state.allocator(), entries)
 }
 
 /// The reply to Watch.pollRefresh.
 fn refresh<L: Ledger>(
-    alloc: Global,
-    plan: &Plan,
-    contents: &Contents,
+    state: &State,
     items: &[Item],
     steps: &mut Steps<L>,
 ) -> Result<Obj, AllocError>
-    requires complete { IsComplete plan.now contents.now }
-    requires known { AreSoundItems plan.now contents.now items.now }
-    ensures reply { IfOk result (λ o. o ≡ watch_out (all_readings plan.now contents.now items.now)) }
-    ensures steps { IfOk result (λ _. steps.new ≡ steps.old + refresh_steps plan.now (state_in contents.now) (map (flags contents.now.ground.tree) items.now)) }
+    requires { AreSoundItems state.now items.now }
+    ensures reply { IfOk result (λ o. o ≡ watch_out (all_readings state.now items.now)) }
+    ensures steps { IfOk result (λ _. steps.new ≡ steps.old + refresh_steps state.now.plan state.now.now (map (flags (tree_of state.now)) items.now)) }
 {
-    let entries = readings(alloc, plan, contents, items, steps)?;
-    watch_out(alloc, entries)
+    let entries = readings(state, items, steps)?;
+    watch_out(state.allocator(), entries)
 }
 
 /// The reply to an operation but Watch.add.
 fn reply<L: Ledger>(
-    alloc: Global,
-    plan: &Plan,
-    contents: &Contents,
+    state: &State,
     watch: &Watch,
     call: &Call,
     steps: &mut Steps<L>,
 ) -> Result<Obj, AllocError>
-    requires complete { IsComplete plan.now contents.now }
-    requires past { AreStampsPast contents.now.ground.tree }
-    requires known { AreSoundItems plan.now contents.now watch.now.items }
+    requires past { AreStampsPast (tree_of state.now) }
+    requires known { AreSoundItems state.now watch.now.items }
     requires other { is_add (operation_of call.now.asks) ≡ false }
-    ensures reply { IfOk result (λ o. (numbers : List ℕ) → IsReply plan.now contents.now call.now.moment numbers call.now.number watch.now (operation_of call.now.asks) o) }
-    ensures steps { IfOk result (λ _. WatchTakes plan.now (state_in contents.now) (Some (flagged contents.now.ground.tree watch.now)) (operation_of call.now.asks) steps.old steps.new) }
+    ensures reply { IfOk result (λ o. (numbers : List ℕ) → IsReply state.now call.now.moment numbers call.now.number watch.now (operation_of call.now.asks) o) }
+    ensures steps { IfOk result (λ _. WatchTakes state.now.plan state.now.now (Some (flagged (tree_of state.now) watch.now)) (operation_of call.now.asks) steps.old steps.new) }
 {
     match &call.asks {
-        Operation::Look(part) => watch_part(alloc, plan, call.number, watch.lease(), *part),
-        Operation::Renew(input) => lease_told(alloc, plan, contents, call.number, input, steps),
+        Operation::Look(part) => watch_part(
+            state.allocator(),
+            state.plan(),
+            call.number,
+            watch.lease(),
+            *part,
+        ),
+        Operation::Renew(input) => lease_told(state, call.number, input, steps),
         Operation::Add(_) => unreachable!(),
-        Operation::Remove(_) | Operation::Delete => nil(alloc),
-        Operation::PollChanges => poll(alloc, plan, contents, watch, steps),
-        Operation::PollRefresh => refresh(alloc, plan, contents, watch.items(), steps),
-        Operation::Refuse(fault) => refusal(alloc, *fault),
+        Operation::Remove(_) | Operation::Delete => nil(state.allocator()),
+        Operation::PollChanges => poll(state, watch, steps),
+        Operation::PollRefresh => refresh(state, watch.items(), steps),
+        Operation::Refuse(fault) => refusal(state.allocator(), *fault),
     }
 }
 
@@ -139,27 +135,16 @@ fn renew<L: Ledger>(
 }
 
 /// What an operation leaves of its watch, without memory; Watch.add is told of apart.
-fn leave<L: Ledger>(
-    contents: &Contents,
-    watches: &mut Watches,
-    call: &Call,
-    steps: &mut Steps<L>,
-) -> bool
-    ensures left { watches.new ≡ leaving contents.now call.now.moment call.now.number (operation_of call.now.asks) watches.old }
+fn leave<L: Ledger>(state: &State, watches: &mut Watches, call: &Call, steps: &mut Steps<L>) -> bool
+    ensures left { watches.new ≡ leaving state.now call.now.moment call.now.number (operation_of call.now.asks) watches.old }
     ensures steps { (plan : SitePlan) (s : SiteState) (w : Option SiteWatch) (before : ℕ) → WatchTakes plan s w (operation_of call.now.asks) before steps.old → WatchTakes plan s w (operation_of call.now.asks) before steps.new }
 {
     let held = watches.touch(call.number, call.moment);
     match &call.asks {
-        Operation::Renew(input) => renew(
-            contents.ground.library(),
-            watches,
-            call.number,
-            input,
-            steps,
-        ),
+        Operation::Renew(input) => renew(state.library(), watches, call.number, input, steps),
         Operation::Remove(texts) => watches.remove(call.number, texts),
         Operation::PollChanges | Operation::PollRefresh => watches.reported(
-            contents.ground.tree(),
+            state.tree(),
             call.number,
         ),
         Operation::Delete => watches.delete(call.number),
@@ -169,29 +154,26 @@ fn leave<L: Ledger>(
 
 /// What an operation but Watch.add makes of the watches, and the reply.
 fn on_other<L: Ledger>(
-    alloc: Global,
-    plan: &Plan,
-    contents: &Contents,
+    state: &State,
     watches: &mut Watches,
     call: &Call,
     steps: &mut Steps<L>,
 ) -> Result<Obj, AllocError>
-    requires complete { IsComplete plan.now contents.now }
-    requires past { AreStampsPast contents.now.ground.tree }
-    requires known { AllKnown plan.now contents.now watches.old }
+    requires past { AreStampsPast (tree_of state.now) }
+    requires known { AllKnown state.now watches.old }
     requires other { is_add (operation_of call.now.asks) ≡ false }
-    ensures done { IfOk result (IsDone plan.now contents.now call.now.moment watches.old watches.new call.now.number (operation_of call.now.asks)) }
+    ensures done { IfOk result (IsDone state.now call.now.moment watches.old watches.new call.now.number (operation_of call.now.asks)) }
     ensures err { OnErr result (watches.new ≡ watches.old) }
-    ensures known { AllKnown plan.now contents.now watches.new }
-    ensures steps { IfOk result (λ _. WatchTakes plan.now (state_in contents.now) (lookup call.now.number (flags_of contents.now.ground.tree (live call.now.moment watches.old.watches))) (operation_of call.now.asks) steps.old steps.new) }
+    ensures known { AllKnown state.now watches.new }
+    ensures steps { IfOk result (λ _. WatchTakes state.now.plan state.now.now (lookup call.now.number (flags_of (tree_of state.now) (live call.now.moment watches.old.watches))) (operation_of call.now.asks) steps.old steps.new) }
 {
     let _numbers = watches.numbers();
     let Some(watch) = watches.get(call.number, call.moment) else {
-        return refusal(alloc, Fault::NoSuchObject);
+        return refusal(state.allocator(), Fault::NoSuchObject);
     };
     let _lease = watch.lease();
-    let reply = reply(alloc, plan, contents, watch, call, steps)?;
-    leave(contents, watches, call, steps);
+    let reply = reply(state, watch, call, steps)?;
+    leave(state, watches, call, steps);
     Ok(reply)
 }
 
@@ -201,20 +183,17 @@ fn on_other<L: Ledger>(
 ///
 /// Source: oBIX 1.1, chapter 12 (Watches).
 pub fn on_watch<L: Ledger>(
-    alloc: Global,
-    plan: &Plan,
-    contents: &Contents,
+    state: &State,
     watches: &mut Watches,
     call: &Call,
     steps: &mut Steps<L>,
 ) -> Result<Obj, AllocError>
-    requires complete { IsComplete plan.now contents.now }
-    requires past { AreStampsPast contents.now.ground.tree }
-    requires known { AllKnown plan.now contents.now watches.old }
-    ensures done { IfOk result (IsDone plan.now contents.now call.now.moment watches.old watches.new call.now.number (operation_of call.now.asks)) }
+    requires past { AreStampsPast (tree_of state.now) }
+    requires known { AllKnown state.now watches.old }
+    ensures done { IfOk result (IsDone state.now call.now.moment watches.old watches.new call.now.number (operation_of call.now.asks)) }
     ensures err { OnErr result (watches.new ≡ watches.old) }
-    ensures known { AllKnown plan.now contents.now watches.new }
-    ensures steps { IfOk result (λ _. WatchTakes plan.now (state_in contents.now) (lookup call.now.number (flags_of contents.now.ground.tree (live call.now.moment watches.old.watches))) (operation_of call.now.asks) steps.old steps.new) }
+    ensures known { AllKnown state.now watches.new }
+    ensures steps { IfOk result (λ _. WatchTakes state.now.plan state.now.now (lookup call.now.number (flags_of (tree_of state.now) (live call.now.moment watches.old.watches))) (operation_of call.now.asks) steps.old steps.new) }
 {
     match &call.asks {
         Operation::Add(asked) => {
@@ -223,7 +202,7 @@ pub fn on_watch<L: Ledger>(
                 moment: call.moment,
                 asked,
             };
-            add(alloc, plan, contents, watches, &adding, steps)
+            add(state, watches, &adding, steps)
         }
         Operation::Look(_)
         | Operation::Renew(_)
@@ -231,6 +210,6 @@ pub fn on_watch<L: Ledger>(
         | Operation::PollChanges
         | Operation::PollRefresh
         | Operation::Delete
-        | Operation::Refuse(_) => on_other(alloc, plan, contents, watches, call, steps),
+        | Operation::Refuse(_) => on_other(state, watches, call, steps),
     }
 }

@@ -18,7 +18,7 @@ pub returns-clause-ok : goal.returns-clause-ok
 returns-clause-ok g c =
     let k = c.args.state.now in
     let t = c.write_head.new.state in
-    let p = c.args.path.now in
+    let p = c.args.at.path.now in
     let o = c.args.own.now in
     let body = c.args.body.now in
     let new = c.in_ok-given.given in
@@ -34,7 +34,7 @@ pub returns-clause-stop : goal.returns-clause-stop
 returns-clause-stop g c =
     let k = c.args.state.now in
     let t = c.write_head.new.state in
-    let p = c.args.path.now in
+    let p = c.args.at.path.now in
     let o = c.args.own.now in
     let body = c.args.body.now in
     let new = c.in_ok-given.given in

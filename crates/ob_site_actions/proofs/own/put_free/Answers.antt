@@ -14,7 +14,7 @@ pub returns-in-Some-clause-ok : goal.returns-in-Some-clause-ok
 returns-in-Some-clause-ok g c =
     let k = c.args.state.now in
     let t = c.put_body.new.state in
-    let p = c.args.path.now in
+    let p = c.args.at.path.now in
     let o = c.args.own.now in
     let body = c.in-Some.body.now in
     let faults = head_faults k p o (given_by k.now body) in
@@ -26,7 +26,7 @@ pub returns-in-Some-clause-stop : goal.returns-in-Some-clause-stop
 returns-in-Some-clause-stop g c =
     let k = c.args.state.now in
     let t = c.put_body.new.state in
-    let p = c.args.path.now in
+    let p = c.args.at.path.now in
     let o = c.args.own.now in
     let body = c.in-Some.body.now in
     let faults = head_faults k p o (given_by k.now body) in
@@ -37,7 +37,7 @@ returns-in-Some-clause-stop g c =
 pub returns-in-None-clause-stop : goal.returns-in-None-clause-stop
 returns-in-None-clause-stop g c =
     let k = c.args.state.now in
-    let p = c.args.path.now in
+    let p = c.args.at.path.now in
     let o = c.args.own.now in
     subst (λ (b : Option (Bor Object)). StopsBy k k (put_faults k p o (option_copied b)) (Refused OtherShape)) (sym c.in-None.is)
     (refl, ap (λ (f : Option Fault). option_or f (Some OtherShape)) c.requires.free)

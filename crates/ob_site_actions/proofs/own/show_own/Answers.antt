@@ -16,17 +16,17 @@ use Rattle.ob_site_actions.proofs.own.show_own.Goals as goal
 pub own_reply-requires : goal.own_reply-requires
 own_reply-requires g c =
     let k = c.args.state.now in
-    let p = c.args.path.now in
+    let p = c.args.at.path.now in
     let is = c.in_ok-write_if_changed.ensures.ok c.args.own.now (sym c.head.ensures.value) in
-    node_within c.write_if_changed.new.state.now.tree p c.args.node.number
+    node_within c.write_if_changed.new.state.now.tree p c.args.at.node.number
     (ap (λ (x : Kept). place_of p (paths x.now.tree)) is ∙ ap (place_of p) (paths_written k.plan k.time p c.args.own.now c.args.slot.now k.now) ∙ c.requires.place)
 
 pub returns-clause-ok : goal.returns-clause-ok
 returns-clause-ok g c =
     let k = c.args.state.now in
     let t = c.write_if_changed.new.state in
-    let p = c.args.path.now in
-    let n = c.args.node.number in
+    let p = c.args.at.path.now in
+    let n = c.args.at.node.number in
     let made : State = written k.plan k.time p c.args.own.now c.args.slot.now k.now in
     let is = c.in_ok-write_if_changed.ensures.ok c.args.own.now (sym c.head.ensures.value) in
     let place : place_of p (paths t.now.tree) ≡ Some n = ap (λ (x : Kept). place_of p (paths x.now.tree)) is ∙ ap (place_of p) (paths_written k.plan k.time p c.args.own.now c.args.slot.now k.now) ∙ c.requires.place in

@@ -19,7 +19,7 @@ use Rattle.ob_site_actions.proofs.own.write_head.Goals as goal
 pub show_own-requires-clause-can : goal.show_own-requires-clause-can
 show_own-requires-clause-can g c =
     let k = c.args.state.now in
-    let p = c.args.path.now in
+    let p = c.args.at.path.now in
     let o = c.args.own.now in
     let x = c.requires.asked.0 in
     let new = c.args.new.now in
@@ -39,7 +39,7 @@ pub returns-clause-ok : goal.returns-clause-ok
 returns-clause-ok g c =
     let k = c.args.state.now in
     let t = c.show_own.new.state in
-    let p = c.args.path.now in
+    let p = c.args.at.path.now in
     let o = c.args.own.now in
     let new = c.args.new.now in
     let reply = c.in_ok-reply.reply in

@@ -14,5 +14,5 @@ returns-clause-ok g c =
     let p = c.args.path.now in
     let made = written k.plan k.time p c.args.object.now c.args.slot.now k.now in
     let shows : Object → Type 0 = λ reply. reply ≡ reply_at t.plan t.now p c.in_ok-default.default in
-    IfOk-weaker c.reply_object.result shows (IsDone k t (showing k.plan p c.args.object.now made))
-    (λ reply is. shown_then k t made p c.args.object.now c.in_ok-default.default reply (c.in_ok-written_at.ensures.ok c.args.object.now (sym c.head.ensures.value)) c.in_ok-default.ensures is) c.reply_object.ensures
+    IfOk-weaker c.reply_at.result shows (IsDone k t (showing k.plan p c.args.object.now made))
+    (λ reply is. shown_then k t made p c.args.object.now c.in_ok-default.default reply (c.in_ok-written_at.ensures.ok c.args.object.now (sym c.head.ensures.value)) c.in_ok-default.ensures is) c.reply_at.ensures

@@ -5,7 +5,6 @@ use Rattle.ob_object.specs.Object.{Object, children}
 use Rattle.ob_object.specs.WellFormed.{named}
 use Rattle.ob_object.specs.Paths.{node_path}
 use Rattle.ob_site_rules.specs.Shown.{derived}
-use Rattle.ob_site_state.specs.Contents.{state_in}
 use Rattle.ob_tree.specs.Contexts.{comes_to}
 use Rattle.ob_tree.specs.Children.{child_at}
 use Rattle.ob_tree.specs.Laid.{head_at, leaf}
@@ -17,12 +16,12 @@ use Rattle.ob_site_reads.proofs.children.shows_child.Goals as goal
 
 pub returns-then-is_some : goal.returns-then-is_some
 returns-then-is_some g c =
-    let plan = c.args.plan.now in
-    let s = state_in c.args.contents.now in
+    let plan = c.args.state.now.plan in
+    let s = c.args.state.now.now in
     let k = c.args.node.number in
     let n = c.args.name.now in
     let own = c.own-own.result.now in
-    let lent : Some own ≡ option_map leaf (head_at k s.tree) = c.own-own.ensures ∙ ap (λ (t : Stamped). option_map leaf (head_at k t.root)) c.tree-tree.ensures in
+    let lent : Some own ≡ option_map leaf (head_at k s.tree) = c.own-own.ensures ∙ ap (λ (t : Stamped). option_map leaf (head_at k t.root)) c.tree-tree.ensures.value in
     let at = place_there s.library k s.tree own in
     let there : is_some (child_at k n s.tree) ≡ c.is_some.result =
     told (λ (id : NodeId). id.number) c.child.result (λ (m : List ℕ). child_at k m s.tree) c.as_str.result.now n c.is_some.result c.as_str.ensures.value
@@ -32,12 +31,12 @@ returns-then-is_some g c =
 
 pub returns-then-is_some-2 : goal.returns-then-is_some-2
 returns-then-is_some-2 g c =
-    let plan = c.args.plan.now in
-    let s = state_in c.args.contents.now in
+    let plan = c.args.state.now.plan in
+    let s = c.args.state.now.now in
     let k = c.args.node.number in
     let n = c.args.name.now in
     let own = c.own-own.result.now in
-    let lent : Some own ≡ option_map leaf (head_at k s.tree) = c.own-own.ensures ∙ ap (λ (t : Stamped). option_map leaf (head_at k t.root)) c.tree-tree.ensures in
+    let lent : Some own ≡ option_map leaf (head_at k s.tree) = c.own-own.ensures ∙ ap (λ (t : Stamped). option_map leaf (head_at k t.root)) c.tree-tree.ensures.value in
     let at = place_there s.library k s.tree own in
     let seen = shown_by c.view-view.result in
     let inherited : is_some (named n (children seen)) ≡ c.is_some-2.result =
@@ -47,12 +46,12 @@ returns-then-is_some-2 g c =
 
 pub returns : goal.returns
 returns g c =
-    let plan = c.args.plan.now in
-    let s = state_in c.args.contents.now in
+    let plan = c.args.state.now.plan in
+    let s = c.args.state.now.now in
     let k = c.args.node.number in
     let n = c.args.name.now in
     let own = c.own-own.result.now in
-    let lent : Some own ≡ option_map leaf (head_at k s.tree) = c.own-own.ensures ∙ ap (λ (t : Stamped). option_map leaf (head_at k t.root)) c.tree-tree.ensures in
+    let lent : Some own ≡ option_map leaf (head_at k s.tree) = c.own-own.ensures ∙ ap (λ (t : Stamped). option_map leaf (head_at k t.root)) c.tree-tree.ensures.value in
     let at = place_there s.library k s.tree own in
     let seen = shown_by c.view-view.result in
     let roles = derived plan s (node_path own.head) in

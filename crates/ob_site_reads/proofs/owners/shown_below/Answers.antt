@@ -1,6 +1,5 @@
 use Rattle.std.proofs.Common.{◌∷◌, [], ◌++◌, subst}
 use Rattle.std.proofs.lemmas.Result.{IfOk-weaker}
-use Rattle.ob_site_state.specs.Contents.{state_in}
 use Rattle.ob_site_reads.specs.Deriving.{IsOff, IsOffBelow, ShownOr}
 use Rattle.ob_site_reads.specs.Parents.{IsParent}
 use Rattle.ob_site_reads.proofs.ByRole.{or_else_that, off_parent, off_no_parent}
@@ -8,8 +7,8 @@ use Rattle.ob_site_reads.proofs.owners.shown_below.Goals as goal
 
 pub returns-in-Some : goal.returns-in-Some
 returns-in-Some g c =
-    let plan = c.args.plan.now in
-    let s = state_in c.args.contents.now in
+    let plan = c.args.state.now.plan in
+    let s = c.args.state.now.now in
     let p = c.args.path.now in
     let q = c.in-Some.parent in
     let is_parent = subst (IsParent p) c.in-Some.is c.in_ok-parent.ensures in
@@ -19,4 +18,4 @@ returns-in-Some g c =
 
 pub returns-in-None : goal.returns-in-None
 returns-in-None g c =
-    off_no_parent c.args.plan.now (state_in c.args.contents.now) c.args.path.now (subst (IsParent c.args.path.now) c.in-None.is c.in_ok-parent.ensures)
+    off_no_parent c.args.state.now.plan c.args.state.now.now c.args.path.now (subst (IsParent c.args.path.now) c.in-None.is c.in_ok-parent.ensures)

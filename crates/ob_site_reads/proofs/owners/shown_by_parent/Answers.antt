@@ -1,14 +1,13 @@
 use Rattle.std.proofs.Common.{◌∷◌, [], ◌++◌, sym, ◌∙◌, subst}
 use Rattle.std.proofs.lemmas.Result.{IfOk-weaker}
-use Rattle.ob_site_state.specs.Contents.{state_in}
 use Rattle.ob_site_reads.specs.Deriving.{IsOff, ShownOr}
 use Rattle.ob_site_reads.proofs.ByRole.{off_there, or_else_that}
 use Rattle.ob_site_reads.proofs.owners.shown_by_parent.Goals as goal
 
 pub returns : goal.returns
 returns g c =
-    let plan = c.args.plan.now in
-    let s = state_in c.args.contents.now in
+    let plan = c.args.state.now.plan in
+    let s = c.args.state.now.now in
     let p = c.args.path.now in
     let q = c.in_ok-parent.parent in
     let plain = off_there plan s p (IsOff plan s p c.args.parent.now) c.in_ok-shown.shown (sym c.is_some.ensures ∙ c.if-is_some.false) c.in_ok-shown.ensures in

@@ -3,7 +3,6 @@ use Rattle.std.proofs.lemmas.Result.{IfOk-weaker}
 use Rattle.ob_site_rules.specs.Shown.{shown}
 use Rattle.ob_shown_laws.specs.Alike.{row}
 use Rattle.ob_shown_laws.specs.OwnShown.{IsNotDerived}
-use Rattle.ob_site_state.specs.Contents.{state_in}
 use Rattle.ob_tree.specs.Laid.{paths}
 use Rattle.ob_tree.specs.Paths.{place_of}
 use Rattle.ob_tree.specs.Trees.{Stamped}
@@ -13,8 +12,8 @@ use Rattle.ob_site_reads.proofs.shown.shown_at.Goals as goal
 
 pub returns-in-None : goal.returns-in-None
 returns-in-None g c =
-    let plan = c.args.plan.now in
-    let s = state_in c.args.contents.now in
+    let plan = c.args.state.now.plan in
+    let s = c.args.state.now.now in
     let p = c.args.path.now in
     IfOk-weaker c.shown_derived.result (ShownOr plan s p (IsNotDerived plan s p (row s.tree))) (λ o. o ≡ shown plan s p)
-    (λ o is. nothing plan s p o (c.in-None.ensures.place ∙ ap (λ (t : Stamped). place_of p (paths t.root)) c.tree.ensures) is) c.shown_derived.ensures
+    (λ o is. nothing plan s p o (c.in-None.ensures.place ∙ ap (λ (t : Stamped). place_of p (paths t.root)) c.tree.ensures.value) is) c.shown_derived.ensures

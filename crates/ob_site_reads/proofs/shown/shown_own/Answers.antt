@@ -2,7 +2,6 @@ use Rattle.std.proofs.Common.{◌≡◌, Some}
 use Rattle.std.proofs.lemmas.Result.{IfOk-weaker}
 use Rattle.ob_site_rules.specs.Build.{Path}
 use Rattle.ob_site_rules.specs.Shown.{shown}
-use Rattle.ob_site_state.specs.Contents.{state_in}
 use Rattle.ob_tree.specs.Standings.{context}
 use Rattle.ob_tree.specs.Contexts.{comes_to}
 use Rattle.ob_tree.specs.Laid.{paths}
@@ -13,8 +12,8 @@ use Rattle.ob_site_reads.proofs.shown.shown_own.Goals as goal
 
 pub returns-clause-stands : goal.returns-clause-stands
 returns-clause-stands g c =
-    let plan = c.args.plan.now in
-    let s = state_in c.args.contents.now in
+    let plan = c.args.state.now.plan in
+    let s = c.args.state.now.now in
     let n = c.args.node.number in
     let at = context c.standing-standing.result in
     IfOk-weaker c.whole.result (λ o. o ≡ comes_to at c.in_ok-dressed.dressed) (λ o. Some o ≡ own_shown_at plan s n)
@@ -22,10 +21,10 @@ returns-clause-stands g c =
 
 pub returns-clause-shows : goal.returns-clause-shows
 returns-clause-shows g c =
-    let plan = c.args.plan.now in
-    let s = state_in c.args.contents.now in
+    let plan = c.args.state.now.plan in
+    let s = c.args.state.now.now in
     let n = c.args.node.number in
     let at = context c.standing-standing.result in
     IfOk-weaker c.whole.result (λ o. o ≡ comes_to at c.in_ok-dressed.dressed)
-    (λ o. (p : Path) → place_of p (paths c.args.contents.now.ground.tree.root) ≡ Some n → shown plan s p ≡ Some o)
-    (λ o is p here. shows plan s n at c.in_ok-dressed.dressed o c.standing-standing.ensures.stands c.in_ok-dressed.ensures is c.requires.readable.paths_differ p here) c.whole.ensures.whole
+    (λ o. (p : Path) → place_of p (paths c.args.state.now.now.tree) ≡ Some n → shown plan s p ≡ Some o)
+    (λ o is p here. shows plan s n at c.in_ok-dressed.dressed o c.standing-standing.ensures.stands c.in_ok-dressed.ensures is c.sound_law.ensures.sound.paths_differ p here) c.whole.ensures.whole

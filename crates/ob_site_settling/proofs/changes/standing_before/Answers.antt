@@ -1,7 +1,6 @@
 use Rattle.std.proofs.Common.{Option, sym, ap, ◌∙◌, subst}
 use Rattle.std.specs.Option.{option_copied}
 use Rattle.ob_object.specs.Object.{Object}
-use Rattle.ob_site_rules.specs.State.{State}
 use Rattle.ob_tree.specs.Shown.{standing_at}
 use Rattle.ob_tree.specs.Trees.{Stamped}
 use Rattle.ob_ground.specs.Grounds.{Taught, WordsStand}
@@ -20,5 +19,4 @@ returns-in-Some g c =
 
 pub returns-in-None : goal.returns-in-None
 returns-in-None g c =
-    c.standing-in-None.ensures.stands ∙ ap (λ (s : State). standing_at s.library c.args.node.number s.tree) c.contents.ensures.value
-    ∙ ap (λ r. standing_at (replaced_or (option_copied r) c.args.state.now.now) c.args.node.number c.args.state.now.now.tree) (sym c.in-None.is)
+    c.standing-in-None.ensures.stands ∙ ap (λ r. standing_at (replaced_or (option_copied r) c.args.state.now.now) c.args.node.number c.args.state.now.now.tree) (sym c.in-None.is)

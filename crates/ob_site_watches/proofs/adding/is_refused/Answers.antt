@@ -8,10 +8,10 @@ use Rattle.ob_site_watches.proofs.adding.is_refused.Goals as goal
 
 pub returns-then-is_full : goal.returns-then-is_full
 returns-then-is_full c =
-    let n = c.args.adding.now.number in
+    let n = c.args.number in
     let old = c.args.watches.now in
     let v = c.in-Some.watch.now in
     λ no w there.
     subst (λ (u : Leased). is_refused u c.args.text.now ≡ true)
-    (one_held (lookup n old.watches) v w (live_there c.args.adding.now.moment n old.watches v c.numbers-numbers.ensures.differ (sym c.in-Some.ensures)) there)
+    (one_held (lookup n old.watches) v w (live_there c.args.moment n old.watches v c.numbers-numbers.ensures.differ (sym c.in-Some.ensures)) there)
     (ap₂ (λ (a b : Bool). a && not b) (sym c.is_full.ensures) (sym c.has.ensures) ∙ ap (λ (a : Bool). a && not c.has.result) c.if-is_full.true ∙ no)

@@ -12,139 +12,130 @@ use Rattle.ob_site_watches.proofs.adding.put_all.Goals as goal
 
 pub returns-in_err-numbers : goal.returns-in_err-numbers
 returns-in_err-numbers g c =
-    let plan = c.args.plan.now in
-    let site = c.args.contents.now in
+    let k = c.args.state.now in
     let n = c.args.adding.now.number in
     let old = c.args.watches.now in
     let undo = c.args.undo.now in
     let ns : List ℕ = numbers_of (live c.args.adding.now.moment old.watches) in
     let asked : List Asked = firsts_of c.args.adding.now.asked.now in
-    λ w there. none_put n plan site ns asked old undo w c.from_residual.result c.from_residual.ensures.0 c.numbers-numbers.ensures.differ there
+    λ w there. none_put n k ns asked old undo w c.from_residual.result c.from_residual.ensures.0 c.numbers-numbers.ensures.differ there
 
 pub returns-in_err-firsts : goal.returns-in_err-firsts
 returns-in_err-firsts g c =
-    let plan = c.args.plan.now in
-    let site = c.args.contents.now in
+    let k = c.args.state.now in
     let n = c.args.adding.now.number in
     let old = c.args.watches.now in
     let undo = c.args.undo.now in
     let ns : List ℕ = numbers_of (live c.args.adding.now.moment old.watches) in
     let asked : List Asked = firsts_of c.args.adding.now.asked.now in
-    λ w there. none_put n plan site ns asked old undo w c.from_residual-in_err-firsts.result c.from_residual-in_err-firsts.ensures.0 c.numbers-numbers.ensures.differ there
+    λ w there. none_put n k ns asked old undo w c.from_residual-in_err-firsts.result c.from_residual-in_err-firsts.ensures.0 c.numbers-numbers.ensures.differ there
 
 pub loop-a-init : goal.loop-a-init
 loop-a-init g c =
-    let plan = c.args.plan.now in
-    let site = c.args.contents.now in
+    let k = c.args.state.now in
     let n = c.args.adding.now.number in
     let old = c.args.watches.now in
     let undo = c.args.undo.now in
     let ns : List ℕ = numbers_of (live c.args.adding.now.moment old.watches) in
     let asked : List Asked = firsts_of c.args.adding.now.asked.now in
-    λ w there. subst (λ (es : List Object). IsOnTheWay plan site ns [] n old old undo undo es w) (sym c.new-entries.ensures.items)
-    (way_starts n plan site ns old undo w c.numbers-numbers.ensures.differ there)
+    λ w there. subst (λ (es : List Object). IsOnTheWay k ns [] n old old undo undo es w) (sym c.new-entries.ensures.items)
+    (way_starts n k ns old undo w c.numbers-numbers.ensures.differ there)
 
 pub returns-in_err-offer : goal.returns-in_err-offer
 returns-in_err-offer g c =
-    let plan = c.args.plan.now in
-    let site = c.args.contents.now in
+    let k = c.args.state.now in
     let n = c.args.adding.now.number in
     let old = c.args.watches.now in
     let undo = c.args.undo.now in
     let ns : List ℕ = numbers_of (live c.args.adding.now.moment old.watches) in
     let asked : List Asked = firsts_of c.args.adding.now.asked.now in
     let all = c.deref-a-items.result.now in
-    let k = c.loop-a.a-index in
+    let next = c.loop-a.a-index in
     let es = c.loop-a.entries.items in
     λ w there.
     let way = c.loop-a.invariant w there in
-    way_stops n plan site ns all k old c.loop-a.watches c.loop-a.watches undo c.loop-a.undo c.loop-a.undo es w way asked c.from_residual-in_err-offer.result c.from_residual-in_err-offer.ensures.0
+    way_stops n k ns all next old c.loop-a.watches c.loop-a.watches undo c.loop-a.undo c.loop-a.undo es w way asked c.from_residual-in_err-offer.result c.from_residual-in_err-offer.ensures.0
 
-pub put_offer-requires-clause-placed : goal.put_offer-requires-clause-placed
-put_offer-requires-clause-placed g c =
-    placed c.args.plan.now c.args.contents.now c.deref.result.now c.a-item.result c.in_ok-offer.offer c.in_ok-offer.ensures
+pub put_offer-requires : goal.put_offer-requires
+put_offer-requires g c =
+    placed c.args.state.now c.deref.result.now c.a-item.result c.in_ok-offer.offer c.in_ok-offer.ensures
 
 pub returns-in_err-entry : goal.returns-in_err-entry
 returns-in_err-entry g c =
-    let plan = c.args.plan.now in
-    let site = c.args.contents.now in
+    let k = c.args.state.now in
     let n = c.args.adding.now.number in
     let old = c.args.watches.now in
     let undo = c.args.undo.now in
     let ns : List ℕ = numbers_of (live c.args.adding.now.moment old.watches) in
     let asked : List Asked = firsts_of c.args.adding.now.asked.now in
     let all = c.deref-a-items.result.now in
-    let k = c.loop-a.a-index in
+    let next = c.loop-a.a-index in
     let es = c.loop-a.entries.items in
     λ w there.
     let way = c.loop-a.invariant w there in
-    way_cut n plan site ns all k old c.loop-a.watches c.put_offer.new.watches undo c.loop-a.undo c.put_offer.new.undo es w way asked c.in_ok-offer.offer c.put_offer.result c.from_residual-in_err-entry.result c.from_residual-in_err-entry.ensures.0
-    (c.put_offer.ensures way.left (way_there n plan site ns all k old c.loop-a.watches c.put_offer.new.watches undo c.loop-a.undo c.put_offer.new.undo es w way there))
+    way_cut n k ns all next old c.loop-a.watches c.put_offer.new.watches undo c.loop-a.undo c.put_offer.new.undo es w way asked c.in_ok-offer.offer c.put_offer.result c.from_residual-in_err-entry.result c.from_residual-in_err-entry.ensures.0
+    (c.put_offer.ensures way.left (way_there n k ns all next old c.loop-a.watches c.put_offer.new.watches undo c.loop-a.undo c.put_offer.new.undo es w way there))
 
 pub returns-in_err-push : goal.returns-in_err-push
 returns-in_err-push g c =
-    let plan = c.args.plan.now in
-    let site = c.args.contents.now in
+    let k = c.args.state.now in
     let n = c.args.adding.now.number in
     let old = c.args.watches.now in
     let undo = c.args.undo.now in
     let ns : List ℕ = numbers_of (live c.args.adding.now.moment old.watches) in
     let asked : List Asked = firsts_of c.args.adding.now.asked.now in
     let all = c.deref-a-items.result.now in
-    let k = c.loop-a.a-index in
+    let next = c.loop-a.a-index in
     let es = c.loop-a.entries.items in
     λ w there.
     let way = c.loop-a.invariant w there in
-    way_cut n plan site ns all k old c.loop-a.watches c.put_offer.new.watches undo c.loop-a.undo c.put_offer.new.undo es w way asked c.in_ok-offer.offer c.put_offer.result c.from_residual-in_err-push.result c.from_residual-in_err-push.ensures.0
-    (c.put_offer.ensures way.left (way_there n plan site ns all k old c.loop-a.watches c.put_offer.new.watches undo c.loop-a.undo c.put_offer.new.undo es w way there))
+    way_cut n k ns all next old c.loop-a.watches c.put_offer.new.watches undo c.loop-a.undo c.put_offer.new.undo es w way asked c.in_ok-offer.offer c.put_offer.result c.from_residual-in_err-push.result c.from_residual-in_err-push.ensures.0
+    (c.put_offer.ensures way.left (way_there n k ns all next old c.loop-a.watches c.put_offer.new.watches undo c.loop-a.undo c.put_offer.new.undo es w way there))
 
 pub loop-a-preserved : goal.loop-a-preserved
 loop-a-preserved g c =
-    let plan = c.args.plan.now in
-    let site = c.args.contents.now in
+    let k = c.args.state.now in
     let n = c.args.adding.now.number in
     let old = c.args.watches.now in
     let undo = c.args.undo.now in
     let ns : List ℕ = numbers_of (live c.args.adding.now.moment old.watches) in
     let asked : List Asked = firsts_of c.args.adding.now.asked.now in
     let all = c.deref-a-items.result.now in
-    let k = c.loop-a.a-index in
+    let next = c.loop-a.a-index in
     let es = c.loop-a.entries.items in
     λ w there.
     let way = c.loop-a.invariant w there in
-    subst (λ (fs : List Object). IsOnTheWay plan site ns (take (k + 1) all) n old c.put_offer.new.watches undo c.put_offer.new.undo fs w) (sym c.in_ok-push.ensures.items)
-    (way_more n plan site ns all k old c.loop-a.watches c.put_offer.new.watches undo c.loop-a.undo c.put_offer.new.undo es w way c.a-item.result c.in_ok-offer.offer c.in_ok-entry.entry c.loop-a-test.true c.a-item.is
-    (subst (λ (ms : List ℕ). IsOffered plan site ms c.a-item.result c.in_ok-offer.offer) (c.deref.ensures.value ∙ c.in_ok-numbers.ensures) c.in_ok-offer.ensures)
-    (c.in_ok-entry.ensures way.left (way_there n plan site ns all k old c.loop-a.watches c.put_offer.new.watches undo c.loop-a.undo c.put_offer.new.undo es w way there)))
+    subst (λ (fs : List Object). IsOnTheWay k ns (take (next + 1) all) n old c.put_offer.new.watches undo c.put_offer.new.undo fs w) (sym c.in_ok-push.ensures.items)
+    (way_more n k ns all next old c.loop-a.watches c.put_offer.new.watches undo c.loop-a.undo c.put_offer.new.undo es w way c.a-item.result c.in_ok-offer.offer c.in_ok-entry.entry c.loop-a-test.true c.a-item.is
+    (subst (λ (ms : List ℕ). IsOffered k ms c.a-item.result c.in_ok-offer.offer) (c.deref.ensures.value ∙ c.in_ok-numbers.ensures) c.in_ok-offer.ensures)
+    (c.in_ok-entry.ensures way.left (way_there n k ns all next old c.loop-a.watches c.put_offer.new.watches undo c.loop-a.undo c.put_offer.new.undo es w way there)))
 
 pub watch_out-requires : goal.watch_out-requires
 watch_out-requires g c =
-    let plan = c.args.plan.now in
-    let site = c.args.contents.now in
+    let k = c.args.state.now in
     let n = c.args.adding.now.number in
     let old = c.args.watches.now in
     let undo = c.args.undo.now in
     let ns : List ℕ = numbers_of (live c.args.adding.now.moment old.watches) in
     let asked : List Asked = firsts_of c.args.adding.now.asked.now in
     let all = c.deref-a-items.result.now in
-    let k = c.loop-a.a-index in
+    let next = c.loop-a.a-index in
     let es = c.loop-a.entries.items in
     let held = is_held _ c.requires.held in
     let way = c.loop-a.invariant held.0 held.1 in
-    all_named plan site ns (take k all) held.0 way.left es way.added
+    all_named k ns (take next all) held.0 way.left es way.added
 
 pub returns : goal.returns
 returns g c =
-    let plan = c.args.plan.now in
-    let site = c.args.contents.now in
+    let k = c.args.state.now in
     let n = c.args.adding.now.number in
     let old = c.args.watches.now in
     let undo = c.args.undo.now in
     let ns : List ℕ = numbers_of (live c.args.adding.now.moment old.watches) in
     let asked : List Asked = firsts_of c.args.adding.now.asked.now in
     let all = c.deref-a-items.result.now in
-    let k = c.loop-a.a-index in
+    let next = c.loop-a.a-index in
     let es = c.loop-a.entries.items in
     λ w there.
     let way = c.loop-a.invariant w there in
-    way_ends n plan site ns all k old c.loop-a.watches c.loop-a.watches undo c.loop-a.undo c.loop-a.undo es w way asked c.watch_out.result (take_all k all c.loop-a-test.false ∙ c.deref-a-items.ensures.value ∙ c.in_ok-firsts.ensures) c.watch_out.ensures
+    way_ends n k ns all next old c.loop-a.watches c.loop-a.watches undo c.loop-a.undo c.loop-a.undo es w way asked c.watch_out.result (take_all next all c.loop-a-test.false ∙ c.deref-a-items.ensures.value ∙ c.in_ok-firsts.ensures) c.watch_out.ensures

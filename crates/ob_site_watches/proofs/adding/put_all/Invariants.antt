@@ -8,4 +8,4 @@ use Rattle.ob_site_watches.proofs.adding.put_all.Given as goal
 abbrev pub invariant-loop-a : goal.invariant-loop-a
 invariant-loop-a g l =
     OfHeld l.adding.number l.fn.watches
-    (IsOnTheWay l.plan l.contents (numbers_of (lapsed_at l.adding.moment l.fn.watches).watches) (take l.a-index l.a-items) l.adding.number l.fn.watches l.watches l.fn.undo l.undo l.entries.items)
+    (IsOnTheWay l.state (numbers_of (lapsed_at l.adding.moment l.fn.watches).watches) (take l.a-index l.a-items) l.adding.number l.fn.watches l.watches l.fn.undo l.undo l.entries.items)

@@ -12,7 +12,7 @@ returns-in-Ok-clause-put g c =
     let old = c.args.watches.now in
     let ns : List ℕ = numbers_of (live c.args.adding.now.moment old.watches) in
     let asked : List Asked = firsts_of c.args.adding.now.asked.now in
-    λ w there. has_put n c.args.plan.now c.args.contents.now ns asked old c.put_all.new.watches c.args.undo c.put_all.new.undo c.in-Ok.reply w (c.in-Ok.ensures w there)
+    λ w there. has_put n c.args.state.now ns asked old c.put_all.new.watches c.args.undo c.put_all.new.undo c.in-Ok.reply w (c.in-Ok.ensures w there)
 
 pub returns-in-Err-clause-err : goal.returns-in-Err-clause-err
 returns-in-Err-clause-err g c =
@@ -21,5 +21,5 @@ returns-in-Err-clause-err g c =
     let ns : List ℕ = numbers_of (live c.args.adding.now.moment old.watches) in
     let asked : List Asked = firsts_of c.args.adding.now.asked.now in
     let held = is_held _ c.requires.held in
-    all_back n c.args.plan.now c.args.contents.now ns asked old c.put_all.new.watches c.take_back.new.self c.args.undo c.put_all.new.undo c.put_all.result held.0 c.numbers-numbers.ensures.differ held.1
+    all_back n c.args.state.now ns asked old c.put_all.new.watches c.take_back.new.self c.args.undo c.put_all.new.undo c.put_all.result held.0 c.numbers-numbers.ensures.differ held.1
     (c.put_all.ensures held.0 held.1) (c.requires.nothing held.0 held.1) c.take_back.ensures.taken

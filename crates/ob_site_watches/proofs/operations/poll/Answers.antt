@@ -2,7 +2,7 @@ use Rattle.std.proofs.Common.{◌≡◌, List, map, true, sym, subst}
 use Rattle.std.specs.Prelude.{is_none}
 use Rattle.std.specs.List.{list_all}
 use Rattle.ob_object.specs.Object.{Object}
-use Rattle.ob_site_state.specs.Contents.{state_in}
+use Rattle.ob_site_state.specs.Stamping.{tree_of}
 use Rattle.ob_watch.specs.Flags.{flags}
 use Rattle.ob_site_watches.proofs.Named.{changes_named}
 use Rattle.ob_site_watches.proofs.Polled.{whatever}
@@ -11,7 +11,7 @@ use Rattle.ob_site_watches.proofs.operations.poll.Goals as goal
 pub watch_out-requires : goal.watch_out-requires
 watch_out-requires g c =
     subst (λ (os : List Object). list_all (λ (o : Object). is_none o.head.name) os ≡ true) (sym c.in_ok-entries.ensures.entries)
-    (changes_named c.args.plan.now (state_in c.args.contents.now) (map (flags c.args.contents.now.ground.tree) c.args.watch.now.items))
+    (changes_named c.args.state.now.plan c.args.state.now.now (map (flags (tree_of c.args.state.now)) c.args.watch.now.items))
 
 pub returns-clause-steps : goal.returns-clause-steps
 returns-clause-steps g c = whatever c.watch_out.result _ c.in_ok-entries.ensures.steps
