@@ -11,12 +11,11 @@ use crate::kept::Kept;
 use ob_io::{Clock, Door, Port};
 use ob_journal::Device;
 use ob_object::Obj;
-use ob_server::{PortServed, Staff};
+use ob_server::{PortServed, Serving, Staff, TimedPort};
 use ob_site::Machine;
 use ob_site_rules::Request;
 use ob_times::Moment;
-use ob_values::Text;
-use std::alloc::{AllocError, Global};
+use std::alloc::AllocError;
 use std::marker::Model;
 use std::sync::Wait;
 use std::sync::atomic::{AtomicBool, Ordering};
@@ -82,30 +81,28 @@ pub fn serve_port<
     P: Port<D = D>,
     C: Clock + Send,
 >(
-    rt: &R,
-    alloc: Global,
+    serving: &Serving<'_, '_, R>,
     kept: Kept<V>,
-    ns: Option<&Text>,
-    port: &mut P,
-    clock: &mut C,
+    timed: &mut TimedPort<'_, '_, P, C>,
     workers: u32,
     quota: u32,
 ) -> PortServed<Kept<V>>
 where
     D::L: Send,
     ensures serves { (history : _) × ServesDoors D.faults D.handed D.returned D.visits C.given C.pace C.faults
-        kept_act D.is_closed (option_copied ns.entry) kept workers quota true history
-        (port_told (P.faults port.old) (P.opened port.old) (P.returned port.old)
-        (P.listens port.old) (P.doors port.old))
-        (port_told (P.faults port.new) (P.opened port.new) (P.returned port.new)
-        (P.listens port.new) (P.doors port.new))
-        (clock_told (C.faults clock.old) (C.given clock.old) (C.pace clock.old) (C.twins clock.old))
-        (clock_told (C.faults clock.new) (C.given clock.new) (C.pace clock.new) (C.twins clock.new))
+        kept_act D.is_closed (option_copied serving.now.ns) kept workers quota true history
+        (port_told (P.faults timed.old.port.now) (P.opened timed.old.port.now) (P.returned timed.old.port.now)
+        (P.listens timed.old.port.now) (P.doors timed.old.port.now))
+        (port_told (P.faults timed.new.port.now) (P.opened timed.new.port.now) (P.returned timed.new.port.now)
+        (P.listens timed.new.port.now) (P.doors timed.new.port.now))
+        (clock_told (C.faults timed.old.clock.now) (C.given timed.old.clock.now) (C.pace timed.old.clock.now) (C.twins timed.old.clock.now))
+        (clock_told (C.faults timed.new.clock.now) (C.given timed.new.clock.now) (C.pace timed.new.clock.now) (C.twins timed.new.clock.now))
         result.links result.end
         × KeepsLaws kept history result.machine
         × (result.machine ≡ after kept_act kept history) }
-    ensures cause { HasPortCause result.end (P.faults port.old) (P.faults port.new)
-        (C.faults clock.old) (C.faults clock.new) }
+    ensures cause { HasPortCause result.end (P.faults timed.old.port.now) (P.faults timed.new.port.now)
+        (C.faults timed.old.clock.now) (C.faults timed.new.clock.now) }
+    ensures same { (timed.new.port.ghost_name ≡ timed.old.port.ghost_name) × (timed.new.clock.ghost_name ≡ timed.old.clock.ghost_name) }
 {
     kept.sound_law();
     let stays = AtomicBool::new(true);
@@ -122,7 +119,7 @@ where
         machine,
         links,
         end,
-    } = ob_server::serve_port(rt, alloc, shared, ns, port, clock, staff);
+    } = ob_server::serve_port(serving, shared, timed, staff);
     PortServed {
         machine: machine.into_kept(),
         links,

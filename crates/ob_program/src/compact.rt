@@ -6,6 +6,7 @@ ghost use Rattle.ob_program.specs.Telling.{errors_told};
 
 use crate::exit::Exit;
 use crate::keep::KeepEnd;
+use crate::outside::Storage;
 use crate::serve::ServeEnd;
 use crate::telling::tell;
 use ob_command::Compact;
@@ -162,20 +163,20 @@ fn compact_site<F: Files, V: Devices, K: Sink>(
 pub(crate) fn run_compact<F: Files, V: Devices, K: Sink, E: Sink>(
     alloc: Global,
     words: Compact<'_>,
-    files: &mut F,
-    devices: &mut V,
+    storage: &mut Storage<'_, '_, F, V>,
     sink: &mut K,
     errors: &mut E,
 ) -> Exit
-    ensures { CompactRan V.D.is_told V.D.seen V.D.may_leave V.D.moment V.D.left_since V.D.faults (F.content files.old words.entry.site.now) words.entry.file.now words.entry.new.now
-        (F.faults files.old) (F.faults files.new)
-        (devices_told (V.given devices.old) (V.returned devices.old) (V.faults devices.old))
-        (devices_told (V.given devices.new) (V.returned devices.new) (V.faults devices.new))
+    ensures ran { CompactRan V.D.is_told V.D.seen V.D.may_leave V.D.moment V.D.left_since V.D.faults (F.content storage.old.files.now words.entry.site.now) words.entry.file.now words.entry.new.now
+        (F.faults storage.old.files.now) (F.faults storage.new.files.now)
+        (devices_told (V.given storage.old.devices.now) (V.returned storage.old.devices.now) (V.faults storage.old.devices.now))
+        (devices_told (V.given storage.new.devices.now) (V.returned storage.new.devices.now) (V.faults storage.new.devices.now))
         (K.held sink.old) (K.held sink.new) (K.faults sink.old) (K.faults sink.new)
         (errors_told (E.held errors.old) (E.faults errors.old)) (errors_told (E.held errors.new) (E.faults errors.new)) result }
+    ensures same { (storage.new.files.ghost_name ≡ storage.old.files.ghost_name) × (storage.new.devices.ghost_name ≡ storage.old.devices.ghost_name) }
 {
     opened_is_not_refused();
-    let end = compact_site(alloc, words, files, devices, sink);
+    let end = compact_site(alloc, words, storage.files, storage.devices, sink);
     let exit = end.exit();
     tell(alloc, errors, exit, end.words(alloc));
     exit

@@ -9,6 +9,7 @@ ghost use Rattle.ob_program.specs.Serving.{AtPlace};
 ghost use Rattle.ob_program.specs.Telling.{errors_told};
 
 use crate::exit::Exit;
+use crate::outside::{Front, Means, Storage};
 use crate::serve::{ServeEnd, announce, end_with, report};
 use crate::telling::tell;
 use crate::words::word_and_number;
@@ -17,6 +18,7 @@ use ob_io::{Clock, Door, Files, Port, Sink};
 use ob_journal::{Device, DeviceFault, Devices};
 use ob_kept::{Kept, ReopenFault, Reopened, reopen, serve_port};
 use ob_load::opened_is_not_refused;
+use ob_server::{Serving, TimedPort};
 use ob_times::Moment;
 use ob_values::Text;
 use std::alloc::{AllocError, Global};
@@ -102,37 +104,53 @@ impl KeepEnd {
     }
 }
 
+/// What a kept site boots from: the device of its record, at a moment.
+#[derive(Drop)]
+struct Boot<V> {
+    moment: Moment,
+    device: V,
+}
+
 /// Listens, says so, serves a kept site at the doors of the port, and says how many links there were. The site comes back.
 fn serve_kept<R: Threads + Wait + Sync, V: Device + Send, K: Sink, P: Port, C: Clock + Send>(
-    rt: &R,
-    alloc: Global,
+    means: &Means<'_, R>,
     service: Serve<'_>,
     kept: Kept<V>,
     ns: Option<&Text>,
-    sink: &mut K,
-    port: &mut P,
-    clock: &mut C,
+    front: &mut Front<'_, '_, '_, K, P, C>,
 ) -> (Kept<V>, ServeEnd)
 where
     <P::D as Door>::L: Send,
-    ensures { AtPlace P.D.faults P.D.handed P.D.returned P.D.visits P.D.is_closed C.given C.pace C.faults
+    ensures at { AtPlace P.D.faults P.D.handed P.D.returned P.D.visits P.D.is_closed C.given C.pace C.faults
         kept_act kept (λ history. KeepsLaws kept history result.0) true result.0 (option_copied ns.entry)
         service.entry.host.now service.entry.port service.entry.workers service.entry.quota
-        (K.held sink.old) (K.held sink.new) (K.faults sink.old) (K.faults sink.new)
-        (port_told (P.faults port.old) (P.opened port.old) (P.returned port.old) (P.listens port.old) (P.doors port.old))
-        (port_told (P.faults port.new) (P.opened port.new) (P.returned port.new) (P.listens port.new) (P.doors port.new))
-        (clock_told (C.faults clock.old) (C.given clock.old) (C.pace clock.old) (C.twins clock.old))
-        (clock_told (C.faults clock.new) (C.given clock.new) (C.pace clock.new) (C.twins clock.new)) result.1 }
+        (K.held front.old.sink.now) (K.held front.new.sink.now) (K.faults front.old.sink.now) (K.faults front.new.sink.now)
+        (port_told (P.faults front.old.port.now) (P.opened front.old.port.now) (P.returned front.old.port.now) (P.listens front.old.port.now) (P.doors front.old.port.now))
+        (port_told (P.faults front.new.port.now) (P.opened front.new.port.now) (P.returned front.new.port.now) (P.listens front.new.port.now) (P.doors front.new.port.now))
+        (clock_told (C.faults front.old.clock.now) (C.given front.old.clock.now) (C.pace front.old.clock.now) (C.twins front.old.clock.now))
+        (clock_told (C.faults front.new.clock.now) (C.given front.new.clock.now) (C.pace front.new.clock.now) (C.twins front.new.clock.now)) result.1 }
+    ensures same { (front.new.sink.ghost_name ≡ front.old.sink.ghost_name)
+        × (front.new.port.ghost_name ≡ front.old.port.ghost_name)
+        × (front.new.clock.ghost_name ≡ front.old.clock.ghost_name) }
 {
-    if port.listen(service.host, service.port).is_err() {
+    if front.port.listen(service.host, service.port).is_err() {
         return (kept, ServeEnd::PortFault);
     }
-    if let Some(end) = announce(alloc, sink, service.host, service.port) {
+    if let Some(end) = announce(means.alloc, front.sink, service.host, service.port) {
         return (kept, end);
     }
     let workers = service.workers as u32;
-    let served = serve_port(rt, alloc, kept, ns, port, clock, workers, service.quota);
-    let end = end_with(served.end, report(alloc, sink, served.links));
+    let serving = Serving {
+        rt: means.rt,
+        alloc: means.alloc,
+        ns,
+    };
+    let mut timed = TimedPort {
+        port: front.port,
+        clock: front.clock,
+    };
+    let served = serve_port(&serving, kept, &mut timed, workers, service.quota);
+    let end = end_with(served.end, report(means.alloc, front.sink, served.links));
     (served.machine, end)
 }
 
@@ -146,44 +164,35 @@ fn keep_device<
     P: Port,
     C: Clock + Send,
 >(
-    rt: &R,
-    alloc: Global,
+    means: &Means<'_, R>,
     kept: Keep<'_>,
-    boot: Moment,
-    device: V,
+    boot: Boot<V>,
     files: &mut F,
-    sink: &mut K,
-    port: &mut P,
-    clock: &mut C,
+    front: &mut Front<'_, '_, '_, K, P, C>,
 ) -> (V, KeepEnd)
 where
     <P::D as Door>::L: Send,
-    requires durable { V.is_told → Only (V.seen device) (V.may_leave device) }
-    ensures { KeepsDevice V.is_told V.seen V.may_leave V.moment V.left_since V.faults
+    requires durable { V.is_told → Only (V.seen boot.device) (V.may_leave boot.device) }
+    ensures keeps { KeepsDevice V.is_told V.seen V.may_leave V.moment V.left_since V.faults
         P.D.faults P.D.handed P.D.returned P.D.visits P.D.is_closed C.given C.pace C.faults
-        (F.content files.old kept.entry.service.site.now) boot
+        (F.content files.old kept.entry.service.site.now) boot.moment
         kept.entry.service.host.now kept.entry.service.port kept.entry.service.workers kept.entry.service.quota
         (F.faults files.old) (F.faults files.new)
-        (K.held sink.old) (K.held sink.new) (K.faults sink.old) (K.faults sink.new)
-        (port_told (P.faults port.old) (P.opened port.old) (P.returned port.old) (P.listens port.old) (P.doors port.old))
-        (port_told (P.faults port.new) (P.opened port.new) (P.returned port.new) (P.listens port.new) (P.doors port.new))
-        (clock_told (C.faults clock.old) (C.given clock.old) (C.pace clock.old) (C.twins clock.old))
-        (clock_told (C.faults clock.new) (C.given clock.new) (C.pace clock.new) (C.twins clock.new))
-        device result.0 result.1 }
+        (K.held front.old.sink.now) (K.held front.new.sink.now) (K.faults front.old.sink.now) (K.faults front.new.sink.now)
+        (port_told (P.faults front.old.port.now) (P.opened front.old.port.now) (P.returned front.old.port.now) (P.listens front.old.port.now) (P.doors front.old.port.now))
+        (port_told (P.faults front.new.port.now) (P.opened front.new.port.now) (P.returned front.new.port.now) (P.listens front.new.port.now) (P.doors front.new.port.now))
+        (clock_told (C.faults front.old.clock.now) (C.given front.old.clock.now) (C.pace front.old.clock.now) (C.twins front.old.clock.now))
+        (clock_told (C.faults front.new.clock.now) (C.given front.new.clock.now) (C.pace front.new.clock.now) (C.twins front.new.clock.now))
+        boot.device result.0 result.1 }
+    ensures same { (front.new.sink.ghost_name ≡ front.old.sink.ghost_name)
+        × (front.new.port.ghost_name ≡ front.old.port.ghost_name)
+        × (front.new.clock.ghost_name ≡ front.old.clock.ghost_name) }
 {
-    match reopen(alloc, device, files, kept.service.site, boot) {
+    let Boot { moment, device } = boot;
+    match reopen(means.alloc, device, files, kept.service.site, moment) {
         Ok(reopened) => {
             let (ns, site) = reopened.into_parts();
-            let (site, end) = serve_kept(
-                rt,
-                alloc,
-                kept.service,
-                site,
-                ns.as_ref(),
-                sink,
-                port,
-                clock,
-            );
+            let (site, end) = serve_kept(means, kept.service, site, ns.as_ref(), front);
             let (device, has_failed) = site.into_device();
             (device, KeepEnd::of_service(end, has_failed))
         }
@@ -193,41 +202,42 @@ where
 
 /// Opens the record's file, and a site with it, and serves that at a port.
 fn keep_site<R: Threads + Wait + Sync, F: Files, V: Devices, K: Sink, P: Port, C: Clock + Send>(
-    rt: &R,
-    alloc: Global,
+    means: &Means<'_, R>,
     kept: Keep<'_>,
-    files: &mut F,
-    devices: &mut V,
-    sink: &mut K,
-    port: &mut P,
-    clock: &mut C,
+    storage: &mut Storage<'_, '_, F, V>,
+    front: &mut Front<'_, '_, '_, K, P, C>,
 ) -> KeepEnd
 where
     V::D: Send,
     <P::D as Door>::L: Send,
-    ensures { KeepComes
+    ensures comes { KeepComes
         V.D.is_told V.D.seen V.D.may_leave V.D.moment V.D.left_since V.D.faults
         P.D.faults P.D.handed P.D.returned P.D.visits P.D.is_closed C.given C.pace C.faults
-        (F.content files.old kept.entry.service.site.now) kept.entry.file.now
+        (F.content storage.old.files.now kept.entry.service.site.now) kept.entry.file.now
         kept.entry.service.host.now kept.entry.service.port kept.entry.service.workers kept.entry.service.quota
-        (F.faults files.old) (F.faults files.new)
-        (devices_told (V.given devices.old) (V.returned devices.old) (V.faults devices.old))
-        (devices_told (V.given devices.new) (V.returned devices.new) (V.faults devices.new))
-        (K.held sink.old) (K.held sink.new) (K.faults sink.old) (K.faults sink.new)
-        (port_told (P.faults port.old) (P.opened port.old) (P.returned port.old) (P.listens port.old) (P.doors port.old))
-        (port_told (P.faults port.new) (P.opened port.new) (P.returned port.new) (P.listens port.new) (P.doors port.new))
-        (clock_told (C.faults clock.old) (C.given clock.old) (C.pace clock.old) (C.twins clock.old))
-        (clock_told (C.faults clock.new) (C.given clock.new) (C.pace clock.new) (C.twins clock.new)) result }
+        (F.faults storage.old.files.now) (F.faults storage.new.files.now)
+        (devices_told (V.given storage.old.devices.now) (V.returned storage.old.devices.now) (V.faults storage.old.devices.now))
+        (devices_told (V.given storage.new.devices.now) (V.returned storage.new.devices.now) (V.faults storage.new.devices.now))
+        (K.held front.old.sink.now) (K.held front.new.sink.now) (K.faults front.old.sink.now) (K.faults front.new.sink.now)
+        (port_told (P.faults front.old.port.now) (P.opened front.old.port.now) (P.returned front.old.port.now) (P.listens front.old.port.now) (P.doors front.old.port.now))
+        (port_told (P.faults front.new.port.now) (P.opened front.new.port.now) (P.returned front.new.port.now) (P.listens front.new.port.now) (P.doors front.new.port.now))
+        (clock_told (C.faults front.old.clock.now) (C.given front.old.clock.now) (C.pace front.old.clock.now) (C.twins front.old.clock.now))
+        (clock_told (C.faults front.new.clock.now) (C.given front.new.clock.now) (C.pace front.new.clock.now) (C.twins front.new.clock.now)) result }
+    ensures same_front { (front.new.sink.ghost_name ≡ front.old.sink.ghost_name)
+        × (front.new.port.ghost_name ≡ front.old.port.ghost_name)
+        × (front.new.clock.ghost_name ≡ front.old.clock.ghost_name) }
+    ensures same_storage { (storage.new.files.ghost_name ≡ storage.old.files.ghost_name) × (storage.new.devices.ghost_name ≡ storage.old.devices.ghost_name) }
 {
-    let Ok(boot) = clock.now() else {
+    let Ok(moment) = front.clock.now() else {
         return KeepEnd::Served(ServeEnd::ClockFault);
     };
-    let device = match devices.open(alloc, kept.file) {
+    let device = match storage.devices.open(means.alloc, kept.file) {
         Ok(device) => device,
         Err(fault) => return KeepEnd::of_device(fault),
     };
-    let (device, end) = keep_device(rt, alloc, kept, boot, device, files, sink, port, clock);
-    if devices.back(device) {
+    let boot = Boot { moment, device };
+    let (device, end) = keep_device(means, kept, boot, storage.files, front);
+    if storage.devices.back(device) {
         return KeepEnd::RecordFault;
     }
     end
@@ -243,37 +253,37 @@ pub(crate) fn run_keep<
     P: Port,
     C: Clock + Send,
 >(
-    rt: &R,
-    alloc: Global,
+    means: &Means<'_, R>,
     kept: Keep<'_>,
-    files: &mut F,
-    devices: &mut V,
-    sink: &mut K,
+    storage: &mut Storage<'_, '_, F, V>,
+    front: &mut Front<'_, '_, '_, K, P, C>,
     errors: &mut E,
-    port: &mut P,
-    clock: &mut C,
 ) -> Exit
 where
     V::D: Send,
     <P::D as Door>::L: Send,
-    ensures { KeepRan
+    ensures ran { KeepRan
         V.D.is_told V.D.seen V.D.may_leave V.D.moment V.D.left_since V.D.faults
         P.D.faults P.D.handed P.D.returned P.D.visits P.D.is_closed C.given C.pace C.faults
-        (F.content files.old kept.entry.service.site.now) kept.entry.file.now
+        (F.content storage.old.files.now kept.entry.service.site.now) kept.entry.file.now
         kept.entry.service.host.now kept.entry.service.port kept.entry.service.workers kept.entry.service.quota
-        (F.faults files.old) (F.faults files.new)
-        (devices_told (V.given devices.old) (V.returned devices.old) (V.faults devices.old))
-        (devices_told (V.given devices.new) (V.returned devices.new) (V.faults devices.new))
-        (K.held sink.old) (K.held sink.new) (K.faults sink.old) (K.faults sink.new)
-        (port_told (P.faults port.old) (P.opened port.old) (P.returned port.old) (P.listens port.old) (P.doors port.old))
-        (port_told (P.faults port.new) (P.opened port.new) (P.returned port.new) (P.listens port.new) (P.doors port.new))
-        (clock_told (C.faults clock.old) (C.given clock.old) (C.pace clock.old) (C.twins clock.old))
-        (clock_told (C.faults clock.new) (C.given clock.new) (C.pace clock.new) (C.twins clock.new))
+        (F.faults storage.old.files.now) (F.faults storage.new.files.now)
+        (devices_told (V.given storage.old.devices.now) (V.returned storage.old.devices.now) (V.faults storage.old.devices.now))
+        (devices_told (V.given storage.new.devices.now) (V.returned storage.new.devices.now) (V.faults storage.new.devices.now))
+        (K.held front.old.sink.now) (K.held front.new.sink.now) (K.faults front.old.sink.now) (K.faults front.new.sink.now)
+        (port_told (P.faults front.old.port.now) (P.opened front.old.port.now) (P.returned front.old.port.now) (P.listens front.old.port.now) (P.doors front.old.port.now))
+        (port_told (P.faults front.new.port.now) (P.opened front.new.port.now) (P.returned front.new.port.now) (P.listens front.new.port.now) (P.doors front.new.port.now))
+        (clock_told (C.faults front.old.clock.now) (C.given front.old.clock.now) (C.pace front.old.clock.now) (C.twins front.old.clock.now))
+        (clock_told (C.faults front.new.clock.now) (C.given front.new.clock.now) (C.pace front.new.clock.now) (C.twins front.new.clock.now))
         (errors_told (E.held errors.old) (E.faults errors.old)) (errors_told (E.held errors.new) (E.faults errors.new)) result }
+    ensures same_front { (front.new.sink.ghost_name ≡ front.old.sink.ghost_name)
+        × (front.new.port.ghost_name ≡ front.old.port.ghost_name)
+        × (front.new.clock.ghost_name ≡ front.old.clock.ghost_name) }
+    ensures same_storage { (storage.new.files.ghost_name ≡ storage.old.files.ghost_name) × (storage.new.devices.ghost_name ≡ storage.old.devices.ghost_name) }
 {
     opened_is_not_refused();
-    let end = keep_site(rt, alloc, kept, files, devices, sink, port, clock);
+    let end = keep_site(means, kept, storage, front);
     let exit = end.exit();
-    tell(alloc, errors, exit, end.words(alloc));
+    tell(means.alloc, errors, exit, end.words(means.alloc));
     exit
 }

@@ -15,6 +15,7 @@ mod document;
 mod exit;
 mod form;
 mod keep;
+mod outside;
 mod points;
 mod program;
 mod schedule;

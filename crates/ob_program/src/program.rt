@@ -12,6 +12,7 @@ use crate::client::{console_plan, run_client, watch_plan};
 use crate::compact::run_compact;
 use crate::exit::Exit;
 use crate::keep::run_keep;
+use crate::outside::{Front, Means, Relay, Storage};
 use crate::schedule::run_schedule;
 use crate::serve::run_serve;
 use crate::stdio::run_stdio;
@@ -21,6 +22,7 @@ use crate::telling::tell;
 use ob_command::{Command, read_command};
 use ob_io::{Clock, Dialer, Door, Files, Pair, Port, Sink, Source};
 use ob_journal::Devices;
+use ob_server::TimedLink;
 use std::alloc::Global;
 use std::sync::Wait;
 use std::thread::Threads;
@@ -115,33 +117,37 @@ where
         tell(alloc, errors, Exit::Usage, Ok(Vec::new(alloc)));
         return Exit::Usage;
     };
+    let means = Means { rt, alloc };
     match command {
-        Command::Stdio(service) => run_stdio(rt, alloc, service, files, link, errors, clock),
-        Command::Schedule(service) => run_schedule(alloc, service, files, link, errors, clock),
+        Command::Stdio(service) => {
+            let mut timed = TimedLink { link, clock };
+            run_stdio(&means, service, files, &mut timed, errors)
+        }
+        Command::Schedule(service) => {
+            let mut timed = TimedLink { link, clock };
+            run_schedule(alloc, service, files, &mut timed, errors)
+        }
         Command::Audit(audit) => run_audit(alloc, audit, files, &mut link.sink, errors),
-        Command::Serve(service) => run_serve(
-            rt,
-            alloc,
-            service,
-            files,
-            &mut link.sink,
-            errors,
-            port,
-            clock,
-        ),
-        Command::Keep(kept) => run_keep(
-            rt,
-            alloc,
-            kept,
-            files,
-            devices,
-            &mut link.sink,
-            errors,
-            port,
-            clock,
-        ),
+        Command::Serve(service) => {
+            let mut front = Front {
+                sink: &mut link.sink,
+                port,
+                clock,
+            };
+            run_serve(&means, service, files, &mut front, errors)
+        }
+        Command::Keep(kept) => {
+            let mut storage = Storage { files, devices };
+            let mut front = Front {
+                sink: &mut link.sink,
+                port,
+                clock,
+            };
+            run_keep(&means, kept, &mut storage, &mut front, errors)
+        }
         Command::Compact(words) => {
-            run_compact(alloc, words, files, devices, &mut link.sink, errors)
+            let mut storage = Storage { files, devices };
+            run_compact(alloc, words, &mut storage, &mut link.sink, errors)
         }
         Command::Check(name) => run_check(alloc, name, files, &mut link.sink, errors),
         Command::Watch(watch) => {
@@ -151,6 +157,9 @@ where
             run_client(alloc, console_plan(console), dialer, &mut link.sink, errors)
         }
         Command::Storm(asked) => run_storm(rt, alloc, asked, &mut link.sink, errors),
-        Command::Super(asked) => run_super(alloc, asked, files, link, errors, dialer),
+        Command::Super(asked) => {
+            let mut relay = Relay { link, dialer };
+            run_super(alloc, asked, files, &mut relay, errors)
+        }
     }
 }

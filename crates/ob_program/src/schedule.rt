@@ -30,8 +30,8 @@ use ob_io::{Clock, Files, Link, Pair, Sink, Source, Ticker};
 use ob_load::{Loaded, Site, load, opened_is_not_refused};
 use ob_object::Obj;
 use ob_schedule::{ScheduleFault, read_schedules};
-use ob_scheduling::{files_fit, serve_scheduled};
-use ob_server::LinkEnd;
+use ob_scheduling::{Timetable, files_fit, serve_scheduled};
+use ob_server::{LinkEnd, TimedLink};
 use ob_times::Moment;
 use ob_weekly::Schedules;
 use std::alloc::Global;
@@ -79,23 +79,24 @@ fn answer_site<L: Link, C: Clock>(
     loaded: Loaded,
     schedules: Schedules,
     boot: Moment,
-    link: &mut L,
-    clock: &mut C,
+    timed: &mut TimedLink<'_, '_, L, C>,
 ) -> LinkEnd
     requires { AreFitting schedules }
     ensures sound { IsSoundSite loaded.site }
     ensures serves { ServesScheduled acts loaded.site schedules boot loaded.ns
-        (inlet (L.left link.old) (L.taken link.old)) (inlet (L.left link.new) (L.taken link.new))
-        (L.held link.old) (L.held link.new) (C.given clock.old) (C.given clock.new) result }
-    ensures pace { C.pace clock.new ≡ C.pace clock.old }
-    ensures cause { HasEndCause (L.read_faults link.old) (L.read_faults link.new)
-        (L.write_faults link.old) (L.write_faults link.new) (C.faults clock.old) (C.faults clock.new) result }
-    ensures whole { ServesWhole (L.left link.old) (L.read_faults link.old) (L.read_faults link.new)
-        (L.write_faults link.old) (L.write_faults link.new) (C.faults clock.old) (C.faults clock.new) result }
+        (inlet (L.left timed.old.link.now) (L.taken timed.old.link.now)) (inlet (L.left timed.new.link.now) (L.taken timed.new.link.now))
+        (L.held timed.old.link.now) (L.held timed.new.link.now) (C.given timed.old.clock.now) (C.given timed.new.clock.now) result }
+    ensures pace { C.pace timed.new.clock.now ≡ C.pace timed.old.clock.now }
+    ensures cause { HasEndCause (L.read_faults timed.old.link.now) (L.read_faults timed.new.link.now)
+        (L.write_faults timed.old.link.now) (L.write_faults timed.new.link.now) (C.faults timed.old.clock.now) (C.faults timed.new.clock.now) result }
+    ensures whole { ServesWhole (L.left timed.old.link.now) (L.read_faults timed.old.link.now) (L.read_faults timed.new.link.now)
+        (L.write_faults timed.old.link.now) (L.write_faults timed.new.link.now) (C.faults timed.old.clock.now) (C.faults timed.new.clock.now) result }
+    ensures same { (timed.new.link.ghost_name ≡ timed.old.link.ghost_name) × (timed.new.clock.ghost_name ≡ timed.old.clock.ghost_name) }
 {
     let Loaded { ns, mut site } = loaded;
     site.sound_law();
-    serve_scheduled(alloc, &mut site, schedules, boot, ns.as_ref(), link, clock)
+    let timetable = Timetable { schedules, boot };
+    serve_scheduled(alloc, &mut site, timetable, ns.as_ref(), timed)
 }
 
 /// Opens the site of a file that boots at a moment, reads the schedules of another for its points, and answers the requests of
@@ -103,18 +104,18 @@ fn answer_site<L: Link, C: Clock>(
 fn serve_site<F: Files, L: Link, C: Clock>(
     alloc: Global,
     service: Scheduled<'_>,
-    files: &mut F,
     boot: Moment,
-    link: &mut L,
-    clock: &mut C,
+    files: &mut F,
+    timed: &mut TimedLink<'_, '_, L, C>,
 ) -> FormEnd
-    ensures comes { ScheduleComesAt (F.content files.old service.entry.site.now) (F.content files.old service.entry.file.now) boot result (L.left link.old) (L.taken link.old) (L.left link.new) (L.taken link.new) (L.held link.old) (L.held link.new) (C.given clock.old) (C.given clock.new) }
-    ensures unused { IsUnserved (plain result) → link.new ≡ link.old }
-    ensures pace { C.pace clock.new ≡ C.pace clock.old }
-    ensures cause { HasCause (plain result) (F.faults files.old) (F.faults files.new) (L.read_faults link.old) (L.read_faults link.new)
-        (L.write_faults link.old) (L.write_faults link.new) (C.faults clock.old) (C.faults clock.new) }
-    ensures whole { (end : LinkEnd) → plain result ≡ plainly.Served end → ServesWhole (L.left link.old) (L.read_faults link.old) (L.read_faults link.new)
-        (L.write_faults link.old) (L.write_faults link.new) (C.faults clock.old) (C.faults clock.new) end }
+    ensures comes { ScheduleComesAt (F.content files.old service.entry.site.now) (F.content files.old service.entry.file.now) boot result (L.left timed.old.link.now) (L.taken timed.old.link.now) (L.left timed.new.link.now) (L.taken timed.new.link.now) (L.held timed.old.link.now) (L.held timed.new.link.now) (C.given timed.old.clock.now) (C.given timed.new.clock.now) }
+    ensures unused { IsUnserved (plain result) → timed.new.link.now ≡ timed.old.link.now }
+    ensures pace { C.pace timed.new.clock.now ≡ C.pace timed.old.clock.now }
+    ensures cause { HasCause (plain result) (F.faults files.old) (F.faults files.new) (L.read_faults timed.old.link.now) (L.read_faults timed.new.link.now)
+        (L.write_faults timed.old.link.now) (L.write_faults timed.new.link.now) (C.faults timed.old.clock.now) (C.faults timed.new.clock.now) }
+    ensures whole { (end : LinkEnd) → plain result ≡ plainly.Served end → ServesWhole (L.left timed.old.link.now) (L.read_faults timed.old.link.now) (L.read_faults timed.new.link.now)
+        (L.write_faults timed.old.link.now) (L.write_faults timed.new.link.now) (C.faults timed.old.clock.now) (C.faults timed.new.clock.now) end }
+    ensures same { (timed.new.link.ghost_name ≡ timed.old.link.ghost_name) × (timed.new.clock.ghost_name ≡ timed.old.clock.ghost_name) }
 {
     let loaded = match load(alloc, files, service.site, boot) {
         Ok(loaded) => loaded,
@@ -122,7 +123,7 @@ fn serve_site<F: Files, L: Link, C: Clock>(
     };
     match read_form(alloc, service.file, files, &loaded.site) {
         Ok(schedules) => {
-            let end = answer_site(alloc, loaded, schedules, boot, link, clock);
+            let end = answer_site(alloc, loaded, schedules, boot, timed);
             FormEnd::Stdio(StdioEnd::Served(end))
         }
         Err(end) => end,
@@ -135,29 +136,33 @@ fn serve_file<F: Files, L: Link, C: Clock>(
     alloc: Global,
     service: Scheduled<'_>,
     files: &mut F,
-    link: &mut L,
-    clock: &mut C,
+    timed: &mut TimedLink<'_, '_, L, C>,
 ) -> FormEnd
-    ensures unasked { IsSome service.entry.at → clock.new ≡ clock.old }
-    ensures comes { ScheduleComes (F.content files.old service.entry.site.now) (F.content files.old service.entry.file.now) service.entry.at service.entry.tick result (L.left link.old) (L.taken link.old) (L.left link.new) (L.taken link.new) (L.held link.old) (L.held link.new) (C.given clock.old) (C.given clock.new) }
-    ensures unused { IsUnserved (plain result) → link.new ≡ link.old }
-    ensures cause { HasCause (plain result) (F.faults files.old) (F.faults files.new) (L.read_faults link.old) (L.read_faults link.new)
-        (L.write_faults link.old) (L.write_faults link.new) (C.faults clock.old) (C.faults clock.new) }
-    ensures whole { (end : LinkEnd) → plain result ≡ plainly.Served end → ServesWhole (L.left link.old) (L.read_faults link.old) (L.read_faults link.new)
-        (L.write_faults link.old) (L.write_faults link.new) (C.faults clock.old) (C.faults clock.new) end }
+    ensures unasked { IsSome service.entry.at → timed.new.clock.now ≡ timed.old.clock.now }
+    ensures comes { ScheduleComes (F.content files.old service.entry.site.now) (F.content files.old service.entry.file.now) service.entry.at service.entry.tick result (L.left timed.old.link.now) (L.taken timed.old.link.now) (L.left timed.new.link.now) (L.taken timed.new.link.now) (L.held timed.old.link.now) (L.held timed.new.link.now) (C.given timed.old.clock.now) (C.given timed.new.clock.now) }
+    ensures unused { IsUnserved (plain result) → timed.new.link.now ≡ timed.old.link.now }
+    ensures cause { HasCause (plain result) (F.faults files.old) (F.faults files.new) (L.read_faults timed.old.link.now) (L.read_faults timed.new.link.now)
+        (L.write_faults timed.old.link.now) (L.write_faults timed.new.link.now) (C.faults timed.old.clock.now) (C.faults timed.new.clock.now) }
+    ensures whole { (end : LinkEnd) → plain result ≡ plainly.Served end → ServesWhole (L.left timed.old.link.now) (L.read_faults timed.old.link.now) (L.read_faults timed.new.link.now)
+        (L.write_faults timed.old.link.now) (L.write_faults timed.new.link.now) (C.faults timed.old.clock.now) (C.faults timed.new.clock.now) end }
+    ensures same { (timed.new.link.ghost_name ≡ timed.old.link.ghost_name) × (timed.new.clock.ghost_name ≡ timed.old.clock.ghost_name) }
 {
     let Some(at) = service.at else {
-        let Ok(boot) = clock.now() else {
+        let Ok(boot) = timed.clock.now() else {
             return FormEnd::Stdio(StdioEnd::ClockFault);
         };
-        return serve_site(alloc, service, files, boot, link, clock);
+        return serve_site(alloc, service, boot, files, timed);
     };
     let mut ticker = Ticker {
         at,
         tick: service.tick,
         k: 0,
     };
-    serve_site(alloc, service, files, moment(at), link, &mut ticker)
+    let mut ticked = TimedLink {
+        link: timed.link,
+        clock: &mut ticker,
+    };
+    serve_site(alloc, service, moment(at), files, &mut ticked)
 }
 
 /// Opens the site of a file, answers the requests of the link's source on its sink, among which the site gets the writes of the
@@ -166,23 +171,23 @@ pub(crate) fn run_schedule<F: Files, S: Source, K: Sink, E: Sink, C: Clock>(
     alloc: Global,
     service: Scheduled<'_>,
     files: &mut F,
-    link: &mut Pair<S, K>,
+    timed: &mut TimedLink<'_, '_, Pair<S, K>, C>,
     errors: &mut E,
-    clock: &mut C,
 ) -> Exit
     ensures ran { ScheduledRan (F.content files.old service.entry.site.now) (F.content files.old service.entry.file.now) service.entry.at service.entry.tick (F.faults files.old) (F.faults files.new)
-        (streams (S.left link.old.source) (K.held link.old.sink) (S.faults link.old.source) (K.faults link.old.sink))
-        (streams (S.left link.new.source) (K.held link.new.sink) (S.faults link.new.source) (K.faults link.new.sink))
-        (clock_told (C.faults clock.old) (C.given clock.old) (C.pace clock.old) (C.twins clock.old))
-        (clock_told (C.faults clock.new) (C.given clock.new) (C.pace clock.new) (C.twins clock.new))
+        (streams (S.left timed.old.link.now.source) (K.held timed.old.link.now.sink) (S.faults timed.old.link.now.source) (K.faults timed.old.link.now.sink))
+        (streams (S.left timed.new.link.now.source) (K.held timed.new.link.now.sink) (S.faults timed.new.link.now.source) (K.faults timed.new.link.now.sink))
+        (clock_told (C.faults timed.old.clock.now) (C.given timed.old.clock.now) (C.pace timed.old.clock.now) (C.twins timed.old.clock.now))
+        (clock_told (C.faults timed.new.clock.now) (C.given timed.new.clock.now) (C.pace timed.new.clock.now) (C.twins timed.new.clock.now))
         (errors_told (E.held errors.old) (E.faults errors.old)) (errors_told (E.held errors.new) (E.faults errors.new)) result }
-    ensures refused { result ≡ Exit.Refused → link.new ≡ link.old }
-    ensures unasked { IsSome service.entry.at → clock.new ≡ clock.old }
+    ensures refused { result ≡ Exit.Refused → timed.new.link.now ≡ timed.old.link.now }
+    ensures unasked { IsSome service.entry.at → timed.new.clock.now ≡ timed.old.clock.now }
+    ensures same { (timed.new.link.ghost_name ≡ timed.old.link.ghost_name) × (timed.new.clock.ghost_name ≡ timed.old.clock.ghost_name) }
 {
     opened_is_not_refused();
     ob_documents::only();
     ob_xml::one_verdict();
-    let end = serve_file(alloc, service, files, link, clock);
+    let end = serve_file(alloc, service, files, timed);
     let exit = end.exit();
     tell(alloc, errors, exit, end.words(alloc, "Schedule"));
     exit

@@ -7,12 +7,13 @@ ghost use Rattle.ob_site_laws.specs.Seen.{KeepsWatches};
 ghost use Rattle.ob_site_laws.specs.SiteLaws.{acts};
 
 use crate::exit::Exit;
+use crate::outside::{Front, Means};
 use crate::telling::tell;
 use crate::words::load_words;
 use ob_command::Serve;
 use ob_io::{Clock, Door, Files, Port, Sink, write_all};
 use ob_load::{LoadFault, Loaded, Site, load, opened_is_not_refused};
-use ob_server::{Staff, WorkerEnd};
+use ob_server::{Serving, Staff, TimedPort, WorkerEnd};
 use ob_site::serve_port;
 use ob_values::Text;
 use std::alloc::{AllocError, Global};
@@ -176,30 +177,30 @@ pub(crate) fn end_with(end: WorkerEnd, reported: Option<ServeEnd>) -> ServeEnd
 
 /// Listens, says so, serves a site at the doors of the port, and says how many links there were.
 fn serve_site<R: Threads + Wait + Sync, K: Sink, P: Port, C: Clock + Send>(
-    rt: &R,
-    alloc: Global,
+    means: &Means<'_, R>,
     service: Serve<'_>,
     site: Site,
     ns: Option<&Text>,
-    sink: &mut K,
-    port: &mut P,
-    clock: &mut C,
+    front: &mut Front<'_, '_, '_, K, P, C>,
 ) -> ServeEnd
 where
     <P::D as Door>::L: Send,
-    ensures { (left : _) × AtPlace P.D.faults P.D.handed P.D.returned P.D.visits P.D.is_closed C.given C.pace C.faults
+    ensures at { (left : _) × AtPlace P.D.faults P.D.handed P.D.returned P.D.visits P.D.is_closed C.given C.pace C.faults
         acts site (KeepsWatches site) false left (option_copied ns.entry)
         service.entry.host.now service.entry.port service.entry.workers service.entry.quota
-        (K.held sink.old) (K.held sink.new) (K.faults sink.old) (K.faults sink.new)
-        (port_told (P.faults port.old) (P.opened port.old) (P.returned port.old) (P.listens port.old) (P.doors port.old))
-        (port_told (P.faults port.new) (P.opened port.new) (P.returned port.new) (P.listens port.new) (P.doors port.new))
-        (clock_told (C.faults clock.old) (C.given clock.old) (C.pace clock.old) (C.twins clock.old))
-        (clock_told (C.faults clock.new) (C.given clock.new) (C.pace clock.new) (C.twins clock.new)) result }
+        (K.held front.old.sink.now) (K.held front.new.sink.now) (K.faults front.old.sink.now) (K.faults front.new.sink.now)
+        (port_told (P.faults front.old.port.now) (P.opened front.old.port.now) (P.returned front.old.port.now) (P.listens front.old.port.now) (P.doors front.old.port.now))
+        (port_told (P.faults front.new.port.now) (P.opened front.new.port.now) (P.returned front.new.port.now) (P.listens front.new.port.now) (P.doors front.new.port.now))
+        (clock_told (C.faults front.old.clock.now) (C.given front.old.clock.now) (C.pace front.old.clock.now) (C.twins front.old.clock.now))
+        (clock_told (C.faults front.new.clock.now) (C.given front.new.clock.now) (C.pace front.new.clock.now) (C.twins front.new.clock.now)) result }
+    ensures same { (front.new.sink.ghost_name ≡ front.old.sink.ghost_name)
+        × (front.new.port.ghost_name ≡ front.old.port.ghost_name)
+        × (front.new.clock.ghost_name ≡ front.old.clock.ghost_name) }
 {
-    if port.listen(service.host, service.port).is_err() {
+    if front.port.listen(service.host, service.port).is_err() {
         return ServeEnd::PortFault;
     }
-    if let Some(end) = announce(alloc, sink, service.host, service.port) {
+    if let Some(end) = announce(means.alloc, front.sink, service.host, service.port) {
         return end;
     }
     let staff = Staff {
@@ -207,37 +208,46 @@ where
         quota: service.quota,
         stays: None,
     };
-    let served = serve_port(rt, alloc, site, ns, port, clock, staff);
-    end_with(served.end, report(alloc, sink, served.links))
+    let serving = Serving {
+        rt: means.rt,
+        alloc: means.alloc,
+        ns,
+    };
+    let mut timed = TimedPort {
+        port: front.port,
+        clock: front.clock,
+    };
+    let served = serve_port(&serving, site, &mut timed, staff);
+    end_with(served.end, report(means.alloc, front.sink, served.links))
 }
 
 /// Opens the site of a file and serves it at a port.
 fn serve_file<R: Threads + Wait + Sync, F: Files, K: Sink, P: Port, C: Clock + Send>(
-    rt: &R,
-    alloc: Global,
+    means: &Means<'_, R>,
     service: Serve<'_>,
     files: &mut F,
-    sink: &mut K,
-    port: &mut P,
-    clock: &mut C,
+    front: &mut Front<'_, '_, '_, K, P, C>,
 ) -> ServeEnd
 where
     <P::D as Door>::L: Send,
-    ensures { ServeComes P.D.faults P.D.handed P.D.returned P.D.visits P.D.is_closed C.given C.pace C.faults (F.content files.old service.entry.site.now)
+    ensures comes { ServeComes P.D.faults P.D.handed P.D.returned P.D.visits P.D.is_closed C.given C.pace C.faults (F.content files.old service.entry.site.now)
         service.entry.host.now service.entry.port service.entry.workers service.entry.quota (F.faults files.old) (F.faults files.new)
-        (K.held sink.old) (K.held sink.new) (K.faults sink.old) (K.faults sink.new)
-        (port_told (P.faults port.old) (P.opened port.old) (P.returned port.old) (P.listens port.old) (P.doors port.old))
-        (port_told (P.faults port.new) (P.opened port.new) (P.returned port.new) (P.listens port.new) (P.doors port.new))
-        (clock_told (C.faults clock.old) (C.given clock.old) (C.pace clock.old) (C.twins clock.old))
-        (clock_told (C.faults clock.new) (C.given clock.new) (C.pace clock.new) (C.twins clock.new)) result }
+        (K.held front.old.sink.now) (K.held front.new.sink.now) (K.faults front.old.sink.now) (K.faults front.new.sink.now)
+        (port_told (P.faults front.old.port.now) (P.opened front.old.port.now) (P.returned front.old.port.now) (P.listens front.old.port.now) (P.doors front.old.port.now))
+        (port_told (P.faults front.new.port.now) (P.opened front.new.port.now) (P.returned front.new.port.now) (P.listens front.new.port.now) (P.doors front.new.port.now))
+        (clock_told (C.faults front.old.clock.now) (C.given front.old.clock.now) (C.pace front.old.clock.now) (C.twins front.old.clock.now))
+        (clock_told (C.faults front.new.clock.now) (C.given front.new.clock.now) (C.pace front.new.clock.now) (C.twins front.new.clock.now)) result }
+    ensures same { (front.new.sink.ghost_name ≡ front.old.sink.ghost_name)
+        × (front.new.port.ghost_name ≡ front.old.port.ghost_name)
+        × (front.new.clock.ghost_name ≡ front.old.clock.ghost_name) }
 {
-    let Ok(boot) = clock.now() else {
+    let Ok(boot) = front.clock.now() else {
         return ServeEnd::ClockFault;
     };
-    match load(alloc, files, service.site, boot) {
+    match load(means.alloc, files, service.site, boot) {
         Ok(Loaded { ns, site }) => {
             site.sound_law();
-            serve_site(rt, alloc, service, site, ns.as_ref(), sink, port, clock)
+            serve_site(means, service, site, ns.as_ref(), front)
         }
         Err(fault) => ServeEnd::of_fault(fault),
     }
@@ -252,29 +262,29 @@ pub(crate) fn run_serve<
     P: Port,
     C: Clock + Send,
 >(
-    rt: &R,
-    alloc: Global,
+    means: &Means<'_, R>,
     service: Serve<'_>,
     files: &mut F,
-    sink: &mut K,
+    front: &mut Front<'_, '_, '_, K, P, C>,
     errors: &mut E,
-    port: &mut P,
-    clock: &mut C,
 ) -> Exit
 where
     <P::D as Door>::L: Send,
-    ensures { ServeRan P.D.faults P.D.handed P.D.returned P.D.visits P.D.is_closed C.given C.pace C.faults (F.content files.old service.entry.site.now)
+    ensures ran { ServeRan P.D.faults P.D.handed P.D.returned P.D.visits P.D.is_closed C.given C.pace C.faults (F.content files.old service.entry.site.now)
         service.entry.host.now service.entry.port service.entry.workers service.entry.quota (F.faults files.old) (F.faults files.new)
-        (K.held sink.old) (K.held sink.new) (K.faults sink.old) (K.faults sink.new)
-        (port_told (P.faults port.old) (P.opened port.old) (P.returned port.old) (P.listens port.old) (P.doors port.old))
-        (port_told (P.faults port.new) (P.opened port.new) (P.returned port.new) (P.listens port.new) (P.doors port.new))
-        (clock_told (C.faults clock.old) (C.given clock.old) (C.pace clock.old) (C.twins clock.old))
-        (clock_told (C.faults clock.new) (C.given clock.new) (C.pace clock.new) (C.twins clock.new))
+        (K.held front.old.sink.now) (K.held front.new.sink.now) (K.faults front.old.sink.now) (K.faults front.new.sink.now)
+        (port_told (P.faults front.old.port.now) (P.opened front.old.port.now) (P.returned front.old.port.now) (P.listens front.old.port.now) (P.doors front.old.port.now))
+        (port_told (P.faults front.new.port.now) (P.opened front.new.port.now) (P.returned front.new.port.now) (P.listens front.new.port.now) (P.doors front.new.port.now))
+        (clock_told (C.faults front.old.clock.now) (C.given front.old.clock.now) (C.pace front.old.clock.now) (C.twins front.old.clock.now))
+        (clock_told (C.faults front.new.clock.now) (C.given front.new.clock.now) (C.pace front.new.clock.now) (C.twins front.new.clock.now))
         (errors_told (E.held errors.old) (E.faults errors.old)) (errors_told (E.held errors.new) (E.faults errors.new)) result }
+    ensures same { (front.new.sink.ghost_name ≡ front.old.sink.ghost_name)
+        × (front.new.port.ghost_name ≡ front.old.port.ghost_name)
+        × (front.new.clock.ghost_name ≡ front.old.clock.ghost_name) }
 {
     opened_is_not_refused();
-    let end = serve_file(rt, alloc, service, files, sink, port, clock);
+    let end = serve_file(means, service, files, front);
     let exit = end.exit();
-    tell(alloc, errors, exit, end.words(alloc));
+    tell(means.alloc, errors, exit, end.words(means.alloc));
     exit
 }

@@ -17,6 +17,7 @@ ghost use Rattle.ob_program.specs.Telling.{errors_told};
 ghost use Rattle.ob_program.specs.Words.{frame_words, link_words};
 
 use crate::exit::Exit;
+use crate::outside::Means;
 use crate::telling::tell;
 use crate::words::load_words;
 use ob_command::{Output, Stdio};
@@ -25,7 +26,7 @@ use ob_http::FrameFault;
 use ob_io::{Clock, Files, Link, Pair, Sink, Source, Ticker};
 use ob_load::{LoadFault, Loaded, load, opened_is_not_refused};
 use ob_record::record_run;
-use ob_server::LinkEnd;
+use ob_server::{LinkEnd, Serving, TimedLink};
 use ob_site::serve_alone;
 use ob_times::Moment;
 use std::alloc::{AllocError, Global};
@@ -139,24 +140,28 @@ pub(crate) fn moment(ms: u64) -> Moment
 
 /// Answers the requests of a link from a site.
 fn answer_site<R: Wait, L: Link, C: Clock>(
-    rt: &R,
-    alloc: Global,
+    means: &Means<'_, R>,
     loaded: Loaded,
-    link: &mut L,
-    clock: &mut C,
+    timed: &mut TimedLink<'_, '_, L, C>,
 ) -> LinkEnd
     ensures sound { IsSoundSite loaded.site }
     ensures serves { (alone : ServesAlone acts loaded.site loaded.ns
-        (inlet (L.left link.old) (L.taken link.old)) (inlet (L.left link.new) (L.taken link.new))
-        (L.held link.old) (L.held link.new) (C.given clock.old) (C.given clock.new) result) × KeepsWatches loaded.site alone.calls }
-    ensures pace { C.pace clock.new ≡ C.pace clock.old }
-    ensures cause { HasEndCause (L.read_faults link.old) (L.read_faults link.new)
-        (L.write_faults link.old) (L.write_faults link.new) (C.faults clock.old) (C.faults clock.new) result }
-    ensures whole { ServesWhole (L.left link.old) (L.read_faults link.old) (L.read_faults link.new)
-        (L.write_faults link.old) (L.write_faults link.new) (C.faults clock.old) (C.faults clock.new) result }
+        (inlet (L.left timed.old.link.now) (L.taken timed.old.link.now)) (inlet (L.left timed.new.link.now) (L.taken timed.new.link.now))
+        (L.held timed.old.link.now) (L.held timed.new.link.now) (C.given timed.old.clock.now) (C.given timed.new.clock.now) result) × KeepsWatches loaded.site alone.calls }
+    ensures pace { C.pace timed.new.clock.now ≡ C.pace timed.old.clock.now }
+    ensures cause { HasEndCause (L.read_faults timed.old.link.now) (L.read_faults timed.new.link.now)
+        (L.write_faults timed.old.link.now) (L.write_faults timed.new.link.now) (C.faults timed.old.clock.now) (C.faults timed.new.clock.now) result }
+    ensures whole { ServesWhole (L.left timed.old.link.now) (L.read_faults timed.old.link.now) (L.read_faults timed.new.link.now)
+        (L.write_faults timed.old.link.now) (L.write_faults timed.new.link.now) (C.faults timed.old.clock.now) (C.faults timed.new.clock.now) result }
+    ensures same { (timed.new.link.ghost_name ≡ timed.old.link.ghost_name) × (timed.new.clock.ghost_name ≡ timed.old.clock.ghost_name) }
 {
     let Loaded { ns, site } = loaded;
-    serve_alone(rt, alloc, site, ns.as_ref(), link, clock)
+    let serving = Serving {
+        rt: means.rt,
+        alloc: means.alloc,
+        ns: ns.as_ref(),
+    };
+    serve_alone(&serving, site, timed)
 }
 
 /// Records the requests of a link from the boot of a site on.
@@ -164,126 +169,108 @@ fn record_site<L: Link, C: Clock>(
     alloc: Global,
     loaded: Loaded,
     boot: Moment,
-    link: &mut L,
-    clock: &mut C,
+    timed: &mut TimedLink<'_, '_, L, C>,
 ) -> LinkEnd
     ensures sound { IsSoundSite loaded.site }
     ensures records { (last : SiteState) × RecordsRun acts loaded.site last boot
-        (inlet (L.left link.old) (L.taken link.old)) (inlet (L.left link.new) (L.taken link.new))
-        (L.held link.old) (L.held link.new) (C.given clock.old) (C.given clock.new) result }
-    ensures pace { C.pace clock.new ≡ C.pace clock.old }
-    ensures cause { HasEndCause (L.read_faults link.old) (L.read_faults link.new)
-        (L.write_faults link.old) (L.write_faults link.new) (C.faults clock.old) (C.faults clock.new) result }
-    ensures whole { ServesWhole (L.left link.old) (L.read_faults link.old) (L.read_faults link.new)
-        (L.write_faults link.old) (L.write_faults link.new) (C.faults clock.old) (C.faults clock.new) result }
+        (inlet (L.left timed.old.link.now) (L.taken timed.old.link.now)) (inlet (L.left timed.new.link.now) (L.taken timed.new.link.now))
+        (L.held timed.old.link.now) (L.held timed.new.link.now) (C.given timed.old.clock.now) (C.given timed.new.clock.now) result }
+    ensures pace { C.pace timed.new.clock.now ≡ C.pace timed.old.clock.now }
+    ensures cause { HasEndCause (L.read_faults timed.old.link.now) (L.read_faults timed.new.link.now)
+        (L.write_faults timed.old.link.now) (L.write_faults timed.new.link.now) (C.faults timed.old.clock.now) (C.faults timed.new.clock.now) result }
+    ensures whole { ServesWhole (L.left timed.old.link.now) (L.read_faults timed.old.link.now) (L.read_faults timed.new.link.now)
+        (L.write_faults timed.old.link.now) (L.write_faults timed.new.link.now) (C.faults timed.old.clock.now) (C.faults timed.new.clock.now) result }
+    ensures same { (timed.new.link.ghost_name ≡ timed.old.link.ghost_name) × (timed.new.clock.ghost_name ≡ timed.old.clock.ghost_name) }
 {
     let Loaded { ns: _, mut site } = loaded;
     site.sound_law();
-    record_run(alloc, &mut site, boot, link, clock)
+    record_run(alloc, &mut site, boot, timed.link, timed.clock)
 }
 
 /// Opens the site of a file that boots at a moment, and answers or records the requests of a link from it.
 fn serve_site<R: Wait, F: Files, L: Link, C: Clock>(
-    rt: &R,
-    alloc: Global,
-    output: Output,
-    site: &str,
-    files: &mut F,
+    means: &Means<'_, R>,
+    service: Stdio<'_>,
     boot: Moment,
-    link: &mut L,
-    clock: &mut C,
+    files: &mut F,
+    timed: &mut TimedLink<'_, '_, L, C>,
 ) -> StdioEnd
-    ensures comes { Comes output (F.content files.old site.now) boot result (L.left link.old) (L.taken link.old) (L.left link.new) (L.taken link.new) (L.held link.old) (L.held link.new) (C.given clock.old) (C.given clock.new) }
-    ensures unused { IsUnserved result → link.new ≡ link.old }
-    ensures pace { C.pace clock.new ≡ C.pace clock.old }
-    ensures cause { HasCause result (F.faults files.old) (F.faults files.new) (L.read_faults link.old) (L.read_faults link.new)
-        (L.write_faults link.old) (L.write_faults link.new) (C.faults clock.old) (C.faults clock.new) }
-    ensures whole { (end : LinkEnd) → result ≡ StdioEnd.Served end → ServesWhole (L.left link.old) (L.read_faults link.old) (L.read_faults link.new)
-        (L.write_faults link.old) (L.write_faults link.new) (C.faults clock.old) (C.faults clock.new) end }
+    ensures comes { Comes service.entry.output (F.content files.old service.entry.site.now) boot result (L.left timed.old.link.now) (L.taken timed.old.link.now) (L.left timed.new.link.now) (L.taken timed.new.link.now) (L.held timed.old.link.now) (L.held timed.new.link.now) (C.given timed.old.clock.now) (C.given timed.new.clock.now) }
+    ensures unused { IsUnserved result → timed.new.link.now ≡ timed.old.link.now }
+    ensures pace { C.pace timed.new.clock.now ≡ C.pace timed.old.clock.now }
+    ensures cause { HasCause result (F.faults files.old) (F.faults files.new) (L.read_faults timed.old.link.now) (L.read_faults timed.new.link.now)
+        (L.write_faults timed.old.link.now) (L.write_faults timed.new.link.now) (C.faults timed.old.clock.now) (C.faults timed.new.clock.now) }
+    ensures whole { (end : LinkEnd) → result ≡ StdioEnd.Served end → ServesWhole (L.left timed.old.link.now) (L.read_faults timed.old.link.now) (L.read_faults timed.new.link.now)
+        (L.write_faults timed.old.link.now) (L.write_faults timed.new.link.now) (C.faults timed.old.clock.now) (C.faults timed.new.clock.now) end }
+    ensures same { (timed.new.link.ghost_name ≡ timed.old.link.ghost_name) × (timed.new.clock.ghost_name ≡ timed.old.clock.ghost_name) }
 {
-    let loaded = match load(alloc, files, site, boot) {
+    let loaded = match load(means.alloc, files, service.site, boot) {
         Ok(loaded) => loaded,
         Err(fault) => return StdioEnd::of_fault(fault),
     };
-    match output {
-        Output::Answers => StdioEnd::Served(answer_site(rt, alloc, loaded, link, clock)),
-        Output::Record => StdioEnd::Served(record_site(alloc, loaded, boot, link, clock)),
+    match service.output {
+        Output::Answers => StdioEnd::Served(answer_site(means, loaded, timed)),
+        Output::Record => StdioEnd::Served(record_site(means.alloc, loaded, boot, timed)),
     }
 }
 
 /// Opens the site of a file, and answers or records the requests of a link from it. The boot and the requests are at the moments
 /// of the clock or, with `at`, at those of a clock that begins there and goes by `tick` milliseconds.
 fn stdio<R: Wait, F: Files, L: Link, C: Clock>(
-    rt: &R,
-    alloc: Global,
+    means: &Means<'_, R>,
     service: Stdio<'_>,
     files: &mut F,
-    link: &mut L,
-    clock: &mut C,
+    timed: &mut TimedLink<'_, '_, L, C>,
 ) -> StdioEnd
-    ensures unasked { IsSome service.entry.at → clock.new ≡ clock.old }
-    ensures comes { StdioComes service.entry.output (F.content files.old service.entry.site.now) service.entry.at service.entry.tick result (L.left link.old) (L.taken link.old) (L.left link.new) (L.taken link.new) (L.held link.old) (L.held link.new) (C.given clock.old) (C.given clock.new) }
-    ensures unused { IsUnserved result → link.new ≡ link.old }
-    ensures cause { HasCause result (F.faults files.old) (F.faults files.new) (L.read_faults link.old) (L.read_faults link.new)
-        (L.write_faults link.old) (L.write_faults link.new) (C.faults clock.old) (C.faults clock.new) }
-    ensures whole { (end : LinkEnd) → result ≡ StdioEnd.Served end → ServesWhole (L.left link.old) (L.read_faults link.old) (L.read_faults link.new)
-        (L.write_faults link.old) (L.write_faults link.new) (C.faults clock.old) (C.faults clock.new) end }
+    ensures unasked { IsSome service.entry.at → timed.new.clock.now ≡ timed.old.clock.now }
+    ensures comes { StdioComes service.entry.output (F.content files.old service.entry.site.now) service.entry.at service.entry.tick result (L.left timed.old.link.now) (L.taken timed.old.link.now) (L.left timed.new.link.now) (L.taken timed.new.link.now) (L.held timed.old.link.now) (L.held timed.new.link.now) (C.given timed.old.clock.now) (C.given timed.new.clock.now) }
+    ensures unused { IsUnserved result → timed.new.link.now ≡ timed.old.link.now }
+    ensures cause { HasCause result (F.faults files.old) (F.faults files.new) (L.read_faults timed.old.link.now) (L.read_faults timed.new.link.now)
+        (L.write_faults timed.old.link.now) (L.write_faults timed.new.link.now) (C.faults timed.old.clock.now) (C.faults timed.new.clock.now) }
+    ensures whole { (end : LinkEnd) → result ≡ StdioEnd.Served end → ServesWhole (L.left timed.old.link.now) (L.read_faults timed.old.link.now) (L.read_faults timed.new.link.now)
+        (L.write_faults timed.old.link.now) (L.write_faults timed.new.link.now) (C.faults timed.old.clock.now) (C.faults timed.new.clock.now) end }
+    ensures same { (timed.new.link.ghost_name ≡ timed.old.link.ghost_name) × (timed.new.clock.ghost_name ≡ timed.old.clock.ghost_name) }
 {
     let Some(at) = service.at else {
-        let Ok(boot) = clock.now() else {
+        let Ok(boot) = timed.clock.now() else {
             return StdioEnd::ClockFault;
         };
-        return serve_site(
-            rt,
-            alloc,
-            service.output,
-            service.site,
-            files,
-            boot,
-            link,
-            clock,
-        );
+        return serve_site(means, service, boot, files, timed);
     };
     let mut ticker = Ticker {
         at,
         tick: service.tick,
         k: 0,
     };
-    serve_site(
-        rt,
-        alloc,
-        service.output,
-        service.site,
-        files,
-        moment(at),
-        link,
-        &mut ticker,
-    )
+    let mut ticked = TimedLink {
+        link: timed.link,
+        clock: &mut ticker,
+    };
+    serve_site(means, service, moment(at), files, &mut ticked)
 }
 
 /// Opens the site of a file, answers the requests of the link's source on its sink or writes their record there, and tells on
 /// `errors` what went wrong.
 pub(crate) fn run_stdio<R: Wait, F: Files, S: Source, K: Sink, E: Sink, C: Clock>(
-    rt: &R,
-    alloc: Global,
+    means: &Means<'_, R>,
     service: Stdio<'_>,
     files: &mut F,
-    link: &mut Pair<S, K>,
+    timed: &mut TimedLink<'_, '_, Pair<S, K>, C>,
     errors: &mut E,
-    clock: &mut C,
 ) -> Exit
     ensures ran { StdioRan service.entry.output (F.content files.old service.entry.site.now) service.entry.at service.entry.tick (F.faults files.old) (F.faults files.new)
-        (streams (S.left link.old.source) (K.held link.old.sink) (S.faults link.old.source) (K.faults link.old.sink))
-        (streams (S.left link.new.source) (K.held link.new.sink) (S.faults link.new.source) (K.faults link.new.sink))
-        (clock_told (C.faults clock.old) (C.given clock.old) (C.pace clock.old) (C.twins clock.old))
-        (clock_told (C.faults clock.new) (C.given clock.new) (C.pace clock.new) (C.twins clock.new))
+        (streams (S.left timed.old.link.now.source) (K.held timed.old.link.now.sink) (S.faults timed.old.link.now.source) (K.faults timed.old.link.now.sink))
+        (streams (S.left timed.new.link.now.source) (K.held timed.new.link.now.sink) (S.faults timed.new.link.now.source) (K.faults timed.new.link.now.sink))
+        (clock_told (C.faults timed.old.clock.now) (C.given timed.old.clock.now) (C.pace timed.old.clock.now) (C.twins timed.old.clock.now))
+        (clock_told (C.faults timed.new.clock.now) (C.given timed.new.clock.now) (C.pace timed.new.clock.now) (C.twins timed.new.clock.now))
         (errors_told (E.held errors.old) (E.faults errors.old)) (errors_told (E.held errors.new) (E.faults errors.new)) result }
-    ensures refused { result ≡ Exit.Refused → link.new ≡ link.old }
-    ensures unasked { IsSome service.entry.at → clock.new ≡ clock.old }
+    ensures refused { result ≡ Exit.Refused → timed.new.link.now ≡ timed.old.link.now }
+    ensures unasked { IsSome service.entry.at → timed.new.clock.now ≡ timed.old.clock.now }
+    ensures same { (timed.new.link.ghost_name ≡ timed.old.link.ghost_name) × (timed.new.clock.ghost_name ≡ timed.old.clock.ghost_name) }
 {
     opened_is_not_refused();
-    let end = stdio(rt, alloc, service, files, link, clock);
+    let end = stdio(means, service, files, timed);
     let exit = end.exit();
-    tell(alloc, errors, exit, end.words(alloc));
+    tell(means.alloc, errors, exit, end.words(means.alloc));
     exit
 }

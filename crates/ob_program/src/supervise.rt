@@ -16,6 +16,7 @@ ghost use Rattle.ob_program.specs.declared.stdio.StdioEnd.TheVariants as plainly
 use crate::document::read_file;
 use crate::exit::Exit;
 use crate::form::FormEnd;
+use crate::outside::Relay;
 use crate::stdio::StdioEnd;
 use crate::telling::tell;
 use ob_command::Supervise;
@@ -63,22 +64,22 @@ fn serve_tree<F: Files, L: Link, W: Dialer>(
     alloc: Global,
     asked: Supervise<'_>,
     files: &mut F,
-    link: &mut L,
-    dialer: &mut W,
+    relay: &mut Relay<'_, '_, L, W>,
 ) -> FormEnd
 where
     W::L: Drop,
-    ensures comes { SuperComes (F.content files.old asked.entry.config.now) asked.entry.rounds result (L.left link.old) (L.taken link.old) (L.left link.new) (L.taken link.new) (L.held link.old) (L.held link.new)
-        (outside (W.dials dialer.old) (W.visits dialer.old)) (outside (W.dials dialer.new) (W.visits dialer.new)) }
-    ensures unused { IsUnserved (plain result) → (link.new ≡ link.old) × (dialer.new ≡ dialer.old) }
-    ensures cause { HasCause (plain result) (F.faults files.old) (F.faults files.new) (L.read_faults link.old) (L.read_faults link.new)
-        (L.write_faults link.old) (L.write_faults link.new) 0 0 }
-    ensures whole { (end : LinkEnd) → plain result ≡ plainly.Served end → ServesWhole (L.left link.old) (L.read_faults link.old) (L.read_faults link.new)
-        (L.write_faults link.old) (L.write_faults link.new) 0 0 end }
+    ensures comes { SuperComes (F.content files.old asked.entry.config.now) asked.entry.rounds result (L.left relay.old.link.now) (L.taken relay.old.link.now) (L.left relay.new.link.now) (L.taken relay.new.link.now) (L.held relay.old.link.now) (L.held relay.new.link.now)
+        (outside (W.dials relay.old.dialer.now) (W.visits relay.old.dialer.now)) (outside (W.dials relay.new.dialer.now) (W.visits relay.new.dialer.now)) }
+    ensures unused { IsUnserved (plain result) → (relay.new.link.now ≡ relay.old.link.now) × (relay.new.dialer.now ≡ relay.old.dialer.now) }
+    ensures cause { HasCause (plain result) (F.faults files.old) (F.faults files.new) (L.read_faults relay.old.link.now) (L.read_faults relay.new.link.now)
+        (L.write_faults relay.old.link.now) (L.write_faults relay.new.link.now) 0 0 }
+    ensures whole { (end : LinkEnd) → plain result ≡ plainly.Served end → ServesWhole (L.left relay.old.link.now) (L.read_faults relay.old.link.now) (L.read_faults relay.new.link.now)
+        (L.write_faults relay.old.link.now) (L.write_faults relay.new.link.now) 0 0 end }
+    ensures same { (relay.new.link.ghost_name ≡ relay.old.link.ghost_name) × (relay.new.dialer.ghost_name ≡ relay.old.dialer.ghost_name) }
 {
     match read_config(alloc, asked.config, files) {
         Ok(made) => {
-            let end = supervise(alloc, made, asked.rounds, dialer, link);
+            let end = supervise(alloc, made, asked.rounds, relay.dialer, relay.link);
             FormEnd::Stdio(StdioEnd::Served(end))
         }
         Err(end) => end,
@@ -91,23 +92,23 @@ pub(crate) fn run_super<F: Files, S: Source, K: Sink, E: Sink, W: Dialer>(
     alloc: Global,
     asked: Supervise<'_>,
     files: &mut F,
-    link: &mut Pair<S, K>,
+    relay: &mut Relay<'_, '_, Pair<S, K>, W>,
     errors: &mut E,
-    dialer: &mut W,
 ) -> Exit
 where
     W::L: Drop,
     ensures ran { SuperRan (F.content files.old asked.entry.config.now) asked.entry.rounds (F.faults files.old) (F.faults files.new)
-        (streams (S.left link.old.source) (K.held link.old.sink) (S.faults link.old.source) (K.faults link.old.sink))
-        (streams (S.left link.new.source) (K.held link.new.sink) (S.faults link.new.source) (K.faults link.new.sink))
-        (dialled (W.dials dialer.old) (W.visits dialer.old) (W.rose dialer.old) (W.faults dialer.old))
-        (dialled (W.dials dialer.new) (W.visits dialer.new) (W.rose dialer.new) (W.faults dialer.new))
+        (streams (S.left relay.old.link.now.source) (K.held relay.old.link.now.sink) (S.faults relay.old.link.now.source) (K.faults relay.old.link.now.sink))
+        (streams (S.left relay.new.link.now.source) (K.held relay.new.link.now.sink) (S.faults relay.new.link.now.source) (K.faults relay.new.link.now.sink))
+        (dialled (W.dials relay.old.dialer.now) (W.visits relay.old.dialer.now) (W.rose relay.old.dialer.now) (W.faults relay.old.dialer.now))
+        (dialled (W.dials relay.new.dialer.now) (W.visits relay.new.dialer.now) (W.rose relay.new.dialer.now) (W.faults relay.new.dialer.now))
         (errors_told (E.held errors.old) (E.faults errors.old)) (errors_told (E.held errors.new) (E.faults errors.new)) result }
-    ensures refused { result ≡ Exit.Refused → (link.new ≡ link.old) × (dialer.new ≡ dialer.old) }
+    ensures refused { result ≡ Exit.Refused → (relay.new.link.now ≡ relay.old.link.now) × (relay.new.dialer.now ≡ relay.old.dialer.now) }
+    ensures same { (relay.new.link.ghost_name ≡ relay.old.link.ghost_name) × (relay.new.dialer.ghost_name ≡ relay.old.dialer.ghost_name) }
 {
     ob_documents::only();
     ob_xml::one_verdict();
-    let end = serve_tree(alloc, asked, files, link, dialer);
+    let end = serve_tree(alloc, asked, files, relay);
     let exit = end.exit();
     tell(alloc, errors, exit, end.words(alloc, "Config"));
     exit

@@ -10,4 +10,4 @@ mod posting;
 mod serving;
 
 pub use laws::files_fit;
-pub use serving::serve_scheduled;
+pub use serving::{Timetable, serve_scheduled};

@@ -7,38 +7,43 @@ ghost use Rattle.ob_server.specs.Complete.{ServesWhole};
 
 use crate::end::LinkEnd;
 use crate::link::serve_link;
+use crate::service::{Serving, TimedLink};
 use ob_io::{Clock, Link};
 use ob_machine::Machine;
 use ob_object::Obj;
 use ob_site_rules::Request;
 use ob_turn::Desk;
-use ob_values::Text;
-use std::alloc::Global;
 use std::sync::Wait;
 
 /// Answers the requests that come over a link from a machine that nobody else asks, until the link ends.
 /// The end is `Memory` also where there is no memory to begin.
 pub fn serve_alone<M: Machine<Request = Request, Reply = Obj> + Drop, R: Wait, L: Link, C: Clock>(
-    rt: &R,
-    alloc: Global,
+    serving: &Serving<'_, '_, R>,
     machine: M,
-    ns: Option<&Text>,
-    link: &mut L,
-    clock: &mut C,
+    timed: &mut TimedLink<'_, '_, L, C>,
 ) -> LinkEnd
-    ensures serves { ServesAlone M.act machine (option_copied ns.entry)
-        (inlet (L.left link.old) (L.taken link.old)) (inlet (L.left link.new) (L.taken link.new))
-        (L.held link.old) (L.held link.new) (C.given clock.old) (C.given clock.new) result }
-    ensures pace { C.pace clock.new ≡ C.pace clock.old }
-    ensures cause { HasEndCause (L.read_faults link.old) (L.read_faults link.new)
-        (L.write_faults link.old) (L.write_faults link.new) (C.faults clock.old) (C.faults clock.new) result }
-    ensures whole { ServesWhole (L.left link.old) (L.read_faults link.old) (L.read_faults link.new)
-        (L.write_faults link.old) (L.write_faults link.new) (C.faults clock.old) (C.faults clock.new) result }
+    ensures serves { ServesAlone M.act machine (option_copied serving.now.ns)
+        (inlet (L.left timed.old.link.now) (L.taken timed.old.link.now)) (inlet (L.left timed.new.link.now) (L.taken timed.new.link.now))
+        (L.held timed.old.link.now) (L.held timed.new.link.now) (C.given timed.old.clock.now) (C.given timed.new.clock.now) result }
+    ensures pace { C.pace timed.new.clock.now ≡ C.pace timed.old.clock.now }
+    ensures cause { HasEndCause (L.read_faults timed.old.link.now) (L.read_faults timed.new.link.now)
+        (L.write_faults timed.old.link.now) (L.write_faults timed.new.link.now) (C.faults timed.old.clock.now) (C.faults timed.new.clock.now) result }
+    ensures whole { ServesWhole (L.left timed.old.link.now) (L.read_faults timed.old.link.now) (L.read_faults timed.new.link.now)
+        (L.write_faults timed.old.link.now) (L.write_faults timed.new.link.now) (C.faults timed.old.clock.now) (C.faults timed.new.clock.now) result }
+    ensures same { (timed.new.link.ghost_name ≡ timed.old.link.ghost_name) × (timed.new.clock.ghost_name ≡ timed.old.clock.ghost_name) }
 {
-    let Ok((desk, mut pass)) = Desk::new(alloc, machine) else {
+    let Ok((desk, mut pass)) = Desk::new(serving.alloc, machine) else {
         return LinkEnd::Memory;
     };
-    let end = serve_link(rt, alloc, &desk, &mut pass, ns, link, clock);
+    let end = serve_link(
+        serving.rt,
+        serving.alloc,
+        &desk,
+        &mut pass,
+        serving.ns,
+        timed.link,
+        timed.clock,
+    );
     let _machine = desk.close(pass);
     end
 }

@@ -12,6 +12,7 @@ ghost use Rattle.ob_server.specs.Complete.{ServesWhole};
 use crate::end::{Break, LinkEnd, Stop};
 use crate::link::{BUDGET, PIECE, end_at, end_of, read_piece, refuse, write_out};
 use crate::next::{Next, take_next};
+use crate::service::TimedLink;
 use crate::sort::Sorted;
 use ob_encoding::encode;
 use ob_http::laws::{end_stays, framing_is_one};
@@ -193,25 +194,25 @@ pub fn serve_by<O, A: Answerer<O>, L: Link, C: Clock>(
     answerer: &mut A,
     outside: &mut O,
     ns: Option<&Text>,
-    link: &mut L,
-    clock: &mut C,
+    timed: &mut TimedLink<'_, '_, L, C>,
 ) -> LinkEnd
     ensures serves { ServesBy A.asks (answerer.old, outside.old) (answerer.new, outside.new) (option_copied ns.entry)
-        (inlet (L.left link.old) (L.taken link.old)) (inlet (L.left link.new) (L.taken link.new))
-        (L.held link.old) (L.held link.new) (C.given clock.old) (C.given clock.new) result }
-    ensures pace { C.pace clock.new ≡ C.pace clock.old }
-    ensures cause { HasEndCause (L.read_faults link.old) (L.read_faults link.new)
-        (L.write_faults link.old) (L.write_faults link.new) (C.faults clock.old) (C.faults clock.new) result }
-    ensures whole { ServesWhole (L.left link.old) (L.read_faults link.old) (L.read_faults link.new)
-        (L.write_faults link.old) (L.write_faults link.new) (C.faults clock.old) (C.faults clock.new) result }
+        (inlet (L.left timed.old.link.now) (L.taken timed.old.link.now)) (inlet (L.left timed.new.link.now) (L.taken timed.new.link.now))
+        (L.held timed.old.link.now) (L.held timed.new.link.now) (C.given timed.old.clock.now) (C.given timed.new.clock.now) result }
+    ensures pace { C.pace timed.new.clock.now ≡ C.pace timed.old.clock.now }
+    ensures cause { HasEndCause (L.read_faults timed.old.link.now) (L.read_faults timed.new.link.now)
+        (L.write_faults timed.old.link.now) (L.write_faults timed.new.link.now) (C.faults timed.old.clock.now) (C.faults timed.new.clock.now) result }
+    ensures whole { ServesWhole (L.left timed.old.link.now) (L.read_faults timed.old.link.now) (L.read_faults timed.new.link.now)
+        (L.write_faults timed.old.link.now) (L.write_faults timed.new.link.now) (C.faults timed.old.clock.now) (C.faults timed.new.clock.now) result }
+    ensures same { (timed.new.link.ghost_name ≡ timed.old.link.ghost_name) × (timed.new.clock.ghost_name ≡ timed.old.clock.ghost_name) }
 {
     framing_is_one();
     end_stays();
     let mut connection = Connection {
         answerer,
         outside,
-        link,
-        clock,
+        link: timed.link,
+        clock: timed.clock,
     };
     connection.serve_pieces(alloc, ns)
 }

@@ -27,5 +27,6 @@ pub use link::{end_at, end_of, read_piece, serve_link};
 pub use next::{Next, take_next};
 pub use passes::{join_workers, joined_is_whole, split_passes};
 pub use port::{PortServed, Staff, serve_port};
+pub use service::{Serving, TimedLink, TimedPort};
 pub use sort::{Sorted, sort_request};
 pub use worker::{Served, Worker, WorkerEnd, serve};

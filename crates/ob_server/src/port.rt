@@ -7,15 +7,13 @@ ghost use Rattle.ob_server.specs.Port.{HasOpened, ServesDoors, HasPortCause};
 ghost use Rattle.ob_server.specs.Together.{IsFirst};
 
 use crate::passes::join_workers;
-use crate::service::Service;
+use crate::service::{Service, Serving, TimedPort};
 use crate::worker::{Served, Worker, WorkerEnd, serve};
 use ob_io::{Clock, Door, Port};
 use ob_machine::Machine;
 use ob_object::Obj;
 use ob_site_rules::Request;
 use ob_turn::{Desk, Pass};
-use ob_values::Text;
-use std::alloc::Global;
 use std::sync::Wait;
 use std::sync::atomic::AtomicBool;
 use std::thread::Threads;
@@ -25,8 +23,7 @@ use std::thread::Threads;
 fn open_workers<M: Machine, P: Port, C: Clock>(
     desk: &Desk<M>,
     pass: &mut Pass<M>,
-    port: &mut P,
-    clock: &mut C,
+    timed: &mut TimedPort<'_, '_, P, C>,
     workers: &mut Vec<Worker<M, P::D, C>>,
     count: u32,
 ) -> Result<(), WorkerEnd>
@@ -34,21 +31,22 @@ fn open_workers<M: Machine, P: Port, C: Clock>(
     requires left { count < length pass.old.numbers }
     requires none { workers.old.items ≡ [] }
     requires room { vec_capacity workers.old ≡ count }
-    ensures { HasOpened P.D.faults P.D.handed P.D.returned P.D.visits C.given C.pace C.faults
+    ensures opened { HasOpened P.D.faults P.D.handed P.D.returned P.D.visits C.given C.pace C.faults
         count workers.new.items result pass.old pass.new
-        (port_told (P.faults port.old) (P.opened port.old) (P.returned port.old)
-        (P.listens port.old) (P.doors port.old))
-        (port_told (P.faults port.new) (P.opened port.new) (P.returned port.new)
-        (P.listens port.new) (P.doors port.new))
-        (clock_told (C.faults clock.old) (C.given clock.old) (C.pace clock.old) (C.twins clock.old))
-        (clock_told (C.faults clock.new) (C.given clock.new) (C.pace clock.new) (C.twins clock.new)) }
+        (port_told (P.faults timed.old.port.now) (P.opened timed.old.port.now) (P.returned timed.old.port.now)
+        (P.listens timed.old.port.now) (P.doors timed.old.port.now))
+        (port_told (P.faults timed.new.port.now) (P.opened timed.new.port.now) (P.returned timed.new.port.now)
+        (P.listens timed.new.port.now) (P.doors timed.new.port.now))
+        (clock_told (C.faults timed.old.clock.now) (C.given timed.old.clock.now) (C.pace timed.old.clock.now) (C.twins timed.old.clock.now))
+        (clock_told (C.faults timed.new.clock.now) (C.given timed.new.clock.now) (C.pace timed.new.clock.now) (C.twins timed.new.clock.now)) }
+    ensures same { (timed.new.port.ghost_name ≡ timed.old.port.ghost_name) × (timed.new.clock.ghost_name ≡ timed.old.clock.ghost_name) }
 {
     for _ in 0..count {
-        let Ok(twin) = clock.twin() else {
+        let Ok(twin) = timed.clock.twin() else {
             return Err(WorkerEnd::ClockFault);
         };
-        let Ok(door) = port.door() else {
-            clock.back(twin);
+        let Ok(door) = timed.port.door() else {
+            timed.clock.back(twin);
             return Err(WorkerEnd::DoorFault);
         };
         workers.push_reserved(Worker {
@@ -92,8 +90,7 @@ fn serve_doors<
 >(
     service: &Service<'_, '_, '_, M, R>,
     pass: &mut Pass<M>,
-    port: &mut P,
-    clock: &mut C,
+    timed: &mut TimedPort<'_, '_, P, C>,
     staff: Staff<'_>,
 ) -> (Option<u64>, WorkerEnd)
 where
@@ -106,21 +103,22 @@ where
     ensures serves { ServesDoors D.faults D.handed D.returned D.visits C.given C.pace C.faults
         M.act D.is_closed (option_copied service.now.ns) service.now.desk.now.opening
         staff.entry.workers staff.entry.quota (is_some staff.entry.stays) pass.new.seen
-        (port_told (P.faults port.old) (P.opened port.old) (P.returned port.old)
-        (P.listens port.old) (P.doors port.old))
-        (port_told (P.faults port.new) (P.opened port.new) (P.returned port.new)
-        (P.listens port.new) (P.doors port.new))
-        (clock_told (C.faults clock.old) (C.given clock.old) (C.pace clock.old) (C.twins clock.old))
-        (clock_told (C.faults clock.new) (C.given clock.new) (C.pace clock.new) (C.twins clock.new))
+        (port_told (P.faults timed.old.port.now) (P.opened timed.old.port.now) (P.returned timed.old.port.now)
+        (P.listens timed.old.port.now) (P.doors timed.old.port.now))
+        (port_told (P.faults timed.new.port.now) (P.opened timed.new.port.now) (P.returned timed.new.port.now)
+        (P.listens timed.new.port.now) (P.doors timed.new.port.now))
+        (clock_told (C.faults timed.old.clock.now) (C.given timed.old.clock.now) (C.pace timed.old.clock.now) (C.twins timed.old.clock.now))
+        (clock_told (C.faults timed.new.clock.now) (C.given timed.new.clock.now) (C.pace timed.new.clock.now) (C.twins timed.new.clock.now))
         result.0 result.1 }
-    ensures cause { HasPortCause result.1 (P.faults port.old) (P.faults port.new)
-        (C.faults clock.old) (C.faults clock.new) }
+    ensures cause { HasPortCause result.1 (P.faults timed.old.port.now) (P.faults timed.new.port.now)
+        (C.faults timed.old.clock.now) (C.faults timed.new.clock.now) }
+    ensures same { (timed.new.port.ghost_name ≡ timed.old.port.ghost_name) × (timed.new.clock.ghost_name ≡ timed.old.clock.ghost_name) }
 {
     let Ok(mut workers) = Vec::with_capacity(service.alloc, staff.workers as usize) else {
         return (None, WorkerEnd::Memory);
     };
-    if let Err(end) = open_workers(service.desk, pass, port, clock, &mut workers, staff.workers) {
-        join_workers(service.desk, pass, port, clock, workers);
+    if let Err(end) = open_workers(service.desk, pass, timed, &mut workers, staff.workers) {
+        join_workers(service.desk, pass, timed.port, timed.clock, workers);
         return (None, end);
     }
     let Served {
@@ -136,7 +134,7 @@ where
         staff.quota,
         staff.stays,
     );
-    join_workers(service.desk, pass, port, clock, workers);
+    join_workers(service.desk, pass, timed.port, timed.clock, workers);
     (Some(links), end)
 }
 
@@ -150,39 +148,37 @@ pub fn serve_port<
     P: Port<D = D>,
     C: Clock + Send,
 >(
-    rt: &R,
-    alloc: Global,
+    serving: &Serving<'_, '_, R>,
     machine: M,
-    ns: Option<&Text>,
-    port: &mut P,
-    clock: &mut C,
+    timed: &mut TimedPort<'_, '_, P, C>,
     staff: Staff<'_>,
 ) -> PortServed<M>
 where
     D::L: Send,
     ensures serves { (history : _) × ServesDoors D.faults D.handed D.returned D.visits C.given C.pace C.faults
-        M.act D.is_closed (option_copied ns.entry) machine
+        M.act D.is_closed (option_copied serving.now.ns) machine
         staff.entry.workers staff.entry.quota (is_some staff.entry.stays) history
-        (port_told (P.faults port.old) (P.opened port.old) (P.returned port.old)
-        (P.listens port.old) (P.doors port.old))
-        (port_told (P.faults port.new) (P.opened port.new) (P.returned port.new)
-        (P.listens port.new) (P.doors port.new))
-        (clock_told (C.faults clock.old) (C.given clock.old) (C.pace clock.old) (C.twins clock.old))
-        (clock_told (C.faults clock.new) (C.given clock.new) (C.pace clock.new) (C.twins clock.new))
+        (port_told (P.faults timed.old.port.now) (P.opened timed.old.port.now) (P.returned timed.old.port.now)
+        (P.listens timed.old.port.now) (P.doors timed.old.port.now))
+        (port_told (P.faults timed.new.port.now) (P.opened timed.new.port.now) (P.returned timed.new.port.now)
+        (P.listens timed.new.port.now) (P.doors timed.new.port.now))
+        (clock_told (C.faults timed.old.clock.now) (C.given timed.old.clock.now) (C.pace timed.old.clock.now) (C.twins timed.old.clock.now))
+        (clock_told (C.faults timed.new.clock.now) (C.given timed.new.clock.now) (C.pace timed.new.clock.now) (C.twins timed.new.clock.now))
         result.links result.end
         × (result.machine ≡ after M.act machine history) }
-    ensures cause { HasPortCause result.end (P.faults port.old) (P.faults port.new)
-        (C.faults clock.old) (C.faults clock.new) }
+    ensures cause { HasPortCause result.end (P.faults timed.old.port.now) (P.faults timed.new.port.now)
+        (C.faults timed.old.clock.now) (C.faults timed.new.clock.now) }
+    ensures same { (timed.new.port.ghost_name ≡ timed.old.port.ghost_name) × (timed.new.clock.ghost_name ≡ timed.old.clock.ghost_name) }
 {
-    match Desk::new(alloc, machine) {
+    match Desk::new(serving.alloc, machine) {
         Ok((desk, mut pass)) => {
             let service = Service {
-                rt,
-                alloc,
+                rt: serving.rt,
+                alloc: serving.alloc,
                 desk: &desk,
-                ns,
+                ns: serving.ns,
             };
-            let (links, end) = serve_doors(&service, &mut pass, port, clock, staff);
+            let (links, end) = serve_doors(&service, &mut pass, timed, staff);
             PortServed {
                 machine: desk.close(pass),
                 links,

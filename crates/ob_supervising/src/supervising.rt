@@ -9,7 +9,7 @@ ghost use Rattle.ob_supervising.specs.Supervising.{Asks, AnswersLink, Supervises
 
 use ob_io::{Dialer, Link, Ticker};
 use ob_object::Obj;
-use ob_server::{Answerer, LinkEnd, serve_by};
+use ob_server::{Answerer, LinkEnd, TimedLink, serve_by};
 use ob_site_rules::Request;
 use ob_super::Super;
 use ob_times::Moment;
@@ -64,7 +64,11 @@ where
         tick: 0,
         k: 0,
     };
-    serve_by(alloc, serving, dialer, None, link, &mut ticker)
+    let mut timed = TimedLink {
+        link,
+        clock: &mut ticker,
+    };
+    serve_by(alloc, serving, dialer, None, &mut timed)
 }
 
 /// Gives every link to an upstream back.

@@ -1,8 +1,8 @@
 use Rattle.ob_program.proofs.CompactLemmas.{compact_ran}
 use Rattle.ob_program.proofs.compact.run_compact.Goals as goal
 
-pub returns : goal.returns
-returns g c =
+pub returns-clause-ran : goal.returns-clause-ran
+returns-clause-ran g c =
     let d = g.V.D.Device in
     compact_ran d.is_told d.seen d.may_leave d.moment d.left_since d.faults _ _ _ _ _ _ _ c.opened_is_not_refused.ensures _ _ _ _ _ _ c.compact_site-end.result c.exit-exit.result c.exit-exit.ensures
     c.compact_site-end.ensures.comes c.compact_site-end.ensures.rose (c.tell.ensures _ c.words.ensures)

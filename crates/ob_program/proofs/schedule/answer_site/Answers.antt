@@ -6,6 +6,6 @@ use Rattle.ob_program.proofs.schedule.answer_site.Goals as goal
 
 pub returns-clause-serves : goal.returns-clause-serves
 returns-clause-serves g c =
-    subst (λ (ns : Option (List ℕ)). ServesScheduled acts c.args.loaded.site c.args.schedules c.args.boot ns (inlet (g.L.Link.left c.args.link.now) (g.L.Link.taken c.args.link.now))
-    (inlet (g.L.Link.left c.serve_scheduled.new.link) (g.L.Link.taken c.serve_scheduled.new.link)) (g.L.Link.held c.args.link.now) (g.L.Link.held c.serve_scheduled.new.link)
-    (g.C.Clock.given c.args.clock.now) (g.C.Clock.given c.serve_scheduled.new.clock) c.serve_scheduled.result) c.as_ref.ensures.value c.serve_scheduled.ensures.serves
+    subst (λ (ns : Option (List ℕ)). ServesScheduled acts c.args.loaded.site c.args.schedules c.args.boot ns (inlet (g.L.Link.left c.args.timed.now.link.now) (g.L.Link.taken c.args.timed.now.link.now))
+    (inlet (g.L.Link.left c.serve_scheduled.new.timed.link.now) (g.L.Link.taken c.serve_scheduled.new.timed.link.now)) (g.L.Link.held c.args.timed.now.link.now) (g.L.Link.held c.serve_scheduled.new.timed.link.now)
+    (g.C.Clock.given c.args.timed.now.clock.now) (g.C.Clock.given c.serve_scheduled.new.timed.clock.now) c.serve_scheduled.result) c.as_ref.ensures.value c.serve_scheduled.ensures.serves

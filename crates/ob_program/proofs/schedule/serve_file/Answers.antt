@@ -7,9 +7,9 @@ use Rattle.ob_program.proofs.schedule.serve_file.Goals as goal
 
 pub returns-in_default-clause-whole : goal.returns-in_default-clause-whole
 returns-in_default-clause-whole g c = λ end is.
-    whole_since (g.L.Link.left c.args.link.now) (g.L.Link.read_faults c.args.link.now) (g.L.Link.read_faults c.serve_site.new.link)
-    (g.L.Link.write_faults c.args.link.now) (g.L.Link.write_faults c.serve_site.new.link)
-    (g.C.Clock.faults c.args.clock.now) (g.C.Clock.faults c.now.new.self) (g.C.Clock.faults c.serve_site.new.clock) end
+    whole_since (g.L.Link.left c.args.timed.now.link.now) (g.L.Link.read_faults c.args.timed.now.link.now) (g.L.Link.read_faults c.serve_site.new.timed.link.now)
+    (g.L.Link.write_faults c.args.timed.now.link.now) (g.L.Link.write_faults c.serve_site.new.timed.link.now)
+    (g.C.Clock.faults c.args.timed.now.clock.now) (g.C.Clock.faults c.now.new.self) (g.C.Clock.faults c.serve_site.new.timed.clock.now) end
     c.now.ensures.cause.later (c.serve_site.ensures.whole end is)
 
 pub returns-clause-comes : goal.returns-clause-comes
@@ -18,22 +18,22 @@ returns-clause-comes g c =
     let site = g.F.Files.content c.args.files.now c.args.service.site.now in
     let file = g.F.Files.content c.args.files.now c.args.service.file.now in
     let boot = min c.in-Some.at last_moment in
-    let ticked = told_ticks c.serve_site-2.new.clock.at c.serve_site-2.new.clock.tick c.serve_site-2.new.clock.k in
-    let comes = schedule_at site file c.moment.result boot c.serve_site-2.result (g.L.Link.left c.args.link.now) (g.L.Link.taken c.args.link.now) (g.L.Link.left c.serve_site-2.new.link) (g.L.Link.taken c.serve_site-2.new.link)
-    (g.L.Link.held c.args.link.now) (g.L.Link.held c.serve_site-2.new.link) (Some []) ticked c.moment.ensures c.serve_site-2.ensures.comes in
+    let ticked = told_ticks c.serve_site-2.new.timed.clock.now.at c.serve_site-2.new.timed.clock.now.tick c.serve_site-2.new.timed.clock.now.k in
+    let comes = schedule_at site file c.moment.result boot c.serve_site-2.result (g.L.Link.left c.args.timed.now.link.now) (g.L.Link.taken c.args.timed.now.link.now) (g.L.Link.left c.serve_site-2.new.timed.link.now) (g.L.Link.taken c.serve_site-2.new.timed.link.now)
+    (g.L.Link.held c.args.timed.now.link.now) (g.L.Link.held c.serve_site-2.new.timed.link.now) (Some []) ticked c.moment.ensures c.serve_site-2.ensures.comes in
     rw c.in-Some.is (
       refl,
       (
         ticked,
         comes,
-        schedule_moments site file boot c.serve_site-2.result (g.L.Link.left c.args.link.now) (g.L.Link.taken c.args.link.now) (g.L.Link.left c.serve_site-2.new.link) (g.L.Link.taken c.serve_site-2.new.link)
-            (g.L.Link.held c.args.link.now) (g.L.Link.held c.serve_site-2.new.link) ticked comes,
-        subst (λ (p : Option Pace). KeepsPace p ticked) c.serve_site-2.ensures.pace (told_ticks_keep c.serve_site-2.new.clock.at c.serve_site-2.new.clock.tick c.serve_site-2.new.clock.k),
+        schedule_moments site file boot c.serve_site-2.result (g.L.Link.left c.args.timed.now.link.now) (g.L.Link.taken c.args.timed.now.link.now) (g.L.Link.left c.serve_site-2.new.timed.link.now) (g.L.Link.taken c.serve_site-2.new.timed.link.now)
+            (g.L.Link.held c.args.timed.now.link.now) (g.L.Link.held c.serve_site-2.new.timed.link.now) ticked comes,
+        subst (λ (p : Option Pace). KeepsPace p ticked) c.serve_site-2.ensures.pace (told_ticks_keep c.serve_site-2.new.timed.clock.now.at c.serve_site-2.new.timed.clock.now.tick c.serve_site-2.new.timed.clock.now.k),
       ),
     )
 
 pub returns-clause-whole : goal.returns-clause-whole
 returns-clause-whole g c = λ end is.
-    whole_apart (g.L.Link.left c.args.link.now) (g.L.Link.read_faults c.args.link.now) (g.L.Link.read_faults c.serve_site-2.new.link)
-    (g.L.Link.write_faults c.args.link.now) (g.L.Link.write_faults c.serve_site-2.new.link) (g.C.Clock.faults c.args.clock.now) end
+    whole_apart (g.L.Link.left c.args.timed.now.link.now) (g.L.Link.read_faults c.args.timed.now.link.now) (g.L.Link.read_faults c.serve_site-2.new.timed.link.now)
+    (g.L.Link.write_faults c.args.timed.now.link.now) (g.L.Link.write_faults c.serve_site-2.new.timed.link.now) (g.C.Clock.faults c.args.timed.now.clock.now) end
     (c.serve_site-2.ensures.whole end is)

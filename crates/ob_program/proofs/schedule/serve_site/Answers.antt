@@ -10,10 +10,10 @@ pub returns-in-Err-clause-comes : goal.returns-in-Err-clause-comes
 returns-in-Err-clause-comes g c =
     let site : Option (List ℕ) = g.F.Files.content c.args.files.now c.args.service.site.now in
     let file : Option (List ℕ) = g.F.Files.content c.args.files.now c.args.service.file.now in
-    let left : Option (List ℕ) = g.L.Link.left c.args.link.now in
-    let taken : Option (List ℕ) = g.L.Link.taken c.args.link.now in
-    let held : Option (List ℕ) = g.L.Link.held c.args.link.now in
-    let given : Option (List ℕ) = g.C.Clock.given c.args.clock.now in
+    let left : Option (List ℕ) = g.L.Link.left c.args.timed.now.link.now in
+    let taken : Option (List ℕ) = g.L.Link.taken c.args.timed.now.link.now in
+    let held : Option (List ℕ) = g.L.Link.held c.args.timed.now.link.now in
+    let given : Option (List ℕ) = g.C.Clock.given c.args.timed.now.clock.now in
     subst (λ (end : StdioEnd). ScheduleComesAt site file c.args.boot (ends.Stdio end) left taken left taken held held given given) (sym c.of_fault.ensures)
     (comes_unopened c.in-Err.fault site file c.args.boot left taken held given c.in-Err.ensures.refused)
 
@@ -49,9 +49,9 @@ returns-in-Ok-read_form-clause-unused g c = λ none. absurd none
 
 pub returns-in-Ok-read_form-clause-whole : goal.returns-in-Ok-read_form-clause-whole
 returns-in-Ok-read_form-clause-whole g c = λ end is.
-    whole_at (g.L.Link.left c.args.link.now) (g.L.Link.read_faults c.args.link.now) (g.L.Link.read_faults c.answer_site-end.new.link)
-    (g.L.Link.write_faults c.args.link.now) (g.L.Link.write_faults c.answer_site-end.new.link)
-    (g.C.Clock.faults c.args.clock.now) (g.C.Clock.faults c.answer_site-end.new.clock) c.answer_site-end.result end is c.answer_site-end.ensures.whole
+    whole_at (g.L.Link.left c.args.timed.now.link.now) (g.L.Link.read_faults c.args.timed.now.link.now) (g.L.Link.read_faults c.answer_site-end.new.timed.link.now)
+    (g.L.Link.write_faults c.args.timed.now.link.now) (g.L.Link.write_faults c.answer_site-end.new.timed.link.now)
+    (g.C.Clock.faults c.args.timed.now.clock.now) (g.C.Clock.faults c.answer_site-end.new.timed.clock.now) c.answer_site-end.result end is c.answer_site-end.ensures.whole
 
 pub returns-in-Err-read_form-clause-whole : goal.returns-in-Err-read_form-clause-whole
 returns-in-Err-read_form-clause-whole g c = λ end is.

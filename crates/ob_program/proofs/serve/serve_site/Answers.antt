@@ -4,8 +4,8 @@ use Rattle.ob_site_laws.specs.SiteLaws.{acts}
 use Rattle.ob_program.proofs.ServingLemmas.{unlistened, unannounced, served_there, on_err}
 use Rattle.ob_program.proofs.serve.serve_site.Goals as goal
 
-pub returns-then-is_err : goal.returns-then-is_err
-returns-then-is_err g c =
+pub returns-then-is_err-clause-at : goal.returns-then-is_err-clause-at
+returns-then-is_err-clause-at g c =
     let l = c.listen.ensures in (
       _,
       unlistened g.P.D.Door.faults g.P.D.Door.handed g.P.D.Door.returned g.P.D.Door.visits g.P.D.Door.is_closed g.C.Clock.given g.C.Clock.pace g.C.Clock.faults
@@ -14,8 +14,8 @@ returns-then-is_err g c =
           (on_err c.listen.result _ (sym c.is_err.ensures.value ∙ c.if-is_err.true) l.cause.failed),
     )
 
-pub returns-in-Some : goal.returns-in-Some
-returns-in-Some g c =
+pub returns-in-Some-clause-at : goal.returns-in-Some-clause-at
+returns-in-Some-clause-at g c =
     let l = c.listen.ensures in (
       _,
       unannounced g.P.D.Door.faults g.P.D.Door.handed g.P.D.Door.returned g.P.D.Door.visits g.P.D.Door.is_closed g.C.Clock.given g.C.Clock.pace g.C.Clock.faults
@@ -24,8 +24,8 @@ returns-in-Some g c =
           c.in-Some.ensures.prints c.in-Some.ensures.rose c.announce.ensures.later,
     )
 
-pub returns : goal.returns
-returns g c =
+pub returns-clause-at : goal.returns-clause-at
+returns-clause-at g c =
     let l = c.listen.ensures in
     let a = c.announce.ensures in
     let s = c.serve_port-served.ensures in

@@ -7,7 +7,7 @@ use Rattle.ob_program.proofs.stdio.answer_site.Goals as goal
 
 pub returns-clause-serves : goal.returns-clause-serves
 returns-clause-serves g c =
-    subst (λ (ns : Option (List ℕ)). (alone : ServesAlone acts c.args.loaded.site ns (inlet (g.L.Link.left c.args.link.now) (g.L.Link.taken c.args.link.now))
-    (inlet (g.L.Link.left c.serve_alone.new.link) (g.L.Link.taken c.serve_alone.new.link)) (g.L.Link.held c.args.link.now) (g.L.Link.held c.serve_alone.new.link)
-    (g.C.Clock.given c.args.clock.now) (g.C.Clock.given c.serve_alone.new.clock) c.serve_alone.result) × KeepsWatches c.args.loaded.site alone.calls)
+    subst (λ (ns : Option (List ℕ)). (alone : ServesAlone acts c.args.loaded.site ns (inlet (g.L.Link.left c.args.timed.now.link.now) (g.L.Link.taken c.args.timed.now.link.now))
+    (inlet (g.L.Link.left c.serve_alone.new.timed.link.now) (g.L.Link.taken c.serve_alone.new.timed.link.now)) (g.L.Link.held c.args.timed.now.link.now) (g.L.Link.held c.serve_alone.new.timed.link.now)
+    (g.C.Clock.given c.args.timed.now.clock.now) (g.C.Clock.given c.serve_alone.new.timed.clock.now) c.serve_alone.result) × KeepsWatches c.args.loaded.site alone.calls)
     c.as_ref.ensures.value c.serve_alone.ensures.serves

@@ -14,8 +14,8 @@ returns-in-Ok-clause-cause g c = served_cause _ _ _ _ _ _ _ _ _ c.read_config.en
 
 pub returns-in-Ok-clause-whole : goal.returns-in-Ok-clause-whole
 returns-in-Ok-clause-whole g c = λ end is.
-    whole_at (g.L.Link.left c.args.link.now) (g.L.Link.read_faults c.args.link.now) (g.L.Link.read_faults c.supervise-end.new.link)
-    (g.L.Link.write_faults c.args.link.now) (g.L.Link.write_faults c.supervise-end.new.link) 0 0 c.supervise-end.result end is c.supervise-end.ensures.whole
+    whole_at (g.L.Link.left c.args.relay.now.link.now) (g.L.Link.read_faults c.args.relay.now.link.now) (g.L.Link.read_faults c.supervise-end.new.link)
+    (g.L.Link.write_faults c.args.relay.now.link.now) (g.L.Link.write_faults c.supervise-end.new.link) 0 0 c.supervise-end.result end is c.supervise-end.ensures.whole
 
 pub returns-in-Err-clause-comes : goal.returns-in-Err-clause-comes
 returns-in-Err-clause-comes g c = comes_unfollowed (g.F.Files.content c.args.files.now c.args.asked.config.now) _ c.in-Err.end _ _ _ _ c.in-Err.ensures.none

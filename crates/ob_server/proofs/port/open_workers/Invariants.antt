@@ -7,18 +7,20 @@ use Rattle.ob_server.proofs.port.open_workers.Given as goal
 
 abbrev pub invariant-loop : goal.invariant-loop
 invariant-loop g l = record {
-  ready : AreReady g.P.D.Door.faults g.P.D.Door.handed g.P.D.Door.returned g.P.D.Door.visits g.C.Clock.given g.C.Clock.pace g.C.Clock.faults (g.C.Clock.pace l.fn.clock) l.workers.items;
+  ready : AreReady g.P.D.Door.faults g.P.D.Door.handed g.P.D.Door.returned g.P.D.Door.visits g.C.Clock.given g.C.Clock.pace g.C.Clock.faults (g.C.Clock.pace l.fn.timed.clock.now) l.workers.items;
   split : AreSplit l.fn.pass l.pass (map (λ w. w.pass) l.workers.items);
   left : length l.pass.numbers + l.counter ≡ length l.fn.pass.numbers;
   room : vec_capacity l.workers ≡ l.count;
   count : length l.workers.items ≡ l.counter;
-  opened : Counts (g.P.Port.opened l.fn.port) (length l.workers.items) (g.P.Port.opened l.port);
-  returned : g.P.Port.returned l.port ≡ g.P.Port.returned l.fn.port;
-  doors : g.P.Port.doors l.port ≡ g.P.Port.doors l.fn.port;
-  listens : g.P.Port.listens l.port ≡ g.P.Port.listens l.fn.port;
-  given : g.C.Clock.given l.clock ≡ g.C.Clock.given l.fn.clock;
-  pace : g.C.Clock.pace l.clock ≡ g.C.Clock.pace l.fn.clock;
-  twins : g.C.Clock.twins l.clock ≡ g.C.Clock.twins l.fn.clock;
-  door_faults : g.P.Port.faults l.fn.port ≤ g.P.Port.faults l.port;
-  clock_faults : g.C.Clock.faults l.fn.clock ≤ g.C.Clock.faults l.clock;
+  opened : Counts (g.P.Port.opened l.fn.timed.port.now) (length l.workers.items) (g.P.Port.opened l.timed.port.now);
+  returned : g.P.Port.returned l.timed.port.now ≡ g.P.Port.returned l.fn.timed.port.now;
+  doors : g.P.Port.doors l.timed.port.now ≡ g.P.Port.doors l.fn.timed.port.now;
+  listens : g.P.Port.listens l.timed.port.now ≡ g.P.Port.listens l.fn.timed.port.now;
+  given : g.C.Clock.given l.timed.clock.now ≡ g.C.Clock.given l.fn.timed.clock.now;
+  pace : g.C.Clock.pace l.timed.clock.now ≡ g.C.Clock.pace l.fn.timed.clock.now;
+  twins : g.C.Clock.twins l.timed.clock.now ≡ g.C.Clock.twins l.fn.timed.clock.now;
+  door_faults : g.P.Port.faults l.fn.timed.port.now ≤ g.P.Port.faults l.timed.port.now;
+  clock_faults : g.C.Clock.faults l.fn.timed.clock.now ≤ g.C.Clock.faults l.timed.clock.now;
+  same_port : l.timed.port.ghost_name ≡ l.fn.timed.port.ghost_name;
+  same_clock : l.timed.clock.ghost_name ≡ l.fn.timed.clock.ghost_name;
 }

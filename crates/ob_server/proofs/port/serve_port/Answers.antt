@@ -6,6 +6,6 @@ pub returns-in-Err-clause-serves : goal.returns-in-Err-clause-serves
 returns-in-Err-clause-serves g c = (
   [],
   doors_none g.D.Door.faults g.D.Door.handed g.D.Door.returned g.D.Door.visits g.C.Clock.given g.C.Clock.pace g.C.Clock.faults g.D.Door.is_closed g.M.Machine.act
-      (option_copied c.args.ns) c.args.machine c.args.staff.workers c.args.staff.quota (is_some c.args.staff.stays) _ _,
+      (option_copied c.args.serving.now.ns) c.args.machine c.args.staff.workers c.args.staff.quota (is_some c.args.staff.stays) _ _,
   c.in-Err.ensures.refused,
 )
