@@ -68,7 +68,8 @@ pub status_fits : (plan : Plan) (s : State) (h k : Head) → k ≡ with_status p
 status_fits plan s h k is fits =
     subst (λ (x : Head). IsTrue (fits_head x)) (sym is) (fits_at plan s h (node_path h) ∙ fits)
 
-free_in : (plan : Plan) (s : State) (r : Objects) (i : ℕ) (x : Object) → NamesAreFree plan s r → i < length (listed r) → x ≡ get_or (listed r) i x → NamesAreFree plan s (node x.head x.inner none)
+-- what roles derive in an object of a row finds its names free
+pub free_in : (plan : Plan) (s : State) (r : Objects) (i : ℕ) (x : Object) → NamesAreFree plan s r → i < length (listed r) → x ≡ get_or (listed r) i x → NamesAreFree plan s (node x.head x.inner none)
 free_in plan s none i x free lt is = absurd (omega arith)
 free_in plan s (node h inner rest) zero x free lt is =
     subst (λ (y : Object). NamesAreFree plan s (node y.head y.inner none)) (sym is) (free.0, free.1, tt)

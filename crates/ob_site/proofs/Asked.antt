@@ -2,7 +2,6 @@
 use Rattle.std.proofs.Common.{◌≡◌, ℕ, suc, ◌≤◌, ◌<◌, ◌^◌, ◌==◌, Bool, true, false, not, cond, List, [], ◌∷◌, get_or, Option, Some, None, option_map, refl, sym, ap, ◌∙◌, subst, arith}
 use Rattle.std.proofs.lemmas.Bool.Decides.{nat_tests}
 use Rattle.ob_object.specs.Object.{Object}
-use Rattle.ob_tree.specs.Trees.{Stamped}
 use Rattle.ob_history.specs.declared.records.Filter.{Filter}
 use Rattle.ob_watching.specs.Operations.{NewWatch, Nowhere, OneWatch}
 use Rattle.ob_watching.specs.Tables.{lookup, numbers_of}
@@ -13,10 +12,7 @@ use Rattle.ob_site_rules.specs.declared.fault.Fault.TheVariants.{NoSuchObject}
 use Rattle.ob_site_rules.specs.Faults.{err}
 use Rattle.ob_site_rules.specs.Replies.{sent}
 use Rattle.ob_site_rules.specs.declared.plan.Plan.{Plan}
-use Rattle.ob_site_rules.specs.State.{State}
 use Rattle.ob_site_rules.specs.Watched.{WatchOperation}
-use Rattle.ob_site_state.specs.declared.contents.Contents.{Contents}
-use Rattle.ob_site_state.specs.Contents.{state_in}
 use Rattle.ob_site_state.specs.Kept.{Kept}
 use Rattle.ob_site_state.specs.Stamping.{tree_of}
 use Rattle.ob_site_watches.specs.Answers.{IsDone, IsMade}
@@ -82,31 +78,14 @@ made_so k plan now t u o a b is r =
     }
 
 -- a watch is asked
-abbrev Answers : Plan → ℕ → State → Stamped → Table → Table → ℕ → WatchOperation → Object → Type 0
-Answers plan now s tree t u n op o =
-    (world_of plan now s tree (lapsed_at now u) ≡ (on_watch (of_plan plan) (world_of plan now s tree (lapsed_at now t)) n op (lookup n (flags_of tree (live now t.watches)))).0)
-    × (o ≡ sent plan (on_watch (of_plan plan) (world_of plan now s tree (lapsed_at now t)) n op (lookup n (flags_of tree (live now t.watches)))).1)
-
-pub tree_is : (k : Kept) (c : Contents) → state_in c ≡ k.now → c.ground.tree.stamps ≡ k.stamps → c.ground.tree.steps ≡ k.steps → c.ground.tree ≡ tree_of k
-tree_is k c a b d = λ i. record { root = (a i).tree; stamps = b i; steps = d i }
-
-pub asked_so : (k : Kept) (plan : Plan) (now : ℕ) (c : Contents) (t u : Table) (n : ℕ) (op : WatchOperation) (o : Object)
-    → plan ≡ k.plan → now ≡ k.time → state_in c ≡ k.now → c.ground.tree ≡ tree_of k → IsDone plan c now t u n op o → (r : Request) → IsQuiet k t u r (OneWatch n op) o
-asked_so k plan now c t u n op o a b d e is r =
-    let first : Answers plan now (state_in c) c.ground.tree t u n op o = (is.watches, is.reply) in
-    let all : Answers k.plan k.time k.now (tree_of k) t u n op o =
-    subst (λ (p : Plan). Answers p k.time k.now (tree_of k) t u n op o) a
-    (subst (λ (m : ℕ). Answers plan m k.now (tree_of k) t u n op o) b
-    (subst (λ (s : State). Answers plan now s (tree_of k) t u n op o) d
-    (subst (λ (x : Stamped). Answers plan now (state_in c) x t u n op o) e first))) in
-    record { world = all.0; reply = all.1 }
+pub asked_so : (k : Kept) (now : ℕ) (t u : Table) (n : ℕ) (op : WatchOperation) (o : Object) → now ≡ k.time → IsDone k now t u n op o → (r : Request) → IsQuiet k t u r (OneWatch n op) o
+asked_so k now t u n op o e is r =
+    let done : IsDone k k.time t u n op o = subst (λ (m : ℕ). IsDone k m t u n op o) e is in record {
+      world = done.watches;
+      reply = done.reply;
+    }
 
 -- what is counted for it
-pub asked_steps : (k : Kept) (plan : Plan) (now : ℕ) (c : Contents) (t : Table) (n : ℕ) (op : WatchOperation) (old new : ℕ) → plan ≡ k.plan → now ≡ k.time → state_in c ≡ k.now → c.ground.tree ≡ tree_of k
-    → WatchTakes plan (state_in c) (lookup n (flags_of c.ground.tree (live now t.watches))) op old new
+pub asked_steps : (k : Kept) (now : ℕ) (t : Table) (n : ℕ) (op : WatchOperation) (old new : ℕ) → now ≡ k.time → WatchTakes k.plan k.now (lookup n (flags_of (tree_of k) (live now t.watches))) op old new
     → Takes k.plan (world_of k.plan k.time k.now (tree_of k) (lapsed_at k.time t)) (OneWatch n op) old new
-asked_steps k plan now c t n op old new a b d e takes =
-    subst (λ (p : Plan). WatchTakes p k.now (lookup n (flags_of (tree_of k) (live k.time t.watches))) op old new) a
-    (subst (λ (m : ℕ). WatchTakes plan k.now (lookup n (flags_of (tree_of k) (live m t.watches))) op old new) b
-    (subst (λ (s : State). WatchTakes plan s (lookup n (flags_of (tree_of k) (live now t.watches))) op old new) d
-    (subst (λ (x : Stamped). WatchTakes plan (state_in c) (lookup n (flags_of x (live now t.watches))) op old new) e takes)))
+asked_steps k now t n op old new e takes = subst (λ (m : ℕ). WatchTakes k.plan k.now (lookup n (flags_of (tree_of k) (live m t.watches))) op old new) e takes

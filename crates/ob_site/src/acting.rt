@@ -11,7 +11,7 @@ ghost use Rattle.ob_site.specs.Between.{IsBegun};
 ghost use Rattle.ob_site.specs.Keeping.{Keeps, MayKeep};
 ghost use Rattle.ob_site.specs.Steps.{IsAnswered, IsUnanswered, step_of};
 
-use crate::ending::{end_step, is_read};
+use crate::ending::{RepliedRequest, end_step, is_read};
 use crate::keeper::Keeper;
 use crate::quiet::end_quietly;
 use ob_contracts::Steps;
@@ -26,6 +26,13 @@ use ob_values::Text;
 use ob_watch::Watches;
 use std::alloc::AllocError;
 use std::sync::ledger::Ledger;
+
+/// A request, and the path that its text leads to, if it leads to one.
+#[derive(Drop)]
+pub(crate) struct LocatedRequest<'a> {
+    pub request: &'a Request,
+    pub path: &'a Option<Text>,
+}
 
 /// What a request does to the state, and its reply, before the step ends, where these are the numbers of the watches that stand. An
 /// error only for want of memory.
@@ -80,25 +87,28 @@ pub(crate) fn on_itself<L: Ledger, K: Keeper>(
     state: &mut State,
     watches: &mut Watches,
     keeper: &mut K,
-    request: &Request,
-    path: &Option<Text>,
+    asked: LocatedRequest<'_>,
     steps: &mut Steps<L>,
 ) -> Result<Obj, AllocError>
     requires begun { IsBegun state.old watches.old }
     requires ready { K.is_ready keeper.old }
-    requires path { path.now ≡ locate state.old.plan.base request.now.target }
-    ensures done { IfOk result (IsAnswered state.old state.new watches.old watches.new request.now Itself) }
+    requires path { asked.path.now ≡ locate state.old.plan.base asked.request.now.target }
+    ensures done { IfOk result (IsAnswered state.old state.new watches.old watches.new asked.entry.request.now Itself) }
     ensures err { OnErr result (IsUnanswered state.old state.new watches.old watches.new) }
-    ensures keeps { OnOk result (Keeps K.below K.keeps keeper.old keeper.new (step_of state.old watches.old request.now Itself)) }
-    ensures may_keep { OnErr result (MayKeep K.below K.may_keep keeper.old keeper.new (step_of state.old watches.old request.now Itself)) }
+    ensures keeps { OnOk result (Keeps K.below K.keeps keeper.old keeper.new (step_of state.old watches.old asked.entry.request.now Itself)) }
+    ensures may_keep { OnErr result (MayKeep K.below K.may_keep keeper.old keeper.new (step_of state.old watches.old asked.entry.request.now Itself)) }
 {
     state.sound_law();
     steps_take_none_away();
-    let reply = act(state, watches, request, path, steps)?;
-    if is_read(request.verb) {
+    let reply = act(state, watches, asked.request, asked.path, steps)?;
+    if is_read(asked.request.verb) {
         end_quietly(state, watches);
         return Ok(reply);
     }
-    end_step(state, watches, keeper, request, &reply, steps)?;
+    let replied = RepliedRequest {
+        request: asked.request,
+        reply: &reply,
+    };
+    end_step(state, watches, keeper, replied, steps)?;
     Ok(reply)
 }

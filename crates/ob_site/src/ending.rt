@@ -22,6 +22,13 @@ use ob_watch::Watches;
 use std::alloc::AllocError;
 use std::sync::ledger::Ledger;
 
+/// A request, and the reply that it is about to have.
+#[derive(Drop)]
+pub(crate) struct RepliedRequest<'a> {
+    pub request: &'a Request,
+    pub reply: &'a Obj,
+}
+
 /// A step moves no own node, and what could be watched before it can be after it.
 fn nodes_stay_law(state: &State)
     ensures { NodesStay state.now.before state.now.now }
@@ -89,14 +96,13 @@ fn keep_change<K: Keeper>(
     keeper.keep(request, state.time(), watches.next_number(), reply)
 }
 
-/// Ends the step of a request that is about to have this reply. An error only for want of memory, or from the keeper; it leaves
+/// Ends the step of a request that is about to have its reply. An error only for want of memory, or from the keeper; it leaves
 /// all but the keeper as it was.
 pub(crate) fn end_step<L: Ledger, K: Keeper>(
     state: &mut State,
     watches: &mut Watches,
     keeper: &mut K,
-    request: &Request,
-    reply: &Obj,
+    replied: RepliedRequest<'_>,
     steps: &mut Steps<L>,
 ) -> Result<(), AllocError>
     requires kept { HoldsBetweenSteps state.old.plan state.old.before state.old.stamps state.old.steps watches.old }
@@ -106,13 +112,13 @@ pub(crate) fn end_step<L: Ledger, K: Keeper>(
     ensures done { OnOk result (IsEnded state.old state.new watches.old watches.new) }
     ensures state { OnErr result (state.new ≡ state.old) }
     ensures watches { OnErr result (watches.new ≡ watches.old) }
-    ensures keeps { OnOk result (KeepsChange K.below K.keeps keeper.old keeper.new state.old.before state.old.now request.now state.old.time watches.old.next reply.now) }
-    ensures may_keep { OnErr result ((keeper.new ≡ keeper.old) ⊎ (IsChange state.old.before state.old.now request.now.verb × K.may_keep keeper.old keeper.new request.now state.old.time watches.old.next reply.now)) }
+    ensures keeps { OnOk result (KeepsChange K.below K.keeps keeper.old keeper.new state.old.before state.old.now replied.entry.request.now state.old.time watches.old.next replied.entry.reply.now) }
+    ensures may_keep { OnErr result ((keeper.new ≡ keeper.old) ⊎ (IsChange state.old.before state.old.now replied.entry.request.now.verb × K.may_keep keeper.old keeper.new replied.entry.request.now state.old.time watches.old.next replied.entry.reply.now)) }
 {
     nodes_stay_law(state);
     let nodes = stamped_nodes(state, steps)?;
     let news = news(state)?;
-    keep_change(state, watches, keeper, request, reply)?;
+    keep_change(state, watches, keeper, replied.request, replied.reply)?;
     settle(state, watches, &nodes, &news);
     Ok(())
 }

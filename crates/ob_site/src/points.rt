@@ -24,7 +24,7 @@ fn own_at<'a>(tree: &'a Tree, path: &Text) -> Option<&'a Obj>
 pub(crate) fn point<'a>(state: &'a State, path: &Text) -> Option<&'a Obj>
     ensures { option_copied result ≡ point_at state.now.plan state.now.now path.now }
 {
-    if state.contents().roles.is_point(path) {
+    if state.is_point(path) {
         own_at(state.tree(), path)
     } else {
         None
@@ -35,8 +35,7 @@ pub(crate) fn point<'a>(state: &'a State, path: &Text) -> Option<&'a Obj>
 pub(crate) fn is_bare(state: &State, path: &Text) -> bool
     ensures { result ≡ is_bare state.now.plan state.now.now path.now }
 {
-    let roles = &state.contents().roles;
     own_at(state.tree(), path).is_some()
         && state.recorders(path).is_empty()
-        && roles.rule_of(path).is_none()
+        && state.rule_of(path).is_none()
 }

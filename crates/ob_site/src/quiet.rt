@@ -6,7 +6,7 @@ ghost use Rattle.ob_site_rules.specs.State.{roll};
 ghost use Rattle.ob_site_rules.specs.Watched.{WatchOperation};
 ghost use Rattle.ob_watch.specs.Tables.{has_no_place, lapsed_at};
 ghost use Rattle.ob_requests.specs.Targets.{operation_of};
-ghost use Rattle.ob_site_state.specs.declared.contents.Contents.{Contents};
+ghost use Rattle.ob_site_state.specs.Kept.{Kept};
 ghost use Rattle.ob_site_watches.specs.Answers.{AllKnown, IsMade};
 ghost use Rattle.ob_site_state.specs.Stamping.{tree_of};
 ghost use Rattle.ob_watch.specs.AsRules.{world_of};
@@ -85,7 +85,7 @@ fn make_kept<K: Keeper>(
 ) -> Result<Obj, AllocError>
     requires ready { K.is_ready keeper.old }
     ensures done { IfOk result (IsMade state.now.plan state.now.time watches.old watches.new) }
-    ensures known { (c : Contents) → AllKnown state.now.plan c watches.old → AllKnown state.now.plan c watches.new }
+    ensures known { (k : Kept) → AllKnown k watches.old → AllKnown k watches.new }
     ensures same { OnErr result (watches.new ≡ watches.old) }
     ensures keeps { OnOk result (KeepsPlace K.below K.keeps keeper.old keeper.new state.now.plan state.now.time watches.old request.now) }
     ensures may_keep { OnErr result ((keeper.new ≡ keeper.old) ⊎ KeepsNext K.below K.may_keep keeper.old keeper.new state.now.plan state.now.time watches.old request.now) }
@@ -121,7 +121,6 @@ pub(crate) fn to_service<K: Keeper>(
     ensures keeps { OnOk result (Keeps K.below K.keeps keeper.old keeper.new (step_of state.old watches.old request.now NewWatch)) }
     ensures may_keep { OnErr result (MayKeep K.below K.may_keep keeper.old keeper.new (step_of state.old watches.old request.now NewWatch)) }
 {
-    let _contents = state.contents();
     let reply = make_kept(state, watches, keeper, request)?;
     end_quietly(state, watches);
     Ok(reply)
@@ -142,20 +141,12 @@ pub(crate) fn to_watch<L: Ledger>(
     ensures err { OnErr result (IsUnanswered state.old state.new watches.old watches.new) }
     ensures steps { IfOk result (λ _. Takes state.old.plan (world_of state.old.plan state.old.time state.old.now (tree_of state.old) (lapsed_at state.old.time watches.old)) (OneWatch number (operation_of asks)) steps.old steps.new) }
 {
-    state.sound_law();
     let call = Call {
         number,
         moment: state.time(),
         asks,
     };
-    let reply = on_watch(
-        state.allocator(),
-        state.plan(),
-        state.contents(),
-        watches,
-        &call,
-        steps,
-    )?;
+    let reply = on_watch(state, watches, &call, steps)?;
     end_quietly(state, watches);
     Ok(reply)
 }

@@ -15,7 +15,7 @@ ghost use Rattle.ob_turn.specs.Standing.{mine};
 
 use crate::{Site, seen_is_lawful};
 use ob_io::{Clock, Door, Link, Port};
-use ob_server::{LinkEnd, PortServed, Staff};
+use ob_server::{LinkEnd, PortServed, Serving, Staff, TimedLink, TimedPort};
 use ob_turn::{Desk, Pass};
 use ob_values::Text;
 use std::alloc::Global;
@@ -58,58 +58,54 @@ pub fn serve_link<R: Wait, L: Link, C: Clock>(
 /// Answers the requests that come over a link from a site that nobody else asks, until the link ends. The laws of watches
 /// hold of its calls. The end is `Memory` also where there is no memory to begin.
 pub fn serve_alone<R: Wait, L: Link, C: Clock>(
-    rt: &R,
-    alloc: Global,
+    serving: &Serving<'_, '_, R>,
     site: Site,
-    ns: Option<&Text>,
-    link: &mut L,
-    clock: &mut C,
+    timed: &mut TimedLink<'_, '_, L, C>,
 ) -> LinkEnd
     ensures sound { IsSoundSite site }
-    ensures serves { (served : ServesAlone acts site (option_copied ns.entry)
-        (inlet (L.left link.old) (L.taken link.old)) (inlet (L.left link.new) (L.taken link.new))
-        (L.held link.old) (L.held link.new) (C.given clock.old) (C.given clock.new) result)
+    ensures serves { (served : ServesAlone acts site (option_copied serving.now.ns)
+        (inlet (L.left timed.old.link.now) (L.taken timed.old.link.now)) (inlet (L.left timed.new.link.now) (L.taken timed.new.link.now))
+        (L.held timed.old.link.now) (L.held timed.new.link.now) (C.given timed.old.clock.now) (C.given timed.new.clock.now) result)
         × KeepsWatches site served.calls }
-    ensures pace { C.pace clock.new ≡ C.pace clock.old }
-    ensures cause { HasEndCause (L.read_faults link.old) (L.read_faults link.new)
-        (L.write_faults link.old) (L.write_faults link.new) (C.faults clock.old) (C.faults clock.new) result }
-    ensures whole { ServesWhole (L.left link.old) (L.read_faults link.old) (L.read_faults link.new)
-        (L.write_faults link.old) (L.write_faults link.new) (C.faults clock.old) (C.faults clock.new) result }
+    ensures pace { C.pace timed.new.clock.now ≡ C.pace timed.old.clock.now }
+    ensures cause { HasEndCause (L.read_faults timed.old.link.now) (L.read_faults timed.new.link.now)
+        (L.write_faults timed.old.link.now) (L.write_faults timed.new.link.now) (C.faults timed.old.clock.now) (C.faults timed.new.clock.now) result }
+    ensures whole { ServesWhole (L.left timed.old.link.now) (L.read_faults timed.old.link.now) (L.read_faults timed.new.link.now)
+        (L.write_faults timed.old.link.now) (L.write_faults timed.new.link.now) (C.faults timed.old.clock.now) (C.faults timed.new.clock.now) result }
+    ensures same { (timed.new.link.ghost_name ≡ timed.old.link.ghost_name) × (timed.new.clock.ghost_name ≡ timed.old.clock.ghost_name) }
 {
     site.sound_law();
-    ob_server::serve_alone(rt, alloc, site, ns, link, clock)
+    ob_server::serve_alone(serving, site, timed)
 }
 
 /// Serves the links of doors of a port from a site, each door's by a worker with a clock of its own. The laws of watches hold
 /// of all that the site was asked. Where a door or a clock can't be had, or there is no memory to begin, no link is served.
 /// The port and the clock have all their doors and twins back.
 pub fn serve_port<R: Threads + Wait + Sync, D: Door + Send, P: Port<D = D>, C: Clock + Send>(
-    rt: &R,
-    alloc: Global,
+    serving: &Serving<'_, '_, R>,
     site: Site,
-    ns: Option<&Text>,
-    port: &mut P,
-    clock: &mut C,
+    timed: &mut TimedPort<'_, '_, P, C>,
     staff: Staff<'_>,
 ) -> PortServed<Site>
 where
     D::L: Send,
     ensures sound { IsSoundSite site }
     ensures serves { (history : _) × ServesDoors D.faults D.handed D.returned D.visits C.given C.pace C.faults
-        acts D.is_closed (option_copied ns.entry) site
+        acts D.is_closed (option_copied serving.now.ns) site
         staff.entry.workers staff.entry.quota (is_some staff.entry.stays) history
-        (port_told (P.faults port.old) (P.opened port.old) (P.returned port.old)
-        (P.listens port.old) (P.doors port.old))
-        (port_told (P.faults port.new) (P.opened port.new) (P.returned port.new)
-        (P.listens port.new) (P.doors port.new))
-        (clock_told (C.faults clock.old) (C.given clock.old) (C.pace clock.old) (C.twins clock.old))
-        (clock_told (C.faults clock.new) (C.given clock.new) (C.pace clock.new) (C.twins clock.new))
+        (port_told (P.faults timed.old.port.now) (P.opened timed.old.port.now) (P.returned timed.old.port.now)
+        (P.listens timed.old.port.now) (P.doors timed.old.port.now))
+        (port_told (P.faults timed.new.port.now) (P.opened timed.new.port.now) (P.returned timed.new.port.now)
+        (P.listens timed.new.port.now) (P.doors timed.new.port.now))
+        (clock_told (C.faults timed.old.clock.now) (C.given timed.old.clock.now) (C.pace timed.old.clock.now) (C.twins timed.old.clock.now))
+        (clock_told (C.faults timed.new.clock.now) (C.given timed.new.clock.now) (C.pace timed.new.clock.now) (C.twins timed.new.clock.now))
         result.links result.end
         × KeepsWatches site history
         × (result.machine ≡ after acts site history) }
-    ensures cause { HasPortCause result.end (P.faults port.old) (P.faults port.new)
-        (C.faults clock.old) (C.faults clock.new) }
+    ensures cause { HasPortCause result.end (P.faults timed.old.port.now) (P.faults timed.new.port.now)
+        (C.faults timed.old.clock.now) (C.faults timed.new.clock.now) }
+    ensures same { (timed.new.port.ghost_name ≡ timed.old.port.ghost_name) × (timed.new.clock.ghost_name ≡ timed.old.clock.ghost_name) }
 {
     site.sound_law();
-    ob_server::serve_port(rt, alloc, site, ns, port, clock, staff)
+    ob_server::serve_port(serving, site, timed, staff)
 }

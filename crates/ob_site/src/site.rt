@@ -11,7 +11,7 @@ ghost use Rattle.ob_points.specs.Points.{point_at, passes};
 
 use crate::keeper::{Keeper, Nobody};
 use crate::points::{is_bare, point};
-use crate::step::step;
+use crate::step::{TimedRequest, step};
 use ob_contracts::Steps;
 use ob_machine::Machine;
 use ob_object::Obj;
@@ -94,14 +94,8 @@ impl Site {
         ensures steps { IfOk result (λ _. RequestTakes self.old request.now moment steps.old steps.new) }
         ensures polls { IfOk result (λ reply. IsPoll self.old request.now → steps.new ≤ steps.old + steps_for 32 (object_entries reply)) }
     {
-        step(
-            &mut self.state,
-            &mut self.watches,
-            keeper,
-            request,
-            moment,
-            steps,
-        )
+        let asked = TimedRequest { request, moment };
+        step(&mut self.state, &mut self.watches, keeper, asked, steps)
     }
 
     /// Does one request at a moment, and gives the reply, as `Machine::step` does, with a counter of the steps that it takes. A step

@@ -13,7 +13,7 @@ ghost use Rattle.ob_site.specs.Counts.{IsPoll, RequestTakes};
 ghost use Rattle.ob_site.specs.Steps.{IsAnswered, IsUnanswered, step_of};
 ghost use Rattle.ob_site.specs.Views.{site_of};
 
-use crate::acting::on_itself;
+use crate::acting::{LocatedRequest, on_itself};
 use crate::keeper::Keeper;
 use crate::quiet::{to_no_watch, to_nobody, to_service, to_watch};
 use crate::room::make_room;
@@ -27,6 +27,13 @@ use ob_values::Text;
 use ob_watch::Watches;
 use std::alloc::AllocError;
 use std::sync::ledger::Ledger;
+
+/// A request, and the moment at which it is asked.
+#[derive(Drop)]
+pub(crate) struct TimedRequest<'a> {
+    pub request: &'a Request,
+    pub moment: Moment,
+}
 
 /// The path that a request's text leads to, if it leads to one.
 fn path_of(state: &State, request: &Request) -> Result<Option<Text>, AllocError>
@@ -62,7 +69,13 @@ fn answer<L: Ledger, K: Keeper>(
 {
     let path = path_of(state, request)?;
     match target(state, request, &path)? {
-        Target::Itself => on_itself(state, watches, keeper, request, &path, steps),
+        Target::Itself => {
+            let asked = LocatedRequest {
+                request,
+                path: &path,
+            };
+            on_itself(state, watches, keeper, asked, steps)
+        }
         Target::Nowhere => to_nobody(state, watches),
         Target::Beyond => to_no_watch(state, watches),
         Target::NewWatch => to_service(state, watches, keeper, request),
@@ -76,23 +89,22 @@ pub(crate) fn step<L: Ledger, K: Keeper>(
     state: &mut State,
     watches: &mut Watches,
     keeper: &mut K,
-    request: &Request,
-    moment: Moment,
+    asked: TimedRequest<'_>,
     steps: &mut Steps<L>,
 ) -> Result<Obj, AllocError>
     requires site { IsSite state.old watches.old }
     requires ready { K.is_ready keeper.old }
-    ensures done { IfOk result (λ reply. (site_of state.new watches.new, reply) ≡ step locate (site_of state.old watches.old) request.now moment) }
+    ensures done { IfOk result (λ reply. (site_of state.new watches.new, reply) ≡ step locate (site_of state.old watches.old) asked.entry.request.now asked.entry.moment) }
     ensures refused { OnErr result (site_of state.new watches.new ≡ site_of state.old watches.old) }
     ensures kept { IsSite state.new watches.new }
-    ensures keeps { OnOk result (Keeps K.below K.keeps keeper.old keeper.new (stepping (site_of state.old watches.old) request.now moment)) }
-    ensures may_keep { OnErr result (MayKeep K.below K.may_keep keeper.old keeper.new (stepping (site_of state.old watches.old) request.now moment)) }
-    ensures steps { IfOk result (λ _. RequestTakes (site_of state.old watches.old) request.now moment steps.old steps.new) }
-    ensures polls { IfOk result (λ reply. IsPoll (site_of state.old watches.old) request.now → steps.new ≤ steps.old + steps_for 32 (object_entries reply)) }
+    ensures keeps { OnOk result (Keeps K.below K.keeps keeper.old keeper.new (stepping (site_of state.old watches.old) asked.entry.request.now asked.entry.moment)) }
+    ensures may_keep { OnErr result (MayKeep K.below K.may_keep keeper.old keeper.new (stepping (site_of state.old watches.old) asked.entry.request.now asked.entry.moment)) }
+    ensures steps { IfOk result (λ _. RequestTakes (site_of state.old watches.old) asked.entry.request.now asked.entry.moment steps.old steps.new) }
+    ensures polls { IfOk result (λ reply. IsPoll (site_of state.old watches.old) asked.entry.request.now → steps.new ≤ steps.old + steps_for 32 (object_entries reply)) }
 {
     make_room(state, watches);
-    state.begin(moment);
-    match answer(state, watches, keeper, request, steps) {
+    state.begin(asked.moment);
+    match answer(state, watches, keeper, asked.request, steps) {
         Ok(reply) => Ok(reply),
         Err(error) => {
             state.undo();

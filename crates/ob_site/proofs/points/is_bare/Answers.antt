@@ -18,7 +18,7 @@ returns-then-is_empty c =
     c.is_some.ensures ∙ sym (map_some (λ x. x.now) c.own_at.result) ∙ ap (λ (o : Option Object). is_some o) c.own_at.ensures ∙ map_some (λ (o : Object). leaf o.head) (node_of p c.tree.result.now.root)
     ∙ ap (λ (t : Stamped). is_some (node_of p t.root)) c.tree.ensures.value in
     let free : c.is_none.result ≡ not (is_some (rule_of plan p)) =
-    free_is c.rule_of.result c.is_none.result c.is_none.ensures ∙ ap (λ (o : Option ℕ). not (is_some o)) (c.rule_of.ensures plan c.contents.ensures.roles) in
+    free_is c.rule_of.result c.is_none.result c.is_none.ensures ∙ ap (λ (o : Option ℕ). not (is_some o)) c.rule_of.ensures in
     elim c.if-is_some.branch [
       | then-is_some w ↦
           let unrecorded : true ≡ (length (recorders_of plan p) == 0) =

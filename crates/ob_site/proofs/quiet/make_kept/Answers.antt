@@ -1,5 +1,4 @@
 use Rattle.std.proofs.Common.{inr, subst, sym}
-use Rattle.ob_site_rules.specs.declared.plan.Plan.{Plan}
 use Rattle.ob_site_watches.specs.Answers.{AllKnown}
 use Rattle.ob_watch.specs.Tables.{Table}
 use Rattle.ob_site.proofs.Keeping.{left_out_so, made_in, made_next}
@@ -10,7 +9,7 @@ returns-then-left_out-clause-done g c =
     made_in c.plan.result.now c.args.state.now.plan c.time-now.result c.args.state.now.time c.args.watches.now c.make.new.watches c.in_ok-reply.reply c.plan.ensures c.time-now.ensures c.in_ok-reply.ensures.done
 
 pub returns-then-left_out-clause-known : goal.returns-then-left_out-clause-known
-returns-then-left_out-clause-known g c = λ cs. subst (λ (p : Plan). AllKnown p cs c.args.watches.now → AllKnown p cs c.make.new.watches) c.plan.ensures (c.make.ensures.known cs)
+returns-then-left_out-clause-known g c = c.make.ensures.known
 
 pub returns-then-left_out-clause-keeps : goal.returns-then-left_out-clause-keeps
 returns-then-left_out-clause-keeps g c =
@@ -22,7 +21,7 @@ returns-in-Ok-clause-done g c =
     made_in c.plan.result.now c.args.state.now.plan c.time-now.result c.args.state.now.time c.args.watches.now c.make.new.watches c.in_ok-reply.reply c.plan.ensures c.time-now.ensures c.in_ok-reply.ensures.done
 
 pub returns-in-Ok-clause-known : goal.returns-in-Ok-clause-known
-returns-in-Ok-clause-known g c = λ cs. subst (λ (p : Plan). AllKnown p cs c.args.watches.now → AllKnown p cs c.make.new.watches) c.plan.ensures (c.make.ensures.known cs)
+returns-in-Ok-clause-known g c = c.make.ensures.known
 
 pub returns-in-Ok-clause-keeps : goal.returns-in-Ok-clause-keeps
 returns-in-Ok-clause-keeps g c =
@@ -42,6 +41,6 @@ returns-in-Err-clause-may_keep g c =
     c.args.watches.now c.make.new.watches c.args.request.now c.in_ok-reply.reply c.next_number.result c.plan.ensures c.time-now.ensures needed (c.in_ok-reply.ensures.one_more needed.0) c.next_number.ensures c.in-Err.ensures.err)
 
 pub returns-in-Err-clause-known : goal.returns-in-Err-clause-known
-returns-in-Err-clause-known g c = λ cs known.
+returns-in-Err-clause-known g c = λ k known.
     let needed = rw c.if-left_out.false at c.is_left_out-left_out.ensures in
-    subst (λ (t : Table). AllKnown c.args.state.now.plan cs t) (sym (c.unmake.ensures c.time-now.result c.args.watches.now (c.in_ok-reply.ensures.one_more needed.0).table)) known
+    subst (λ (t : Table). AllKnown k t) (sym (c.unmake.ensures c.time-now.result c.args.watches.now (c.in_ok-reply.ensures.one_more needed.0).table)) known

@@ -12,10 +12,9 @@ returns-clause-done g c =
     let t = c.args.watches.now in
     let u = c.make_kept.new.watches in
     let r = c.args.request.now in
-    let cs = c.contents-contents.result.now in
     quietly k c.end_quietly.new.state t u c.end_quietly.new.watches r NewWatch c.in_ok-reply.reply c.requires.begun
     (made_so k k.plan k.time t u c.in_ok-reply.reply refl refl c.in_ok-reply.ensures.done r)
-    (kept_through k k.plan cs t u refl c.contents-contents.ensures.value c.contents-contents.ensures.stamps c.contents-contents.ensures.steps c.requires.begun.kept (c.make_kept.ensures.known cs))
+    (kept_through k t u c.requires.begun.kept (c.make_kept.ensures.known k))
     c.end_quietly.ensures.state c.end_quietly.ensures.watches
 
 pub returns-clause-keeps : goal.returns-clause-keeps
