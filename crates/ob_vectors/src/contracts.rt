@@ -48,7 +48,7 @@ fn tell_counted<L: Ledger>(
 {
     let (object, implied, over) = of;
     let mut steps = Steps::<L>::begin(blank);
-    let made = effective(alloc, library, object, implied, over, &mut steps)?;
+    let made = effective(alloc, library, object.copy()?, implied, over, &mut steps)?;
     push_object(alloc, None, &made, told)?;
     if !shows(&view(library, object, implied, over, &mut steps), &made) {
         told.push_str(" and its view shows something else")?;

@@ -197,15 +197,15 @@ impl<'a> Polls<'a> {
         self.client(is_first).hear(rt.alloc(), answer)
     }
 
-    // Posts what a row says, and gives the reply to the client's mirror.
+    // Posts what `CALL TARGET BODY` says, and gives the reply to the client's mirror.
     fn poll<R: Threads + Wait + Sync + AllocGlobal>(
         &mut self,
         rt: &R,
         is_first: bool,
-        call: &str,
-        said: &str,
+        row: &str,
         told: &mut String,
     ) -> Result<(), AllocError> {
+        let (call, said) = split_word(row);
         let row = format!(in rt.alloc(); "POST {said}")?;
         match self.ask(rt, is_first, row.as_str())? {
             Ok(reply) => {
@@ -223,13 +223,13 @@ impl<'a> Polls<'a> {
         row: &str,
         told: &mut String,
     ) -> Result<(), AllocError> {
-        let (word, said) = split_word(row);
+        let (word, _) = split_word(row);
         match word {
             "GET" | "PUT" | "POST" => {
                 let answer = self.ask(rt, is_first, row)?;
                 tell_answer(rt.alloc(), answer, told)
             }
-            "add" | "changes" | "refresh" => self.poll(rt, is_first, word, said, told),
+            "add" | "changes" | "refresh" => self.poll(rt, is_first, row, told),
             _ => {
                 let asked = Row {
                     text: row,

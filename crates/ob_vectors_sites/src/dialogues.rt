@@ -5,7 +5,7 @@ use crate::sites::{Opening, load_site};
 use ob_io::MemLink;
 use ob_load::Loaded;
 use ob_rows::{Row, Table, push_bytes, text_of};
-use ob_server::serve_alone;
+use ob_server::{Serving, TimedLink, serve_alone};
 use ob_times::Moment;
 use std::alloc::{AllocError, Global};
 use std::sync::Wait;
@@ -98,7 +98,16 @@ impl<R: Wait> Dialogues<'_, R> {
             return;
         };
         let mut clock = self.dialogue.clock(boot);
-        let _end = serve_alone(self.rt, alloc, site, ns.as_ref(), link, &mut clock);
+        let serving = Serving {
+            rt: self.rt,
+            alloc,
+            ns: ns.as_ref(),
+        };
+        let mut timed = TimedLink {
+            link,
+            clock: &mut clock,
+        };
+        let _end = serve_alone(&serving, site, &mut timed);
     }
 
     // Asks all requests, and tells the answer to the last one.

@@ -3,7 +3,7 @@ use crate::sites::{Opening, load_site, opening_of};
 use ob_io::{MemLink, Ticker};
 use ob_load::Loaded;
 use ob_rows::{Row, Table, number_at, push_bytes};
-use ob_server::{LinkEnd, serve_alone};
+use ob_server::{LinkEnd, Serving, TimedLink, serve_alone};
 use ob_times::Moment;
 use std::alloc::{AllocError, Global};
 use std::sync::Wait;
@@ -46,6 +46,18 @@ fn tell_end(end: LinkEnd, told: &mut String) -> Result<(), AllocError> {
     }
 }
 
+// A link over which this input comes, which gives and takes at most so many bytes at a time, and whose calls of these numbers
+// fail.
+fn link_of(
+    alloc: Global,
+    input: &[u8],
+    piece: usize,
+    failing: Vec<u64>,
+) -> Result<MemLink, AllocError> {
+    let input = input.to_vec(alloc)?;
+    Ok(MemLink::new(alloc, input, piece.max(1), failing))
+}
+
 impl<'a, R: Wait> Links<'a, R> {
     /// No site; those that are taken have their documents in this file.
     pub(crate) fn new(rt: &'a R, documents: &'a str) -> Links<'a, R> {
@@ -76,20 +88,26 @@ impl<R: Wait> Links<'_, R> {
             tick: 1_000,
             k: 0,
         };
-        let end = serve_alone(self.rt, alloc, site, ns.as_ref(), link, &mut clock);
+        let serving = Serving {
+            rt: self.rt,
+            alloc,
+            ns: ns.as_ref(),
+        };
+        let mut timed = TimedLink {
+            link,
+            clock: &mut clock,
+        };
+        let end = serve_alone(&serving, site, &mut timed);
         Some(end)
     }
 
-    // Tells how a link goes that gives and takes at most so many bytes at a time, and whose calls of these numbers fail.
+    // Tells how a link goes.
     fn tell_link(
         &self,
         alloc: Global,
-        input: &[u8],
-        piece: usize,
-        failing: Vec<u64>,
+        mut link: MemLink,
         told: &mut String,
     ) -> Result<(), AllocError> {
-        let mut link = MemLink::new(alloc, input.to_vec(alloc)?, piece.max(1), failing);
         match self.serve(alloc, &mut link) {
             Some(end) => tell_end(end, told)?,
             None => told.push_str("no site")?,
@@ -107,7 +125,8 @@ impl<R: Wait> Links<'_, R> {
         told: &mut String,
     ) -> Result<(), AllocError> {
         let mut other = String::new(alloc);
-        self.tell_link(alloc, input, piece, Vec::new(alloc), &mut other)?;
+        let link = link_of(alloc, input, piece, Vec::new(alloc))?;
+        self.tell_link(alloc, link, &mut other)?;
         if other.as_str() == told.as_str() {
             return Ok(());
         }
@@ -121,9 +140,11 @@ impl<R: Wait> Links<'_, R> {
         let mut failing = Vec::new(alloc);
         if let Some(call) = number_at(asked.text, 1) {
             failing.push(call)?;
-            return self.tell_link(alloc, input, piece, failing, told);
+            let link = link_of(alloc, input, piece, failing)?;
+            return self.tell_link(alloc, link, told);
         }
-        self.tell_link(alloc, input, piece, failing, told)?;
+        let link = link_of(alloc, input, piece, failing)?;
+        self.tell_link(alloc, link, told)?;
         self.tell_odd(alloc, input, 1, told)?;
         self.tell_odd(alloc, input, 65_536, told)
     }
