@@ -1,9 +1,10 @@
 //! The watches of a site.
-ghost use Rattle.std.specs.Prelude.{◌≡◌, ℕ, ◌++◌, [], ◌∷◌, cond, count_by, OnOk, is_some, not, None, IfOk, nat_eq, length, max, option_map};
-ghost use Rattle.std.specs.List.{AllByRecursion, IsDistinct, list_any};
+ghost use Rattle.std.specs.Prelude.{◌≡◌, ℕ, ◌++◌, [], ◌∷◌, cond, count_by, OnOk, is_some, not, None, IfOk, nat_eq, nat_le, length, max, option_map};
+ghost use Rattle.std.specs.List.{AllByRecursion, IsDistinct};
 ghost use Rattle.std.specs.Option.{option_copied};
 ghost use Rattle.indexmap.specs.IndexMap.{IsUnique};
 ghost use Rattle.ob_watching.specs.Tables.{lookup, numbers_of, replace};
+ghost use Rattle.ob_watching.specs.Watches.{max_watches};
 ghost use Rattle.ob_watch.specs.Adding.{AddsAt, Makes, TakesBack};
 ghost use Rattle.ob_watch.specs.Items.{changed_by, marked_anew, one_more, rolled_to};
 ghost use Rattle.ob_watch.specs.Tables.{AllStandUntil, IsLease, StandsUntil, at_number, has_no_place, holding, is_over, lapsed_at, leased_for, live, no_watches, touched_at, watching, with_all_items, with_new, without, Table};
@@ -60,21 +61,6 @@ fn live_watch(held: &Map, number: u64, now: Moment) -> Option<&Watch>
     Some(watch)
 }
 
-// Whether the lease of one has run out.
-fn any_has_lapsed(watches: &[Watch], now: Moment) -> bool
-    ensures { result ≡ list_any (is_over now) watches.now }
-{
-    watches.iter().any(|watch| watch.has_lapsed(now))
-}
-
-// The same of the watches under their numbers.
-fn one_has_lapsed(held: &Map, now: Moment) -> bool
-    ensures { result ≡ list_any (λ e. is_over now e.1) held.now.entries }
-{
-    let watches = held.values().as_slice();
-    any_has_lapsed(watches, now)
-}
-
 // A moment before which no lease of these runs out; the greatest number where there are none.
 fn soonest_of(watches: &[Watch]) -> u64
     ensures { AllByRecursion (StandsUntil result) watches.now }
@@ -110,6 +96,13 @@ fn live_count(held: &Map, now: Moment) -> usize
 {
     let watches = held.values().as_slice();
     count_live(watches, now)
+}
+
+// Whether a thousand or more are live; they are counted only where as many are held.
+fn are_thousand(held: &Map, now: Moment) -> bool
+    ensures { result ≡ nat_le max_watches (length (live now held.now.entries)) }
+{
+    held.len() >= 1000 && live_count(held, now) >= 1000
 }
 
 // Makes a change of each item of each watch.
@@ -195,18 +188,11 @@ impl Watches {
         self.get(number, now).is_some()
     }
 
-    /// Whether the lease of a watch has run out at this moment; if none has, `sweep` changes nothing.
-    pub fn has_lapsed(&self, now: Moment) -> bool
-        ensures lapsed { result ≡ list_any (λ e. is_over now e.1) self.now.watches }
-    {
-        one_has_lapsed(&self.map, now)
-    }
-
     /// Whether no more can be made at this moment: 1,000 are live, or the last number was given.
     pub fn is_full(&self, now: Moment) -> bool
         ensures { result ≡ has_no_place (lapsed_at now self.now) }
     {
-        live_count(&self.map, now) >= 1000 || self.next > 9_223_372_036_854_775_807
+        are_thousand(&self.map, now) || self.next > 9_223_372_036_854_775_807
     }
 
     /// The numbers of the watches that are held. They differ.
