@@ -64,23 +64,23 @@ fn thin_head(object: &Obj, words: Option<&Words>, gives: Option<&Words>) -> Resu
 
 /// An object, and what it is given from outside.
 #[derive(Clone, Copy)]
-struct Placed<'o, 'w, 'l, 'v> {
-    object: &'o Obj,
+struct Placed<'a, 'w> {
+    object: &'a Obj,
     /// The words that it has as `is`.
     words: Option<&'w Words>,
     /// What a list or a feed round it gives it in place of the contracts of its words.
-    list: Option<&'l Obj>,
+    list: Option<&'a Obj>,
     /// The child of a source that it overrides.
-    over: Option<&'v Obj>,
+    over: Option<&'a Obj>,
 }
 
 /// The result of an object that is placed, each part with few words.
-fn worded(
+fn worded<'a>(
     alloc: Global,
-    learned: &Learned<'_, '_>,
-    placed: &Placed<'_, '_, '_, '_>,
+    learned: Learned<'a, '_>,
+    placed: &Placed<'a, '_>,
 ) -> Result<Obj, AllocError>
-    ensures { IfOk result (λ made. (whole lib : Contracts) (implied : Option Words) (o : Option Object) → Tells learned.now.known.now whole → Holds learned.now.table.now (brief_contracts whole lib)
+    ensures { IfOk result (λ made. (whole lib : Contracts) (implied : Option Words) (o : Option Object) → Tells learned.entry.known.now whole → Holds learned.entry.table.now (brief_contracts whole lib)
         → IsGivenBy (option_copied placed.now.list) (brief_contracts whole lib) placed.now.object.now.head implied → option_copied placed.now.over ≡ option_map (brief whole) o
         → made ≡ briefly whole (option_copied placed.now.words) (worded_at lib implied o placed.now.object.now)) }
 {
@@ -144,7 +144,7 @@ fn put_contract(
         list: None,
         over: None,
     };
-    let made = worded(alloc, &learned, &alone)?;
+    let made = worded(alloc, learned, &alone)?;
     put_first(table, word, made)?;
     Ok(())
 }

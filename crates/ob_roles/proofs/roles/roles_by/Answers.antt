@@ -11,4 +11,4 @@ returns c = λ lib tells given.
     let ws = own_words h (option_copied c.args.list.now.words) (option_copied c.args.over) in
     let e = c.roles_of.ensures in
     roles_are lib c.args.place.root h ws c.is_by-all.result c.roles_of.result (c.is_by-all.ensures lib tells given) e.root e.lobby e.point e.history e.subject
-    ∙ sym (ap (λ b. cond b no_roles (roles_of lib c.args.place.root h ws)) c.if-inside.false)
+    ∙ sym (ap (λ b. cond b no_roles (roles_of lib c.args.place.root h ws)) c.if-place.false)
