@@ -1,12 +1,13 @@
 #!/usr/bin/env bash
-# GETs and PUTs a second of `obix serve` over loopback with 1, 4 and 16 kept links, each with a worker of its own, beside
-# nginx with as many worker processes, which answers the same bytes by `return 200`. The load comes from peer_load.c.
+# GETs and PUTs of `obix serve` over loopback with 1, 4, 16 and 64 kept links, each with a worker of its own, beside nginx
+# with a worker process for each link up to 4, which answers the same bytes by `return 200`: how many a second, and
+# microseconds of processor a request (user and system, of the server). The load comes from peer_load.c.
 # nginx is the one of this machine. Where there is none, the package in apt's own cache (/var/cache/apt/archives) is unpacked
 # into a temporary folder, and nothing is installed or fetched; where that is missing too, obix is measured alone.
-# usage: bench/peer.sh [--requests N] [--runs N]      (40,000 requests in all at each number of links; 3 runs, in turns)
+# usage: bench/peer.sh [--requests N] [--runs N]      (100,000 requests in all at each number of links; 3 runs, in turns)
 set -euo pipefail
 top=$(cd "$(dirname "$0")/.." && pwd)
-requests=40000 runs=3
+requests=100000 runs=3
 while [ $# -gt 0 ]; do
   case $1 in
     --requests) requests=$2; shift 2 ;;
@@ -70,23 +71,46 @@ start_obix() {
   await "$2"
 }
 
-for links in 1 4 16; do
+# Ticks of processor that a process and its children took.
+ticks() {
+  local pid all=0
+  for pid in "$1" $(pgrep -P "$1"); do
+    all=$((all + $(sed 's/.*) //' "/proc/$pid/stat" | awk '{ print $12 + $13 }')))
+  done
+  echo "$all"
+}
+
+# One run of the load against a server: its name, the verb, requests a second, microseconds of processor a request.
+run() {
+  local name=$1 pid=$2 before rate
+  shift 2
+  before=$(ticks "$pid")
+  rate=$("$work/load" "$@")
+  awk -v line="$name $4 $rate" -v ticks=$(($(ticks "$pid") - before)) -v all=$(($2 * $3)) -v second="$(getconf CLK_TCK)" \
+    'BEGIN { print line, ticks * 1e6 / second / all }'
+}
+
+for links in 1 4 16 64; do
   each=$((requests / links))
   there=$(free_port)
   start_obix "$links" "$there"
+  server=${servers[0]}
   if [ -n "$nginx" ]; then
     beside=$(free_port)
-    start_nginx "$links" "$beside"
+    start_nginx $((links < 4 ? links : 4)) "$beside"
+    peer=${servers[1]}
   fi
   for _ in $(seq "$runs"); do
-    [ -n "$nginx" ] && echo "nginx GET $("$work/load" "$beside" "$links" "$each" GET /obix/n)" >>"$work/rates-$links"
-    echo "obix GET $("$work/load" "$there" "$links" "$each" GET /obix/n)" >>"$work/rates-$links"
-    echo "obix PUT $("$work/load" "$there" "$links" "$each" PUT /obix/n '<int val="7"/>')" >>"$work/rates-$links"
+    [ -n "$nginx" ] && run nginx "$peer" "$beside" "$links" "$each" GET /obix/n >>"$work/rates-$links"
+    run obix "$server" "$there" "$links" "$each" GET /obix/n >>"$work/rates-$links"
+    run obix "$server" "$there" "$links" "$each" PUT /obix/n '<int val="7"/>' >>"$work/rates-$links"
   done
   kill "${servers[@]}" 2>/dev/null
   wait "${servers[@]}" 2>/dev/null || true
   servers=()
-  awk -v links="$links" '{ name = $1 " " $2; if (!(name in best)) order[++count] = name; if ($3 > best[name]) best[name] = $3 }
-    END { for (i = 1; i <= count; i++) printf "%2d links  %-9s  %7d a second\n", links, order[i], best[order[i]] }' "$work/rates-$links"
+  awk -v links="$links" '{ name = $1 " " $2; if (!(name in best)) order[++count] = name
+      if ($3 > best[name]) best[name] = $3
+      if (!(name in least) || $4 < least[name]) least[name] = $4 }
+    END { for (i = 1; i <= count; i++) printf "%2d links  %-9s  %7d a second  %5.1f us of processor a request\n", links, order[i], best[order[i]], least[order[i]] }' "$work/rates-$links"
 done
 echo "load after $(cut -d' ' -f1-3 /proc/loadavg)"

@@ -24,8 +24,8 @@ const TAKEN: u64 = 1;
 
 const AWAITED: u64 = 2;
 
-// How often a waiting caller looks at the word before it sleeps.
-const LOOKS: u32 = 100;
+// How often a waiting caller looks at the word before it sleeps: for about as long as it takes to sleep and to be woken.
+const LOOKS: u32 = 10_000;
 
 /// One machine, which takes one call at a time. It belongs to no thread: callers share it by `&`, and
 /// each calls under a pass of its own.
