@@ -9,7 +9,7 @@ unfolding ticks
 returns-clause-answers g c =
     let end = c.serve_by.new.timed.clock.now in
     let answers = answers_link g.W.L.Link.left g.W.L.Link.taken g.W.L.Link.held g.W.Dialer.dials g.W.Dialer.visits
-        (c.args.serving.now, c.args.dialer.now) (c.serve_by.new.answerer, c.serve_by.new.outside)
-        (inlet (g.L.Link.left c.args.link.now) (g.L.Link.taken c.args.link.now)) (inlet (g.L.Link.left c.serve_by.new.timed.link.now) (g.L.Link.taken c.serve_by.new.timed.link.now))
-        (g.L.Link.held c.args.link.now) (g.L.Link.held c.serve_by.new.timed.link.now) (told_ticks end.at end.tick end.k) c.serve_by.result c.serve_by.ensures.serves in
+    (c.args.serving.now, c.args.dialer.now) (c.serve_by.new.answerer, c.serve_by.new.outside)
+    (inlet (g.L.Link.left c.args.link.now) (g.L.Link.taken c.args.link.now)) (inlet (g.L.Link.left c.serve_by.new.timed.link.now) (g.L.Link.taken c.serve_by.new.timed.link.now))
+    (g.L.Link.held c.args.link.now) (g.L.Link.held c.serve_by.new.timed.link.now) (told_ticks end.at end.tick end.k) c.serve_by.result c.serve_by.ensures.serves in
     search (rules, answers)
