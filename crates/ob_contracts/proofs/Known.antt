@@ -22,7 +22,7 @@ same_or true e h = refl
 same_or false true h = h refl
 same_or false false h = refl
 
-step : (before after here rest : Bool) → (before ≡ true → after ≡ true) → (here ≡ true → after ≡ true) → (before || (here || rest)) ≡ true → (after || rest) ≡ true
+pub step : (before after here rest : Bool) → (before ≡ true → after ≡ true) → (here ≡ true → after ≡ true) → (before || (here || rest)) ≡ true → (after || rest) ≡ true
 step true after here rest f g h = or_first after rest (f refl)
 step false after true rest f g h = or_first after rest (g refl)
 step false after false rest f g h = or_second after rest h

@@ -20,6 +20,14 @@ pub mod Bare
 pub mod Dropped
 pub mod Heads
 pub mod Naming
+pub mod Renewing
+pub mod Renewed
+pub mod RenewedTo
+pub mod Tied
+pub mod Replaced
+pub mod Retold
+pub mod Marked
+pub mod OneByOne
 pub mod Taught
 pub mod UpTo
 pub mod Alone

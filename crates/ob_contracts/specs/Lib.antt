@@ -15,4 +15,6 @@ pub mod Standard
 pub mod Table
 pub mod Telling
 pub mod Tellers
+pub mod Ties
+pub mod Renewing
 pub mod Rows

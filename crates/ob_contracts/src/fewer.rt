@@ -70,7 +70,7 @@ fn tells_part(heads: &[&Obj], source: &Obj) -> bool
     false
 }
 
-fn or(one: bool, other: bool) -> bool
+pub(crate) fn or(one: bool, other: bool) -> bool
     ensures { result ≡ (one || other) }
 {
     one || other

@@ -21,9 +21,11 @@ mod library;
 mod lookup;
 mod named;
 mod reading;
+mod remaking;
 mod standard;
 mod steps;
 mod tellers;
+mod ties;
 
 pub use adding::LibFault;
 pub use build::{effective, view};
@@ -33,6 +35,7 @@ pub use lookup::Sources;
 pub use reading::{Setting, View};
 pub use steps::Steps;
 pub use tellers::{Tellers, tell};
+pub use ties::Ties;
 
 /// Worked rows of the inheritance rules, computed on the definition.
 pub fn worked_rows()

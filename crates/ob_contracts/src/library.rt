@@ -1,11 +1,12 @@
 //! The contracts that words name.
-ghost use Rattle.std.specs.Prelude.{◌≡◌, ◌≤◌, false, is_some, None, [], ◌∷◌, ◌++◌, IfOk, OnOk, OnErr};
+ghost use Rattle.std.specs.Prelude.{◌≡◌, ◌≤◌, ◌<◌, false, is_some, None, Some, length, [], ◌∷◌, ◌++◌, IfOk, OnOk, OnErr};
 ghost use Rattle.std.specs.Option.{option_copied};
 ghost use Rattle.ob_object.specs.Default.{default_of};
 ghost use Rattle.ob_object.specs.Object.{parts};
 ghost use Rattle.ob_contracts.specs.Adding.{library_names};
 ghost use Rattle.ob_contracts.specs.Index.{at_place, place_of};
 ghost use Rattle.ob_contracts.specs.Inherit.{contract_of, result_of};
+ghost use Rattle.ob_contracts.specs.Renewing.{with_contract};
 ghost use Rattle.ob_contracts.specs.Sound.{AllSound};
 
 use crate::adding::library_names;
@@ -106,7 +107,7 @@ impl Library {
     }
 
     /// The allocator of the library.
-    pub(crate) fn allocator(&self) -> Global {
+    pub fn allocator(&self) -> Global {
         *self.contracts.allocator()
     }
 
@@ -152,8 +153,24 @@ impl Library {
         Ok(())
     }
 
+    /// Puts what another own object comes to at a place, and gives the contract that stood there. Its own words alone are put to
+    /// those that are named, since all that it inherits are there already.
+    pub(crate) fn put_at(&mut self, place: usize, own: &Obj, made: Obj) -> Result<Obj, AllocError>
+        requires within { place < length self.old }
+        requires made { made ≡ result_of self.old own.now None None }
+        requires small { parts made ≤ 512 }
+        ensures ok { OnOk result (self.new ≡ with_contract place made self.old) }
+        ensures old { IfOk result (λ old. at_place self.old place ≡ Some old) }
+        ensures err { OnErr result (self.new ≡ self.old) }
+    {
+        let _head = made.head();
+        put_named(self.allocator(), &mut self.named, own)?;
+        let entry = &mut self.contracts[place];
+        Ok(std::mem::replace(&mut entry.1, made))
+    }
+
     /// Where the contract of a word stands.
-    fn place_of(&self, uri: &str) -> Option<usize>
+    pub(crate) fn place_of(&self, uri: &str) -> Option<usize>
         ensures { result ≡ place_of uri.now self.now }
     {
         self.places.get(uri).copied()

@@ -1,7 +1,7 @@
 //! A library, with the words that are told by it.
 ghost use Rattle.std.specs.Prelude.{◌≡◌, ◌<◌, ◌+◌, Some, IfOk};
 ghost use Rattle.std.specs.Option.{option_copied};
-ghost use Rattle.ob_object.specs.Object.{parts};
+ghost use Rattle.ob_object.specs.Object.{Object, parts};
 ghost use Rattle.ob_tree.specs.Standings.{context};
 ghost use Rattle.ob_tree.specs.Depths.{depth_at};
 ghost use Rattle.ob_tree.specs.Shown.{standing_at};
@@ -50,6 +50,27 @@ impl Told {
     {
         let words = tree.telling(alloc, &library)?;
         Ok(Told { library, words })
+    }
+
+    /// A library of which no words are told.
+    #[tactic(auto, unfolding(crate::specs::Grounds::WordsStand))]
+    pub fn bare(alloc: Global, library: Library) -> Told
+        ensures library { result.library ≡ library }
+        ensures told { (root : Object) → WordsStand root result }
+    {
+        Told {
+            library,
+            words: BTreeMap::new(alloc),
+        }
+    }
+
+    /// The library alone.
+    pub fn into_library(self) -> Library
+        ensures { result ≡ self.library }
+    {
+        let Told { library, words } = self;
+        drop(words);
+        library
     }
 
     /// The library.

@@ -19,7 +19,7 @@ use Rattle.ob_contracts.specs.declared.adding.LibFault.TheVariants.{Twice, Later
 use Rattle.ob_contracts.proofs.Children.{named-map}
 use Rattle.ob_site_rules.specs.Build.{Path, child}
 use Rattle.ob_site_rules.specs.Writes.{site_contracts}
-use Rattle.ob_plain_state.specs.States.{AreTaken}
+use Rattle.ob_contracts.specs.Renewing.{AreTaken}
 use Rattle.ob_plain_state.proofs.Keeping.{names_of, taken_among, taken-among}
 
 -- objects without their slots

@@ -1,12 +1,10 @@
 -- What log of a site's definitions an `OpenedLog` is, and what a state owes its plan, part by part.
-use Rattle.std.specs.Prelude.{◌≡◌, ℕ, ◌<◌, ◌^◌, Bool, true, false, not, ◌++◌, List, [], ◌∷◌, Option, Some, None, slice_get, Ok}
+use Rattle.std.specs.Prelude.{◌≡◌, ℕ, ◌<◌, ◌^◌, Bool, true, false, not, ◌++◌, List, [], ◌∷◌, Option, Some, None, slice_get}
 use Rattle.ob_object.specs.declared.kind.Kind.{Kind}
 use Rattle.ob_object.specs.declared.kind.Kind.TheVariants as kind
 use Rattle.ob_object.specs.Object.{Objects, none, node, listed}
 use Rattle.ob_object.specs.WellFormed.{NamesDiffer}
 use Rattle.ob_object.specs.Paths.{node_path}
-use Rattle.ob_contracts.specs.Inherit.{Contracts, result_of}
-use Rattle.ob_contracts.specs.Adding.{added}
 use Rattle.ob_alarms.specs.declared.rule.Num.{Num}
 use Rattle.ob_alarms.specs.declared.rule.Num.TheVariants as num
 use Rattle.ob_alarms.specs.declared.rule.Rule.{Rule}
@@ -68,9 +66,3 @@ abbrev pub NodesAre : (Path → Kind) → Objects → Type 0
 NodesAre kind_at none = Unit {0}
 NodesAre kind_at (node h inner rest) =
     IsOfKindAt kind_at (node_path h) h.kind × NodesAre kind_at inner × NodesAre kind_at rest
-
--- contracts that a library takes one after another
-abbrev pub AreTaken : Contracts → Contracts → Type 0
-AreTaken lib [] = Unit {0}
-AreTaken lib (c ∷ cs) =
-    let more : Contracts = lib ++ (c.0, result_of lib c.1 None None) ∷ [] in (added lib c.0 c.1 ≡ Ok more) × AreTaken more cs

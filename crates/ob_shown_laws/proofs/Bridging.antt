@@ -82,7 +82,7 @@ row_differs (node h inner rest) before e =
 pub paths_differ : PathsAreDifferent
 paths_differ o e = row_differs (row o) [] (ap (first_twice []) (sym (paths_by_row o)) ∙ e)
 
-slot_off : (p : Path) (slot : Slot) (r : Objects) → is_in p r ≡ false → with_slot_in p slot r ≡ r
+pub slot_off : (p : Path) (slot : Slot) (r : Objects) → is_in p r ≡ false → with_slot_in p slot r ≡ r
 slot_off p slot none e = refl
 slot_off p slot (node h inner rest) e =
     let own = neither (is_path p (node_path h)) (is_in p inner || is_in p rest) e in

@@ -1,11 +1,7 @@
-pub mod Named
 pub mod Equal
-pub mod Within
 pub mod Passed
 pub mod Faults
 pub mod Otherwise
-pub mod Contracted
-pub mod Climbed
 pub mod Counting
 pub mod Selected
 pub mod Taking

@@ -24,7 +24,7 @@ use Rattle.ob_tree.specs.declared.node.NodeId.{NodeId}
 use Rattle.ob_shown_laws.proofs.Places.{place_at}
 use Rattle.ob_shown_laws.proofs.Contracting.{found_in}
 use Rattle.ob_site_state.specs.Kept.{Kept}
-use Rattle.ob_site_actions.proofs.Contracted.{contracts_some, contracts_none, none_in}
+use Rattle.ob_site_state.proofs.Contracted.{contracts_some, contracts_none, none_in}
 use Rattle.ob_site_actions.proofs.Steps.{with_records, with_alarms}
 
 -- and so where it has a place

@@ -1,15 +1,20 @@
 -- The steps of a write, one after another.
-use Rattle.std.proofs.Common.{◌≡◌, ℕ, [], Some, None, ap, ◌∙◌}
+use Rattle.std.proofs.Common.{◌≡◌, ℕ, [], Some, None, sym, ap, ◌∙◌, subst}
 use Rattle.ob_object.specs.declared.kind.Kind.{Kind}
 use Rattle.ob_object.specs.declared.head.Slot.{Slot}
 use Rattle.ob_object.specs.Object.{Object}
+use Rattle.ob_contracts.specs.Inherit.{Contracts}
+use Rattle.ob_contracts.specs.Standard.{with_added, standard}
 use Rattle.ob_tree.specs.Laid.{changed, paths}
 use Rattle.ob_tree.specs.Paths.{place_of, first_twice}
 use Rattle.ob_shown_laws.proofs.Bridging.{slot_is_set}
 use Rattle.ob_site_rules.specs.Build.{Path}
 use Rattle.ob_site_rules.specs.State.{with_board}
-use Rattle.ob_site_rules.specs.Writes.{with_slot, library_after, recorded, board_after, write}
+use Rattle.ob_site_rules.specs.Writes.{with_slot, site_contracts, library_after, recorded, board_after, write}
+use Rattle.ob_step_laws.specs.Given.{IsMade}
+use Rattle.ob_step_laws.proofs.Steps.{made_written}
 use Rattle.ob_site_state.specs.Kept.{Kept}
+use Rattle.ob_site_state.specs.OwnContracts.{with_slot_at}
 use Rattle.ob_site_state.proofs.Rewinding.{set_to}
 
 -- the slot is set
@@ -28,8 +33,14 @@ with_records p kind slot k = record k { now = record k.now { logs = recorded k.p
 abbrev pub with_alarms : Path → Slot → Kept → Kept
 with_alarms p slot k = record k { now = with_board k.now (board_after k.plan k.now k.time p slot) }
 
-pub renewed : (p : Path) (k set new : Kept) (n : ℕ) (slot : Slot) → set ≡ with_value k n slot → new ≡ with_library p set → new ≡ with_library p (with_value k n slot)
-renewed p k set new n slot is then = then ∙ ap (with_library p) is
+pub renewed : (p : Path) (k new : Kept) (n : ℕ) (slot : Slot) → IsMade k.now → first_twice [] (paths k.now.tree) ≡ None → place_of p (paths k.now.tree) ≡ Some n
+    → new ≡ record k { now = with_slot_at n slot k.now } → new ≡ with_library p (with_value k n slot)
+renewed p k new n slot made differ place is =
+    let root : Object = changed (set_to slot) n k.now.tree in
+    let tree : root ≡ with_slot p slot k.now.tree = slot_is_set k.now.tree p n slot differ place in
+    let library : library_after p root k.now.library ≡ with_added standard (site_contracts root) =
+    subst (λ (o : Object). library_after p o k.now.library ≡ with_added standard (site_contracts o)) (sym tree) (made_written p slot k.now made) in
+    is ∙ ap (λ (l : Contracts). let x : Kept = record k { now = record k.now { library = l; tree = root } } in x) (sym library)
 
 pub all_recorded : (p : Path) (kind : Kind) (slot : Slot) (k old new : Kept) (n : ℕ) (copy : Slot) → old ≡ with_library p (with_value k n copy) → new ≡ with_records p kind slot old
     → new ≡ with_records p kind slot (with_library p (with_value k n copy))

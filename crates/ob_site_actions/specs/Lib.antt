@@ -1,4 +1,3 @@
-pub mod Parts
 pub mod Limits
 pub mod Fitting
 pub mod Stops

@@ -8,7 +8,6 @@ mod acks;
 mod actions;
 mod batch;
 mod calls;
-mod contracts;
 mod limits;
 mod not_done;
 mod own;

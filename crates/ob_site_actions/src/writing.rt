@@ -7,7 +7,6 @@ ghost use Rattle.ob_site_rules.specs.Writes.{write, written, overfills};
 ghost use Rattle.ob_site_actions.specs.Fitting.{CanBeWritten};
 ghost use Rattle.ob_site_actions.specs.Limits.{any_counted_out};
 
-use crate::contracts::renew_library;
 use crate::slots::same_slot;
 use ob_contracts::Steps;
 use ob_object::{Attributes, Kind, Slot};
@@ -26,7 +25,7 @@ pub struct OwnNode<'a> {
 
 /// Writes a value to a node: the slot is set; a write to a part of a contract makes the library anew; each history of
 /// the node has one more record; and the node's rule acts. Want of memory leaves all but the state now as it was, so
-/// that `undo` gives that back. The contracts of the library that is made anew are counted as `Library::add` counts them.
+/// that `undo` gives that back. Each part of a contract that is made anew is counted.
 ///
 /// Source: oBIX 1.1, chapter 10 (Networking: Write).
 pub fn write<L: Ledger>(
@@ -44,8 +43,7 @@ pub fn write<L: Ledger>(
 {
     state.sound_law();
     let copy = slot.copy()?;
-    state.set_slot(at.node, copy)?;
-    renew_library(state, at.node, at.path, steps)?;
+    state.set_slot(at.node, copy, steps)?;
     state.record_all(at.path, kind, slot)?;
     state.act(at.path, slot)
 }

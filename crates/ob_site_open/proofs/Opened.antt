@@ -20,6 +20,7 @@ use Rattle.ob_site_rules.specs.Opening.{opening}
 use Rattle.ob_plain_state.specs.States.{AreCounted, entry_of}
 use Rattle.ob_plain_state.proofs.Keeping.{rolled_counted}
 use Rattle.ob_step_laws.specs.Consistent.{IsConsistent}
+use Rattle.ob_step_laws.specs.Given.{IsMade}
 use Rattle.ob_step_laws.specs.Laws.{Apart}
 use Rattle.ob_step_laws.specs.Opens.{IsOpened}
 use Rattle.ob_step_laws.specs.Ordered.{IsBy, IsOrdered}
@@ -72,6 +73,10 @@ module _ (root : Object) (boot : ℕ) (o : Opened) (formed : IsWellFormed root) 
 
   pub consistent : IsConsistent st.plan st.world.site
   consistent = is_opened.consistent
+
+  -- the library is what the site's contracts make of the built-in one
+  pub library_made : (c : Contents) → Fills o c → IsMade (state_in c)
+  library_made c f = subst (λ (s : State). IsMade s) (sym (filled o c f)) is_opened.library
 
   pub rules_fit : All IsRule (numbered_from 0 o.plan.rules)
   rules_fit = is_opened.rules

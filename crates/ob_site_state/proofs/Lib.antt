@@ -20,3 +20,9 @@ pub mod Stepping
 pub mod Again
 pub mod Crossing
 pub mod Lookups
+pub mod ChildNamed
+pub mod Contracted
+pub mod OwnContracts
+pub mod OwnRows
+pub mod Renewed
+pub mod Renoted

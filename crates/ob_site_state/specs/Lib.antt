@@ -5,6 +5,8 @@ pub mod Kept
 pub mod Recorded
 pub mod Codes
 pub mod Contents
+pub mod Parts
+pub mod OwnContracts
 pub mod Tallies
 pub mod States
 pub mod Stamping

@@ -13,7 +13,10 @@ ghost use Rattle.ob_site_rules.specs.State.{Log as SiteLog, numbered_from, board
 ghost use Rattle.ob_site_rules.specs.Writes.{stored, events_ever, records_from, with_record, recorded, board_after};
 ghost use Rattle.ob_object.specs.WellFormed.{IsWellFormed};
 ghost use Rattle.ob_tree.specs.Laid.{paths};
-ghost use Rattle.ob_tree.specs.Paths.{first_twice};
+ghost use Rattle.ob_tree.specs.Paths.{first_twice, place_of};
+ghost use Rattle.ob_site_rules.specs.Writes.{is_in_contract};
+ghost use Rattle.ob_step_laws.specs.Given.{IsMade};
+ghost use Rattle.ob_site_state.specs.OwnContracts.{HasNoted, with_slot_at};
 ghost use Rattle.ob_step_laws.specs.Laws.{Apart};
 ghost use Rattle.ob_site_rules.specs.Shown.{rule_of};
 ghost use Rattle.ob_plain_state.specs.Fitting.{TakesIfRule};
@@ -37,9 +40,12 @@ ghost use Rattle.ob_alarms.specs.Lists.{first_place};
 use crate::change::Change;
 use crate::contents::Contents;
 use crate::numbers::number_in;
+use crate::own_contracts::OwnContracts;
+use crate::renewing::renew;
 use crate::tally::{Tally, count_at};
 use ob_alarms::{Alarms, Num};
 use ob_contracts::{Library, Steps, View};
+use ob_ground::Ground;
 use ob_history::{Log, Record};
 use ob_object::{Kind, Slot};
 use ob_site_rules::Plan;
@@ -60,6 +66,7 @@ pub struct State {
     plan: Plan,
     time: Moment,
     contents: Contents,
+    own: OwnContracts,
     // The time before the step, and what it has changed since, in order.
     since: Moment,
     found: Vec<Change>,
@@ -74,12 +81,14 @@ impl Drop for State {
             plan,
             time: _,
             contents,
+            own,
             since: _,
             found,
             tally,
         } = self;
         drop(plan);
         drop(contents);
+        drop(own);
         drop(found);
         drop(tally);
     }
@@ -119,6 +128,21 @@ fn is_library(change: &Change) -> bool
     }
 }
 
+/// Notes the library as it is, by a copy, where the step has noted none. Want of memory leaves all as it was.
+fn note_library(alloc: Global, found: &mut Vec<Change>, ground: &Ground) -> Result<(), AllocError>
+    ensures ok { OnOk result (HasNoted ground.now found.old.items found.new.items) }
+    ensures err { OnErr result (found.new.items ≡ found.old.items) }
+{
+    if has_library(found.as_slice()) {
+        return Ok(());
+    }
+    found.reserve(1)?;
+    let copy = ground.library().copy()?;
+    let told = ground.told_by(alloc, copy)?;
+    found.push_reserved(Change::Contracts { told });
+    Ok(())
+}
+
 /// The later of two moments.
 fn later(first: Moment, second: Moment) -> Moment
     ensures { result ≡ max first second }
@@ -151,14 +175,17 @@ impl State {
         requires sound { IsSoundFor plan (state_in contents) }
         requires roles { AreRoles contents.roles plan }
         requires capacities { capacities_of (state_in contents).logs ≡ capacities.items }
+        requires made { IsMade (state_in contents) }
         ensures { IfOk result (λ state. state ≡ record { plan = plan; time = time; now = state_in contents; since = time; before = state_in contents; stamps = contents.ground.tree.stamps; steps = contents.ground.tree.steps }) }
     {
         let tally = Tally::new(alloc, plan.histories.as_slice(), capacities, &contents.logs)?;
+        let own = OwnContracts::of(alloc, &contents.ground)?;
         Ok(State {
             alloc,
             plan,
             time,
             contents,
+            own,
             since: time,
             found: Vec::new(alloc),
             tally,
@@ -302,12 +329,14 @@ impl State {
     }
 
     /// The state now owes its plan nothing, no two nodes of its root have one path, those that roles derive among them,
-    /// what roles name are own nodes, and the logs are those of the plan's histories, in their order.
+    /// what roles name are own nodes, the logs are those of the plan's histories, in their order, and the library is what the site's
+    /// contracts make of the built-in one.
     pub fn sound_law(&self)
         ensures sound { IsSoundFor self.now.plan self.now.now }
         ensures differ { first_twice [] (paths self.now.now.tree) ≡ None }
         ensures histories { keys self.now.now.logs ≡ map (λ h. h.0) self.now.plan.histories }
         ensures apart { Apart (map (λ h. h.0) self.now.plan.histories) }
+        ensures made { IsMade self.now.now }
     {
         let _ = &self.time;
     }
@@ -337,34 +366,53 @@ impl State {
         self.time = later(self.time, moment);
     }
 
-    /// Sets the slot of an own node, whose value is of its kind. Want of memory leaves all as it was.
-    pub fn set_slot(&mut self, node: NodeId, slot: Slot) -> Result<(), AllocError>
+    /// Sets the slot of an own node, whose value is of its kind. Where the node is a contract of the site or a part of one, that
+    /// contract is made anew, and those that stand on it. Want of memory takes back all that the step has changed.
+    ///
+    /// Source: oBIX 1.1, chapter 7 (Contracts).
+    pub fn set_slot<L: Ledger>(
+        &mut self,
+        node: NodeId,
+        slot: Slot,
+        steps: &mut Steps<L>,
+    ) -> Result<(), AllocError>
         requires node { IsNode node.number self.old.now.tree }
         requires within { node.number < parts self.old.now.tree }
         requires fits { (h : Head) → head_at node.number self.old.now.tree ≡ Some h → IsTrue (fits_slot h.kind slot) }
-        ensures ok { OnOk result (self.new ≡ record self.old { now = record self.old.now { tree = changed (λ h. record h { slot = slot }) node.number self.old.now.tree } }) }
+        ensures ok { OnOk result (self.new ≡ record self.old { now = with_slot_at node.number slot self.old.now }) }
+        ensures err { OnErr result (self.new ≡ record self.old { now = self.new.now }) }
+    {
+        let written = self.own.written(self.alloc, &self.contents.ground, node)?;
+        let Some(written) = written else {
+            return self.set_alone(node, slot);
+        };
+        note_library(self.alloc, &mut self.found, &self.contents.ground)?;
+        self.found.reserve(1)?;
+        let old = self.contents.set(node, slot);
+        self.found.push_reserved(Change::Slot { node, slot: old });
+        let ground = &mut self.contents.ground;
+        match renew(self.alloc, ground, &self.own, written.as_slice(), steps) {
+            Ok(()) => Ok(()),
+            Err(error) => {
+                self.contents.take_all_back(&mut self.found);
+                self.tally.total = self.tally.total_before;
+                Err(error)
+            }
+        }
+    }
+
+    /// Sets the slot of a node that is in no contract. Want of memory leaves all as it was.
+    fn set_alone(&mut self, node: NodeId, slot: Slot) -> Result<(), AllocError>
+        requires node { IsNode node.number self.old.now.tree }
+        requires within { node.number < parts self.old.now.tree }
+        requires fits { (h : Head) → head_at node.number self.old.now.tree ≡ Some h → IsTrue (fits_slot h.kind slot) }
+        requires alone { (p : Path) → place_of p (paths self.old.now.tree) ≡ Some node.number → is_in_contract p self.old.now.tree ≡ false }
+        ensures ok { OnOk result (self.new ≡ record self.old { now = with_slot_at node.number slot self.old.now }) }
         ensures err { OnErr result (self.new ≡ self.old) }
     {
         self.found.reserve(1)?;
         let old = self.contents.set(node, slot);
         self.found.push_reserved(Change::Slot { node, slot: old });
-        Ok(())
-    }
-
-    /// Takes another library. Want of memory leaves all as it was. A step notes the library before it alone, and lets go
-    /// of those that it takes between.
-    pub fn set_library(&mut self, library: Library) -> Result<(), AllocError>
-        ensures ok { OnOk result (self.new ≡ record self.old { now = record self.old.now { library = library } }) }
-        ensures err { OnErr result (self.new ≡ self.old) }
-    {
-        let told = self.contents.ground.told_by(self.alloc, library)?;
-        if has_library(&self.found) {
-            let _between = self.contents.ground.replace(told);
-            return Ok(());
-        }
-        self.found.reserve(1)?;
-        let told = self.contents.ground.replace(told);
-        self.found.push_reserved(Change::Contracts { told });
         Ok(())
     }
 

@@ -15,7 +15,8 @@ use Rattle.ob_site_rules.specs.State.{is_among, rolled}
 use Rattle.ob_site_rules.specs.Shown.{node_in, node_of}
 use Rattle.ob_site_rules.specs.Writes.{site_contracts}
 use Rattle.ob_site_rules.specs.Sites.{SiteState}
-use Rattle.ob_plain_state.specs.States.{AreCounted, NamesAreFree, NodesAre, AreTaken}
+use Rattle.ob_contracts.specs.Renewing.{AreTaken}
+use Rattle.ob_plain_state.specs.States.{AreCounted, NamesAreFree, NodesAre}
 use Rattle.ob_site_rules.specs.declared.roles.Roles.{Roles}
 use Rattle.ob_site_rules.specs.Roles.{no_roles, all_roles, role_at, worded_contracts}
 use Rattle.ob_site_rules.specs.Opening.{standard_words}

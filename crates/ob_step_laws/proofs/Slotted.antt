@@ -116,6 +116,25 @@ children_slotted : (p : Path) (slot : Slot) (o : Option Object) → unwrap_or (o
 children_slotted p slot None = refl
 children_slotted p slot (Some x) = listed_slotted p slot x.inner
 
+-- each contract of a site is what it was, with the slot set
+nodes_slotted : (p : Path) (slot : Slot) (os : List Object) → nodes (map (with_slot p slot) os) ≡ map (λ c. (c.0, with_slot p slot c.1)) (nodes os)
+nodes_slotted p slot [] = refl
+nodes_slotted p slot (o ∷ os) = go (node_path (with_slot p slot o).head) (node_path o.head) (path_if (is_path p (node_path o.head)) slot o.head) (nodes_slotted p slot os)
+  where
+    go : (q r : Option Path) → q ≡ r → nodes (map (with_slot p slot) os) ≡ map (λ c. (c.0, with_slot p slot c.1)) (nodes os)
+        → cons_option (option_map (λ x. (x, with_slot p slot o)) q) (nodes (map (with_slot p slot) os))
+        ≡ map (λ c. (c.0, with_slot p slot c.1)) (cons_option (option_map (λ x. (x, o)) r) (nodes os))
+    go None None is later = later
+    go None (Some r) is later = absurd cc
+    go (Some q) None is later = absurd cc
+    go (Some q) (Some r) is later = let same : q ≡ r = cc in ap₂ (λ (x : Path) (l : Contracts). (x, with_slot p slot o) ∷ l) same later
+
+pub contracts_slotted : (p : Path) (slot : Slot) (t : Object) → site_contracts (with_slot p slot t) ≡ map (λ c. (c.0, with_slot p slot c.1)) (site_contracts t)
+contracts_slotted p slot t =
+    ap (λ (o : Option Object). nodes (unwrap_or (option_map children o) [])) (child_slotted p slot (codes "contracts") t)
+    ∙ ap nodes (children_slotted p slot (child (codes "contracts") t))
+    ∙ nodes_slotted p slot (unwrap_or (option_map children (child (codes "contracts") t)) [])
+
 nodes_stay : (p : Path) (slot : Slot) (os : List Object) → list_any (λ c. is_some (node_of p c.1)) (nodes (map (with_slot p slot) os)) ≡ false → nodes (map (with_slot p slot) os) ≡ nodes os
 nodes_stay p slot [] e = refl
 nodes_stay p slot (o ∷ os) e =

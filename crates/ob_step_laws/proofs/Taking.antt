@@ -8,7 +8,7 @@ use Rattle.ob_contracts.specs.Standard.{with_added}
 use Rattle.ob_contracts.specs.declared.adding.LibFault.{LibFault}
 use Rattle.ob_contracts.specs.declared.adding.LibFault.TheVariants.{Twice, Later, Large}
 use Rattle.ob_site_rules.specs.Loading.{add_contracts}
-use Rattle.ob_plain_state.specs.States.{AreTaken}
+use Rattle.ob_contracts.specs.Renewing.{AreTaken}
 use Rattle.ob_step_laws.specs.Laws.{AddedAreTaken}
 
 one_is : (a b c : Bool) (e f g : LibFault) (more new : Contracts) → cond a (Err e) (cond b (Err f) (cond c (Err g) (Ok more))) ≡ Ok new → more ≡ new

@@ -8,7 +8,8 @@ use Rattle.ob_site_rules.specs.declared.plan.Plan.{Plan}
 use Rattle.ob_site_rules.specs.State.{State, is_among}
 use Rattle.ob_site_rules.specs.Shown.{node_of}
 use Rattle.ob_site_rules.specs.Writes.{site_contracts}
-use Rattle.ob_plain_state.specs.States.{NamesAreFree, NodesAre, AreTaken, AreCounted, limits_fit, rule_at}
+use Rattle.ob_contracts.specs.Renewing.{AreTaken}
+use Rattle.ob_plain_state.specs.States.{NamesAreFree, NodesAre, AreCounted, limits_fit, rule_at}
 
 -- What the roles of a node derive finds its names free; nodes at one path are of one kind, and numbers of it are held against
 -- limits of it; each point is a node; the built-in library takes the site's contracts; and the events of each history can be

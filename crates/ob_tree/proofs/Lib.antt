@@ -13,6 +13,7 @@ pub mod Growing
 pub mod Wholes
 pub mod Named
 pub mod Numbered
+pub mod ChildNodes
 pub mod Within
 pub mod Lasting
 pub mod Collecting

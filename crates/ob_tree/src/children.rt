@@ -1,13 +1,16 @@
-//! Children of an object by their names.
-ghost use Rattle.std.specs.Prelude.{◌≡◌, ◌<◌, length};
+//! Children of an object by their names, and those that are nodes.
+ghost use Rattle.std.specs.Prelude.{◌≡◌, ◌<◌, ◌∷◌, ◌++◌, [], cond, length, is_some, IfOk, OnOk};
+ghost use Rattle.ob_object.specs.Paths.{node_path};
 ghost use Rattle.ob_object.specs.WellFormed.{has_name};
 ghost use Rattle.ob_tree.specs.Laid.{object_of, said};
 ghost use Rattle.ob_tree.specs.Shown.{AreLaid};
-ghost use Rattle.ob_tree.specs.Children.{child_at};
+ghost use Rattle.ob_tree.specs.Children.{child_at, AreChildNodes};
 
+use crate::NodeId;
 use crate::shown::{head_in, spot_in};
 use crate::spot::Spot;
 use ob_object::{Attributes, Obj};
+use std::alloc::{AllocError, Global};
 
 /// Whether an object has that name.
 fn is_named(head: &Attributes, name: &str) -> bool
@@ -36,4 +39,39 @@ pub(crate) fn child_of(leaves: &[Obj], spots: &[Spot], at: usize, name: &str) ->
         next = behind.end;
     }
     None
+}
+
+/// Puts a child, if it is a node.
+fn put_node(made: &mut Vec<NodeId>, head: &Attributes, number: usize) -> Result<(), AllocError>
+    ensures { OnOk result (made.new.items ≡ cond (is_some (node_path head.now)) (made.old.items ++ record { number = number } ∷ []) made.old.items) }
+{
+    if head.node_path().is_some() {
+        made.push(NodeId {
+            number: number as u64,
+        })?;
+    }
+    Ok(())
+}
+
+/// The children of an object that are nodes, one after another.
+pub(crate) fn child_nodes(
+    alloc: Global,
+    leaves: &[Obj],
+    spots: &[Spot],
+    at: usize,
+) -> Result<Vec<NodeId>, AllocError>
+    requires laid { AreLaid (said leaves.now) spots.now }
+    requires within { at < length leaves.now }
+    ensures { IfOk result (λ made. AreChildNodes at (object_of (said leaves.now) spots.now) made.items) }
+{
+    let spot = spot_in(spots, at);
+    let mut made = Vec::new(alloc);
+    let mut next = at + 1;
+    for place in 0..spot.len {
+        let head = head_in(leaves, next);
+        put_node(&mut made, head, next)?;
+        let behind = spot_in(spots, next);
+        next = behind.end;
+    }
+    Ok(made)
 }

@@ -10,14 +10,14 @@ ghost use Rattle.ob_object.specs.Paths.{node_path};
 ghost use Rattle.ob_tree.specs.Paths.{place_of, first_twice};
 ghost use Rattle.ob_tree.specs.Laid.{head_at, leaf, parent_at, paths, changed};
 ghost use Rattle.ob_tree.specs.Stamps.{touched};
-ghost use Rattle.ob_tree.specs.Children.{AreNumbered, child_at, place_at};
+ghost use Rattle.ob_tree.specs.Children.{AreNumbered, child_at, place_at, AreChildNodes};
 ghost use Rattle.ob_tree.specs.Depths.{depth_at};
 ghost use Rattle.ob_tree.specs.Shown.{part_at, shown_at, standing_at};
 ghost use Rattle.ob_tree.specs.Standings.{context};
 ghost use Rattle.ob_tree.specs.Told.{words_for, AreToldBy};
 ghost use Rattle.ob_tree.specs.Trees.{Stamped, IsUnbuilt};
 
-use crate::children::child_of;
+use crate::children::{child_nodes, child_of};
 use crate::fault::TreeFault;
 use crate::laying::{lay_leaves, lay_spots, places_of};
 use crate::node::NodeId;
@@ -189,6 +189,16 @@ impl Tree {
             }),
             None => None,
         }
+    }
+
+    /// The children that are nodes, in document order. An error only for want of memory.
+    pub fn child_nodes(&self, alloc: Global, id: NodeId) -> Result<Vec<NodeId>, AllocError>
+        requires { id.number < parts self.now.root }
+        ensures { IfOk result (λ made. AreChildNodes id.number self.now.root made.items) }
+    {
+        let leaves = self.leaves.as_slice();
+        let spots = self.spots.as_slice();
+        child_nodes(alloc, leaves, spots, id.number as usize)
     }
 
     /// The numbers of the children of each object that has more than eight, by their names, and by its own number. An error only

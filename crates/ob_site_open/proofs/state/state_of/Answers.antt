@@ -1,7 +1,7 @@
 use Rattle.std.proofs.Common.{sym, ap, ◌∙◌}
 use Rattle.ob_ground.specs.Grounds.{Grounded}
 use Rattle.ob_site_state.specs.declared.contents.Contents.{Contents}
-use Rattle.ob_site_open.proofs.Opened.{stand, rules_fit, tree_differ, apart, histories, in_time, rolled, sound, capacities}
+use Rattle.ob_site_open.proofs.Opened.{stand, rules_fit, tree_differ, apart, histories, in_time, rolled, sound, capacities, library_made}
 use Rattle.ob_site_open.proofs.state.state_of.Goals as goal
 
 pub logs_in-requires-clause-stand : goal.logs_in-requires-clause-stand
@@ -47,3 +47,9 @@ new-requires-2-clause-capacities c =
     capacities c.requires.opens.root c.requires.opens.boot c.args.opened c.requires.opens.well_formed c.requires.counted c.requires.opens.opens made
     (record { library = ap (λ (g : Grounded). g.library) c.in_ok-ground.ensures; tree = ap (λ (g : Grounded). g.tree) c.in_ok-ground.ensures ∙ c.in_ok-tree.ensures.tree; logs = c.in_ok-logs.ensures.logs; nanos = c.in_ok-logs.ensures.nanos; board = c.in_ok-board.ensures })
     ∙ sym c.in_ok-capacities.ensures
+
+pub new-requires-2-clause-made : goal.new-requires-2-clause-made
+new-requires-2-clause-made c =
+    let made : Contents = record { ground = c.in_ok-ground.ground; logs = c.in_ok-logs.logs; board = c.in_ok-board.board; roles = c.in_ok-roles.roles } in
+    library_made c.requires.opens.root c.requires.opens.boot c.args.opened c.requires.opens.well_formed c.requires.counted c.requires.opens.opens made
+    (record { library = ap (λ (g : Grounded). g.library) c.in_ok-ground.ensures; tree = ap (λ (g : Grounded). g.tree) c.in_ok-ground.ensures ∙ c.in_ok-tree.ensures.tree; logs = c.in_ok-logs.ensures.logs; nanos = c.in_ok-logs.ensures.nanos; board = c.in_ok-board.ensures })

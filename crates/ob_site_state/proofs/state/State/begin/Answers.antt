@@ -10,4 +10,6 @@ invariant_of-self c =
       tallied = c.self.invariant.tallied;
       growing = c.self.invariant.growing;
       roles = c.self.invariant.roles;
+      bound = c.self.invariant.bound;
+      bound_before = c.self.invariant.bound_before;
     }

@@ -10,6 +10,8 @@ use Rattle.ob_site_state.specs.Tallies.{IsTallied}
 use Rattle.ob_site_state.proofs.Settling.{settles, committed, ended_as}
 use Rattle.ob_site_state.proofs.Storing.{tallied_on}
 use Rattle.ob_site_state.proofs.Rests.{roles_stay}
+use Rattle.ob_site_state.specs.OwnContracts.{IsBound}
+use Rattle.ob_site_state.proofs.OwnContracts.{bound_as}
 use Rattle.ob_site_state.proofs.state.State.commit.Goals as goal
 
 pub invariant_of-self : goal.invariant_of-self
@@ -30,6 +32,10 @@ invariant_of-self c =
           (tallied_on a.tally s.logs (rewound a.found.items s).logs t.logs (ap (λ (x : State). x.logs) is) c.self.invariant.tallied);
       growing = c.self.invariant.growing;
       roles = roles_stay a.plan a.contents c.settle.new.self rest.roles c.self.invariant.roles;
+      bound = bound_as a.own s t (ap (λ (x : State). x.library) is) (ap (λ (x : State). x.tree) is) c.self.invariant.bound;
+      bound_before =
+          subst (λ (l : List Change). IsBound a.own (rewound l t)) (sym c.clear.ensures.items)
+          (bound_as a.own s t (ap (λ (x : State). x.library) is) (ap (λ (x : State). x.tree) is) c.self.invariant.bound);
     }
 
 pub returns : goal.returns

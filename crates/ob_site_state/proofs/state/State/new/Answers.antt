@@ -7,6 +7,7 @@ use Rattle.ob_site_state.specs.Contents.{state_in}
 use Rattle.ob_site_state.specs.Kept.{IsConsistentState, entry_of}
 use Rattle.ob_site_state.specs.Tallies.{IsTallied, growing_in}
 use Rattle.ob_site_state.proofs.Growing.{beside_capacities}
+use Rattle.ob_site_state.specs.OwnContracts.{IsBound}
 use Rattle.ob_site_state.proofs.state.State.new.Goals as goal
 
 pub new-requires-clause-beside : goal.new-requires-clause-beside
@@ -18,7 +19,9 @@ new-requires-clause-beside c =
 pub invariant_of-result : goal.invariant_of-result
 invariant_of-result c =
     let s = state_in c.args.contents in
-    let tally = c.in_ok-tally.tally in record {
+    let tally = c.in_ok-tally.tally in
+    let own = c.in_ok-own.own in
+    let bound : IsBound own s = record { made = c.requires.made; stand = c.in_ok-own.ensures.stand; tied = c.in_ok-own.ensures.tied } in record {
       kept =
           subst (λ (l : List Change). IsConsistentState c.args.plan c.args.time s c.args.contents.board c.args.time l) (sym c.new-2.ensures.items) (record {
             root = c.requires.root;
@@ -41,4 +44,6 @@ invariant_of-result c =
           (subst (λ (ls : List (Path × History)). IsTallied tally (map entry_of ls) (map entry_of ls)) c.deref.ensures.value c.in_ok-tally.ensures.tallied);
       growing = λ p. c.in_ok-tally.ensures.growing p ∙ ap (λ (hs : List (Path × Option Path)). growing_in p hs tally.capacities.items) c.as_slice.ensures;
       roles = c.requires.roles;
+      bound = bound;
+      bound_before = subst (λ (l : List Change). IsBound own (rewound l s)) (sym c.new-2.ensures.items) bound;
     }

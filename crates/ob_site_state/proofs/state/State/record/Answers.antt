@@ -17,6 +17,8 @@ use Rattle.ob_site_state.proofs.LogPlaces.{follows_at}
 use Rattle.ob_site_state.proofs.Noting.{got_there, record_noted, record_back, before_as, seen_as}
 use Rattle.ob_site_state.proofs.Storing.{length-capacities, tallied_more}
 use Rattle.ob_site_state.proofs.Rests.{roles_stay}
+use Rattle.ob_site_state.specs.OwnContracts.{IsBound}
+use Rattle.ob_site_state.proofs.OwnContracts.{bound_as}
 use Rattle.ob_site_state.proofs.state.State.record.Goals as goal
 
 pub record-requires-clause-in_order : goal.record-requires-clause-in_order
@@ -49,6 +51,11 @@ invariant_of-self-2 c =
           c.self.invariant.tallied;
       growing = subst (λ (x : Tally). (p : Path) → count_at x.growing p ≡ growing_in p a.plan.histories x.capacities.items) (sym c.add.ensures) c.self.invariant.growing;
       roles = roles_stay a.plan a.contents c.record.new.self rest.roles c.self.invariant.roles;
+      bound = bound_as a.own s t (ap (λ (x : State). x.library) c.in_ok-len.ensures.ok) (ap (λ (x : State). x.tree) c.in_ok-len.ensures.ok) c.self.invariant.bound;
+      bound_before =
+          subst (IsBound a.own)
+          (sym (before_as s t a.found.items items ch (record_back s t r c.args.place c.in_ok-len.len c.in_ok-len.ensures.len c.in_ok-len.ensures.ok) (c.push_reserved.ensures.items ∙ ap (λ (l : List Change). l ++ ch ∷ []) c.reserve.ensures.items)))
+          c.self.invariant.bound_before;
     }
 
 pub add-requires : goal.add-requires

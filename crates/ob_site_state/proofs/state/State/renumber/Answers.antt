@@ -7,6 +7,7 @@ use Rattle.ob_site_state.specs.Tallies.{IsTallied}
 use Rattle.ob_site_state.proofs.Noting.{kept_same}
 use Rattle.ob_site_state.proofs.Stepping.{renumbered_as}
 use Rattle.ob_site_state.proofs.Rests.{roles_stay}
+use Rattle.ob_site_state.specs.OwnContracts.{IsBound}
 use Rattle.ob_site_state.proofs.state.State.renumber.Goals as goal
 
 pub invariant_of-self : goal.invariant_of-self
@@ -19,6 +20,8 @@ invariant_of-self c =
       tallied = subst (λ (x : State). IsTallied a.tally x.logs (rewound a.found.items x).logs) (sym stays.same) c.self.invariant.tallied;
       growing = c.self.invariant.growing;
       roles = roles_stay a.plan a.contents c.renumber.new.self stays.roles c.self.invariant.roles;
+      bound = subst (IsBound a.own) (sym stays.same) c.self.invariant.bound;
+      bound_before = subst (λ (x : State). IsBound a.own (rewound a.found.items x)) (sym stays.same) c.self.invariant.bound_before;
     }
 
 pub returns : goal.returns

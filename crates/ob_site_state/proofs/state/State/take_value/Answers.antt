@@ -16,6 +16,8 @@ use Rattle.ob_site_state.proofs.Newest.{value_newest}
 use Rattle.ob_site_state.proofs.Statuses.{value_told}
 use Rattle.ob_site_state.proofs.Storing.{tallied_as}
 use Rattle.ob_site_state.proofs.Rests.{roles_stay}
+use Rattle.ob_site_state.specs.OwnContracts.{IsBound}
+use Rattle.ob_site_state.proofs.OwnContracts.{bound_as}
 use Rattle.ob_site_state.proofs.state.State.take_value.Goals as goal
 
 pub invariant_of-self-then-is_event : goal.invariant_of-self-then-is_event
@@ -44,6 +46,11 @@ invariant_of-self-then-is_event c =
           c.self.invariant.tallied;
       growing = c.self.invariant.growing;
       roles = roles_stay a.plan a.contents c.take_value.new.self rest.roles c.self.invariant.roles;
+      bound = bound_as a.own s t (ap (λ (x : State). x.library) c.in_ok-is_event.ensures.ok) (ap (λ (x : State). x.tree) c.in_ok-is_event.ensures.ok) c.self.invariant.bound;
+      bound_before =
+          subst (IsBound a.own)
+          (sym (before_as s t a.found.items items ch adds.1 (c.push_reserved.ensures.items ∙ ap (λ (l : List Change). l ++ ch ∷ []) c.reserve.ensures.items)))
+          c.self.invariant.bound_before;
     }
 
 pub returns-then-is_event-clause-ok : goal.returns-then-is_event-clause-ok

@@ -10,6 +10,7 @@ use Rattle.ob_site_state.proofs.Noting.{taken_back}
 use Rattle.ob_site_state.proofs.Settling.{undone_as}
 use Rattle.ob_site_state.proofs.Storing.{tallied_back, capacities-rewound}
 use Rattle.ob_site_state.proofs.Rests.{roles_stay}
+use Rattle.ob_site_state.specs.OwnContracts.{IsBound}
 use Rattle.ob_site_state.proofs.state.State.undo.Goals as goal
 
 pub invariant_of-self : goal.invariant_of-self
@@ -26,6 +27,10 @@ invariant_of-self c =
           (ap (λ (x : State). x.logs) c.take_all_back.ensures.new) (capacities-rewound a.found.items (state_in a.contents)) c.self.invariant.tallied);
       growing = c.self.invariant.growing;
       roles = roles_stay a.plan a.contents c.take_all_back.new.self rest.roles c.self.invariant.roles;
+      bound = subst (IsBound a.own) (sym c.take_all_back.ensures.new) c.self.invariant.bound_before;
+      bound_before =
+          subst (λ (l : List Change). IsBound a.own (rewound l t)) (sym c.take_all_back.ensures.none)
+          (subst (IsBound a.own) (sym c.take_all_back.ensures.new) c.self.invariant.bound_before);
     }
 
 pub returns : goal.returns
