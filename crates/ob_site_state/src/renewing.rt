@@ -75,13 +75,7 @@ pub(crate) fn renew<L: Ledger>(
     let marks = own.ties.behind(alloc, first, written)?;
     let none = Told::bare(alloc, Library::new(alloc));
     let mut library = ground.replace(none).into_library();
-    remake_marked(
-        &mut library,
-        ground.tree(),
-        nodes,
-        marks.as_slice(),
-        steps,
-    )?;
+    remake_marked(&mut library, ground.tree(), nodes, marks.as_slice(), steps)?;
     let told = ground.told_by(alloc, library)?;
     let _none = ground.replace(told);
     Ok(())

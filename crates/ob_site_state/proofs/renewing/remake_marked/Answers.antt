@@ -43,9 +43,9 @@ loop-next-preserved g c =
     elim c.if-marks-place.branch [
       | then-marks-place+in_ok-remake_node w ↦
           subst (λ (l : Contracts). RemadeTo lib root nodes marks (i + 1) l) (sym w.library-is)
-              (remade_more lib root nodes marks i c.loop-next.library c.loop-next.invariant c.loop-next-test.true (slice_index_or nodes i (record { number = 0 })) (item_is nodes i (record { number = 0 }) c.loop-next-test.true) place w.remake_node.new.library at
-              (sym (mark_is marks place) ∙ w.if-marks-place.true) w.in_ok-remake_node.ensures)
+          (remade_more lib root nodes marks i c.loop-next.library c.loop-next.invariant c.loop-next-test.true (slice_index_or nodes i (record { number = 0 })) (item_is nodes i (record { number = 0 }) c.loop-next-test.true) place w.remake_node.new.library at
+          (sym (mark_is marks place) ∙ w.if-marks-place.true) w.in_ok-remake_node.ensures)
       | else-marks-place w ↦
           subst (λ (l : Contracts). RemadeTo lib root nodes marks (i + 1) l) (sym w.library-is)
-              (remade_stays lib root nodes marks i c.loop-next.library c.loop-next.invariant c.loop-next-test.true (ap (λ (n : ℕ). is_marked n marks) (sym at) ∙ sym (mark_is marks place) ∙ w.if-marks-place.false))
+          (remade_stays lib root nodes marks i c.loop-next.library c.loop-next.invariant c.loop-next-test.true (ap (λ (n : ℕ). is_marked n marks) (sym at) ∙ sym (mark_is marks place) ∙ w.if-marks-place.false))
     ]
