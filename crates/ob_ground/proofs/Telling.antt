@@ -128,14 +128,6 @@ pub told_inside : (t : Taught) (o : Object) (r : Context) (n : ℕ) (h : Head) (
 unfolding WordsStand
 told_inside t o r n h told are stands there is = subst (λ (x : Option Instead). MayStand r h x) (sym is) (are n r h stands there)
 
--- what an object says of itself, told by its own without children
-pub own_head : (n : ℕ) (o own : Object) → Some own ≡ option_map leaf (head_at n o) → head_at n o ≡ Some own.head
-own_head n o own is = by (head_at n o) is
-  where
-    by : (h : Option Head) → Some own ≡ option_map leaf h → h ≡ Some own.head
-    by None e = absurd cc
-    by (Some h) e = sym (ap (option_map (λ (x : Object). x.head)) e)
-
 -- and where a child stands in it
 pub stands_inside : (lib : Contracts) (o : Object) (r s : Context) (n : ℕ) (h : Head) (name : Option (List ℕ)) → Some r ≡ standing_at lib n o → head_at n o ≡ Some h → s ≡ under (handed_down r h) name
     → Some s ≡ inside_at lib n name o

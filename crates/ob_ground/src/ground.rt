@@ -17,7 +17,7 @@ ghost use Rattle.ob_ground.specs.Grounds.{WordsStand, alone_at, inside_at};
 use crate::told::Told;
 use ob_contracts::{Library, Steps, View};
 use ob_object::Slot;
-use ob_tree::{NodeId, Standing, Tree};
+use ob_tree::{Instead, NodeId, Standing, Tree};
 use ob_values::Text;
 use std::alloc::{AllocError, Global};
 use std::collections::BTreeMap;
@@ -107,6 +107,21 @@ impl Ground {
         ensures told { IfOk result (WordsStand self.now.tree.root) }
     {
         Told::of(alloc, library, &self.tree)
+    }
+
+    /// A library, with the words that it tells those objects of this tree for which another told some. It takes a view of each
+    /// object round each of these, which counts one step each. An error only for want of memory.
+    pub fn told_again<L: Ledger>(
+        &self,
+        alloc: Global,
+        library: Library,
+        before: &BTreeMap<u64, Instead>,
+        steps: &mut Steps<L>,
+    ) -> Result<Told, AllocError>
+        ensures library { IfOk result (λ told. told.library ≡ library) }
+        ensures told { IfOk result (WordsStand self.now.tree.root) }
+    {
+        Told::again(alloc, library, &self.tree, before, steps)
     }
 
     /// Takes another library, and gives the old one. It takes no memory.

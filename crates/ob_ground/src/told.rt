@@ -64,13 +64,29 @@ impl Told {
         }
     }
 
-    /// The library alone.
-    pub fn into_library(self) -> Library
-        ensures { result ≡ self.library }
+    /// A library, with the words for those objects of a tree for which another told some. It takes a view of each object round
+    /// each of these, which counts one step each. An error only for want of memory.
+    #[tactic(auto, unfolding(crate::specs::Grounds::WordsStand))]
+    pub fn again<L: Ledger>(
+        alloc: Global,
+        library: Library,
+        tree: &Tree,
+        before: &BTreeMap<u64, Instead>,
+        steps: &mut Steps<L>,
+    ) -> Result<Told, AllocError>
+        ensures library { IfOk result (λ told. told.library ≡ library) }
+        ensures told { IfOk result (WordsStand tree.now.root) }
+    {
+        let words = tree.telling_again(alloc, &library, before, steps)?;
+        Ok(Told { library, words })
+    }
+
+    /// The library, and the words that it tells.
+    pub fn into_parts(self) -> (Library, BTreeMap<u64, Instead>)
+        ensures { result.0 ≡ self.library }
     {
         let Told { library, words } = self;
-        drop(words);
-        library
+        (library, words)
     }
 
     /// The library.

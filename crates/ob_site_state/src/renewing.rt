@@ -55,8 +55,8 @@ fn remake_marked<L: Ledger>(
     Ok(())
 }
 
-/// Makes anew the contracts of a site that are written, and those that stand on them; and finds anew what the library tells the
-/// objects of the tree. Want of memory leaves another library.
+/// Makes anew the contracts of a site that are written, and those that stand on them; and finds anew what the library tells those
+/// objects of the tree for which it told something. Want of memory leaves another library.
 pub(crate) fn renew<L: Ledger>(
     alloc: Global,
     ground: &mut Ground,
@@ -74,9 +74,9 @@ pub(crate) fn renew<L: Ledger>(
     let first = ground.library().contracts().len() - nodes.len();
     let marks = own.ties.behind(alloc, first, written)?;
     let none = Told::bare(alloc, Library::new(alloc));
-    let mut library = ground.replace(none).into_library();
+    let (mut library, words) = ground.replace(none).into_parts();
     remake_marked(&mut library, ground.tree(), nodes, marks.as_slice(), steps)?;
-    let told = ground.told_by(alloc, library)?;
+    let told = ground.told_again(alloc, library, &words, steps)?;
     let _none = ground.replace(told);
     Ok(())
 }

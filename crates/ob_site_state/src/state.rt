@@ -411,8 +411,9 @@ impl State {
         ensures err { OnErr result (self.new ≡ self.old) }
     {
         self.found.reserve(1)?;
-        let old = self.contents.set(node, slot);
-        self.found.push_reserved(Change::Slot { node, slot: old });
+        let before = self.contents.set(node, slot);
+        self.found
+            .push_reserved(Change::Slot { node, slot: before });
         Ok(())
     }
 

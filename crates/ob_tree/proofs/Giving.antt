@@ -1,5 +1,6 @@
 -- Words that stand for those of an object, and for those that it gives to its children.
-use Rattle.std.proofs.Common.{◌≡◌, ℕ, Bool, true, false, cond, [], Option, Some, None, refl, sym, ◌∙◌, subst}
+use Rattle.std.proofs.Common.{◌≡◌, ℕ, Bool, true, false, cond, [], Option, Some, None, refl, sym, ap, ◌∙◌, subst}
+use Rattle.std.specs.Prelude.{option_map}
 use Rattle.std.proofs.lemmas.Bool.{eqb-true}
 use Rattle.std.specs.Cmp.{unsigned_ties}
 use Rattle.std.specs.Ordering.{nat_cmp}
@@ -12,7 +13,7 @@ use Rattle.ob_tree.specs.declared.instead.Instead.{Instead}
 use Rattle.ob_tree.specs.Contexts.{Context}
 use Rattle.ob_tree.specs.Standings.{MayStand}
 use Rattle.ob_tree.proofs.Walking.{may_stand_none}
-use Rattle.ob_tree.specs.Laid.{head_at}
+use Rattle.ob_tree.specs.Laid.{head_at, leaf}
 use Rattle.ob_tree.specs.Shown.{standing_at}
 use Rattle.ob_tree.specs.Told.{IsToldAt, AreToldBy, words_for}
 use Rattle.ob_tree.proofs.Wholes.{one_standing}
@@ -44,3 +45,11 @@ told_at lib o n r h told stands there may = λ c g at is.
     let context : r ≡ c = one_standing r c (stands ∙ sym at) in
     let head : h ≡ g = cc in
     subst (λ (x : Context). MayStand x g told) context (subst (λ (x : Head). MayStand r x told) head may)
+
+-- what an object says of itself, told by its own without children
+pub own_head : (n : ℕ) (o own : Object) → Some own ≡ option_map leaf (head_at n o) → head_at n o ≡ Some own.head
+own_head n o own is = by (head_at n o) is
+  where
+    by : (h : Option Head) → Some own ≡ option_map leaf h → h ≡ Some own.head
+    by None e = absurd cc
+    by (Some h) e = sym (ap (option_map (λ (x : Object). x.head)) e)

@@ -70,8 +70,8 @@ pub(crate) fn child_nodes(
     for place in 0..spot.len {
         let head = head_in(leaves, next);
         put_node(&mut made, head, next)?;
-        let behind = spot_in(spots, next);
-        next = behind.end;
+        let after = spot_in(spots, next);
+        next = after.end;
     }
     Ok(made)
 }

@@ -6,7 +6,7 @@ ghost use Rattle.ob_object.specs.Object.{Object};
 ghost use Rattle.ob_contracts.specs.Inherit.{Contracts};
 ghost use Rattle.ob_contracts.specs.Tellers.{TellsIn};
 ghost use Rattle.ob_tree.specs.Contexts.{HandedDown};
-ghost use Rattle.ob_tree.specs.Standings.{Hands, context};
+ghost use Rattle.ob_tree.specs.Standings.{Hands, MayStand, context};
 ghost use Rattle.ob_tree.specs.Laid.{object_of, said};
 ghost use Rattle.ob_tree.specs.Shown.{standing_at, AreLaid};
 ghost use Rattle.ob_tree.specs.Told.{IsToldAt, AreToldBy};
@@ -27,7 +27,11 @@ pub(crate) struct Arena<'a> {
 }
 
 /// Puts the words for the object of a number, if any are told.
-fn put_words(words: &mut BTreeMap<u64, Instead>, at: usize, told: Instead) -> Result<(), AllocError>
+pub(crate) fn put_words(
+    words: &mut BTreeMap<u64, Instead>,
+    at: usize,
+    told: Instead,
+) -> Result<(), AllocError>
     ensures { OnOk result ((lib : Contracts) (o : Object) → IsToldAt lib o at (Some told) → AreToldBy lib o (get nat_cmp words.old) → AreToldBy lib o (get nat_cmp words.new)) }
 {
     if told.is.is_none() && told.items.is_none() {
@@ -70,6 +74,24 @@ fn told_items(handed: Handed<'_>, taken: bool) -> Option<Tellers>
         return handed.into_told();
     }
     None
+}
+
+/// What is told anew for an object that stands so: in place of its own `is`, and where it gives words in place of these.
+pub(crate) fn told_again<'a>(
+    alloc: Global,
+    standing: Standing<'a>,
+    own: &'a Obj,
+    gives: bool,
+) -> Result<Instead, AllocError>
+    ensures { IfOk result (λ told. MayStand (context standing.entry) own.now.head (Some told)) }
+{
+    let is = told_is(alloc, standing.library, own)?;
+    if !gives {
+        return Ok(Instead { is, items: None });
+    }
+    let handed = standing.hand_down(alloc, own, is.as_ref())?;
+    let items = handed.into_told();
+    Ok(Instead { is, items })
 }
 
 /// Puts the words for the object of a number, which stands so, and for all in it: its sources are looked up once for all

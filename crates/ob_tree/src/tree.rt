@@ -24,7 +24,7 @@ use crate::node::NodeId;
 use crate::numbering::all_numbers;
 use crate::shown::{Lore, grown, standing_of};
 use crate::spot::Spot;
-use crate::telling::{Arena, put_told};
+use crate::telling::{Arena, put_told, put_words, told_again};
 use crate::touching::{renumber, stamp_up};
 use crate::{Instead, Standing};
 use ob_contracts::{Library, Steps};
@@ -350,6 +350,29 @@ impl Tree {
         let mut words = BTreeMap::new(alloc);
         let root = Standing::at_root(library);
         put_told(alloc, &mut words, Arena { leaves, spots }, 0, root)?;
+        Ok(words)
+    }
+
+    /// Words that stand for those of the objects for which another library told some, as this one tells them. It takes a view of
+    /// each object round each of these, which counts one step each. An error only for want of memory.
+    pub fn telling_again<L: Ledger>(
+        &self,
+        alloc: Global,
+        library: &Library,
+        before: &BTreeMap<u64, Instead>,
+        steps: &mut Steps<L>,
+    ) -> Result<BTreeMap<u64, Instead>, AllocError>
+        ensures { IfOk result (λ words. AreToldBy library.now self.now.root (get nat_cmp words)) }
+    {
+        let mut words = BTreeMap::new(alloc);
+        for (number, told) in before.iter() {
+            if *number < self.len() {
+                let id = NodeId { number: *number };
+                let standing = self.standing_told(library, Some(&words), id, steps);
+                let again = told_again(alloc, standing, self.own(id), told.items.is_some())?;
+                put_words(&mut words, *number as usize, again)?;
+            }
+        }
         Ok(words)
     }
 

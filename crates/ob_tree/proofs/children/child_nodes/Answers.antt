@@ -26,8 +26,8 @@ head_in-head-requires c =
     let s = gathered o c.args.spots.now c.args.at c.loop-place.place c.loop-place.made.items c.loop-place.next c.spot_in-spot.result c.requires.laid.spots_are c.requires.laid.well_formed (omega (arith, c.requires.within, n)) c.spot_in-spot.ensures c.loop-place-test.true c.loop-place.invariant in
     omega (arith, s.2.less, n)
 
-pub spot_in-behind-requires : goal.spot_in-behind-requires
-spot_in-behind-requires c =
+pub spot_in-after-requires : goal.spot_in-after-requires
+spot_in-after-requires c =
     let o = object_of (said c.args.leaves.now) c.args.spots.now in
     let n : length c.args.leaves.now ≡ parts o = count_leaves o c.args.leaves.now c.requires.laid.heads_are in
     let s = gathered o c.args.spots.now c.args.at c.loop-place.place c.loop-place.made.items c.loop-place.next c.spot_in-spot.result c.requires.laid.spots_are c.requires.laid.well_formed (omega (arith, c.requires.within, n)) c.spot_in-spot.ensures c.loop-place-test.true c.loop-place.invariant in
@@ -42,11 +42,11 @@ loop-place-preserved c = λ q is.
     let read : head_at next o ≡ Some c.head_in-head.result.now = ap (λ (l : List Head). slice_get l next) (sym c.requires.laid.heads_are) ∙ c.head_in-head.ensures in
     let there : head_at next o ≡ Some s.2.x.head = s.2.grows.head_is in
     let same : c.head_in-head.result.now ≡ s.2.x.head = cc (read, there) in
-    let end = read_spot o s.2.x c.args.spots.now next c.spot_in-behind.result c.requires.laid.spots_are s.2.grows c.spot_in-behind.ensures in
+    let end = read_spot o s.2.x c.args.spots.now next c.spot_in-after.result c.requires.laid.spots_are s.2.grows c.spot_in-after.ensures in
     let here : part_at c.args.at o ≡ Some s.0 = s.1 in
     let one : s.0 ≡ q = cc (here, is) in
-    subst (λ (p : Object). Gathers o p c.args.at (c.loop-place.place + 1) c.put_node.new.made.items c.spot_in-behind.result.end) one
-    (gathers_on o s.0 c.args.at c.loop-place.place c.loop-place.made.items c.put_node.new.made.items next c.spot_in-behind.result.end s.2 (is_some (node_path c.head_in-head.result.now)) (ap (λ (h : Head). is_some (node_path h)) same) c.in_ok-put_node.ensures end.1)
+    subst (λ (p : Object). Gathers o p c.args.at (c.loop-place.place + 1) c.put_node.new.made.items c.spot_in-after.result.end) one
+    (gathers_on o s.0 c.args.at c.loop-place.place c.loop-place.made.items c.put_node.new.made.items next c.spot_in-after.result.end s.2 (is_some (node_path c.head_in-head.result.now)) (ap (λ (h : Head). is_some (node_path h)) same) c.in_ok-put_node.ensures end.1)
 
 pub returns : goal.returns
 returns c = λ q is.

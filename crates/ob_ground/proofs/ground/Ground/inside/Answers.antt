@@ -4,7 +4,8 @@ use Rattle.ob_tree.specs.Standings.{context}
 use Rattle.ob_tree.specs.Laid.{head_at}
 use Rattle.ob_tree.specs.Shown.{standing_at}
 use Rattle.ob_ground.specs.Grounds.{Grounded, inside_at}
-use Rattle.ob_ground.proofs.Telling.{told_inside, own_head, stands_inside}
+use Rattle.ob_tree.proofs.Giving.{own_head}
+use Rattle.ob_ground.proofs.Telling.{told_inside, stands_inside}
 use Rattle.ob_ground.proofs.ground.Ground.inside.Goals as goal
 
 pub inside-requires : goal.inside-requires

@@ -4,7 +4,8 @@ use Rattle.ob_object.specs.Object.{Object}
 use Rattle.ob_tree.specs.Standings.{context}
 use Rattle.ob_tree.specs.Shown.{standing_at}
 use Rattle.ob_ground.specs.Grounds.{Grounded, alone_at}
-use Rattle.ob_ground.proofs.Telling.{told_inside, own_head, stands_alone}
+use Rattle.ob_tree.proofs.Giving.{own_head}
+use Rattle.ob_ground.proofs.Telling.{told_inside, stands_alone}
 use Rattle.ob_ground.proofs.ground.Ground.view.Goals as goal
 
 pub view_told-requires : goal.view_told-requires
