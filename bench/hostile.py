@@ -148,6 +148,7 @@ CHANGES = request("POST", "/obix/watch/1/pollChanges")
 LATE = '<obj name="in"><abstime name="start" val="2999-01-01T00:00:00Z"/></obj>'
 # the alarms that the first two requests of a run raise
 FIRST = '<obj name="in"><abstime name="start" val="2026-01-05T08:00:00Z"/><abstime name="end" val="2026-01-05T08:00:00.001Z"/></obj>'
+DEFAULT = '<obj href="d"><int name="v" href="d/v" val="0" writable="true"/></obj>'
 NONE = '<obj name="in"><int name="limit" val="0"/></obj>'
 HEAD = b"GET /obix/n HTTP/1.1\r\n"
 
@@ -192,11 +193,13 @@ STREAMS = {
     "writePoints above it, n children": (4_000, lambda n: (parted("int", 'val="1" max="9" is="obix:WritablePoint" writable="true"', n), batches(100, lambda k: item("Invoke", "/obix/b/writePoint", '<obj name="in"><int name="value" val="10"/></obj>')))),
     "writes to an enum, a range of n": (4_000, lambda n: (parted("list", 'is="obix:Range"', n, '<enum href="e" val="c0" range="b" writable="true"/>'), batches(100, lambda k: item("Write", "/obix/e", f'<enum name="in" val="{"x" if k % 2 else "c0"}"/>')))),
     "hrefs without room, of 100 children": (4_200, lambda n: (parted("obj", "", 100), MAKE + asking("add", [f"//h{k}/obix/b" for k in range(n)]))),
-    "20 writes to a default, n contracts": (4_000, lambda n: (site('<obj href="d"><int name="v" href="d/v" val="0" writable="true"/></obj>' + each(n, lambda k: contract(f"c{k}", 1))), batches(20, lambda k: item("Write", "/obix/d/v", f'<int name="in" val="{k + 1}"/>')))),
+    "20 writes to a default, n contracts": (4_000, lambda n: (site(DEFAULT + each(n, lambda k: contract(f"c{k}", 1))), batches(20, lambda k: item("Write", "/obix/d/v", f'<int name="in" val="{k + 1}"/>')))),
+    "n/40 writes to a default, n objects": (20_000, lambda n: (site(DEFAULT, each(n, lambda k: f'<obj name="p{k}" is="d"/>')), batches(n // 40, lambda k: item("Write", "/obix/d/v", f'<int name="in" val="{k + 1}"/>')))),
+    "n/20 writes to a default, n contracts": (8_000, lambda n: (site(DEFAULT + each(n, lambda k: contract(f"c{k}", 1))), batches(n // 20, lambda k: item("Write", "/obix/d/v", f'<int name="in" val="{k + 1}"/>')))),
     "100 reads in a list of n words": (2_000, lambda n: (site("", f'<list of="{words("a", n)}"><int href="i" val="1"/></list>'), batches(100, lambda k: item("Read", "/obix/i")))),
     "reads of n items, an inherited of": (8_000, lambda n: (site(f'<list href="c" of="{words("a", n)}"/>', '<list is="c">' + each(n, lambda k: f'<int href="i{k}" val="1"/>') + "</list>"), batches(n, lambda k: item("Read", f"/obix/i{k}")))),
     "writes to n items of n words": (2_000, lambda n: (site("", f'<list of="{words("a", n)}">' + each(n, lambda k: f'<int href="i{k}" val="1" writable="true"/>') + "</list>"), batches(n, lambda k: item("Write", f"/obix/i{k}", '<int name="in" val="2"/>')))),
-    "n/40 of them behind a default": (20_000, lambda n: (site('<obj href="d"><int name="v" href="d/v" val="0" writable="true"/></obj>', f'<list of="{words("a", n)}">' + each(n // 40, lambda k: f'<int href="i{k}" val="1" writable="true"/>') + "</list>"), batches(n // 40, lambda k: item("Write", f"/obix/i{k}" if k else "/obix/d/v", '<int name="in" val="2"/>')))),
+    "n/40 of them behind a default": (20_000, lambda n: (site(DEFAULT, f'<list of="{words("a", n)}">' + each(n // 40, lambda k: f'<int href="i{k}" val="1" writable="true"/>') + "</list>"), batches(n // 40, lambda k: item("Write", f"/obix/i{k}" if k else "/obix/d/v", '<int name="in" val="2"/>')))),
     "reads of n children, an is of n": (8_000, lambda n: (site("", f'<obj is="{words("a", n)}">' + each(n, lambda k: f'<int name="i{k}" href="i{k}" val="1"/>') + "</obj>"), batches(n, lambda k: item("Read", f"/obix/i{k}")))),
     "refused writes to a node of n words": (4_000, lambda n: (site("", f'<int href="i" val="1" is="{words("a", n)}"/>'), batches(n, lambda k: item("Write", "/obix/i", '<int name="in" val="2"/>')))),
     "refused writes, n contracts of names": (2_000, lambda n: (site(named(n), f'<int href="i" val="1" is="{several("c", n)}"/>'), batches(n, lambda k: item("Write", "/obix/i", '<int name="in" val="2"/>')))),

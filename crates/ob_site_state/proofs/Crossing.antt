@@ -25,6 +25,7 @@ use Rattle.ob_site_rules.specs.contracts.plan.Plan as plan_type
 use Rattle.ob_site_rules.proofs.plan.Plan.TheSendSync as plan
 use Rattle.ob_site_state.specs.contracts.change.Change as change
 use Rattle.ob_site_state.specs.contracts.contents.Contents as contents
+use Rattle.ob_site_state.specs.contracts.own_contracts.OwnContracts as own_contracts
 use Rattle.ob_site_state.specs.contracts.state.State as state
 use Rattle.ob_site_state.specs.contracts.state.State.TheInside as state_inside
 
@@ -107,6 +108,9 @@ change_send =
 contents_send : IsSend (contents.the_field).row
 contents_send = search (sendable, heap.crosses, maps.crosses, text.the_send, board.the_send, log.the_send, ground_send) depth 24
 
+own_contracts_send : IsSend (own_contracts.the_field).row
+own_contracts_send = search (sendable, heap.crosses) depth 24
+
 state_parts_send : IsSend state_inside.the_row
 state_parts_send =
     let parts : FieldsHave IsSend (state_inside.the_type).parts = (
@@ -118,10 +122,13 @@ state_parts_send =
           (
             as_row_send contents.the_field contents_send,
             (
-              search (sendable, moment.the_send) depth 24,
+              as_row_send own_contracts.the_field own_contracts_send,
               (
-                search (sendable, heap.crosses, change_send) depth 24,
-                (search (sendable, heap.crosses, maps.crosses) depth 24, tt),
+                search (sendable, moment.the_send) depth 24,
+                (
+                  search (sendable, heap.crosses, change_send) depth 24,
+                  (search (sendable, heap.crosses, maps.crosses) depth 24, tt),
+                ),
               ),
             ),
           ),

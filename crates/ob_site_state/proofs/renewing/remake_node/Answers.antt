@@ -12,4 +12,4 @@ pub returns : goal.returns
 returns g c = λ x at.
     let here : Some c.in_ok-own.own ≡ part_at c.args.node.number c.args.tree.now.root = c.in_ok-own.ensures in
     let same : c.in_ok-own.own ≡ x = cc in
-    subst (λ (o : Object). c.remake.new.library ≡ with_contract c.args.place (result_of c.args.library.now o None None) c.args.library.now) same c.in_ok-_old.ensures.made
+    subst (λ (o : Object). c.remake.new.self ≡ with_contract c.args.place (result_of c.args.library.now o None None) c.args.library.now) same c.in_ok-_old.ensures.made
