@@ -40,12 +40,14 @@ row() {
 
 # A peer at port P + 1 that does this with the one connection that it gets.
 peer() {
-  python3 - "$((port + 1))" "$1" <<'P' &
+  : >"$work/peer"
+  python3 - "$((port + 1))" "$1" >"$work/peer" <<'P' &
 import socket, struct, sys
 listener = socket.socket()
 listener.setsockopt(socket.SOL_SOCKET, socket.SO_REUSEADDR, 1)
 listener.bind(("127.0.0.1", int(sys.argv[1])))
 listener.listen()
+print("listening", flush=True)
 link, _ = listener.accept()
 link.recv(4096)
 if sys.argv[2] == "reset":
@@ -53,7 +55,7 @@ if sys.argv[2] == "reset":
 link.close()
 P
   server=$!
-  sleep 1
+  until [ -s "$work/peer" ]; do sleep 0.1; done
 }
 
 row "a full disk, check" 4 "obix: write fault" /dev/null /dev/full check "$site"
