@@ -4,7 +4,7 @@
 set -euo pipefail
 work=$(mktemp -d)
 trap 'rm -rf "$work"' EXIT
-rustc -O -o "$work/peer" bench/encode_peer.rs
+rustc -O -o "$work/peer" bench/peers/encode.rs
 bench/build.sh "$work"
 ours=$("$work/ob_bench" encode)
 peer=$("$work/peer")

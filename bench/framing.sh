@@ -8,7 +8,7 @@ source=$(echo /usr/share/cargo/registry/httparse-*/src/lib.rs)
 work=$(mktemp -d)
 trap 'rm -rf "$work"' EXIT
 rustc -O --edition 2018 --crate-type rlib --crate-name httparse --cfg 'feature="std"' --cfg httparse_simd -A warnings -o "$work/libhttparse.rlib" "$source"
-rustc -O --edition 2021 --extern httparse="$work/libhttparse.rlib" -o "$work/peer" bench/framing_peer.rs
+rustc -O --edition 2021 --extern httparse="$work/libhttparse.rlib" -o "$work/peer" bench/peers/framing.rs
 bench/build.sh "$work"
 for _ in 1 2 3; do "$work/ob_bench" framing; done >"$work/ours"
 for _ in 1 2 3; do "$work/peer"; done >"$work/theirs"

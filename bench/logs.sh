@@ -8,7 +8,7 @@ cd "$(dirname "$0")/.."
 runs=${1:-5}
 work=$(mktemp -d)
 trap 'rm -rf "$work"' EXIT
-rustc -O -o "$work/peer" bench/logs_peer.rs
+rustc -O -o "$work/peer" bench/peers/logs.rs
 bench/build.sh "$work"
 for run in $(seq "$runs"); do
   "$work/ob_bench" logs >>"$work/ours"

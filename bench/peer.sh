@@ -1,7 +1,7 @@
 #!/usr/bin/env bash
 # GETs and PUTs of `obix serve` over loopback with 1, 4, 16 and 64 kept links, each with a worker of its own, beside nginx
 # with a worker process for each link up to 4, which answers the same bytes by `return 200`: how many a second, and
-# microseconds of processor a request (user and system, of the server). The load comes from peer_load.c.
+# microseconds of processor a request (user and system, of the server). The load comes from peers/load.c.
 # nginx is the one of this machine. Where there is none, the package in apt's own cache (/var/cache/apt/archives) is unpacked
 # into a temporary folder, and nothing is installed or fetched; where that is missing too, obix is measured alone.
 # usage: bench/peer.sh [--requests N] [--runs N]      (100,000 requests in all at each number of links; 3 runs, in turns)
@@ -19,7 +19,7 @@ work=$(mktemp -d)
 servers=()
 trap 'kill "${servers[@]}" 2>/dev/null; wait; rm -rf "$work"' EXIT
 
-gcc -O2 -pthread -o "$work/load" "$top/bench/peer_load.c"
+gcc -O2 -pthread -o "$work/load" "$top/bench/peers/load.c"
 "$top/obix" stdio "$top/examples/point.xml" </dev/null   # builds it where needed
 obix=${OBIX:-$top/out/bin/obix}
 echo '<obj href="http://h/obix/" is="obix:Lobby"><int href="n" val="7" min="0" max="10" writable="true"/></obj>' >"$work/site.xml"

@@ -7,7 +7,7 @@ cd "$(dirname "$0")/.."
 runs=${1:-7}
 work=$(mktemp -d)
 trap 'rm -rf "$work"' EXIT
-rustc -O -o "$work/peer" bench/turn_peer.rs
+rustc -O -o "$work/peer" bench/peers/turn.rs
 bench/build.sh "$work"
 for _ in $(seq "$runs"); do
   "$work/ob_bench" turn >>"$work/desk"

@@ -1,6 +1,6 @@
 """Which share of a request's time in `obix serve` is waiting for the turn of the desk, work in the turn, and work outside it.
 
-Kept links over loopback, each with a worker of its own, ask one request again and again (peer_load.c). perf notes when each
+Kept links over loopback, each with a worker of its own, ask one request again and again (peers/load.c). perf notes when each
 worker reaches four places of the program, by the processor's breakpoints: first the call for a turn, the turn taken, its end
 and the call's return; then, in a second run, the read of a link in place of the two in the middle. Time in that read is
 waiting for the client, and counts for nothing. A breakpoint's own cost is what a turn that nobody else wants takes to be

@@ -7,7 +7,7 @@ work=$(mktemp -d)
 trap 'rm -rf "$work"' EXIT
 mkdir "$work/texts"
 python3 bench/values_texts.py "$work/texts"
-rustc -O -o "$work/peer" bench/values_peer.rs
+rustc -O -o "$work/peer" bench/peers/values.rs
 bench/build.sh "$work"
 best() { # the least figure of three runs of a command
   for _ in 1 2 3; do "$@"; done | awk '
@@ -16,7 +16,7 @@ best() { # the least figure of three runs of a command
 }
 best "$work/ob_bench" values "$work/texts" | sort >"$work/ours"
 { best "$work/peer" "$work/texts" | sed 's/$/ Rust/'
-  best python3 bench/values_peer.py "$work/texts" | sed 's/$/ Python/'; } | sort >"$work/peers"
+  best python3 bench/peers/values.py "$work/texts" | sed 's/$/ Python/'; } | sort >"$work/peers"
 echo "kind      read ns  print ns   peer     read ns  print ns   read ratio  print ratio"
 join -a 1 "$work/ours" "$work/peers" | awk '
   NF < 4 { printf "%-9s %7.1f  %8.1f   none\n", $1, $2 / 1000, $3 / 1000; next }

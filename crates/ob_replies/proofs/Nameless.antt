@@ -1,16 +1,15 @@
 -- Records and alarms are objects without names.
 use Rattle.std.proofs.Common.{◌≡◌, ℕ, Bool, true, false, cond, List, [], ◌∷◌, ◌++◌, map, nat_eq, refl}
-use Rattle.std.specs.Prelude.{codes, Option, Some, None, is_none, unwrap_or, slice_get}
+use Rattle.std.specs.Prelude.{codes, is_none}
 use Rattle.std.specs.List.{list_all}
 use Rattle.ob_object.specs.declared.kind.Kind.TheVariants as kind
 use Rattle.ob_object.specs.Object.{Object}
 use Rattle.ob_history.specs.declared.records.Record.{Record}
 use Rattle.ob_alarms.specs.declared.alarm.Alarm.{Alarm}
-use Rattle.ob_alarms.specs.declared.rule.Rule.{Rule}
 use Rattle.ob_alarms.specs.Changes.{State as Board, alarm_of}
-use Rattle.ob_alarms.specs.AlarmObjects.{shown_alarm, object_in}
+use Rattle.ob_site_rules.proofs.Nameless.{by_alarm}
 use Rattle.ob_site_rules.specs.Build.{valued, number_slot}
-use Rattle.ob_site_rules.specs.Entries.{record_object, alarm_object, empty_object}
+use Rattle.ob_site_rules.specs.Entries.{record_object, alarm_object}
 use Rattle.ob_site_rules.specs.Replies.{dropped_child}
 use Rattle.ob_replies.specs.Names.{are_new}
 use Rattle.ob_replies.proofs.New.{nameless_new, nameless_behind}
@@ -18,14 +17,6 @@ use Rattle.ob_replies.proofs.New.{nameless_new, nameless_behind}
 pub records_nameless : (rs : List Record) → list_all (λ o. is_none o.head.name) (map record_object rs) ≡ true
 records_nameless [] = refl
 records_nameless (r ∷ rs) = records_nameless rs
-
-pub by_rule : (root : List ℕ) (r : Option Rule) (n : ℕ) (a : Alarm) → is_none (unwrap_or (object_in root r n a) empty_object).head.name ≡ true
-by_rule root None n a = refl
-by_rule root (Some r) n a = refl
-
-pub by_alarm : (b : Board) (n : ℕ) (a : Option Alarm) → is_none (unwrap_or (shown_alarm b n a) empty_object).head.name ≡ true
-by_alarm b n None = refl
-by_alarm b n (Some a) = by_rule b.root (slice_get b.rules a.rule) n a
 
 alarm_nameless : (b : Board) (n : ℕ) → is_none (alarm_object b n).head.name ≡ true
 alarm_nameless b n = by_alarm b n (alarm_of n b.alarms)

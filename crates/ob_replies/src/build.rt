@@ -4,7 +4,7 @@ ghost use Rattle.ob_object.specs.Object.{children, empty_head};
 ghost use Rattle.ob_object.specs.Fits.{fits_head, fits_slot};
 ghost use Rattle.ob_object.specs.WellFormed.{is_taken, with_child};
 ghost use Rattle.ob_object.specs.declared.kind.Kind.TheVariants as kind;
-ghost use Rattle.ob_site_rules.specs.Build.{whole, word, valued, time_slot, ref_to, op_at, feed_at, nameless, under_name};
+ghost use Rattle.ob_site_rules.specs.Build.{whole, word, valued, time_slot, ref_to, op_at, feed_at, under_name};
 ghost use Rattle.ob_replies.specs.Names.{is_name, are_new};
 ghost use Rattle.ob_replies.specs.ContractWords as contract_words;
 
@@ -167,16 +167,6 @@ pub fn named(alloc: Global, mut object: Obj, name: &str) -> Result<Obj, AllocErr
     let name = Text::from_ascii(alloc, name)?;
     match object.put_name(Some(name)) {
         Ok(()) => Ok(object),
-        Err(_name) => unreachable!(),
-    }
-}
-
-/// The object without its name.
-pub fn nameless(mut object: Obj) -> Obj
-    ensures { result ≡ nameless object }
-{
-    match object.put_name(None) {
-        Ok(()) => object,
         Err(_name) => unreachable!(),
     }
 }

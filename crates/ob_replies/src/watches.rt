@@ -7,11 +7,11 @@ ghost use Rattle.ob_replies.specs.WatchChildren.{span_value, lease_at, child_at,
 ghost use Rattle.ob_replies.specs.Names.{is_name};
 ghost use Rattle.ob_replies.specs.ContractWords as contract_words;
 
-use crate::build::{nameless, obj_head, one_child, op_at, put, whole};
+use crate::build::{obj_head, one_child, op_at, put, whole};
 use crate::contract::Contract;
 use crate::paths::watch_path;
 use ob_object::{Attributes, Kind, Obj, Slot};
-use ob_site_rules::{Plan, WatchPart};
+use ob_site_rules::{Plan, WatchPart, nameless};
 use ob_times::Reltime;
 use ob_values::{Text, Value};
 use std::alloc::{AllocError, Global};

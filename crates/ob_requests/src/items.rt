@@ -7,8 +7,7 @@ ghost use Rattle.ob_requests.specs.BatchCalls.{posts_list};
 
 use crate::asked::uri_of;
 use ob_object::{Kind, Obj};
-use ob_replies::build::nameless;
-use ob_site_rules::Request;
+use ob_site_rules::{Request, nameless};
 use ob_values::{Text, Verb};
 use std::alloc::AllocError;
 

@@ -1,4 +1,3 @@
-pub mod Equal
 pub mod Passed
 pub mod Faults
 pub mod Otherwise

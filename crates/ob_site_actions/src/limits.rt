@@ -7,9 +7,8 @@ ghost use Rattle.ob_site_rules.specs.Posts.{acked};
 ghost use Rattle.ob_plain_state.specs.Fitting.{TakesIfRule};
 ghost use Rattle.ob_site_actions.specs.Limits.{growing, any_counted_out};
 
-use crate::slots::same_slot;
 use ob_object::{Attributes, Slot};
-use ob_site_state::State;
+use ob_site_state::{State, same_slot};
 use ob_values::Text;
 
 /// One where something is so, and else none.

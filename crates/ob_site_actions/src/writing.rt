@@ -7,10 +7,9 @@ ghost use Rattle.ob_site_rules.specs.Writes.{write, written, overfills};
 ghost use Rattle.ob_site_actions.specs.Fitting.{CanBeWritten};
 ghost use Rattle.ob_site_actions.specs.Limits.{any_counted_out};
 
-use crate::slots::same_slot;
 use ob_contracts::Steps;
 use ob_object::{Attributes, Kind, Slot};
-use ob_site_state::State;
+use ob_site_state::{State, same_slot};
 use ob_tree::NodeId;
 use ob_values::Text;
 use std::alloc::AllocError;

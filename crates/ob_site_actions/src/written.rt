@@ -6,10 +6,10 @@ ghost use Rattle.ob_tree.specs.Paths.{place_of};
 ghost use Rattle.ob_site_rules.specs.Writes.{written, overfills};
 ghost use Rattle.ob_site_actions.specs.Fitting.{CanBeWritten};
 
-use crate::{OwnNode, same_slot, write_if_changed};
+use crate::{OwnNode, write_if_changed};
 use ob_contracts::Steps;
 use ob_object::{Attributes, Slot};
-use ob_site_state::State;
+use ob_site_state::{State, same_slot};
 use ob_values::Text;
 use std::alloc::AllocError;
 use std::sync::ledger::Ledger;

@@ -1,6 +1,7 @@
 //! What the site is, and what a document opens, as definitions, and the types that definitions and code have in common.
 #![tactic(auto)]
 
+mod build;
 mod fault;
 mod fixed;
 mod plan;
@@ -9,6 +10,7 @@ mod resource;
 mod roles;
 mod watch_part;
 
+pub use build::nameless;
 pub use fault::Fault;
 pub use fixed::Fixed;
 pub use plan::{Plan, PointRule};

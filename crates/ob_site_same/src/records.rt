@@ -3,7 +3,7 @@ ghost use Rattle.std.specs.Prelude.{◌≡◌, ◌↔◌, ◌<◌, ◌++◌, len
 
 use ob_history::{Log, Record};
 use ob_object::Slot;
-use ob_site_actions::same_slot;
+use ob_site_state::same_slot;
 
 /// Whether two slots are one.
 fn is_slot(slot: &Slot, other: &Slot) -> bool

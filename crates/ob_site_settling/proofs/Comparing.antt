@@ -1,6 +1,5 @@
 -- Values and statuses that are compared.
-use Rattle.std.proofs.Common.{◌≡◌, Bool, true, false, not, ◌&&◌, Option, Some, None, option_map, refl, sym, ap, ap₂, ◌∙◌, subst, true≢false}
-use Rattle.ob_object.specs.declared.head.Slot.{Slot}
+use Rattle.std.proofs.Common.{◌≡◌, Bool, true, false, not, ◌&&◌, Option, Some, None, option_map, refl, sym, ap, ap₂, ◌∙◌}
 use Rattle.ob_object.specs.declared.status.Status.{Status}
 use Rattle.ob_object.specs.declared.facet.FacetRef.{FacetRef}
 use Rattle.ob_object.specs.declared.facet.FacetRef.TheVariants as lent
@@ -11,21 +10,7 @@ use Rattle.ob_contracts.specs.Inherit.{result_of}
 use Rattle.ob_tree.specs.Contexts.{Context, comes_to}
 use Rattle.ob_shown_laws.specs.Changed.{head_in, same_values}
 use Rattle.ob_site_rules.specs.Sameness.{same_option, same_slot, same_status}
-use Rattle.ob_site_laws.proofs.Same.{Tells, tells_slot}
 use Rattle.ob_site_settling.specs.Values.{status_in}
-
--- what says whether things are equal says what their test says
-told_by : {A : Type 0} (same : A → A → Bool) → Tells same → (result : Bool) (a b : A) → (result ≡ true → a ≡ b) → (a ≡ b → result ≡ true) → result ≡ same a b
-told_by {A} same tells result a b to from = go result (same a b) refl refl
-  where
-    go : (x y : Bool) → result ≡ x → same a b ≡ y → x ≡ y
-    go true true e f = refl
-    go true false e f = absurd (true≢false (sym (subst (λ (c : A). same a c ≡ true) (to e) (tells.itself a)) ∙ f))
-    go false true e f = absurd (true≢false (sym (from (tells.equal a b f)) ∙ e))
-    go false false e f = refl
-
-pub slot_test : (result : Bool) (a b : Slot) → (result ≡ true → a ≡ b) → (a ≡ b → result ≡ true) → result ≡ same_slot a b
-slot_test result a b to from = told_by same_slot tells_slot result a b to from
 
 -- a facet that is lent where a status is
 pub status_there : (o : Option FacetRef) (s : Option Status) → option_map facet_value o ≡ option_map word s → status_in o ≡ s

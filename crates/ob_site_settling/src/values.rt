@@ -1,5 +1,5 @@
 //! Whether an object shows another value or another status than before.
-ghost use Rattle.std.specs.Prelude.{◌≡◌, ◌↔◌, ◌&&◌, not, IsTrue};
+ghost use Rattle.std.specs.Prelude.{◌≡◌, ◌&&◌, not};
 ghost use Rattle.ob_contracts.specs.Shown.{shown};
 ghost use Rattle.ob_tree.specs.Standings.{context};
 ghost use Rattle.ob_site_rules.specs.Sameness.{same_option, same_slot, same_status};
@@ -8,26 +8,9 @@ ghost use Rattle.ob_site_settling.specs.Values.{status_in};
 
 use ob_contracts::{Steps, View};
 use ob_object::{Facet, FacetRef, Obj, Slot, Status};
+use ob_site_state::same_slot;
 use ob_tree::Standing;
 use std::sync::ledger::Ledger;
-
-/// Whether two slots are equal.
-fn is_equal(slot: &Slot, other: &Slot) -> bool
-    ensures { IsTrue result ↔ (slot.now ≡ other.now) }
-{
-    match (slot, other) {
-        (Slot::Is(value), Slot::Is(other)) => value.same(other),
-        (Slot::Null, Slot::Null) | (Slot::Absent, Slot::Absent) => true,
-        _ => false,
-    }
-}
-
-/// Whether two slots are one.
-fn same_slot(slot: &Slot, other: &Slot) -> bool
-    ensures { result ≡ same_slot slot.now other.now }
-{
-    is_equal(slot, other)
-}
 
 /// Whether two statuses are one, or both are absent.
 pub(crate) fn same_status(status: Option<Status>, other: Option<Status>) -> bool

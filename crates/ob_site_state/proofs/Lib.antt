@@ -26,3 +26,4 @@ pub mod OwnContracts
 pub mod OwnRows
 pub mod Renewed
 pub mod Renoted
+mod Equal

@@ -14,6 +14,7 @@ mod places;
 mod recorders;
 mod renewing;
 mod roles;
+mod slots;
 mod state;
 mod tally;
 
@@ -21,6 +22,7 @@ pub use change::Change;
 pub use contents::Contents;
 pub use ending::end_step;
 pub use roles::RoleIndex;
+pub use slots::same_slot;
 pub use state::State;
 
 /// The state of a site may go to another thread.

@@ -1,6 +1,6 @@
 // A client for bench/peer.sh: so many links, each of which sends one request again and again, the next once the last is
 // answered with 200, and prints how many requests a second were answered on all links.
-// usage: peer_load PORT LINKS REQUESTS VERB TARGET [BODY]      (requests a link)
+// usage: load PORT LINKS REQUESTS VERB TARGET [BODY]      (requests a link)
 #define _GNU_SOURCE
 #include <arpa/inet.h>
 #include <netinet/tcp.h>
@@ -17,7 +17,7 @@ static char request[8192];
 static size_t length;
 
 static void give_up(const char *why) {
-  fprintf(stderr, "peer_load: %s\n", why);
+  fprintf(stderr, "load: %s\n", why);
   exit(1);
 }
 
