@@ -114,4 +114,9 @@ impl<L: Link + Drop> Door for MemDoor<L> {
         self.returned = self.returned.saturating_add(1);
         self.back.keep(link);
     }
+
+    /// Closes it: the links that wait are let go.
+    fn close(&mut self) {
+        self.waiting.clear();
+    }
 }

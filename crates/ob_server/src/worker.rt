@@ -149,6 +149,10 @@ impl<M: Machine<Request = Request, Reply = Obj>, D: Door, C: Clock> Worker<M, D,
         let (links, end) = self.serve_links(service, quota, stays);
         self.links = links;
         self.end = end;
+        // The flag is lowered, and the machine answers no request any more: nobody is to wait at the door.
+        if end == WorkerEnd::Memory && stays.is_some() {
+            self.door.close();
+        }
     }
 }
 
