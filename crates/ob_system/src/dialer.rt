@@ -50,7 +50,7 @@ impl<'a, R: Net<Listener = TcpListener, Stream = TcpStream> + Timer> TcpDialer<'
         ensures { IfOk result (λ link. (link.read_faults ≡ 0) × (link.write_faults ≡ 0)) }
     {
         match TcpStream::connect(self.net, (without_brackets(host), port)) {
-            Ok(stream) => TcpLink::new(stream, self.net, TURN_S),
+            Ok(stream) => TcpLink::new(stream, self.net, TURN_S, None),
             Err(fault) => Err(fault),
         }
     }
