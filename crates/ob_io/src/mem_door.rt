@@ -49,7 +49,7 @@ impl<L: Link + Drop> MemDoor<L> {
         self.back.all()
     }
 
-    // Whether it has failed.
+    /// Whether it has failed.
     pub(crate) fn has_failed(&self) -> bool
         ensures { result ≡ not (self.now.calls.faults == 0) }
     {

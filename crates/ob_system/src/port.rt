@@ -43,7 +43,7 @@ impl<'a, R: Net<Listener = TcpListener, Stream = TcpStream> + Timer> TcpPort<'a,
         self.faults
     }
 
-    // A door on the place that it listens on.
+    /// A door on the place that it listens on.
     fn open(&self) -> Option<TcpDoor<'a, R>>
         ensures { IfSome result (λ door. (door.handed ≡ 0) × (door.returned ≡ 0) × (door.faults ≡ 0)) }
     {
