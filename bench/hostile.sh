@@ -6,5 +6,5 @@
 set -eu
 top=$(cd "$(dirname "$0")/.." && pwd)
 program=${2:-$top/out/bin/obix}
-[ $# -ge 2 ] || "$top/obix" stdio "$top/examples/point.xml" </dev/null   # builds it where needed
+[ $# -ge 2 ] || "$top/obix" --prove   # builds it where needed
 exec python3 "$top/bench/hostile.py" "$program" "$top/examples/point.xml" "${1:-3}" "${3:-}"
