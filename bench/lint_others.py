@@ -1,5 +1,6 @@
 """The tries of bench/lint.sh for what isn't a site: weekly schedules, configs of `super` and their servers, records of `keep`."""
 import http.server
+import random
 import socket
 import subprocess
 import threading
@@ -123,3 +124,37 @@ def try_kept(program, judge):
         run.kill()
         run.wait()
     print("a record that a server has is held against four site files")
+
+
+def altered(draw, data):
+    """Bytes with some left out, doubled or altered."""
+    data = bytearray(data)
+    for _ in range(draw.randint(1, 2)):
+        at, many = draw.randrange(len(data)), draw.choice((1, 1, 2, 5, 20))
+        data[at:at + many] = draw.choice((b"", data[at:at + many] * 2, draw.choice((b"<", b">", b'"', b"/", b"\n", b"\0", b" x", b"7"))))
+    return bytes(data)
+
+
+def try_altered(program, judge):
+    """Configs and records that are altered at random: refused where the program refuses, with its words."""
+    draw, config, refused = random.Random(2), (TOP / "examples" / "campus.xml").read_bytes(), [0, 0]
+    kept = (TOP / "examples" / "alarm.record").read_bytes().partition(b"\n1767600002000 GET ")[0] + b"\0"
+    site = str(TOP / "examples" / "plant-room.xml")
+    judge(lint_record_of(kept, site, program)[0] == 0, "the writes of examples/alarm.record")
+    for _ in range(150):
+        Path("campus.xml").write_bytes(altered(draw, config))
+        came, lines = lint_super("campus.xml", program, False)
+        cause = program.run("super", "campus.xml", "--rounds", "0")[1]
+        judge(came < 2 if cause is None else came == 2 and lines[0].endswith(f"[{cause}]"), f"an altered config: {Path('campus.xml').read_bytes()!r}", f"\ncame out: {lines[0]}")
+        data = altered(draw, kept)
+        held, lines = lint_record_of(data, site, program)
+        Path("new").unlink(missing_ok=True)
+        cause = program.run("compact", site, "record", "new", may=(13,))[1]
+        judge(held == 0 if cause is None else held == 2 and lines[0].endswith(f"[{cause}]"), f"an altered record: {data!r}", f"\ncame out: {lines[0]}")
+        refused = [refused[0] + (came == 2), refused[1] + (held == 2)]
+    print(f"150 altered configs and 150 altered records, {refused[0]} and {refused[1]} of them refused: as the program says")
+
+
+def lint_record_of(data, site, program):
+    Path("record").write_bytes(data)
+    return lint_record("record", site, program)

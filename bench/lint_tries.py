@@ -194,6 +194,7 @@ def main():
         lint_others.try_schedules(program, judge)
         lint_others.try_asking(program, judge)
         lint_others.try_kept(program, judge)
+        lint_others.try_altered(program, judge)
         try_tables()
         for example in sorted((TOP / "examples").glob("*.xml")):
             lines = say(example.read_bytes(), program)[1]

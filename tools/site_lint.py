@@ -128,7 +128,8 @@ def lint_record(name, site, program):
     """Whether a RECORD of `keep` fits the site of a file, and else which entry doesn't."""
     record = Path(name).read_bytes()
     with copied(site) as (told, copy):
-        number, cause = records.judged(record, copy, program)
+        refusal = program.run("stdio", copy)[1]
+        number, cause = records.judged(record, copy, program) if refusal is None else (None, refusal)
         if cause is None:
             return 0, [f"{name}: {int(number):,} entr{'y' if number == '1' else 'ies'}: nothing differs"]
         place, illegal = re.fullmatch(r"Record (\d+)", cause), re.fullmatch(r"illegal at (\d+)", cause)
@@ -174,7 +175,7 @@ def words_given():
     what.add_argument("--record", metavar="RECORD", help="the record of `obix keep` that is held against the site")
     words.add_argument("--ask", action="store_true", help="with --super: ask its servers whether they are there, and have the points;"
                        " one that takes a connection and says nothing is waited for 300 s")
-    words.add_argument("--obix", metavar="PROGRAM", help="the program; without it out/bin/obix beside the tools, or obix on the PATH")
+    words.add_argument("--obix", metavar="PROGRAM", help="the program; without it one that is built beside the tools, or obix on the PATH")
     given = words.parse_args()
     if given.ask and not given.super:
         words.error("--ask goes with --super")

@@ -11,7 +11,7 @@ from lint.openings import has_value, kept
 from lint.refusals import meant
 
 ENTRIES, ENOUGH = 1_000_000, 100_000   # what histories and alarms have room for together, and what alarms should have of it
-UNIT = "obix:units/"
+UNIT, PLAIN = "obix:units/", re.compile("[A-Za-z0-9_.~:/-]*")   # what begins a unit of the standard; letters that no URL escapes
 
 
 def of_point(site, part):
@@ -103,7 +103,7 @@ def ranged(site):
 def of_path(site, part):
     """An href of which a letter is escaped: how the path reads. Where the escaped letters are those of the path round it, that one
     has the warning."""
-    if part.path is None:
+    if part.path is None or PLAIN.fullmatch(part.has["href"]):
         return []
     text, up = part.has["href"].strip(), part.parent
     letters = {it: quote(it, safe="") for it in sorted(set(text))}
