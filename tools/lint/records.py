@@ -107,21 +107,24 @@ def difference(entry, now, site, shown):
     if len(objects) < 2:
         return "what stands in the record is no object"
     was, it = objects
-    why = {end.kind == "err": end.has.get("display", end.has.get("is", "an err")) for end in (was, it)}.get(True)
+    why = reason(it if it.kind == "err" else was)
     if it.kind == "err" and was.kind != "err":
         if re.search("/alarm/[0-9]+/ack$", path):
             return f"there is no such alarm now, or it needs no acknowledgement ({why}): a rule of alarms is another"
-        if shown is None:
-            near = meant(path, list(site.nodes), 0.8)
-            return f"the site shows nothing at {path} now: was the point renamed, or taken away?{near}"
-        more = compared(was, parts_of(shown.encode())[0][0], {"val", "null", "status", "xmlns"})
+        if shown is None and why == "no such object":
+            return f"the site shows nothing at {path} now: was the point renamed, or taken away?{meant(path, list(site.nodes), 0.8)}"
+        more = compared(was, parts_of(shown.encode())[0][0], {"val", "null", "status", "xmlns"}) if shown is not None else []
         return "; ".join([f"the site refuses it now ({why})", *several(more)])
     if was.kind == "err" and it.kind != "err":
         return f"it was refused then ({why}), and is done now"
     found = compared(was, it, set())
     if len(found) == 1 and found[0].startswith("status: ") and re.search("alarm|unacked", found[0], re.I):
         return f"{found[0]} (a rule of alarms is another)"
-    return "; ".join(several(found)) or "the same object in another form"
+    return "; ".join(several(found)) or "its answer is another, and this tool sees no attribute or child that differs"
+
+
+def reason(err):
+    return err.has.get("display", err.has.get("is", "an err"))
 
 
 def several(texts):
