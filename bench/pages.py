@@ -13,11 +13,11 @@ from pathlib import Path
 
 PAGES = ("README.md", "examples/README.md", "docs/RUNNING.md", "docs/obix.1")
 PORTS = ("8080", "8081", "9180")
-NOT_HERE = (("rt ", "needs the kit, for an hour"), ("cd crates/", "needs the kit"), ("sudo ", "changes the machine"),
-            ("systemctl ", "needs systemd"))
+NOT_HERE = (("rt ", "needs the kit, for an hour"), ("RT_JOBS=", "needs the kit, for an hour"), ("./obix --prove", "needs the kit, for an hour"),
+            ("cd crates/", "needs the kit"), ("sudo ", "changes the machine"), ("systemctl ", "needs systemd"))
 PRINTED = re.compile(r"(?:listening|served|legal|illegal|obix:) ?\S*.*")
 TIME = re.compile(r"\d{4}-\d\d-\d\dT[\d:.]*Z *")
-README_LINES, CELL = 150, 250
+README_LINES, CELL = 130, 250
 
 
 class Told:
