@@ -7,7 +7,7 @@
 set -eu
 top=$(cd "$(dirname "$0")/.." && pwd)
 if [ $# = 0 ]; then
-  "$top/obix" stdio "$top/examples/point.xml" </dev/null   # builds it where needed
+  "$top/obix" --prove   # builds it where needed
   set -- "$top/out/bin/obix"
 fi
 exec python3 "$top/bench/pages.py" "$top" "$(readlink -f "$1")"

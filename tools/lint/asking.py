@@ -14,13 +14,14 @@ class Trouble(Exception):
 
 
 class Program:
-    """The program `obix`: the path that is given, or out/bin/obix beside the tools, or the one on the PATH."""
+    """The program `obix`: the path that is given, or one that is built beside the tools (proved, or else not), or the one on the PATH."""
 
     def __init__(self, path):
-        beside = Path(__file__).resolve().parents[2] / "out" / "bin" / "obix"
-        self.path = path or (str(beside) if beside.is_file() else shutil.which("obix"))
+        built = Path(__file__).resolve().parents[2] / "out"
+        beside = [str(it) for it in (built / "bin" / "obix", built / "quick" / "obix") if it.is_file()]
+        self.path = path or (beside[0] if beside else shutil.which("obix"))
         if not self.path:
-            raise Trouble("no program: there is no out/bin/obix beside the tools, and no obix on the PATH; say where it is with --obix")
+            raise Trouble("no program: none is built beside the tools (./obix builds one), and no obix is on the PATH; say where it is with --obix")
 
     def run(self, *words, requests=b""):
         """What it writes, and the refusal that it says, if it does; anything else isn't an answer."""
