@@ -198,7 +198,7 @@ def readers(it):
     assert it.put(79, **GUEST)[0] == 403 and it.put(79, "-H", f"Origin: https://{NAME}:{it.port}", **GUEST)[0] == 403
     for path, body in (("/obix/batch", f'<list><uri is="obix:Write" val="{FLOW}"><real name="in" val="79"/></uri></list>'),
                        ("/obix/alarm/1/ack", ""), ("/write", "{}"), ("/ack", "{}")):
-        assert it.post(path, body, **GUEST)[0] == 403, path
+        assert it.post(path, body, **GUEST) == (403, '{"error": "this user may only look"}'), path
     for path in SPELLINGS:
         status, text = it.post(path, '<obj><real name="value" val="42"/></obj>', "--path-as-is", **GUEST)
         assert status in (400, 403) or "no such object" in text, (path, status, text)
