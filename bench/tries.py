@@ -172,12 +172,15 @@ class Room:
         self.folder = pathlib.Path(tempfile.mkdtemp(prefix=f"obix-{name}."))
 
     def free_port(self):
-        if self.next:
-            self.next += 1
-            return self.next - 1
-        with socket.socket() as free:
-            free.bind(("127.0.0.1", 0))
-            return free.getsockname()[1]
+        while True:
+            try:
+                with socket.socket() as free:
+                    free.bind(("127.0.0.1", self.next))
+                    return free.getsockname()[1]
+            except OSError:
+                pass                                       # somebody has it
+            finally:
+                self.next += bool(self.next)
 
     def server(self, name, text, command="keep", workers=16):
         return Server(self, name, text, command, workers).start()
