@@ -121,7 +121,7 @@ class Page(http.server.BaseHTTPRequestHandler):
         did, said = f"{self.client_address[0]} {user!r} {self.path} {point or alarm} {text or ''}".rstrip(), "no such request"
         try:
             if self.path == "/write":
-                self.plant.write(point, text)
+                self.plant.write(point, text + "")         # a text, and nothing else
             else:
                 self.plant.acknowledge(alarm, user)
             said = "done"
