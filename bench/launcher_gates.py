@@ -72,6 +72,9 @@ def try_gate_and_others(place):
     gate(place)
     judge("another user, without rights in the checkout, runs what the gate proved", place.run("which", other=True) == (0, "proved of one\n", ""))
     judge("--prove by that user proves nothing a second time", place.run("--prove", other=True)[0] == 0, len(place.calls("ci")) == 1)
+    home = place.environment.pop("HOME")
+    judge("and one without HOME runs it", place.run("which", other=True) == (0, "proved of one\n", ""))
+    place.environment["HOME"] = home
     (place.rooms / ".git").mkdir()
     place.change("crates/obix/src/main.rt", "two")
     judge("the folder for temporary files is in a repository: --prove proves", place.run("--prove")[0] == 0, place.is_run("proved of two"))

@@ -40,6 +40,7 @@ program() { sed "s/KIND/$1/; s/TEXT/$2/" "$kit/program"; }
 try() {
   local text
   text=$(cat src/main.rt)
+  cat >/dev/null   # the real one reads its input too
   cd "$(mktemp -d)" && program unproved "$text" >program.bc && echo small >start.bc || exit
   pause
   [ ! -f "$kit/no-try" ] || { echo "made up: nothing is compiled"; exit 2; }
