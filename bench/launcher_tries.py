@@ -180,8 +180,7 @@ def try_no_rights(place):
     judge("built by the owner, run by another: nothing is built", (status, out) == (0, "unproved of one\n"), len(err.splitlines()) == 1,
           len(place.calls("try")) == 2)
     place.run("--prove", other=True)
-    judge("what that user proved goes before what the owner compiled", place.run("which", other=True) == (0, "proved of one\n", ""),
-          place.run("which")[1] == "unproved of one\n")
+    judge("what that user proved goes before what the owner compiled", place.run("which", other=True) == (0, "proved of one\n", ""))
     shutil.rmtree(place.home / ".cache")
     shutil.rmtree(place.top / "out")
     for where, cache in (("a whole path", place.home / "kept"), ("no whole path", "kept")):
