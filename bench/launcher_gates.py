@@ -63,12 +63,18 @@ def try_gate_changes(place):
     gate(place)
     both = [place.start("which") for _ in range(2)]
     judge("two at once after a gate: both run what it proved", all(it.communicate() == ("proved of one\n", "") for it in both))
+    shutil.rmtree(place.top / "out/bin")
+    (place.top / "crates/obix/out/obix").touch()
+    judge("a program that was built there after the gate: not taken", place.is_run("unproved of one"))
 
 
 def try_gate_and_others(place):
     gate(place)
     judge("another user, without rights in the checkout, runs what the gate proved", place.run("which", other=True) == (0, "proved of one\n", ""))
     judge("--prove by that user proves nothing a second time", place.run("--prove", other=True)[0] == 0, len(place.calls("ci")) == 1)
+    home = place.environment.pop("HOME")
+    judge("and one without HOME runs it", place.run("which", other=True) == (0, "proved of one\n", ""))
+    place.environment["HOME"] = home
     (place.rooms / ".git").mkdir()
     place.change("crates/obix/src/main.rt", "two")
     judge("the folder for temporary files is in a repository: --prove proves", place.run("--prove")[0] == 0, place.is_run("proved of two"))
@@ -97,7 +103,8 @@ def try_real_gate(place):
     shutil.rmtree(place.kit)
     launcher_kit.make_kit_of(place.kit, real)
     git, away = place.top / ".git", place.base / "git's"
-    kinds = (("git made", git.mkdir), ("that has no .git", lambda: shutil.rmtree(git)), ("that is a worktree", lambda: (away.mkdir(), git.write_text(f"gitdir: {away}\n"))))
+    kinds = (("git made", git.mkdir), ("that has no .git", lambda: shutil.rmtree(git)),
+             ("that is a worktree", lambda: (away.mkdir(), git.write_text(f"gitdir: {away}\n"))))
     for number, (kind, make) in enumerate(kinds):
         make()
         place.change("crates/obix/src/main.rt", f"text{number}")

@@ -40,6 +40,7 @@ program() { sed "s/KIND/$1/; s/TEXT/$2/" "$kit/program"; }
 try() {
   local text
   text=$(cat src/main.rt)
+  cat >/dev/null   # the real one reads its input too
   cd "$(mktemp -d)" && program unproved "$text" >program.bc && echo small >start.bc || exit
   pause
   [ ! -f "$kit/no-try" ] || { echo "made up: nothing is compiled"; exit 2; }
@@ -54,9 +55,9 @@ gate() {
   while [ "$above" != / ] && [ ! -e "$above/.git" ]; do above=$(dirname "$above"); done
   [ "$above" = / ] || [ "$above" = "$PWD" ] || { echo "crates.txt stands below the top"; exit 2; }
   rm -rf crates/*/out
-  for name in $(sed 's/:.*//' crates.txt); do mkdir "crates/$name/out"; done
-  text=$(cat crates/obix/src/main.rt)
+  for name in crates/ob_*; do mkdir "$name/out" || exit; done
   pause
+  mkdir crates/obix/out && text=$(cat crates/obix/src/main.rt) || exit
   [ ! -f "$kit/no-ci" ] || { echo "made up: nothing is proved"; echo "0 passed, 1 failed"; exit 1; }
   program proved "$text" >crates/obix/out/obix && chmod +x crates/obix/out/obix && sleep 0.02
   cat "$kit/ran" >crates/obix/out/stdout
@@ -116,10 +117,10 @@ def make_kit(kit):
 def make_checkout(top, launcher):
     write(top / "crates.txt", "# made up\nob_low:\nob_other:   # no part of the program\nobix: ob_low\n")
     write(top / "HANDLES", "Handles allowed: none.\n")
-    for name, text in (("obix/src/main.rt", "one"), ("obix/stdout", "as it must be\n"), ("obix/stdin", "as it must be\n"), ("obix/args", "input\n"), ("obix/README.md", ""), ("obix/data/site.xml", ""),
-                       ("obix/must-fail/wrong.edit", ""), ("ob_low/src/lib.rt", ""), ("ob_low/src/more.rt", ""), ("ob_low/specs/Lib.antt", ""),
-                       ("ob_low/proofs/Lib.antt", ""), ("ob_other/src/lib.rt", "")):
-        write(top / "crates" / name, text)
+    told = {"obix/src/main.rt": "one", "obix/args": "input\n", "obix/stdin": "as it must be\n", "obix/stdout": "as it must be\n"}
+    for name in ("obix/README.md", "obix/data/site.xml", "obix/must-fail/wrong.edit", "ob_low/src/lib.rt", "ob_low/src/more.rt",
+                 "ob_low/specs/Lib.antt", "ob_low/proofs/Lib.antt", "ob_other/src/lib.rt", *told):
+        write(top / "crates" / name, told.get(name, ""))
     shutil.copy(launcher, top / "obix")
 
 

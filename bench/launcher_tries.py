@@ -23,7 +23,8 @@ def try_first(place):
 
 
 def try_streams(place):
-    place.run("which")
+    opened = [place.run("open")[1].split("total 0\n")[-1].splitlines() for _ in range(2)]
+    judge("no file of the launcher's reaches the program, nor in the run that builds", all(len(it) == 4 and "/proc/" in it[3] for it in opened))
     for number in (0, 2, 5, 13, 70, 255):
         judge(f"status {number} is the program's", place.run("status", number)[0] == number)
     judge("a signal ends the program as such", place.run("signal")[0] == -signal.SIGTERM)
@@ -36,8 +37,6 @@ def try_streams(place):
     os.symlink(place.top / "obix", place.base / "bin" / "run it")
     run = subprocess.run([place.base / "bin" / "run it", "which"], env=place.environment, capture_output=True, text=True)
     judge("called by a link", run.stdout == "unproved of one\n")
-    opened = place.run("open")[1].split("total 0\n")[-1].splitlines()
-    judge("no file of the launcher's reaches the program", len(opened) == 4, "/proc/" in opened[3])
     names = {it.partition("=")[0] for it in place.run("environment")[1].splitlines()}
     judge("no word of the launcher's reaches the program's environment", names <= {*place.environment, "PWD", "OLDPWD", "SHLVL", "_"})
 
@@ -90,7 +89,8 @@ def try_two(place):
     place.say("slow", 0)
     first.kill()
     first.communicate()
-    judge("the first of two is killed: the second builds", second.communicate(timeout=30)[0] == "unproved of two\n", len(place.calls("try")) == 3, place.is_clean())
+    judge("the first of two is killed: the second builds", second.communicate(timeout=30)[0] == "unproved of two\n",
+          len(place.calls("try")) == 3, place.is_clean())
 
 
 def try_changes(place):
@@ -105,7 +105,8 @@ def try_changes(place):
     (place.kit / "KIT-ID").write_text("another")
     time.sleep(0.01)
     judge("the kit changed: built again", place.is_run("unproved of one", True))
-    for name in ("ob_low/specs/Lib.antt", "ob_low/proofs/Lib.antt", "obix/README.md", "obix/data/site.xml", "obix/must-fail/wrong.edit", "ob_other/src/lib.rt"):
+    for name in ("ob_low/specs/Lib.antt", "ob_low/proofs/Lib.antt", "obix/README.md", "obix/data/site.xml", "obix/must-fail/wrong.edit",
+                 "ob_other/src/lib.rt"):
         place.change(f"crates/{name}")
     (place.top / "crates/obix/out").mkdir()
     judge("proofs, READMEs, data, wrong bodies, another crate changed: stays", place.is_run("unproved of one", False))
@@ -123,7 +124,8 @@ def try_changes(place):
 def try_proved(place):
     status, out, err = place.run("--prove")
     said = err.splitlines()
-    judge("--prove proves, runs nothing, says where", status == 0, out == "", said[-1].endswith(f"{place.top}/out/bin/obix"), not place.calls("try"))
+    judge("--prove proves, runs nothing, says where", status == 0, out == "", said[-1].endswith(f"{place.top}/out/bin/obix"),
+          not place.calls("try"))
     judge("the proved program runs, in silence", place.is_run("proved of one"), place.run("which")[2] == "")
     judge("--prove again proves nothing", place.run("--prove")[0] == 0, len(place.calls("ci")) == 1)
     jobs = int(place.calls("ci")[0].split()[1] if place.calls("ci")[0].split()[1:] else 0)
@@ -141,11 +143,13 @@ def try_proved(place):
 def try_failures(place):
     place.say("no-try")
     status, out, err = place.run("which")
-    judge("compiling fails: proves, says so, runs what it proved", status == 0, out == "proved of one\n", "that failed" in err, "proving" in err, place.is_clean())
+    judge("compiling fails: proves, says so, runs what it proved", status == 0, out == "proved of one\n", "that failed" in err,
+          "proving" in err, place.is_clean())
     place.change("crates/obix/src/main.rt", "two")
     place.say("no-ci")
     status, out, err = place.run("which")
-    judge("both fail: 70, with the ends of both logs", status == 70, out == "", "nothing is compiled" in err, "nothing is proved" in err, place.is_clean())
+    judge("both fail: 70, with the ends of both logs", status == 70, out == "", "nothing is compiled" in err, "nothing is proved" in err,
+          place.is_clean())
     (place.kit / "bin/rattle-link").write_text("#!/bin/sh\nexit 1\n")
     place.forget("no-try")
     judge("linking fails: the same", place.run("which")[0] == 70, place.is_clean())
@@ -154,7 +158,7 @@ def try_failures(place):
 def try_no_rt(place):
     (place.base / "bin" / "rt").unlink()
     status, out, err = place.run("which")
-    judge("without rt: 70, and one line that says what is missing", status == 70, out == "", len(err.splitlines()) == 1, "Rattle kit" in err, "rt" in err)
+    judge("without rt: 70, and one line that says what is missing", status == 70, out == "", len(err.splitlines()) == 1, "Rattle kit" in err)
     judge("--prove without rt: the same", place.run("--prove")[0] == 70)
     launcher_kit.write(place.base / "bin" / "rt", f'#!/bin/sh\nexec "{place.kit}/bin/rt" "$@"\n', 0o755)
     judge("rt is a script that calls the kit's", place.is_run("unproved of one", True))
@@ -166,14 +170,25 @@ def try_no_rights(place):
     judge("and runs that from then on", len(place.run("which", other=True)[2].splitlines()) == 1, len(place.calls("try")) == 1)
     judge("--prove there, too", place.run("--prove", other=True)[0] == 0, place.run("which", other=True) == (0, "proved of one\n", ""))
     subprocess.run(["chmod", "-R", "a-w", place.top], check=True)
-    place.change_kit = (place.kit / "KIT-ID").write_text("another")
-    judge("in a checkout that is read-only, nothing is left of a proof", place.run("--prove", other=True)[0] == 0, len(place.calls("ci")) == 2, place.is_clean())
+    (place.kit / "KIT-ID").write_text("another")
+    judge("in a checkout that is read-only, nothing is left of a proof", place.run("--prove", other=True)[0] == 0,
+          len(place.calls("ci")) == 2, place.is_clean())
     subprocess.run(["chmod", "-R", "u+w", place.top], check=True)
     place.run("which")
     shutil.rmtree(place.home / ".cache")
     status, out, err = place.run("which", other=True)
-    judge("built by the owner, run by another: nothing is built", (status, out) == (0, "unproved of one\n"), len(err.splitlines()) == 1, len(place.calls("try")) == 2)
+    judge("built by the owner, run by another: nothing is built", (status, out) == (0, "unproved of one\n"), len(err.splitlines()) == 1,
+          len(place.calls("try")) == 2)
+    place.run("--prove", other=True)
+    judge("what that user proved goes before what the owner compiled", place.run("which", other=True) == (0, "proved of one\n", ""))
+    shutil.rmtree(place.home / ".cache")
     shutil.rmtree(place.top / "out")
+    for where, cache in (("a whole path", place.home / "kept"), ("no whole path", "kept")):
+        place.environment["XDG_CACHE_HOME"] = str(cache)
+        place.run("which", other=True)
+        judge(f"XDG_CACHE_HOME is {where}", (place.home / ("kept" if where == "a whole path" else ".cache") / "obix").is_dir())
+    del place.environment["XDG_CACHE_HOME"]
+    shutil.rmtree(place.home / ".cache")
     del place.environment["HOME"]
     status, out, err = place.run("which", other=True)
     judge("neither rights nor HOME: 70, and a line", status == 70, out == "", len(err.splitlines()) == 1, "can be written" in err)
