@@ -83,8 +83,8 @@ def try_asking(program, judge):
         other.shutdown()
     said = [it.partition("warning: ")[2] for it in lines if ": warning: " in it]
     judge(status == 1 and len(said) == 251 + 5 and lines[-1] == "asked.xml: 5 servers, 256 warnings", "the answers of servers", f": {len(said)}")
-    for text in ("a: the server has no object at /obix/boiler/flwo (no such object): it will be left out",
-                 "a: the server has no object at /obix/gone249 (no such object): it will be left out",
+    for text in ("a: the server refuses /obix/boiler/flwo (no such object): it will be left out",
+                 "a: the server refuses /obix/gone249 (no such object): it will be left out",
                  "b: the server has no object at this url: it will be shown as down",
                  "c: no server answers at this url: it will be shown as down",
                  "d: what answers at this url is no oBIX server (document Element at 0): it will be shown as down",
