@@ -67,9 +67,12 @@ def try_asking(program, judge):
     run, port = serving(program, "serve", str(TOP / "examples" / "plant-room.xml"))
     other = http.server.ThreadingHTTPServer(("127.0.0.1", 0), Other)
     threading.Thread(target=other.serve_forever, daemon=True).start()
-    urls = {"a": f"{port}/obix/", "b": f"{port}/obix", "c": f"{free_port()}/obix/", "d": f"{other.server_port}/", "e": f"{other.server_port}/obix/"}
-    hrefs = "".join(f'\n<uri val="{it}"/>' for it in ("/obix/pump1", "boiler/flow", "/obix/boiler/flwo", *(f"/obix/gone{n}" for n in range(250))))
-    servers = (f'<obj name="{name}">\n<uri name="url" val="http://127.0.0.1:{url}"/>\n<list name="hrefs">{hrefs}</list></obj>\n' for name, url in urls.items())
+    urls = {"a": f"{port}/obix/", "b": f"{port}/obix", "c": f"{free_port()}/obix/", "d": f"{other.server_port}/",
+            "e": f"{other.server_port}/obix/"}
+    hrefs = ["/obix/pump1", "boiler/flow", "/obix/boiler/flwo", *(f"/obix/gone{n}" for n in range(250))]
+    uris = "".join(f'\n<uri val="{it}"/>' for it in hrefs)
+    servers = (f'<obj name="{name}">\n<uri name="url" val="http://127.0.0.1:{url}"/>\n<list name="hrefs">{uris}</list></obj>\n'
+               for name, url in urls.items())
     Path("asked.xml").write_text(f'<list>\n{"".join(servers)}</list>')
     try:
         judge(lint_super("asked.xml", program, False)[1][-1] == "asked.xml: 5 servers, 1 warning", "a config whose servers aren't asked")
@@ -80,9 +83,10 @@ def try_asking(program, judge):
         other.shutdown()
     said = [it.partition("warning: ")[2] for it in lines if ": warning: " in it]
     judge(status == 1 and len(said) == 251 + 5 and lines[-1] == "asked.xml: 5 servers, 256 warnings", "the answers of servers", f": {len(said)}")
-    for text in ("a: the server has no object at /obix/boiler/flwo (no such object): it will be left out",
-                 "a: the server has no object at /obix/gone249 (no such object): it will be left out",
-                 "b: the server has no object at this url: it will be shown as down", "c: no server answers at this url: it will be shown as down",
+    for text in ("a: the server refuses /obix/boiler/flwo (no such object): it will be left out",
+                 "a: the server refuses /obix/gone249 (no such object): it will be left out",
+                 "b: the server has no object at this url: it will be shown as down",
+                 "c: no server answers at this url: it will be shown as down",
                  "d: what answers at this url is no oBIX server (document Element at 0): it will be shown as down",
                  "e: what answers at this url is no oBIX server (status 404): it will be shown as down"):
         judge(text in said, text, f"\ncame out: {[it for it in said if it[0] == text[0]][:3]}")
@@ -110,7 +114,8 @@ def try_kept(program, judge):
                 ('val="71.5" unit', 'displayName="Flow" val="71.5" unit', 0, 'displayName: none then, "Flow" now'),
                 ('name="high" val="80"', 'name="high" val="90"', 1, 'status: "unackedAlarm" then, "ok" now (a rule of alarms is another)'),
                 ('href="boiler/flow" val', 'href="boiler/flows" val', 0, None), ("</obj>", "", 0, None)):
-            Path("other.xml").write_text(text.replace(old, new, 1).replace('href="boiler/flow"/>', 'href="boiler/flows"/>' if "flows" in new else 'href="boiler/flow"/>'))
+            changed = text.replace(old, new, 1)
+            Path("other.xml").write_text(changed.replace('href="boiler/flow"/>', 'href="boiler/flows"/>') if "flows" in new else changed)
             try:
                 status, lines = lint_record("kept.record", "other.xml", program)
             except Exception as fault:
@@ -145,12 +150,14 @@ def try_altered(program, judge):
         Path("campus.xml").write_bytes(altered(draw, config))
         came, lines = lint_super("campus.xml", program, False)
         cause = program.run("super", "campus.xml", "--rounds", "0")[1]
-        judge(came < 2 if cause is None else came == 2 and lines[0].endswith(f"[{cause}]"), f"an altered config: {Path('campus.xml').read_bytes()!r}", f"\ncame out: {lines[0]}")
+        judge(came < 2 if cause is None else came == 2 and lines[0].endswith(f"[{cause}]"),
+              f"an altered config: {Path('campus.xml').read_bytes()!r}", f"\ncame out: {lines[0]}")
         data = altered(draw, kept)
         held, lines = lint_record_of(data, site, program)
         Path("new").unlink(missing_ok=True)
         cause = program.run("compact", site, "record", "new", may=(13,))[1]
-        judge(held == 0 if cause is None else held == 2 and lines[0].endswith(f"[{cause}]"), f"an altered record: {data!r}", f"\ncame out: {lines[0]}")
+        judge(held == 0 if cause is None else held == 2 and lines[0].endswith(f"[{cause}]"),
+              f"an altered record: {data!r}", f"\ncame out: {lines[0]}")
         refused = [refused[0] + (came == 2), refused[1] + (held == 2)]
     print(f"150 altered configs and 150 altered records, {refused[0]} and {refused[1]} of them refused: as the program says")
 

@@ -131,7 +131,8 @@ def lint_record(name, site, program):
         refusal = program.run("stdio", copy)[1]
         number, cause = records.judged(record, copy, program) if refusal is None else (None, refusal)
         if cause is None:
-            return 0, [f"{name}: {int(number):,} entr{'y' if number == '1' else 'ies'}: nothing differs"]
+            lines = of_batches(name, records.read(record)[1], copy, program)
+            return 1 if lines else 0, [*lines, f"{name}: {int(number):,} entr{'y' if number == '1' else 'ies'}: nothing differs"]
         place, illegal = re.fullmatch(r"Record (\d+)", cause), re.fullmatch(r"illegal at (\d+)", cause)
         if place:
             return 2, [f"{name}: refused: it is no record from byte {place[1]} on: no entry begins there, nor what a stop leaves [{cause}]"]
@@ -144,13 +145,20 @@ def lint_record(name, site, program):
         return 2, told.lines
 
 
+def of_batches(name, entries, copy, program):
+    """The batches of a record that fits in which the site refuses something now."""
+    found = [f"{name}: warning: entry {number}, {entries[number]}: the site refuses an item of this batch now ({why}); what it answered then"
+             " isn't kept" for number, why in records.refused_batches(entries, copy, program)]
+    return found if len(found) <= 20 else [*found[:20], f"{name}: {len(found) - 20:,} more such warnings"]
+
+
 def say_entry(told, name, entries, copy, program, cause):
     """Tells of the last of these entries, which the site of a file answers otherwise."""
     entry, why, now = entries[-1], records.foreign(entries[-1]), None
     if why:
         told.lines.append(f"{name}: refused: {why} [{cause}]")
     else:
-        site, now, path = Site(copy, told.data, program), records.reply_now(entries, copy, program), records.point_of(entry)
+        site, now, path = Site(copy, told.data, program), records.replies_now(entries, copy, program)[-1][1], records.point_of(entry)
         site.find_paths(program)
         part, shown = site.nodes.get(path, site.root), schedules.Points(program, copy).at(path)
         told.say(part.at, "refused", f"{path}: {records.difference(entry, now, site, shown)} [{cause}]")

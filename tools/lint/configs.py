@@ -111,7 +111,7 @@ def answers(parts, program):
                 break
             for it in gone(out):
                 if it.has.get("href") in texts:
-                    found.append((texts[it.has["href"]].place("val"), f"{part}: the server has no object at {short(it.has['href'])}"
+                    found.append((texts[it.has["href"]].place("val"), f"{part}: the server refuses {short(it.has['href'])}"
                                   f" ({it.has.get('display', 'an err')}): it will be left out"))
     return sorted(found, key=lambda it: it[0])
 

@@ -114,8 +114,8 @@ def of_path(site, part):
     if not odd or (above and part.path.startswith(above) and not any(letters[it] in part.path[len(above):] for it in odd)):
         return []
     told = " and ".join("a blank" if it == " " else it for it in odd)
-    return [(part.place("href"), f"{part}: its path reads {part.path} in answers, schedules and metrics: {told} {'is' if len(odd) == 1 else 'are'}"
-             " escaped in URLs; a displayName may be any text")]
+    return [(part.place("href"), f"{part}: its path reads {part.path} in answers, schedules and metrics:"
+             f" {told} {'is' if len(odd) == 1 else 'are'} escaped in URLs; a displayName may be any text")]
 
 
 # ---- units

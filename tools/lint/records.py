@@ -29,10 +29,11 @@ class Entry:
 
 
 def read(data):
-    """The moment of the opening, and the whole entries: docs/PROFILE.md, "Records of runs" and "A site that is kept"."""
+    """The moment of the opening, and the whole entries: docs/PROFILE.md, "Records of runs" and "A site that is kept". What hasn't the
+    first two lines has no entries."""
     opening = re.match(rb"obix-record 1\nboot ([0-9]+)\n", data)
     if not opening:
-        raise ValueError("it begins as no record does")
+        return None, []
     at, entries = opening.end(), []
     while (head := HEAD.match(data, at)) is not None:
         sizes = [0 if it == b"-" else int(it) for it in head.groups()[2:]]
@@ -68,21 +69,31 @@ def judged(data, site, program):
     return out.decode().split(" of ")[-1].strip(), cause
 
 
-def reply_now(entries, site, program):
-    """The reply of the site of a file to the last of these entries, after all before it."""
-    asked = [it for it in entries if it.verb != "GET"]   # of `keep` these are numbers of watches, and no requests
+def replies_now(entries, site, program):
+    """The numbers of the requests among these entries, each with the reply that the site of a file gives to it after all before it."""
+    asked = [(number, it) for number, it in enumerate(entries) if it.verb != "GET"]   # of `keep` these are numbers of watches
     requests = (b"%b %b HTTP/1.1\r\nContent-Type: text/xml\r\nContent-Length: %d\r\n\r\n%b"
-                % (it.verb.encode(), it.target, len(it.body), it.body) for it in asked)
-    first = asked[0].moment
+                % (it.verb.encode(), it.target, len(it.body), it.body) for _, it in asked)
+    first = asked[0][1].moment
     out = program.run("record", site, "--at", str(first), "--tick", "1", requests=b"".join(requests))[0]
-    replies = read(out)[1]
+    replies = [it.reply for it in read(out)[1]]
     if len(replies) != len(asked):
         raise Trouble(f"{program.path} record: {len(asked)} requests of the record got {len(replies)} replies")
     moments, latest = {}, first
-    for number, it in enumerate(asked):
+    for place, (_, it) in enumerate(asked):
         latest = max(latest, it.moment)   # the site's time never falls
-        moments[written(first + number)] = written(latest)
-    return MOMENT.sub(lambda found: moments.get(found[0], found[0]), replies[-1].reply)
+        moments[written(first + place)] = written(latest)
+    return [(number, MOMENT.sub(lambda found: moments.get(found[0], found[0]), it)) for (number, _), it in zip(asked, replies)]
+
+
+def refused_batches(entries, site, program):
+    """The numbers of the batches of which the site refuses an item now, and why: their answers aren't kept, so no entry tells."""
+    batches = {number for number, it in enumerate(entries) if it.body.startswith(b"<list")}
+    for number, reply in replies_now(entries, site, program) if batches else ():
+        objects = parts_of(reply)[0] if number in batches else []
+        err = next((it for it in objects if it.kind == "err" and it.parent in (None, objects[0])), None)
+        if err is not None:
+            yield number, reason(err)
 
 
 # ---- what differs, in words
