@@ -89,6 +89,37 @@ class Served:
         return sum(it[2] == f"0100007F:{self.port:04X}" and it[3] == "01" and f"socket:[{it[9]}]" in sockets for it in lines)
 
 
+class Between:
+    """What carries bytes between the dashboard and a server, until it cuts its connections."""
+
+    def __init__(self, port):
+        self.port, self.door, self.ends = port, socket.create_server(("127.0.0.1", 0)), []
+        self.url = f"http://127.0.0.1:{self.door.getsockname()[1]}/obix/"
+        threading.Thread(target=self.serve, daemon=True).start()
+
+    def serve(self):
+        while True:
+            client, _ = self.door.accept()
+            server = socket.create_connection(("127.0.0.1", self.port))
+            self.ends += [client, server]
+            for pair in ((client, server), (server, client)):
+                threading.Thread(target=self.carry, args=pair, daemon=True).start()
+
+    @staticmethod
+    def carry(one, other):
+        try:
+            for piece in iter(lambda: one.recv(65536), b""):
+                other.sendall(piece)
+        except OSError:
+            pass
+
+    def cut(self):
+        ends, self.ends = self.ends, []
+        for end in ends:
+            end.shutdown(socket.SHUT_RDWR)
+            end.close()
+
+
 class Shown:
     """tools/dashboard.py on a port of its own."""
 
@@ -663,6 +694,18 @@ def try_outage(browser):
     watches = server.watches()
     ok(watches == [1] and page.js("$('ahead').textContent") == "", "by the same watch", watches)
     shown.end()
+    between = Between(server.port)
+    shown = Shown(between.url)
+    page = browser.open(shown.url)
+    page.until("points.size === 7")
+    began = page.js("epoch")
+    for number in range(8):
+        between.cut()
+        server.ask("PUT", FLOW, f'<real val="{40 + number}"/>')
+        page.until(f"points.get('{FLOW}').val === '{40 + number}'")
+    is_calm = page.js(f"epoch === {began} && points.get('{FLOW}').val === '47'")
+    told = shown.end()[1]
+    ok(is_calm and " lost" not in told, "a connection that is cut between two polls is no outage", told.count(" live"))
     server.stop()
     site = pathlib.Path(room.name, "ahead.xml")
     site.write_text(PLANT.read_text().replace("2026-01-05T07:00", time.strftime("%Y-%m-%dT%H:%M", time.gmtime(time.time() + 86400))))
