@@ -29,6 +29,11 @@ STATES = ("unackedAlarm", "alarm", "unacked")
 ENTRIES, RECORD = 1_000_000, 1_073_741_824                 # the limits of docs/PROFILE.md: a server doesn't say them
 
 
+def filled(history):
+    """For how many stored entries a history counts: its capacity, or else its records."""
+    return max(int(val(history, name) or 0) for name in ("capacity", "count"))
+
+
 class Site:
     """What is held of the server between scrapes."""
 
@@ -45,23 +50,22 @@ class Site:
                 self.find(it)
 
     def begin(self):
-        """Reads the lobby and the alarms, and makes the watches of all that is followed. A history that has no capacity is followed."""
+        """Reads the lobby and the alarms, and makes the watches of all that is followed."""
         self.points, self.open, self.last, self.closed, self.is_due = {}, {}, 0, 0, True
         self.server.join()
         self.find(self.server.lobby)
-        self.filled = {path: int(val(parts, "capacity") or val(parts, "count") or 0) for path, parts in self.server.histories.items()}
-        growing = [path for path, parts in self.server.histories.items() if val(parts, "capacity") is None]
+        self.filled = {path: filled(parts) for path, parts in self.server.histories.items()}
         self.look()
-        entries = self.server.watched([*self.points, *growing], self.open[min(self.open)][0] if self.open else None)
+        entries = self.server.watched([*self.points, *self.filled], self.open[min(self.open)][0] if self.open else None)
         self.made += len(self.server.watches)
         self.hear(entries)
 
     def look(self):
         """Reads the alarms that weren't done, and those after the last one. Of the open ones the time, the state and the events are held."""
         for it in (it for page in self.server.alarms(self.open, self.last) for it in page):
-            told = list(events(it))
-            n, _, at, *_ = told[0]
-            self.last, self.open[n] = max(self.last, n), (at, state_of(it), len(told))
+            happened = list(events(it))
+            n, _, at, *_ = happened[0]
+            self.last, self.open[n] = max(self.last, n), (at, state_of(it), len(happened))
             if is_done(it):
                 self.closed += self.open.pop(n)[2]
         self.is_due = False
@@ -73,7 +77,7 @@ class Site:
             if path in self.points and kind(it) != "err":
                 self.points[path] = it
             elif path in self.filled and kind(it) != "err":
-                self.filled[path] = int(val(children(it), "count") or 0)
+                self.filled[path] = filled(children(it))
             elif path == self.server.subject:
                 self.is_due = self.is_due or len(it) > 0
         if self.is_due:
@@ -111,9 +115,9 @@ class Site:
         return out
 
     def add_record(self, out):
+        out.add("record_limit_bytes", "How many bytes RECORD may have; writes are refused then.", RECORD)
         try:
             out.add("record_bytes", "The bytes of the file RECORD of `obix keep`.", os.stat(self.record).st_size)
-            out.add("record_limit_bytes", "How many it may have; no more is written then.", RECORD)
             self.say(self.record, None)
         except OSError as fault:
             self.say(self.record, words(fault))

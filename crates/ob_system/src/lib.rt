@@ -14,16 +14,17 @@ mod link;
 mod port;
 mod refusal;
 mod standard;
-#[cfg(test)]
-mod tests;
 mod wait_time;
 
 pub use dialer::TcpDialer;
 pub use disk::{DiskDevices, DiskFile};
 pub use door::TcpDoor;
+pub use host::without_brackets;
 pub use link::TcpLink;
 pub use port::TcpPort;
+pub use refusal::Refusal;
 pub use standard::{DiskFiles, StdSink, StdSource, SystemClock};
+pub use wait_time::WaitTime;
 
 /// Links, doors, ports, dialers and clocks may go to another thread.
 pub fn crosses_threads<R: Sync + 'static>() {

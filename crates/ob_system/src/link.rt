@@ -54,6 +54,20 @@ impl<'a, R: Timer> TcpLink<'a, R> {
         })
     }
 
+    /// How many reads have failed so far.
+    pub fn read_fault_count(&self) -> u64
+        ensures { result ≡ self.now.read_faults }
+    {
+        self.read_faults
+    }
+
+    /// How many writes have failed so far.
+    pub fn write_fault_count(&self) -> u64
+        ensures { result ≡ self.now.write_faults }
+    {
+        self.write_faults
+    }
+
     /// Ends the connection so that its peer sees all that was written. A connection that is closed over bytes that nobody
     /// read is reset, and the peer's system then drops what it still held: so writing ends first, and what the peer sends
     /// until it ends too is read and dropped, for `LINGER_S` seconds and `LEFTOVER` bytes at most. A link of which a call

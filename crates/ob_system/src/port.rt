@@ -14,7 +14,7 @@ pub struct TcpPort<'a, R> {
     listener: Option<TcpListener>,
     opened: u64,
     returned: u64,
-    pub(crate) faults: u64,
+    faults: u64,
 }
 
 impl<'a, R: Net<Listener = TcpListener, Stream = TcpStream> + Timer> TcpPort<'a, R> {
@@ -30,6 +30,13 @@ impl<'a, R: Net<Listener = TcpListener, Stream = TcpStream> + Timer> TcpPort<'a,
             returned: 0,
             faults: 0,
         }
+    }
+
+    /// How many calls have failed so far, as `faults` of its trait counts them.
+    pub fn fault_count(&self) -> u64
+        ensures { result ≡ self.now.faults }
+    {
+        self.faults
     }
 
     // A door on the place that it listens on.

@@ -19,14 +19,14 @@ pub(crate) const WRITE_LOOK_S: u64 = 1;
 
 /// How long a call waits, and those before it in its direction have waited.
 #[derive(Clone, Copy, Drop)]
-pub(crate) struct WaitTime {
+pub struct WaitTime {
     begun: Instant,
     before: Duration,
 }
 
 impl WaitTime {
     /// Of a call that begins now. Fails where those before it have used up the time.
-    pub(crate) fn new<R: Timer>(timer: &R, before: Duration) -> io::Result<WaitTime> {
+    pub fn new<R: Timer>(timer: &R, before: Duration) -> io::Result<WaitTime> {
         if before.as_secs() >= TURN_S {
             return Err(io::Error::from(ErrorKind::TimedOut));
         }
@@ -40,13 +40,13 @@ impl WaitTime {
     }
 
     /// Whether the call may wait on for a peer that may be silent for so many seconds.
-    pub(crate) fn is_left<R: Timer>(&self, timer: &R, silence_s: u64) -> bool {
+    pub fn is_left<R: Timer>(&self, timer: &R, silence_s: u64) -> bool {
         let so_far = self.so_far(timer);
         so_far.as_secs() < silence_s && self.before.saturating_add(so_far).as_secs() < TURN_S
     }
 
     /// How long all of them have waited.
-    pub(crate) fn total<R: Timer>(&self, timer: &R) -> Duration {
+    pub fn total<R: Timer>(&self, timer: &R) -> Duration {
         self.before.saturating_add(self.so_far(timer))
     }
 }
