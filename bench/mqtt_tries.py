@@ -11,7 +11,7 @@ import threading
 import time
 
 import paho.mqtt.client as paho
-from tries import LOST, TOP, Process, main, site, started, until
+from tries import LOST, TOP, Process, certificates, main, site, started, until
 
 AWAY = "obix/plant/availability"
 LATEST = [paho.CallbackAPIVersion.VERSION2] if hasattr(paho, "CallbackAPIVersion") else []
@@ -231,31 +231,18 @@ def try_together(room):
     ended(server, broker, reader, fresh)
 
 
-def certificates(folder):
-    """An authority of our own, a certificate of the broker for 127.0.0.1, and one of the tool."""
-    def run(*words):
-        subprocess.run(["openssl", *words], cwd=folder, check=True, capture_output=True)
-    ec = ("-newkey", "ec", "-pkeyopt", "ec_paramgen_curve:prime256v1", "-nodes")
-    run("req", "-x509", *ec, "-days", "2", "-subj", "/CN=try", "-keyout", "ca.key", "-out", "ca.pem")
-    (folder / "names").write_text("subjectAltName=IP:127.0.0.1\n")
-    for name in ("broker", "tool"):
-        run("req", *ec, "-subj", f"/CN={name}", "-keyout", f"{name}.key", "-out", f"{name}.csr")
-        run("x509", "-req", "-days", "2", "-in", f"{name}.csr", "-CA", "ca.pem", "-CAkey", "ca.key", "-CAcreateserial", "-extfile", "names", "-out", f"{name}.pem")
-    return {it: str(folder / it) for it in ("ca.pem", "broker.pem", "broker.key", "tool.pem", "tool.key")}
-
-
 def try_secure(room):
-    file = certificates(room.folder)
+    certificates(room.folder, "broker", "tool")
     for name, text in (("good", "se cret\n"), ("bad", "wrong\n")):
         (room.folder / name).write_text(text)
     (room.folder / "users").touch(mode=0o600)
     subprocess.run(["mosquitto_passwd", "-b", str(room.folder / "users"), "plant", "se cret"], check=True)
-    tls = [f"certfile {file['broker.pem']}", f"keyfile {file['broker.key']}"]
+    tls = [f"certfile {room.folder}/broker.pem", f"keyfile {room.folder}/broker.key"]
     users = Broker(room, "users-broker", more=[*tls, "allow_anonymous false", f"password_file {room.folder / 'users'}"]).start()
-    signed = Broker(room, "signed-broker", more=[*tls, f"cafile {file['ca.pem']}", "require_certificate true", "allow_anonymous true"]).start()
+    signed = Broker(room, "signed-broker", more=[*tls, f"cafile {room.folder}/ca.pem", "require_certificate true", "allow_anonymous true"]).start()
     server = room.server("secure", site(3))
     good, bad = (("--user", "plant", "--password-file", room.folder / it) for it in ("good", "bad"))
-    ca, own = ("--ca", file["ca.pem"]), ("--cert", file["tool.pem"], "--key", file["tool.key"])
+    ca, own = ("--ca", room.folder / "ca.pem"), ("--cert", room.folder / "tool.pem", "--key", room.folder / "tool.key")
     for number, (text, broker, wanted, *words) in enumerate((
             ("user and password by TLS", users, "connected", *ca, *good),
             ("a wrong password", users, "Not authorized", *ca, *bad),
