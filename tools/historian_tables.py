@@ -154,7 +154,7 @@ class Tables:
     def gap(self, path, since, until, why):
         """Notes that something may be missing; True where that is news."""
         return self.execute("INSERT INTO gap VALUES (%s, %s, %s, %s, %s, %s) ON CONFLICT DO NOTHING",
-                            (self.server, path, self.run, since, max(since, until), why)).rowcount == 1
+                            (self.server, path, self.run, since, until, why)).rowcount == 1
 
     def history(self, path, source):
         """The id of a history, its place in this run, and the last (at, k) that it was stored up to in any run; None where there is none."""
@@ -179,12 +179,14 @@ class Tables:
                         "AND run = %s AND at = %s AND k = %s)", (it.id, self.run, it.id, self.run, it.at, it.k - 1))[0]
 
     def records(self, new, careful, places):
-        """Stores records: `new` ones, those that may be there already, and the places (history, at, k, careful) that they lead to."""
+        """Stores `new` records, those that may be there already, and the places (history, at, k, careful) that they lead to. How many
+        weren't there."""
         with self.base.cursor().copy("COPY record FROM STDIN") as copy:
             for row in new:
                 copy.write_row(row)
-        self.many("INSERT INTO record VALUES (%s, %s, %s, %s, %s, %s) ON CONFLICT DO NOTHING", careful)
+        stored = len(new) + self.many("INSERT INTO record VALUES (%s, %s, %s, %s, %s, %s) ON CONFLICT DO NOTHING", careful)
         self.many("UPDATE place SET (at, k, careful) = (%s, %s, %s) WHERE history = %s AND run = %s", [(*it[1:], it[0], self.run) for it in places])
+        return stored
 
     def waiting(self):
         """The number of the last alarm that is known, and those to which more can come."""
