@@ -261,7 +261,7 @@ def pair(room):
 
 
 def moment(room):
-    """Batches of 1,000 writes to one point: so many records have one moment, and a page is 500. The tool is killed four times."""
+    """Batches of 1,000 writes to one point: so many records have one moment, and a page is 200. The tool is killed four times."""
     it = Try(room, "moment")
     server = it.server("moment", site(1))
     tool = it.tool(server.url)

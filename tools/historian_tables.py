@@ -20,7 +20,7 @@ except ImportError:
     psycopg = None                           # historian.py says so
 
 TABLES = pathlib.Path(__file__).with_name("historian.sql")
-PAGE, LARGEST = 500, 10_000                  # new records of a page, and of one that begins at a moment with many
+PAGE, LARGEST = 200, 10_000                  # new records of a page, and of one that begins at a moment with many
 ANEW, BACK = "the server began anew", "the server went back"
 LOCK = 6125                                  # the class of the advisory locks: with 0 of the tables, with an id of a server
 LASTING = {"connect_timeout": 10, "keepalives_idle": 30, "tcp_user_timeout": 30_000, "fallback_application_name": "obix historian"}
