@@ -1,5 +1,6 @@
 """The tries of bench/historian.sh: tools/historian.py with PostgreSQL, a cluster of its own in the room's folder, on a port of 127.0.0.1."""
 import contextlib
+import functools
 import glob
 import json
 import os
@@ -260,7 +261,7 @@ def pair(room):
 
 
 def moment(room):
-    """Batches of 1,000 writes to one point: so many records have one moment, and a page is 500. The tool is killed four times."""
+    """Batches of 1,000 writes to one point: so many records have one moment, and a page is 200. The tool is killed four times."""
     it = Try(room, "moment")
     server = it.server("moment", site(1))
     tool = it.tool(server.url)
@@ -350,6 +351,37 @@ def words(room):
         it.judge(run.returncode == 2 and "Traceback" not in run.stderr, f"words: {more} ends with 2", run.stderr)
 
 
+def replica(room):
+    """The database is lost while records come, and a replica that is some seconds behind takes its place."""
+    it, port = Try(room, "replica"), room.free_port()
+    base, data, count = it.base, it.base.folder / "replica", "SELECT count(*) FROM record"
+    base.run("pg_basebackup", "-h", base.folder, "-p", base.port, "-U", "postgres", "-D", data, "-R", "-X", "stream")
+    control = functools.partial(base.run, "pg_ctl", "-D", data, "-l", base.folder / "replica.log", "-w", "-o", f"-p {port}")
+    control("start")
+    try:
+        server, was = it.server("replica", site(2)), base.words
+        it.to = f"host=127.0.0.1,127.0.0.1 port={base.port},{port} user=postgres dbname=replica target_session_attrs=read-write"
+        tool, (threads, done) = it.tool(server.url), server.writes(["p0", "p1"], 20, 60)
+        it.comes(lambda: base.one(count) > 100)
+        control("stop")
+        time.sleep(3)
+        had = base.one(count)
+        base.kill()
+        control("start"), control("promote")
+        base.words = was.replace(f"port={base.port}", f"port={port}")
+        behind = had - base.one(count)
+        for thread in threads:
+            thread.join()
+        found = it.agrees(server, ["h0", "h1"])
+        base.words = was
+        it.judge(behind > 0 and found and found[0] >= sum(done.values()),
+                 f"replica: {behind} records behind, it has all {found and found[0]} of the server, each once", (behind, tool.said()[-500:]))
+        tool.kill(), server.kill()
+    finally:
+        control("stop", "-m", "immediate")
+        base.start()
+
+
 def many(room, count=20, points=5, seconds=20):
     """Twenty servers by one process, a quarter of them down at first."""
     it, paths = Try(room, "many"), [f"h{n}" for n in range(5)]
@@ -421,4 +453,4 @@ def grafana(room):
 
 
 if __name__ == "__main__":
-    sys.exit(main("historian", {it.__name__: it for it in (words, kinds, months, changed, ring, back, anew, pair, moment, grafana, kills, many, speed)}))
+    sys.exit(main("historian", {it.__name__: it for it in (words, kinds, months, changed, ring, back, anew, pair, moment, grafana, replica, kills, many, speed)}))

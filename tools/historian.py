@@ -43,6 +43,7 @@ class Server(Follower):
         print(time.strftime("%Y-%m-%dT%H:%M:%S"), self.url, text, flush=True)
 
     def missing(self, path, since, until, why):
+        until = max(since, until)                          # by an earlier clock it may be before
         if self.tables.gap(path, since, until, why):
             self.log(f"gap: {path} from {since} to {until}: {why}")
 
@@ -118,11 +119,12 @@ class Server(Follower):
         with self.tables.transaction():
             self.tables.hold(now)
             steps = [self.step(*each) for each in zip(now, data, shown, new)]
-            self.tables.records([row for it, (rows, *_) in zip(now, steps) if not it.careful for row in rows],
-                                [row for it, (rows, *_) in zip(now, steps) if it.careful for row in rows],
-                                [(it.id, *place) for it, (_, place, _) in zip(now, steps)])
-        for it, (rows, (it.at, it.k, it.careful), _) in zip(now, steps):
-            self.stored[0] += len(rows)
+            stored = self.tables.records([row for it, (rows, *_) in zip(now, steps) if not it.careful for row in rows],
+                                         [row for it, (rows, *_) in zip(now, steps) if it.careful for row in rows],
+                                         [(it.id, *place) for it, (_, place, _) in zip(now, steps)])
+        self.stored[0] += stored
+        for it, (_, place, _) in zip(now, steps):
+            it.at, it.k, it.careful = place
         return [it for it, (*_, has_more) in zip(now, steps) if has_more]
 
     def step(self, it, data, shown, new):
