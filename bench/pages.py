@@ -154,7 +154,7 @@ def run_page(told, top, program, page):
 
 def look_at_links(told, top):
     """Whether each file that a page leads to is there, and each page that it names in words."""
-    for page in [top / "README.md", *sorted(top.glob("docs/*.md")), top / "examples/README.md", top / "bench/README.md"]:
+    for page in sorted([*top.glob("*.md"), *top.glob("docs/*.md"), *(top / it / "README.md" for it in ("bench", "examples", "tools"))]):
         text = page.read_text(encoding="utf-8")
         gone = [it for it in re.findall(r"\]\(([^)#:]+)\)", text) if not (page.parent / it).exists()]
         name = page.relative_to(top)
