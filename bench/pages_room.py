@@ -23,7 +23,7 @@ STAND_INS = {
              "exec {real} -e {at}/nginx/error.log -p {at}/nginx/ -c {at}/nginx/nginx.conf \"$@\"",
     "systemd-analyze": "sed -i 's|/usr/local/|{at}/usr/local/|g' {at}/etc/systemd/system/*\nexec {real} \"$@\"",
 }
-NGINX = """worker_processes 2; pid {at}/nginx/pid; error_log {at}/nginx/error.log;
+NGINX = """{user} worker_processes 2; pid {at}/nginx/pid; error_log {at}/nginx/error.log;
 events {{ worker_connections 256; }}
 http {{ access_log {at}/nginx/access.log;
 client_body_temp_path b; proxy_temp_path p; fastcgi_temp_path f; scgi_temp_path s; uwsgi_temp_path u; include {at}/nginx/obix.conf; }}
@@ -51,7 +51,7 @@ class Room:
             (self.at / place).mkdir(parents=True)
         for place in ("obix", "out/bin/obix", "bin/obix", "usr/local/bin/obix"):
             (self.at / place).symlink_to(program)
-        (self.at / "nginx/nginx.conf").write_text(NGINX.format(at=self.at))
+        (self.at / "nginx/nginx.conf").write_text(NGINX.format(at=self.at, user="" if os.geteuid() else "user www-data;"))
         path = f"{os.environ['PATH']}:/usr/sbin"
         for name, text in STAND_INS.items():
             text = text.replace("{at}", str(self.at)).replace("{real}", shutil.which(name, path=path) or "false")
@@ -87,15 +87,17 @@ class Room:
     def run(self, command):
         """Status and output. There is no terminal, so what asks for a password at one reads it from standard input."""
         command = command.removesuffix("; echo")               # a line feed, and its own status
-        typed = b"secret\nsecret\n" if re.search(r"openssl passwd|curl .*-u \w+ ", command) else b""
+        if command.startswith("curl ") and " -w " not in command:
+            command = f"curl -f {command[5:]}"                 # a status of HTTP that is no success is one of curl's
+        typed = b"secret\nsecret\n" if "openssl passwd" in command else b"secret\n" if " -u " in command else b""
         done = subprocess.run(["bash", "-o", "pipefail", "-c", self.here(command)], cwd=self.at, env=self.environment, input=typed,
                               capture_output=True, timeout=120, start_new_session=True)
         return done.returncode, re.sub(r"(Enter host password|(Verifying - )?Password).*:\s*", "", (done.stdout + done.stderr).decode())
 
     def start(self, command):
         """Starts what doesn't end by itself, in place of what this room has at its port."""
-        command, run = self.here(command), None
-        port = re.findall(rf"\b({'|'.join(self.ports.values())})\b", command)[-1]
+        command = self.here(command)
+        port = (re.findall(rf"\b({'|'.join(self.ports.values())})\b", command) or ["0"])[-1]      # 0: none of PORTS
         self.end(port)
         run = subprocess.Popen(["bash", "-c", f"exec {command}"], cwd=self.at, env=self.environment, stdout=subprocess.PIPE,
                                stderr=subprocess.STDOUT, text=True)
