@@ -7,5 +7,5 @@
 set -eu
 top=$(cd "$(dirname "$0")/.." && pwd)
 command -v chromium >/dev/null || { echo "bench/dashboard.sh: there is no chromium" >&2; exit 1; }
-case ${1:---} in --*) "$top/obix" --prove; set -- "$top/out/bin/obix" "$@" ;; esac
+case ${1:---} in --*) "$top/obix" stdio "$top/examples/point.xml" </dev/null; set -- "$top/out/bin/obix" "$@" ;; esac
 exec python3 "$top/bench/dashboard_tries.py" "$@"
