@@ -1,12 +1,11 @@
 """What a whole `rt ci` leaves, and what the launcher makes of it: by an rt that is made up, and by the real one over a compiler that is."""
-import os
 import pathlib
 import shutil
 import subprocess
 import time
 
 import launcher_kit
-from launcher_place import judge, tried, until
+from launcher_place import judge, skip, until
 
 
 def gate(place, wait=True):
@@ -70,7 +69,8 @@ def try_gate_changes(place):
 
 def try_gate_and_others(place):
     gate(place)
-    judge("another user, without rights in the checkout, runs what the gate proved", place.run("which", other=True) == (0, "proved of one\n", ""))
+    judge("another user, without rights in the checkout, runs what the gate proved",
+          place.run("which", other=True) == (0, "proved of one\n", ""))
     judge("--prove by that user proves nothing a second time", place.run("--prove", other=True)[0] == 0, len(place.calls("ci")) == 1)
     home = place.environment.pop("HOME")
     judge("and one without HOME runs it", place.run("which", other=True) == (0, "proved of one\n", ""))
@@ -97,8 +97,7 @@ def try_real_gate(place):
     """What the real rt leaves, where it proves, where all is kept, and however the checkout came to be."""
     real = real_kit()
     if real is None:
-        tried["skipped"] += 1
-        print("skipped the gate of the real rt: there is no rt on the PATH", flush=True)
+        skip("the gate of the real rt", "there is no rt on the PATH")
         return
     shutil.rmtree(place.kit)
     launcher_kit.make_kit_of(place.kit, real)
@@ -112,10 +111,11 @@ def try_real_gate(place):
             status, said = gate(place)
             is_kept = "obix is kept" in said
             shutil.rmtree(place.top / "out", ignore_errors=True)
-            judge(f"the real rt, a checkout {kind}: what was {how} runs, and is taken over", status == 0, is_kept == (how == "kept"),
-                  place.run("which") == (0, f"proved of text{number}\n", ""), (place.top / "out/bin/obix").is_file(), place.run("--prove")[0] == 0)
+            runs = place.run("which") == (0, f"proved of text{number}\n", "")
+            judge(f"the real rt, a checkout {kind}: what was {how} runs, and is taken over", status == 0, is_kept == (how == "kept"), runs,
+                  (place.top / "out/bin/obix").is_file(), place.run("--prove")[0] == 0)
     place.change("crates/ob_low/src/lib.rt")
-    judge("the real rt, --prove", place.run("--prove")[0] == 0, place.run("which") == (0, "proved of text2\n", ""), os.listdir(place.rooms) == [])
+    judge("the real rt, --prove", place.run("--prove")[0] == 0, place.run("which") == (0, "proved of text2\n", ""), place.is_clean())
 
 
 TRIES = {"gate": try_gate, "gate, changes": try_gate_changes, "gate, others": try_gate_and_others, "gate, real": try_real_gate}

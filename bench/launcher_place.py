@@ -3,11 +3,8 @@ import fcntl
 import os
 import pathlib
 import pty
-import shutil
-import signal
 import subprocess
 import sys
-import tempfile
 import termios
 import time
 
@@ -22,6 +19,11 @@ def judge(what, *holds):
     said = "ok" if all(holds) else "not ok"
     tried[said] += 1
     print(said, what, "" if all(holds) else f"({[bool(it) for it in holds]})", flush=True)
+
+
+def skip(what, why):
+    tried["skipped"] += 1
+    print("skipped", what, f"({why})", flush=True)
 
 
 def until(holds, seconds=20):
