@@ -10,5 +10,5 @@
 #        (200, 100, 20, 100,000 and 100,000; the folder for temporary files; all tries, or those whose name has TEXT)
 set -eu
 top=$(cd "$(dirname "$0")/.." && pwd)
-"$top/obix" stdio "$top/examples/point.xml" </dev/null   # builds it where needed
+"$top/obix" --prove   # builds it where needed
 exec python3 "$top/bench/keep_tries.py" "$top/out/bin/obix" "$@"

@@ -9,5 +9,5 @@
 #        (64, 10,000 and 1,024; free ports; all tries, or those whose name has TEXT)
 set -eu
 top=$(cd "$(dirname "$0")/.." && pwd)
-"$top/obix" stdio "$top/examples/point.xml" </dev/null   # builds it where needed
+"$top/obix" --prove   # builds it where needed
 exec python3 "$top/bench/serve_tries.py" "$top/out/bin/obix" "$@"
