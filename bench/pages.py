@@ -17,7 +17,7 @@ NOT_HERE = ((r"rt |RT_JOBS=|\./obix --prove", "needs the kit, for an hour"), (r"
             (r".*systemctl (enable|status|daemon-reload)", "needs systemd as the first process"))
 PRINTED = re.compile(r"(?:listening|served|legal|illegal|compacted|403|obix:) ?\S*.*")
 TIME = re.compile(r"\d{4}-\d\d-\d\dT[\d:.]*Z *")
-README_LINES, CELL = 130, 250
+README_LINES = 130
 
 
 class Told:
@@ -152,9 +152,14 @@ def run_page(told, top, program, page):
                     told.not_ok(what, f"printed {block.printed!r}")
 
 
+def pages_of(top):
+    """All pages but those of the crates."""
+    return [*sorted(top.glob("*.md")), *sorted(top.glob("docs/*.md")), *(top / it / "README.md" for it in ("examples", "tools", "bench"))]
+
+
 def look_at_links(told, top):
     """Whether each file that a page leads to is there, and each page that it names in words."""
-    for page in sorted([*top.glob("*.md"), *top.glob("docs/*.md"), *(top / it / "README.md" for it in ("bench", "examples", "tools"))]):
+    for page in pages_of(top):
         text = page.read_text(encoding="utf-8")
         gone = [it for it in re.findall(r"\]\(([^)#:]+)\)", text) if not (page.parent / it).exists()]
         name = page.relative_to(top)
@@ -165,13 +170,13 @@ def look_at_links(told, top):
 
 
 def look_at_form(told, top):
-    """The README's number of lines, and its longest cell."""
-    lines = (top / "README.md").read_text(encoding="utf-8").splitlines()
-    longest = max(len(cell.strip()) for line in lines if line.startswith("|") for cell in line.strip("|").split(" | "))
-    if len(lines) <= README_LINES and longest <= CELL:
-        told.ok(f"README.md: {len(lines)} lines, the longest cell {longest}")
+    """The README's number of lines; how long lines and cells of the pages are."""
+    lines = (top / "README.md").read_text(encoding="utf-8").count("\n")
+    if lines <= README_LINES:
+        told.ok(f"README.md: {lines} lines")
     else:
-        told.not_ok("README.md: its size", f"{len(lines)} lines, the longest cell {longest}")
+        told.not_ok("README.md: its size", f"{lines} lines")
+    look_by(told, "lines and cells of the pages", [sys.executable, str(top / "dev/pages_check.py"), *map(str, pages_of(top))])
 
 
 def look_at_counts(told, top):

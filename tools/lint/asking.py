@@ -23,15 +23,15 @@ class Program:
         if not self.path:
             raise Trouble("no program: none is built beside the tools (./obix builds one), and no obix is on the PATH; say where it is with --obix")
 
-    def run(self, *words, requests=b""):
-        """What it writes, and the refusal that it says, if it does; anything else isn't an answer."""
+    def run(self, *words, requests=b"", may=()):
+        """What it writes, and the refusal that it says, if it does (status 2, and those of `may`); anything else isn't an answer."""
         try:
             run = subprocess.run([self.path, *words], input=requests, capture_output=True, timeout=600)
         except (OSError, ValueError, subprocess.SubprocessError) as fault:
             raise Trouble(f"{self.path}: {getattr(fault, 'strerror', None) or fault}") from None
         said = run.stderr.decode(errors="replace").strip()
-        refused = re.search("^obix: refused: (.*)$", said, re.M)
-        if run.returncode != 0 and not (run.returncode == 2 and refused):
+        refused = re.search("^obix: (?:refused: )?(.*)$", said, re.M)
+        if run.returncode != 0 and not (run.returncode in (2, *may) and refused):
             raise Trouble(f"{self.path} {words[0]}: {said or 'no word'} (status {run.returncode})")
         return run.stdout, refused[1] if run.returncode else None
 
@@ -73,7 +73,7 @@ class Site:
     def __init__(self, copy, data, program):
         self.parts = parts_of(data)[0]
         self.root, self.written = self.parts[0], [it.has for it in self.parts]
-        self.kept_sources, self.kept_children, self.kept_nodes = {}, {}, None
+        self.kept_sources, self.kept_children, self.kept_nodes, self.kept_ranged = {}, {}, None, None
         read = parts_of(program.run("check", copy)[0])[0]
         if [it.kind for it in read] != [it.kind for it in self.parts]:
             raise Trouble("the program reads other parts in the file than this tool")
