@@ -61,7 +61,12 @@ class Machine:
                  *["--keep-unit"] * bool(self.groups), "--boot"]
         self.log = open(self.room / "log", "w", encoding="utf-8")
         self.run = subprocess.Popen(words, stdin=subprocess.DEVNULL, stdout=self.log, stderr=self.log, preexec_fn=self.join)
-        until(lambda: self.says("systemctl is-system-running")[1].strip() in ("running", "degraded"), "systemd doesn't come up", 60)
+        try:
+            until(lambda: self.says("systemctl is-system-running")[1].strip() in ("running", "degraded"), "systemd doesn't come up", 60)
+        except BaseException:
+            sys.stderr.write((self.room / "log").read_text(encoding="utf-8"))
+            self.__exit__()
+            raise
         return self
 
     def __exit__(self, *fault):
