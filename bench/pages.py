@@ -16,7 +16,7 @@ PAGES = ("README.md", "examples/README.md", "docs/RUNNING.md", "docs/obix.1")
 NOT_HERE = ((r"rt |RT_JOBS=|\./obix --prove", "needs the kit, for an hour"), (r"cd crates/", "needs the kit"),
             (r"sudoedit ", "needs a person"),
             (r".*systemctl (enable|status|daemon-reload)", "needs systemd as the first process"))
-OUTSIDE = re.compile(r"(?<![\w./-])/(?!dev/null|tmp/)\w|\bapt|systemctl (?!(reload nginx|stop obix|start obix)$)")      # of the room
+OUTSIDE = re.compile(r"(?<![\w./-])/(?!dev/null|tmp/)[a-z]|\bapt|systemctl (?!(reload nginx|stop obix|start obix)$)")      # of the room
 PRINTED = re.compile(r"(?:listening|served|legal|illegal|compacted|403|obix:) ?\S*.*")
 TIME = re.compile(r"\d{4}-\d\d-\d\dT[\d:.]*Z *")
 README_LINES = 130
