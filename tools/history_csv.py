@@ -13,6 +13,7 @@ beginning. 2: the words are no command.
 """
 import argparse
 import csv
+import datetime
 import re
 import signal
 import sys
@@ -24,14 +25,23 @@ PAGE, MOST = 10_000, 1_000_000   # records of an answer; all that a site can hav
 MOMENT = re.compile(r"(\d{4}-\d\d-\d\d)(?:T(\d\d:\d\d)(:\d\d(?:\.\d{1,9})?)?(Z|[+-]\d\d:\d\d))?", re.ASCII)
 
 
+def instant(text):
+    """What is compared of an abstime: its second, and the digits behind it."""
+    second, digits, zone = re.fullmatch(r"(.{19})(?:\.(\d+))?(.+)", text).groups()
+    return datetime.datetime.fromisoformat(second + zone.replace("Z", "+00:00")).timestamp(), (digits or "").rstrip("0")
+
+
 def moment(rest):
-    """Reads a moment or a date, of which `rest` is the time that it stands for."""
+    """Reads a moment, or a date, for which `rest` of it stands."""
     def read(text):
         found = MOMENT.fullmatch(text)
-        if not found:
-            raise argparse.ArgumentTypeError(f"{text!r} is no moment such as 2026-01-05T08:00:00Z, and no date")
-        day, minute, second, zone = found.groups()
-        return f"{day}T{minute}{second or ':00'}{zone}" if minute else f"{day}T{rest}Z"
+        day, minute, second, zone = found.groups() if found else (None,) * 4
+        told = f"{day}T{minute}{second or ':00'}{zone}" if minute else f"{day}T{rest}Z"
+        try:
+            instant(told)
+        except (ValueError, AttributeError):
+            raise argparse.ArgumentTypeError(f"{text!r} is no moment such as 2026-01-05T08:00:00Z, and no date") from None
+        return told
     return read
 
 
@@ -57,47 +67,41 @@ def query_of(link, url, href):
 
 class Reader:
     """Reads a history by the page. Records stand in the order of their moments, and several may have one moment: so each page begins
-    at the moment of the last record, and the records that were read of it are left out."""
+    at the moment of the last record, and what was read of that moment is left out of it."""
 
     def __init__(self, link, query, end):
         self.link, self.query, self.end = link, query, end
-        self.last, self.gaps = [], []   # the records of the last moment that was read; where some rolled off meanwhile
+        self.last, self.gaps = [], []   # the records of the last moment that was read; between which moments some are missing
 
     def ask(self, start, limit):
         bounds = "".join(f'<abstime name="{name}" val="{it}"/>' for name, it in (("start", start), ("end", self.end)) if it)
         reply = self.link.ask("POST", self.query, f'<obj><int name="limit" val="{limit}"/>{bounds}</obj>')
         return [(needed(it, "timestamp").get("val"), needed(it, "value").get("val")) for it in needed(reply, "data")]
 
-    def new(self, page):
-        """The records of a page that weren't read before it."""
-        if not self.last:
-            return page
-        at = self.last[0][0]
-        same = next((n for n, it in enumerate(page) if it[0] != at), len(page))
-        for rolled in range(len(self.last) + 1):   # a full history drops its oldest record for each new one
-            known = self.last[rolled:rolled + same]
-            if page[:len(known)] == known and (rolled or len(known) == len(self.last)):
-                break
-        if rolled == len(self.last) and page:
-            self.gaps.append((at, page[0][0]))
-        return page[len(self.last) - rolled:] if rolled < len(self.last) else page
+    def fresh(self, page):
+        """The records of a page that weren't read before. A full history drops its oldest record for each new one, so those that
+        were read may be gone from it, the first ones first."""
+        rolled = 0
+        while page[:len(self.last) - rolled] != self.last[rolled:]:
+            rolled += 1
+        if self.last and rolled == len(self.last):
+            self.gaps.append((self.last[0][0], page[0][0] if page else self.end or "now"))
+        return page[len(self.last) - rolled:]
 
     def records(self, start, most):
-        """All records from a moment on, a page at a time."""
-        limit = PAGE
+        """All records from a moment on, or the first `most`, a page at a time."""
         while most > 0:
-            asked = min(limit, most + len(self.last), MOST)
-            page = self.ask(start, asked)
-            fresh = self.new(page)[:most]
+            limit = min(len(self.last) + min(PAGE, most), MOST)
+            page = self.ask(start, limit)
+            fresh = self.fresh(page)[:most]
             yield fresh
-            most -= len(fresh)
-            if len(page) < asked or asked == MOST:
+            if len(page) < limit or limit == MOST:
                 return
-            if fresh:
-                start, limit = page[-1][0], PAGE
-                self.last = [it for it in self.last + fresh if it[0] == start]
-            else:
-                limit *= 10                        # one moment has more records than a page
+            most, read, start = most - len(fresh), self.last + fresh, page[-1][0]
+            first = len(read) - 1
+            while first > 0 and instant(read[first - 1][0]) == instant(start):
+                first -= 1
+            self.last = read[first:]
 
 
 def main():
