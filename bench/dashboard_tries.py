@@ -41,7 +41,8 @@ def free_port():
 
 
 def ran(words, **given_to):
-    run = subprocess.Popen([str(word) for word in words], stdout=subprocess.PIPE, text=True, **given_to)
+    hears = lambda: signal.signal(signal.SIGINT, signal.SIG_DFL)           # what a shell starts in the background doesn't
+    run = subprocess.Popen([str(word) for word in words], stdout=subprocess.PIPE, text=True, preexec_fn=hears, **given_to)
     started.append(run)
     return run
 
