@@ -657,6 +657,7 @@ def try_three_lines(browser):
     for n in (2, 3):
         page.click("document.querySelector('.add input')")
         page.type(f"Floor 1 › Room 10{n} › Temperature")
+        page.until(f"charts.size === {n} && [...charts.values()].every(it => it.pairs)")
     ok(page.until("charts.size === 3 && plots.size === 1 && [...charts.values()].every(it => it.pairs?.length > 100)"), "three histories in one plot")
     page.js("document.activeElement.blur()")
     time.sleep(0.5)
