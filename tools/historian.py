@@ -27,7 +27,7 @@ from xml.sax.saxutils import quoteattr
 
 from follow import Follower, is_done
 from historian_tables import ANEW, BACK, PAGE, History, Tables, database, instant, psycopg
-from link import VALUES, Refused, children, kind, needed, val, words
+from link import LOST, VALUES, Refused, children, kind, needed, val, words
 
 TOGETHER = 20                                # histories of a batch
 SECONDS, SWEEP = 30, 60                      # how long an answer is waited for; between looks at all histories
@@ -153,7 +153,10 @@ class Server(Follower):
         self.store(self.watch(self.held, self.oldest))
         while not self.stop.is_set():
             yield
+            link = self.link.link
             news = self.changes()
+            if self.link.link is not link:                 # of the same boot time, but it may have another record by now
+                raise Refused("the connection was lost")
             if time.monotonic() - self.swept > SWEEP:      # a watch says nothing of a record that changes neither count, start nor end
                 self.swept, news = time.monotonic(), [self.subject, *self.held]
                 self.tables.answers()
@@ -169,9 +172,10 @@ class Server(Follower):
                     self.stop.wait(self.given.every)
                 break
             except Exception as fault:
-                said = f"{type(fault).__name__}: {words(fault)}".replace("\n", " ")
+                known = isinstance(fault, (*LOST, Refused, psycopg.Error))
+                said = ("" if known else f"{type(fault).__name__}: ") + words(fault).replace("\n", " ")
                 if said != trouble:
-                    self.log(said if self.given.once else f"{said}; tried again until it goes on")
+                    self.log(said if self.given.once else f"{said} (tried again until it goes on)")
                 trouble, self.failed = said, True
             self.close()
             if self.given.once:
