@@ -172,8 +172,8 @@ class Server(Follower):
                     self.stop.wait(self.given.every)
                 break
             except Exception as fault:
-                known = isinstance(fault, (*LOST, Refused, psycopg.Error))
-                said = ("" if known else f"{type(fault).__name__}: ") + words(fault).replace("\n", " ")
+                whose = "the database: " if isinstance(fault, psycopg.Error) else f"{type(fault).__name__}: "
+                said = ("" if isinstance(fault, (*LOST, Refused)) else whose) + " ".join(words(fault).split())
                 if said != trouble:
                     self.log(said if self.given.once else f"{said} (tried again until it goes on)")
                 trouble, self.failed = said, True

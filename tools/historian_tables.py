@@ -109,7 +109,7 @@ class Tables:
             self.execute("INSERT INTO server (url, name) VALUES (%s, %s) ON CONFLICT DO NOTHING", (self.url, self.url))
         self.server, = self.one("SELECT id FROM server WHERE url = %s", (self.url,))
         if not self.one("SELECT pg_try_advisory_lock(%s, %s)", (LOCK, self.server))[0]:
-            raise Refused("another historian stores this server; this one goes on when that one ends")
+            raise Refused("another historian stores this server")
 
     def one(self, query, words=()):
         return self.execute(query, words).fetchone()
@@ -178,7 +178,7 @@ class Tables:
             self.execute("INSERT INTO server (url, name) VALUES (%s, %s) ON CONFLICT DO NOTHING", (self.url, self.url))
         self.server, = self.one("SELECT id FROM server WHERE url = %s", (self.url,))
         if not self.one("SELECT pg_try_advisory_lock(%s, %s)", (LOCK, self.server))[0]:
-            raise Refused("another historian stores this server; this one goes on when that one ends")
+            raise Refused("another historian stores this server")
 
     def one(self, query, words=()):
         return self.execute(query, words).fetchone()
