@@ -26,7 +26,7 @@ import xml.etree.ElementTree as ET
 from xml.sax.saxutils import quoteattr
 
 from follow import Follower, is_done
-from historian_tables import ANEW, BACK, PAGE, History, Tables, database, instant, psycopg
+from historian_tables import ANEW, BACK, PAGE, TABLES, History, Tables, database, instant, psycopg
 from link import LOST, VALUES, Refused, children, kind, needed, val, words
 
 TOGETHER = 20                                # histories of a batch
@@ -196,8 +196,10 @@ def servers(given):
     """The name, if one is given, of each server by its URL."""
     found = {}
     for text in given:
-        it = re.fullmatch("(?:([^=/]+)=)?(https?://[^/].*)", text)
-        pairs = [it.groups()] if it else [(it.get("name"), needed(it, "url").get("val")) for it in ET.parse(text).getroot()]
+        one = re.fullmatch("(?:([^=/]+)=)?(https?://[^/].*)", text)
+        pairs = [one.groups()] if one else [(it.get("name"), val(children(it), "url")) for it in ET.parse(text).getroot()]
+        if not pairs or None in [url for _, url in pairs]:
+            raise ValueError(f"{text} is no CONFIG of `obix super`, which has a url for each server")
         found.update((url if url.endswith("/") else f"{url}/", name) for name, url in pairs)
     return found
 
@@ -222,7 +224,8 @@ def main():
         return 2
     try:
         found, to = servers(given.servers), database(given.to)
-    except (OSError, ET.ParseError, Refused, ValueError) as fault:
+        TABLES.stat()
+    except (OSError, ET.ParseError, ValueError) as fault:
         print(f"historian: {fault}", file=sys.stderr)
         return 2
     stop = threading.Event()
