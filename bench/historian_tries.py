@@ -250,8 +250,9 @@ def pair(room):
         server.put("p0", n + 2)
         time.sleep(0.05)
         if n == 50:
-            waits = next(tool for tool in tools if "another historian" in tool.said())
-            next(tool for tool in tools if tool is not waits).kill()
+            it.comes(lambda: any("another historian" in tool.said() for tool in tools), 60)
+            waits, works = sorted(tools, key=lambda tool: "another historian" not in tool.said())
+            works.kill()
     found = it.agrees(server, ["h0"])
     it.judge(found == (101, 0) and waits.run.poll() is None, "pair: 101 records once; the second waits, and goes on where the first is killed", found)
     status = waits.kill(signal.SIGTERM)
