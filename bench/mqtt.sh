@@ -6,7 +6,7 @@
 # usage: bench/mqtt.sh [--obix PROGRAM] [--from PORT] [TRY ..]      (out/bin/obix; values, hang, kills, together, secure, left, line, speed)
 set -eu
 top=$(cd "$(dirname "$0")/.." && pwd)
-PATH=$PATH:/usr/sbin
+export PATH=$PATH:/usr/sbin
 for it in mosquitto openssl; do
   command -v $it >/dev/null || { echo "mqtt.sh: no $it here (apt-get install $it): nothing was tried" >&2; exit 77; }
 done

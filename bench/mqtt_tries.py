@@ -2,7 +2,6 @@
 import bisect
 import json
 import os
-import shutil
 import signal
 import statistics
 import subprocess
@@ -309,7 +308,5 @@ def try_speed(room, count=1000, turns=10):
     ended(tool, server, broker, reader)
 
 
-if not shutil.which("mosquitto_passwd"):
-    sys.exit(77)
 sys.exit(main("mqtt", {it.partition("_")[2]: globals()[it] for it in (
     "try_values", "try_hang", "try_kills", "try_together", "try_secure", "try_left", "try_line", "try_speed")}))

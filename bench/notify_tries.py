@@ -36,10 +36,10 @@ def notify(room, name, server, *words):
 
 
 def compared(room, server, names, text, seconds=60):
-    """Judges whether each event of the server was told; how many were told more often than once."""
+    """Judges whether each event of the server was told, none more often than twice; how many were told twice."""
     until(lambda: {short(it) for it in names()} == wanted(server), seconds, 0.5)
     told, must = collections.Counter(names()), wanted(server)
-    room.judge({short(it) for it in told} == must, f"{text}: {len(must)} events, each told", sorted(must ^ {short(it) for it in told})[:9])
+    room.judge({short(it) for it in told} == must and max(told.values()) <= 2, f"{text}: {len(must)} events, each told", sorted(must ^ {short(it) for it in told})[:9])
     return sum(told.values()) - len(told)
 
 

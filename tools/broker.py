@@ -9,7 +9,10 @@ import time
 import urllib.parse
 import uuid
 
-import paho.mqtt.client as mqtt
+try:
+    import paho.mqtt.client as mqtt
+except ImportError:
+    sys.exit(f"{sys.executable} has no paho: apt-get install python3-paho-mqtt, and start the tool by /usr/bin/python3, which sees it")
 
 LATEST = [mqtt.CallbackAPIVersion.VERSION2] if hasattr(mqtt, "CallbackAPIVersion") else []         # paho 2 asks for it
 PORT, TLS_PORT, ALIVE = 1883, 8883, 5        # a broker counts a client as gone that is silent for one and a half of ALIVE seconds

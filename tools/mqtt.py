@@ -63,14 +63,15 @@ class Bridge:
             self.plant.news.notify_all()
 
     def heard(self, topic, text, is_retained):
-        if topic.endswith("/set") and (text or not is_retained):           # else a retained one is taken away
+        is_write = topic.endswith("/set")
+        if is_retained and text and (is_write or self.whole and topic not in self.shown and topic != self.available):
+            self.broker.send(topic, b"", True)             # a write that is kept, or a point that isn't there any more
+        if is_write and (text or not is_retained):         # a retained one without a text takes one away
             self.last = time.monotonic()
             why = "it is retained" if is_retained else "the tool ends" if self.is_ending else "too many writes"
             if is_retained or self.is_ending or self.writes.qsize() >= MOST:
                 return self.refuse(topic, text, why)
             self.writes.put((time.monotonic(), topic, text))
-        elif is_retained and text and self.whole and topic not in self.shown and topic != self.available:
-            self.broker.send(topic, b"", True)             # of a point that isn't there any more
 
     def refuse(self, topic, text, why):
         told = json.dumps({"set": text[:200].decode(errors="replace"), "why": why}, ensure_ascii=False)

@@ -125,6 +125,7 @@ class Alarms(Follower):
                 del self.open[n]
         if self.told.is_new:
             self.told.note([*past, f"{self.run}/0/begun"])
+            self.log(f"begins; {len(past)} events were there before, and aren't told")
         self.told.is_new = self.owes = False
 
     def message(self, name, alarm, n, what, at, source, value, who):
@@ -146,7 +147,7 @@ class Alarms(Follower):
             self.look()
 
     def run_on(self, every):
-        pause, trouble = FIRST, None
+        pause, trouble = FIRST, ""
         while not self.is_ending.is_set():
             try:
                 self.keep_up(self.begin, self.hear)
@@ -157,7 +158,7 @@ class Alarms(Follower):
                 pause = FIRST if self.went_on else min(pause * 2, FAILED if isinstance(fault, Untold) else AWAY)
                 rest, said = pause, str(fault) if isinstance(fault, Untold) else words(fault)
             if said != trouble:
-                self.log(said or "goes on")
+                self.log(said or "all is told")
             if self.told.waiting:
                 self.told.note([])
             trouble, self.went_on = said, False
