@@ -247,13 +247,13 @@ def try_secure(room):
             ("a wrong password", users, "Not authorized", *ca, *bad),
             ("no user", users, "Not authorized", *ca),
             ("an authority that isn't known", users, "certificate verify failed", "--tls", *good),
-            ("no TLS", users, "", *good),
+            ("no TLS", users, "it ends the connection", *good),
             ("a certificate of the tool's own", signed, "connected", *ca, *own),
             ("no certificate, where one is asked for", signed, "certificate required", *ca))):
         tool = bridge(room, f"secure-{number}", server, broker, *words)
-        told = until(lambda: f"broker: {wanted}" in tool.said() or (wanted != "connected" and wanted in tool.said()), 15)
-        time.sleep(1 if wanted == "connected" else 2)
-        room.judge(told is not None and ("broker: connected" in tool.said()) == (wanted == "connected"), f"secure: {text}: {wanted or 'never connected'}", tool.said())
+        told = until(lambda: wanted in tool.said() and "live" in tool.said(), 30)
+        time.sleep(1)
+        room.judge(told is not None and ("connected" in tool.said()) == (wanted == "connected"), f"secure: {text}: {wanted}", tool.said())
         status = tool.kill(signal.SIGTERM)
         room.judge(status == 0 and "Traceback" not in tool.said(), f"secure: {text}: SIGTERM, status 0", (status, tool.said()))
     ended(server, users, signed)

@@ -104,32 +104,32 @@ def try_webhook(room, seconds=60):
 def try_command(room):
     server, out = room.server("command", site(1)), room.folder / "command.told"
     words = ("--command", f'echo "$ALARM_ID|$ALARM_SOURCE|$ALARM_VALUE|$ALARM_WHO|$ALARM_STATE" >> {out}')
+    lines = lambda: [re.sub("^[^/]*/|/2[^|]*", "", it) for it in out.read_text().splitlines()] if out.exists() else []
     server.put("q", -1), server.put("q", 1)
     tool = notify(room, "command-tool", server, *words)
-    time.sleep(2)
-    room.judge(not out.exists(), "command: alarms that were there before its first start aren't told")
+    begun(room.folder / "command-tool.state")
     server.put("m", 200)
+    until(lambda: len(lines()) == 1, 15)
     server.acknowledge(2, "ann $(id) &quot; '")
-    time.sleep(2)
+    until(lambda: len(lines()) == 2, 15)
     tool.kill()
     server.put("m", 2)
     server.kill()
     server.start(), tool.start()
-    lines = lambda: [re.sub("^[^/]*/|/2[^|]*", "", it) for it in out.read_text().splitlines()]
     until(lambda: len(lines()) >= 3, 15)
     time.sleep(1)
-    must = ["2/raised|/obix/m|200||", "2/acked|/obix/m|200|ann $(id) \" '|alarm", "2/normal|/obix/m|200||ok"]
-    room.judge([it.replace("unackedAlarm", "").replace("|alarm", "|") if "raised" in it else it for it in lines()] == must,
-               "command: raised, acked and normal over restarts of both; a user's name isn't read by the shell", lines())
+    must = ["2/raised|/obix/m|200||unackedAlarm", "2/acked|/obix/m|200|ann $(id) \" '|alarm", "2/normal|/obix/m|200||ok"]
+    room.judge(lines() == must, "command: raised, acked and normal over restarts of both, none of before its first start; a user's name isn't read by the shell", lines())
     second = notify(room, "command-tool", server, *words)
     room.judge(second.run.wait(20) == 3 and "another notify has it" in second.said(), "command: a second one on the same file: status 3", second.said())
-    slow = notify(room, "slow", server, "--past", "--timeout", 1, "--command", f"echo x >> {room.folder}/slow.told; sleep 300 & echo $! > {room.folder}/slow.pid; wait")
+    slow = notify(room, "slow", server, "--past", "--timeout", 1, "--command", f"sleep 300 & echo $! >> {room.folder}/slow.pids; wait")
     until(lambda: "not done within 1 s" in slow.said(), 20)
-    gone = until(lambda: not pathlib.Path(f"/proc/{(room.folder / 'slow.pid').read_text().strip()}").exists(), 5) if (room.folder / "slow.pid").exists() else None
+    pids = (room.folder / "slow.pids").read_text().split()
+    gone = until(lambda: not pathlib.Path(f"/proc/{pids[0]}").exists(), 5)
     room.judge(gone is not None, "command: one that doesn't end is ended, with what it started", slow.said())
-    slow.kill(signal.SIGTERM)
-    for it in (tool, server):
-        it.kill()
+    for it in (slow, tool):
+        room.judge(it.kill(signal.SIGTERM) == 0, "command: SIGTERM, status 0", it.said()[-300:])
+    server.kill()
 
 
 def try_back(room):

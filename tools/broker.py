@@ -52,6 +52,7 @@ def secured(client, given):
         if given.tls or given.ca or given.cert:
             file = given.ca
             context = ssl.create_default_context(cafile=file)
+            context.verify_flags &= ~ssl.VERIFY_X509_STRICT            # of Python 3.13: an authority of one's own often lacks a form that it wants
             file = given.cert
             if file:
                 context.load_cert_chain(file, given.key)
@@ -86,7 +87,7 @@ class Broker:
         self.client = Client(*LATEST, client_id=f"obix-{uuid.uuid4().hex[:16]}", protocol=mqtt.MQTTv5)
         self.client.lost = self.lost
         self.client.will_set(will, "offline", qos=1, retain=True)
-        self.client.on_connect, self.client.on_disconnect = self.on_connect, lambda *_: self.lost("gone" if self.is_joined else self.said)
+        self.client.on_connect, self.client.on_disconnect = self.on_connect, lambda *_: self.lost("gone" if self.is_joined else self.said or "it ends the connection")
         self.client.on_connect_fail = lambda *_: self.lost(str(sys.exc_info()[1]))
         self.client.on_message = lambda _, __, message: self.heard(message.topic, message.payload, message.retain)
         self.client.reconnect_delay_set(1, 15)
