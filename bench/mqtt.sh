@@ -3,7 +3,7 @@
 # reader looks 20 times a second for an old value under `online`; a server that hangs; TLS, password and certificates; what a first
 # run left at the broker; the statuses; how many points a second. Some five minutes; names of tries on the line choose some of them.
 # Status 77: mosquitto, python3-paho-mqtt or openssl isn't installed, so nothing was tried. It listens on 127.0.0.1 alone.
-# usage: bench/mqtt.sh [--obix PROGRAM] [--from PORT] [TRY ..]      (out/bin/obix; values, hang, kills, together, secure, left, line, speed)
+# usage: bench/mqtt.sh [--obix PROGRAM] [--from PORT] [TRY ..]      (out/bin/obix; values, away, hang, kills, together, secure, left, line, speed)
 set -eu
 top=$(cd "$(dirname "$0")/.." && pwd)
 export PATH=$PATH:/usr/sbin

@@ -39,7 +39,8 @@ def compared(room, server, names, text, seconds=60):
     """Judges whether each event of the server was told, none more often than twice; how many were told twice."""
     until(lambda: {short(it) for it in names()} == wanted(server), seconds, 0.5)
     told, must = collections.Counter(names()), wanted(server)
-    room.judge({short(it) for it in told} == must and max(told.values()) <= 2, f"{text}: {len(must)} events, each told", sorted(must ^ {short(it) for it in told})[:9])
+    room.judge({short(it) for it in told} == must and max(told.values()) <= 2, f"{text}: {len(must)} events, each told",
+               sorted(must ^ {short(it) for it in told})[:9])
     return sum(told.values()) - len(told)
 
 
@@ -119,7 +120,7 @@ def try_command(room):
     until(lambda: len(lines()) >= 3, 15)
     time.sleep(1)
     must = ["2/raised|/obix/m|200||unackedAlarm", "2/acked|/obix/m|200|ann $(id) \" '|alarm", "2/normal|/obix/m|200||ok"]
-    room.judge(lines() == must, "command: raised, acked and normal over restarts of both, none of before its first start; a user's name isn't read by the shell", lines())
+    room.judge(lines() == must, "command: raised, acked and normal over restarts of both, none of before; a user's name isn't read by the shell", lines())
     second = notify(room, "command-tool", server, *words)
     room.judge(second.run.wait(20) == 3 and "another notify has it" in second.said(), "command: a second one on the same file: status 3", second.said())
     slow = notify(room, "slow", server, "--past", "--timeout", 1, "--command", f"sleep 300 & echo $! >> {room.folder}/slow.pids; wait")
@@ -164,7 +165,8 @@ def try_full(room):
         server.put("m", value)
     until(lambda: len(hook.told) == 4, 15)
     time.sleep(2)
-    room.judge(len(hook.told) == 4 and "state" in tool.said() and tool.run.poll() is None, "full: four events are told once, and the trouble is said", (hook.told, tool.said()))
+    room.judge(len(hook.told) == 4 and "state" in tool.said() and tool.run.poll() is None, "full: four events are told once, and the trouble is said",
+               (hook.told, tool.said()))
     limits(resource.RLIM_INFINITY)
     room.judge(until(lambda: len(state.read_text().splitlines()) == 1006, 15) is not None, "full: they are noted when there is room", state.read_text()[-500:])
     tool.kill()
@@ -248,16 +250,18 @@ def try_mail(room):
     flow = lambda value: server.ask("PUT", "boiler/flow", f'<real val="{value}"/>')
     flow(82), flow(75)
     server.acknowledge(1, "Ann Müller".encode().decode("latin-1"))
-    room.judge(until(lambda: len(mails.mails()) == 6, 30) is not None, "mail: by STARTTLS with a password: three events to two people", (tool.said(), (room.folder / "spool/mainlog").read_text()))
+    room.judge(until(lambda: len(mails.mails()) == 6, 30) is not None, "mail: by STARTTLS with a password: three events to two people",
+               (tool.said(), (room.folder / "spool/mainlog").read_text()))
     first = mails.mails()[0]
     text = first.get_content()
     room.judge(first["Subject"] == "Plant room: raised: boiler, flow 82 celsius" and "Point:        boiler, flow (/obix/boiler/flow)" in text
                and "https://plant.example/" in text and len({it["Message-ID"] for it in mails.mails()}) == 3, "mail: its words", (first["Subject"], text))
     print(f"Subject: {first['Subject']}\n\n{text}")
     tool.kill(signal.SIGTERM)
+    plain = ("--smtp", f"127.0.0.1:{mails.port}", "--to", "ann@elsewhere")
     for name, must, *words in (("wrong", "smtp: 535 ", *tls, room.folder / "wrong", *sent), ("unknown", "certificate verify failed", *tls[:3], *sent),
-                               ("nobody", "ann@elsewhere: 550 no mail for elsewhere here", "--smtp", f"127.0.0.1:{mails.port}", "--to", "ann@elsewhere"),
-                               ("some", "ann@elsewhere is refused, the others have it", "--smtp", f"127.0.0.1:{mails.port}", "--to", "ann@elsewhere", "--to", "bob@example")):
+                               ("nobody", "ann@elsewhere: 550 no mail for elsewhere here", *plain),
+                               ("some", "ann@elsewhere is refused, the others have it", *plain, "--to", "bob@example")):
         other = notify(room, name, server, "--past", *words)
         room.judge(until(lambda: must in other.said(), 20) is not None and "Traceback" not in other.said(), f"mail: {name}: {must}", other.said())
         other.kill()
@@ -277,7 +281,8 @@ def try_line(room):
     tool, url, state = [sys.executable, str(TOP / "tools/notify.py")], "http://127.0.0.1:1/obix/", ("--state", str(room.folder / "line.state"))
     for status, *words in ((2,), (2, url, *state), (2, url, "--command", "true"), (2, "ftp://h/", *state, "--command", "true"),
                            (2, url, *state, "--command", "true", "--webhook", "http://h/"), (2, url, *state, "--webhook", "h"), (2, url, *state, "--smtp", "h"),
-                           (2, url, *state, "--smtp", "h", "--to", "a@b", "--user", "u", "--password-file", "f"), (2, url, *state, "--command", "true", "--every", "0"),
+                           (2, url, *state, "--smtp", "h", "--to", "a@b", "--user", "u", "--password-file", "f"),
+                           (2, url, *state, "--command", "true", "--every", "0"),
                            (3, url, "--state", "/nothing/here", "--command", "true"), (3, url, "--state", str(room.folder / "foreign"), "--command", "true"),
                            (3, url, *state, "--smtp", "h", "--to", "a@b", "--starttls", "--ca", "/nothing"), (0, "--help")):
         run = subprocess.run(tool + words, capture_output=True, text=True, timeout=60)

@@ -87,8 +87,9 @@ class Broker:
         self.client = Client(*LATEST, client_id=f"obix-{uuid.uuid4().hex[:16]}", protocol=mqtt.MQTTv5)
         self.client.lost = self.lost
         self.client.will_set(will, "offline", qos=1, retain=True)
-        self.client.on_connect, self.client.on_disconnect = self.on_connect, lambda *_: self.lost("gone" if self.is_joined else self.said or "it ends the connection")
+        self.client.on_connect = self.on_connect
         self.client.on_connect_fail = lambda *_: self.lost(str(sys.exc_info()[1]))
+        self.client.on_disconnect = lambda *_: self.lost("gone" if self.is_joined else self.said or "it ends the connection")
         self.client.on_message = lambda _, __, message: self.heard(message.topic, message.payload, message.retain)
         self.client.reconnect_delay_set(1, 15)
         secured(self.client, given)
