@@ -8,5 +8,5 @@
 set -eu
 top=$(cd "$(dirname "$0")/.." && pwd)
 command -v chromium >/dev/null || { echo "dashboard.sh: no chromium here (apt-get install chromium): nothing was tried" >&2; exit 77; }
-case ${1:---} in --*) "$top/obix" stdio "$top/examples/point.xml" </dev/null; set -- "$top/out/bin/obix" "$@" ;; esac
+case ${1:---} in --*) "$top/obix" --prove; set -- "$top/out/bin/obix" "$@" ;; esac
 exec python3 "$top/bench/dashboard_tries.py" "$@"

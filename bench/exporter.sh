@@ -7,5 +7,5 @@
 set -eu
 top=$(cd "$(dirname "$0")/.." && pwd)
 command -v prometheus >/dev/null && command -v promtool >/dev/null || { echo "exporter.sh: no prometheus here (apt-get install prometheus): nothing was tried" >&2; exit 77; }
-[ $# -gt 0 ] || "$top/obix" stdio "$top/examples/point.xml" </dev/null   # builds it where needed
+[ $# -gt 0 ] || "$top/obix" --prove   # builds it where needed
 exec python3 "$top/bench/exporter_tries.py" --obix "${1:-$top/out/bin/obix}"

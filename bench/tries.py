@@ -43,11 +43,13 @@ class Process:
         room.processes.append(self)
 
     def start(self):
-        with open(self.file, "ab") as out:
-            self.run = subprocess.Popen(self.words, stdin=subprocess.DEVNULL, stdout=out, stderr=out)
-        if self.port and until(self.listens) is None:
-            raise SystemExit(f"{self.words[0]} doesn't listen on {self.port}: {self.said()[-500:]}")
-        return self
+        for _ in range(5):                                 # a connection of any program may have the port for a moment
+            with open(self.file, "ab") as out:
+                self.run = subprocess.Popen(self.words, stdin=subprocess.DEVNULL, stdout=out, stderr=out)
+            if not self.port or until(lambda: self.run.poll() is not None or self.listens()) is not None and self.run.poll() is None:
+                return self
+            time.sleep(1)
+        raise SystemExit(f"{self.words[0]} doesn't listen on {self.port}: {self.said()[-500:]}")
 
     def listens(self):
         try:
