@@ -29,7 +29,7 @@ import time
 import urllib.parse
 
 from broker import Broker, Unusable, add_options, address
-from homeassistant import config, plain
+from homeassistant import config, id_of
 from plant import LOST, Plant, Refused, words
 
 SAID, OLD, MOST = 3, 10, 1000                # seconds until online is said again, until a write is too old; writes that wait
@@ -47,7 +47,7 @@ def message_of(point):
 class Bridge:
     def __init__(self, plant, given, log):
         self.plant, self.base, self.discovery = plant, f"{given.prefix}/{given.name}", given.discovery
-        self.node, self.root = plain(f"{given.prefix}_{given.name}"), urllib.parse.urlsplit(plant.url).path
+        self.node, self.root = id_of(self.base), urllib.parse.urlsplit(plant.url).path
         self.feed, self.available = f"{self.base}/alarms", f"{self.base}/availability"
         self.writes, self.is_ending = queue.SimpleQueue(), False
         self.topics, self.shown, self.points, self.facets, self.alarms, self.events = {}, {}, {}, {}, {}, None     # as they were said last
