@@ -10,13 +10,13 @@
   obix/plant/availability             online: all values are right; said every 3 seconds, never retained. offline: retained
   homeassistant/../config             what Home Assistant needs of each point; --discovery '' leaves it out
 
-Only offline is ever retained: what a broker comes back with never looks right, and a new reader waits for online, 3 seconds at
-most. No write is kept: while the server is away it is refused, while this tool is away it is lost, and a retained one is refused.
+Online is never retained: what a broker comes back with doesn't look right, and a new reader waits for online, 3 seconds at most.
+No write is kept: while the server is away it is refused, while this tool is away it is lost, and a retained one is refused.
 Whatever else is retained below obix/plant/ is taken away. This tool stands beside the proved program, and isn't proved. It needs
-plant.py, broker.py and homeassistant.py beside it, and python3-paho-mqtt.
+broker.py, homeassistant.py, plant.py, follow.py and link.py beside it, and python3-paho-mqtt.
 
-status 0: ended by Ctrl-C or SIGTERM, with offline said and the watch deleted. 1: a part of it failed. 2: the words are no command.
-3: a file of the line can't be used.
+status 0: ended by Ctrl-C or SIGTERM, with offline said and the watch deleted. 1: there is no paho, or a part of the tool failed.
+2: the words are no command. 3: a file of the line can't be used.
 """
 import argparse
 import json
