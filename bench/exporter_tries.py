@@ -229,6 +229,122 @@ def try_alarms(room):
     judge('status="unacked"} 1' in scrape(metrics), "the status of the point")
 
 
+ALERTS = """rule_files: [%s]
+evaluation_interval: 1m
+tests:
+- interval: 1m
+  input_series:
+  - {series: 'up{job="obix"}', values: '1x120'}
+  - {series: 'obix_up', values: '1x60 0x60'}
+  - {series: 'obix_point_status{path="/obix/b",display_name="Flow",status="unackedAlarm"}', values: '1x120'}
+  - {series: 'obix_point_status{path="/obix/c",status="unackedAlarm"}', values: '1x120'}
+  - {series: 'obix_point_status{path="/obix/d",status="alarm"}', values: '1x120'}
+  - {series: obix_stored_entries_limit, values: '1000000x120'}
+  - {series: obix_stored_entries, values: '100000+10000x80 950000x40'}
+  - {series: obix_record_limit_bytes, values: '1073741824x120'}
+  - {series: obix_record_bytes, values: '900000000x100 stale'}
+  - {series: obix_clock_ahead_seconds, values: '-4.9x60 86400x60'}
+  alert_rule_test:
+  - {eval_time: 10m, alertname: NoServer, exp_alerts: []}
+  - {eval_time: 70m, alertname: NoServer, exp_alerts: [{exp_annotations: {summary: "The oBIX server behind  doesn't answer."}}]}
+  - {eval_time: 10m, alertname: NoExporter, exp_alerts: []}
+  - eval_time: 10m
+    alertname: PlantAlarm
+    exp_alerts:
+    - exp_labels: {path: /obix/b, display_name: Flow, status: unackedAlarm}
+      exp_annotations: {summary: "In alarm, not acknowledged: Flow, /obix/b"}
+    - exp_labels: {path: /obix/c, status: unackedAlarm}
+      exp_annotations: {summary: "In alarm, not acknowledged: /obix/c"}
+  - {eval_time: 10m, alertname: StoredEntries, exp_alerts: []}
+  - eval_time: 90m
+    alertname: StoredEntries
+    exp_alerts: [{exp_annotations: {summary: "950000 entries are stored: beyond the limit no write that adds a record or an alarm is taken."}}]
+  - {eval_time: 10m, alertname: StoredEntriesInAMonth, exp_alerts: []}
+  - eval_time: 75m
+    alertname: StoredEntriesInAMonth
+    exp_alerts: [{exp_annotations: {summary: "As the last day went, the limit of stored entries is reached within 30 days."}}]
+  - eval_time: 10m
+    alertname: Record
+    exp_alerts: [{exp_annotations: {summary: "RECORD has 858.3MiB of 1 GiB: make it shorter by `obix compact`."}}]
+  - {eval_time: 10m, alertname: RecordUnseen, exp_alerts: []}
+  - {eval_time: 110m, alertname: RecordUnseen, exp_alerts: [{exp_annotations: {summary: "The exporter at  can't see the file of --record."}}]}
+  - {eval_time: 50m, alertname: Clock, exp_alerts: []}
+  - {eval_time: 70m, alertname: Clock, exp_alerts: [{exp_annotations: {summary: "The server's time is 1d 0h 0m 0s off this machine's clock."}}]}
+"""
+
+
+def try_alerts(room):
+    """The rules of examples/alerts.yml: that they are rules, and when each of them fires."""
+    rules = TOP / "examples" / "alerts.yml"
+    (room.folder / "alerts.yml").write_text(ALERTS % rules)
+    for words in (("check", "rules", rules), ("test", "rules", room.folder / "alerts.yml")):
+        run = subprocess.run(["promtool", *map(str, words)], capture_output=True, text=True)
+        judge(run.returncode == 0, f"promtool {words[0]} rules, of examples/alerts.yml", f": {run.stdout}{run.stderr}")
+
+
+FILLED = """<obj href="http://h/obix/" is="obix:Lobby"><list name="contracts"><obj href="log" is="obix:History"/></list>
+<int href="a" val="0" writable="true"/><int href="b" val="0" writable="true"/><int href="c" val="0" writable="true"/>
+<obj href="h" is="obix:History"><ref name="source" href="a"/><int name="capacity" val="999980"/></obj>
+<obj href="g" is="obix:History"><ref name="source" href="b"/></obj>
+<obj href="alarms" is="obix:AlarmSubject"><list name="rules">
+<obj><ref name="source" href="c"/><int name="low" val="0"/><int name="high" val="5"/><bool name="needsAck" val="true"/></obj>
+<obj><ref name="source" href="a"/><int name="low" val="0"/><int name="high" val="5"/><bool name="needsAck" val="false"/></obj></list></obj></obj>"""
+
+
+def try_entries(room):
+    """The stored entries, from 999,980 until the server takes no more: then they are its limit."""
+    port = room.port()
+    root = f"http://127.0.0.1:{port}"
+    (room.folder / "filled.xml").write_text(FILLED)
+    room.serve(room.folder / "filled.xml", port)
+    _, metrics = room.export(f"{root}/obix/")
+    shown = lambda text: [sample(text, it) for it in ("obix_stored_entries", "obix_alarm_entries", 'obix_history_entries{path="/obix/h"', 'obix_history_entries{path="/obix/g"')]
+    acts = ((lambda: None, [999980, 0, 999980, 0]), (lambda: put(root, "/obix/b", '<int val="1"/>'), [999981, 0, 999980, 1]),
+            (lambda: put(root, "/obix/a", '<int val="3"/>'), [999981, 0, 999980, 1]), (lambda: put(root, "/obix/c", '<int val="9"/>'), [999982, 1, 999980, 1]),
+            (lambda: put(root, "/obix/a", '<int val="9"/>'), [999983, 2, 999980, 1]), (lambda: put(root, "/obix/a", '<int val="1"/>'), [999984, 3, 999980, 1]),
+            (lambda: ask(f"{root}/obix/alarm/1/ack", ""), [999985, 4, 999980, 1]), (lambda: put(root, "/obix/c", '<int val="1"/>'), [999986, 5, 999980, 1]))
+    for number, (act, wanted) in enumerate(acts):
+        act()
+        text = scrape(metrics)
+        judge(shown(text) == wanted, f"stored entries, after act {number}", f": {shown(text)}")
+    judge(is_clean(text) and sample(text, "obix_stored_entries_limit") == 1000000, "the limit, and promtool check metrics")
+    _, other = room.export(f"{root}/obix/")
+    judge(shown(scrape(other)) == wanted, "another exporter that begins now has the same", f": {shown(scrape(other))}")
+    taken, refusal = 0, ""
+    while "limit of 1000000 stored entries" not in refusal and taken < 30:
+        refusal = put(root, "/obix/b", f'<int val="{100 + taken}"/>')
+        taken += 1
+    told = shown(scrape(metrics))
+    judge(taken == 15 and told[0] == 1000000, "the server takes no more where they are the limit", f": {taken}, {told}")
+
+
+def try_health(room):
+    """The clock that is ahead, since a record of the site file is of tomorrow; and the bytes of RECORD."""
+    port, record = room.port(), room.folder / "record"
+    ahead = time.strftime("%Y-%m-%dT%H:%M:%SZ", time.gmtime(time.time() + 86400))
+    (room.folder / "ahead.xml").write_text('<obj href="http://h/obix/" is="obix:Lobby"><int href="a" val="0" writable="true"/><obj href="h" is="obix:History">'
+                                           f'<list name="data"><obj><abstime name="timestamp" val="{ahead}"/><int name="value" val="1"/></obj></list></obj></obj>')
+    run = room.start("kept", room.program, "keep", room.folder / "ahead.xml", record, "127.0.0.1", port, "--workers", 4, "--quota", 1000)
+    wait(lambda: b"listening" in (room.folder / "kept.out").read_bytes())
+    exporter, metrics = room.export(f"http://127.0.0.1:{port}/obix/", "--record", record)
+    put(f"http://127.0.0.1:{port}", "/obix/a", '<int val="7"/>')
+    text = scrape(metrics)
+    told = [sample(text, f"obix_{it}") for it in ("clock_ahead_seconds", "record_bytes", "record_limit_bytes")]
+    judge(86300 < told[0] < 86401 and told[1:] == [record.stat().st_size, 2 ** 30] and is_clean(text), "a clock a day ahead, and a record", f": {told}")
+    room.stop(run)
+    record.rename(room.folder / "elsewhere")
+    text, again = scrape(metrics), scrape(metrics)
+    judge("record_bytes" not in text.replace("record_limit_bytes", "") and sample(text, "obix_record_limit_bytes") == 2 ** 30 and is_clean(again),
+          "no file, no server: there are no bytes, and the limit stays")
+    said = (room.folder / f"exporter{metrics}.err").read_text()
+    judge(said.count("No such file") == 1 and "Traceback" not in said, "and one line says it", f": {said}")
+    port = room.port()
+    room.serve(TOP / "examples" / "heating-plant.xml", port)
+    exporter, metrics = room.export(f"http://127.0.0.1:{port}/obix/")
+    text = scrape(metrics)
+    judge(abs(sample(text, "obix_clock_ahead_seconds")) < 1 and "obix_record" not in text, "a clock that isn't ahead, and no --record")
+
+
 def try_many(room):
     """2,500 points need two watches."""
     port = room.port()
@@ -288,6 +404,9 @@ def main():
         try_lapse(room, root)
         try_end(room, root, exporter, metrics)
         try_alarms(room)
+        try_alerts(room)
+        try_entries(room)
+        try_health(room)
         try_many(room)
         try_words(room)
     finally:

@@ -21,6 +21,10 @@ TOP = pathlib.Path(__file__).resolve().parent.parent
 LOST = (OSError, http.client.HTTPException, ET.ParseError)     # what a request meets while its server is killed
 
 
+class Missing(Exception):
+    """A package that a try needs isn't installed."""
+
+
 def until(holds, seconds=40, pause=0.02):
     """After how many seconds something holds; None where it doesn't within `seconds`."""
     began = time.monotonic()
@@ -39,11 +43,13 @@ class Process:
         room.processes.append(self)
 
     def start(self):
-        with open(self.file, "ab") as out:
-            self.run = subprocess.Popen(self.words, stdin=subprocess.DEVNULL, stdout=out, stderr=out)
-        if self.port and until(self.listens) is None:
-            raise SystemExit(f"{self.words[0]} doesn't listen on {self.port}: {self.said()[-500:]}")
-        return self
+        for _ in range(5):                                 # a connection of any program may have the port for a moment
+            with open(self.file, "ab") as out:
+                self.run = subprocess.Popen(self.words, stdin=subprocess.DEVNULL, stdout=out, stderr=out)
+            if not self.port or until(lambda: self.run.poll() is not None or self.listens()) is not None and self.run.poll() is None:
+                return self
+            time.sleep(1)
+        raise SystemExit(f"{self.words[0]} doesn't listen on {self.port}: {self.said()[-500:]}")
 
     def listens(self):
         try:
@@ -164,6 +170,19 @@ def site(points, capacity=None, host="plant"):
     return f'<obj xmlns="http://obix.org/ns/schema/1.0" href="http://{host}/obix/" is="obix:Lobby">{numbered}{alarmed}{subject}</obj>'
 
 
+def certificates(folder, *names):
+    """An authority of our own, ca.pem, and for each name a certificate for 127.0.0.1 with its key, NAME.pem and NAME.key, by openssl."""
+    if not shutil.which("openssl"):
+        raise Missing("openssl")
+    new = ("-newkey", "rsa:2048", "-nodes")
+    run = lambda *words: subprocess.run(["openssl", *words], cwd=folder, check=True, capture_output=True)
+    run("req", "-x509", *new, "-days", "2", "-subj", "/CN=try", "-keyout", "ca.key", "-out", "ca.pem")
+    (folder / "names").write_text("subjectAltName=IP:127.0.0.1\n")
+    for name in names:
+        run("req", *new, "-subj", f"/CN={name}", "-keyout", f"{name}.key", "-out", f"{name}.csr")
+        run("x509", "-req", "-days", "2", "-in", f"{name}.csr", "-CA", "ca.pem", "-CAkey", "ca.key", "-CAcreateserial", "-extfile", "names", "-out", f"{name}.pem")
+
+
 class Room:
     """A folder, ports, and the programs that run; the folder stays where something was otherwise than it has to be."""
 
@@ -172,12 +191,15 @@ class Room:
         self.folder = pathlib.Path(tempfile.mkdtemp(prefix=f"obix-{name}."))
 
     def free_port(self):
-        if self.next:
-            self.next += 1
-            return self.next - 1
-        with socket.socket() as free:
-            free.bind(("127.0.0.1", 0))
-            return free.getsockname()[1]
+        while True:
+            try:
+                with socket.socket() as free:
+                    free.bind(("127.0.0.1", self.next))
+                    return free.getsockname()[1]
+            except OSError:
+                pass                                       # somebody has it
+            finally:
+                self.next += bool(self.next)
 
     def server(self, name, text, command="keep", workers=16):
         return Server(self, name, text, command, workers).start()
@@ -214,7 +236,8 @@ class Room:
 
 
 def main(name, tries):
-    """Does the tries that the line names, or all, each with the room. 1 where something was otherwise than it has to be, else 0."""
+    """Does the tries that the line names, or all, each with the room. 1 where something was otherwise than it has to be, 77 where a
+    try was left out, as a package isn't installed, else 0."""
     asked = argparse.ArgumentParser(prog=f"bench/{name}.sh")
     asked.add_argument("tries", nargs="*", metavar="TRY", help=f"some of {', '.join(tries)}; all, if none is named")
     asked.add_argument("--obix", type=pathlib.Path, default=TOP / "out/bin/obix", metavar="PROGRAM", help="out/bin/obix")
@@ -224,13 +247,18 @@ def main(name, tries):
         asked.error(f"the tries are {', '.join(tries)}")
     room = Room(name, given.obix.resolve(), given.first)
     signal.signal(signal.SIGTERM, lambda *_: sys.exit(1))  # the programs are ended then too
+    missing = 0
     try:
         for it in given.tries or tries:
-            tries[it](room)
+            try:
+                tries[it](room)
+            except Missing as package:
+                missing = 77
+                print(f"{name}.sh: no {package} here (apt-get install {package}): {it} wasn't tried", file=sys.stderr)
     except BaseException:
         room.failed.append("ended before its end")
         raise
     finally:
         room.end()
     print(f"{name}: {f'{len(room.failed)} otherwise, see {room.folder}' if room.failed else 'as it has to be'}")
-    return 1 if room.failed else 0
+    return 1 if room.failed else missing

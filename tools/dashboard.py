@@ -1,10 +1,10 @@
 #!/usr/bin/env python3
 """The plant in a browser: alarms and their acknowledgement, live values and their writing, trends.
 
-    python3 tools/dashboard.py http://127.0.0.1:8080/obix/ --listen 127.0.0.1:8081
+    python3 tools/dashboard.py http://127.0.0.1:8080/obix/ --listen 127.0.0.1:8081 --measured '/obix/*/flow' --site plant.xml
 
 It stands beside `obix` as a client of it: `obix` is proved, this program is not. It is plain Python with its standard
-library, and is tried in a browser by bench/dashboard.sh. It needs plant.py and dashboard.html beside it.
+library, and is tried in a browser by bench/dashboard.sh. It needs link.py, follow.py, plant.py and dashboard.html beside it.
 
 One watch and two connections serve all browsers. There are no passwords: who reaches the page can write. So it listens
 on this machine alone unless it is told otherwise, and refuses requests that are addressed to another host (421) or come
@@ -12,15 +12,17 @@ from a page of another one (403). It prints a line for each write and acknowledg
 
 statuses, as those of `obix`:
   0  ended by Ctrl-C or SIGTERM; its watch is deleted
-  1  the words are no command
+  1  the words are no command, or the file of --site can't be read
   7  no server answers at the start (with --wait it goes on trying)
   8  what answers at the start is no lobby of an oBIX server, or gives no watch
   9  the address of --listen can't be had
 """
 import argparse
 import base64
+import csv
 import hashlib
 import http.server
+import io
 import json
 import pathlib
 import re
@@ -31,7 +33,7 @@ import threading
 import time
 import urllib.parse
 
-from plant import LOST, Plant, Refused, words
+from plant import LOST, Plant, Refused, limits_of, words
 
 READERS = 500                                              # browsers at once
 PLOTTED = 1200                                             # about so many values of a trend
@@ -56,6 +58,12 @@ def thinned(pairs):
     return pairs if size == 1 else [pair for part in parts for pair in sorted((part[0], part[-1]), key=lambda pair: pair[0])]
 
 
+def as_csv(rows):
+    text = io.StringIO()
+    csv.writer(text).writerows([("time", "value"), *rows])
+    return text.getvalue().encode()
+
+
 class Page(http.server.BaseHTTPRequestHandler):
     protocol_version, server_version, sys_version, timeout = "HTTP/1.1", "dashboard", "", 30
     disable_nagle_algorithm, readers = True, threading.BoundedSemaphore(READERS)
@@ -69,8 +77,9 @@ class Page(http.server.BaseHTTPRequestHandler):
             self.send_header(name.replace("_", "-"), value)
         self.end_headers()
 
-    def reply(self, status, body, media="application/json"):
-        body = body if isinstance(body, bytes) else json.dumps(body).encode()
+    def reply(self, status, body, media="text/csv; charset=utf-8"):
+        if not isinstance(body, bytes):
+            body, media = json.dumps(body).encode(), "application/json"
         self.head(status, Content_Type=media, Content_Length=len(body))
         self.wfile.write(body)
 
@@ -98,9 +107,10 @@ class Page(http.server.BaseHTTPRequestHandler):
             self.reply(200, PAGE, "text/html; charset=utf-8")
         elif path == "/events":
             self.events()
-        elif path == "/trend":
+        elif path in ("/trend", "/csv"):
             asked = dict(urllib.parse.parse_qsl(query))
-            self.answer(lambda: thinned(self.plant.trend(asked["point"], float(asked["from"]), float(asked["to"]))))
+            show, of = (thinned, self.plant.trend) if path == "/trend" else (as_csv, self.plant.rows)
+            self.answer(lambda: show(of(asked["point"], float(asked["from"]), float(asked["to"]))))
         else:
             self.refuse(404, "not here")
 
@@ -121,6 +131,8 @@ class Page(http.server.BaseHTTPRequestHandler):
         did, said = f"{self.client_address[0]} {user!r} {self.path} {point or alarm} {text or ''}".rstrip(), "no such request"
         try:
             if self.path == "/write":
+                if not isinstance(text, str):
+                    raise TypeError("no text")
                 self.plant.write(point, text)
             else:
                 self.plant.acknowledge(alarm, user)
@@ -133,14 +145,14 @@ class Page(http.server.BaseHTTPRequestHandler):
 
     def answer(self, wanted):
         try:
-            status, told = 200, wanted()
+            status, body = 200, wanted()
         except Refused as fault:
-            status, told = 409, {"error": str(fault)}
+            status, body = 409, {"error": str(fault)}
         except LOST as fault:
-            status, told = 502, {"error": f"the oBIX server doesn't answer: {words(fault)}"}
+            status, body = 502, {"error": f"the oBIX server doesn't answer: {words(fault)}"}
         except (AttributeError, KeyError, TypeError, ValueError):
-            status, told = 400, {"error": "no such request"}
-        self.reply(status, told)
+            status, body = 400, {"error": "no such request"}
+        self.reply(status, body)
 
     def events(self):
         """All that is held, and then what is new, as it comes."""
@@ -166,11 +178,6 @@ class Door(http.server.ThreadingHTTPServer):
             super().handle_error(*asked)
 
 
-class Words(argparse.ArgumentParser):
-    def error(self, message):
-        self.exit(1, f"{self.format_usage()}{self.prog}: {message}\n")
-
-
 def fail(status, said):
     print(f"dashboard: {said}", file=sys.stderr)
     return status
@@ -190,18 +197,18 @@ def site(text):
     return parts._replace(path=parts.path or "/").geturl()
 
 
-def stop(*_):
-    raise KeyboardInterrupt
-
-
 def main():
     about, _, statuses = __doc__.partition("\nstatuses")
-    asked = Words(description=about, epilog="statuses" + statuses, formatter_class=argparse.RawDescriptionHelpFormatter)
+    asked = argparse.ArgumentParser(description=about, epilog="statuses" + statuses, formatter_class=argparse.RawDescriptionHelpFormatter)
+    asked.error = lambda message: asked.exit(1, f"{asked.format_usage()}{asked.prog}: {message}\n")
     asked.add_argument("url", type=site, help="the lobby of the server")
     asked.add_argument("--listen", type=address, default="127.0.0.1:8081", metavar="HOST:PORT", help="if not given 127.0.0.1:8081")
     asked.add_argument("--name", action="append", default=[], metavar="HOST[:PORT]", help="a further name that browsers use")
     asked.add_argument("--every", type=float, default=1.0, metavar="SECONDS", help="between two polls; if not given 1")
     asked.add_argument("--wait", action="store_true", help="begin though no server is there yet")
+    asked.add_argument("--measured", action="extend", nargs="+", default=[], metavar="NAME",
+                       help="points that the page doesn't write: their paths or names, or patterns such as '/obix/*/flow' or 'Temp*'")
+    asked.add_argument("--site", metavar="SITEFILE", help="the server's site file: an alarm is shown with the limit that was crossed")
     given = asked.parse_args()
     host, port = given.listen
     if host in ("0.0.0.0", "::") and not given.name:
@@ -214,8 +221,12 @@ def main():
     host, port = f"[{host}]" if ":" in host else host, door.server_address[1]
     hosts = {host, *(LOOPBACK if host in LOOPBACK else ())}
     Page.names = {f"{name}:{port}" for name in {*hosts, *given.name}} | {*given.name} | (hosts if port == 80 else set())
-    Page.plant = plant = Plant(given.url, max(given.every, 0.1), log)
-    signal.signal(signal.SIGTERM, stop)
+    try:
+        limits = limits_of(given.site) if given.site else {}
+    except (OSError, Refused) as fault:
+        return fail(1, f"{given.site}: {words(fault)}")
+    Page.plant = plant = Plant(given.url, max(given.every, 0.1), log, limits, given.measured)
+    signal.signal(signal.SIGTERM, signal.default_int_handler)
     try:
         if not given.wait:
             plant.open()

@@ -1,7 +1,8 @@
 """Points of oBIX as metrics of Prometheus: names, units, and the text that is scraped. Used by exporter.py."""
 import re
-from datetime import datetime, timezone
 from decimal import Decimal
+
+from link import kind, moment
 
 # Units by the conventions of Prometheus: base units in the plural, and numbers converted to them.
 PREFIXES = {"": "1", "giga": "1e9", "mega": "1e6", "kilo": "1e3", "hecto": "1e2", "centi": "1e-2", "milli": "1e-3", "micro": "1e-6"}
@@ -13,20 +14,6 @@ UNITS.update({name: (base, Decimal(factor)) for name, base, factor in (
     ("minute", "seconds", "60"), ("hour", "seconds", "3600"), ("day", "seconds", "86400"), ("week", "seconds", "604800"),
     ("watt_hour", "joules", "3600"), ("kilowatt_hour", "joules", "3.6e6"), ("megawatt_hour", "joules", "3.6e9"))})
 ESCAPES = str.maketrans({"\\": "\\\\", '"': '\\"', "\n": "\\n"})
-
-
-def kind(element):
-    return element.tag.rpartition("}")[2]
-
-
-def moment(text):
-    """Seconds from 1970 of an abstime, or None."""
-    found = re.fullmatch(r"(\d{4}-\d\d-\d\dT\d\d:\d\d:\d\d)(\.\d+)?(Z|[+-]\d\d:\d\d)", text or "")
-    if not found:
-        return None
-    zone = "+00:00" if found[3] == "Z" else found[3]
-    since = datetime.fromisoformat(found[1] + zone) - datetime(1970, 1, 1, tzinfo=timezone.utc)
-    return Decimal(since.days * 86400 + since.seconds) + Decimal("0" + (found[2] or ""))
 
 
 def span(text):
@@ -52,9 +39,9 @@ class Metrics(dict):
 
     def add(self, family, help, value, labels=(), type="gauge"):
         number = format(value.normalize(), "f") if isinstance(value, Decimal) else value
-        told = ",".join(f'{name}="{text.translate(ESCAPES)}"' for name, text in dict(labels).items() if text)
+        shown = ",".join(f'{name}="{text.translate(ESCAPES)}"' for name, text in dict(labels).items() if text)
         head = f"# HELP obix_{family} {help}\n# TYPE obix_{family} {type}\n"
-        self.setdefault(family, [head]).append(f"obix_{family}{'{' + told + '}' if told else ''} {number}\n")
+        self.setdefault(family, [head]).append(f"obix_{family}{'{' + shown + '}' if shown else ''} {number}\n")
 
     def text(self):
         return "".join(line for family in sorted(self) for line in self[family])
@@ -70,8 +57,8 @@ def add_point(out, path, it):
         return
     if kind(it) in ("int", "real"):
         unit, number = measured(Decimal(text), it.get("unit"))
-        told = "Values of points without a unit." if unit == "value" else f"Values of points in {unit.replace('_', ' ')}."
-        out.add(f"point_{unit}", told, number, what)
+        help = "Values of points without a unit." if unit == "value" else f"Values of points in {unit.replace('_', ' ')}."
+        out.add(f"point_{unit}", help, number, what)
     elif kind(it) == "bool":
         out.add("point_bool", "Values of points that are true (1) or false (0).", int(text == "true"), what)
     elif kind(it) == "enum":
@@ -79,4 +66,4 @@ def add_point(out, path, it):
     elif kind(it) == "reltime" and span(text) is not None:
         out.add("point_seconds", "Values of points in seconds.", span(text), what)
     elif kind(it) == "abstime" and moment(text) is not None:
-        out.add("point_timestamp_seconds", "Values of points that are moments, in seconds from 1970.", moment(text), what)
+        out.add("point_timestamp_seconds", "Values of points that are moments, in seconds from 1970.", moment(text) / 1000, what)

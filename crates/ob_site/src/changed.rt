@@ -7,8 +7,7 @@ ghost use Rattle.ob_site_rules.specs.State.{roll};
 ghost use Rattle.ob_site.specs.Noted as noted;
 
 use ob_object::Slot;
-use ob_site_actions::same_slot;
-use ob_site_state::{Change, State};
+use ob_site_state::{Change, State, same_slot};
 use ob_tree::{NodeId, Tree};
 
 /// Whether a note has the slot of a node.

@@ -13,8 +13,8 @@ use std::rt::Clock as Timer;
 #[derive(Drop)]
 pub struct TcpDialer<'a, R> {
     net: &'a R,
-    pub(crate) rose: bool,
-    pub(crate) faults: u64,
+    rose: bool,
+    faults: u64,
 }
 
 impl<'a, R: Net<Listener = TcpListener, Stream = TcpStream> + Timer> TcpDialer<'a, R> {
@@ -30,13 +30,27 @@ impl<'a, R: Net<Listener = TcpListener, Stream = TcpStream> + Timer> TcpDialer<'
         }
     }
 
-    // A connection to a port of a host. The server may be silent for as long as a whole request may take it: it answers when
-    // it has a worker free.
+    /// How many calls have failed so far, as `faults` of its trait counts them.
+    pub fn fault_count(&self) -> u64
+        ensures { result ≡ self.now.faults }
+    {
+        self.faults
+    }
+
+    /// Whether the count of failed calls rose in the last call.
+    pub fn has_risen(&self) -> bool
+        ensures { result ≡ self.now.rose }
+    {
+        self.rose
+    }
+
+    /// A connection to a port of a host. The server may be silent for as long as a whole request may take it: it answers when
+    /// it has a worker free.
     fn connect(&self, host: &str, port: u16) -> io::Result<TcpLink<'a, R>>
         ensures { IfOk result (λ link. (link.read_faults ≡ 0) × (link.write_faults ≡ 0)) }
     {
         match TcpStream::connect(self.net, (without_brackets(host), port)) {
-            Ok(stream) => TcpLink::new(stream, self.net, TURN_S),
+            Ok(stream) => TcpLink::new(stream, self.net, TURN_S, None),
             Err(fault) => Err(fault),
         }
     }

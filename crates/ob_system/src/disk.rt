@@ -12,9 +12,6 @@ use std::os::fd::AsRawFd;
 use std::os::unix::fs::{FileExt, MetadataExt};
 use std::rt::Files as Disk;
 
-#[cfg(test)]
-mod tests;
-
 /// An open file of the disk, which no other handle has locked.
 #[derive(Drop)]
 pub struct DiskFile {
@@ -24,10 +21,17 @@ pub struct DiskFile {
 
 impl DiskFile {
     /// A file that has not failed yet.
-    fn new(file: File) -> DiskFile
+    pub fn new(file: File) -> DiskFile
         ensures { result.faults ≡ 0 }
     {
         DiskFile { file, faults: 0 }
+    }
+
+    /// How many calls have failed so far, as `faults` of its trait counts them.
+    pub fn fault_count(&self) -> u64
+        ensures { result ≡ self.now.faults }
+    {
+        self.faults
     }
 }
 
@@ -103,6 +107,13 @@ impl<'a, R: Disk<File = File>> DiskDevices<'a, R> {
         ensures faults { result.faults ≡ 0 }
     {
         DiskDevices { disk, faults: 0 }
+    }
+
+    /// How many calls have failed so far, as `faults` of its trait counts them.
+    pub fn fault_count(&self) -> u64
+        ensures { result ≡ self.now.faults }
+    {
+        self.faults
     }
 }
 

@@ -1,7 +1,7 @@
 //! Hosts, as users write them.
 
 /// The host without the brackets in which an IPv6 address stands in a URL.
-pub(crate) fn without_brackets(host: &str) -> &str {
+pub fn without_brackets(host: &str) -> &str {
     let Some(rest) = host.strip_prefix('[') else {
         return host;
     };

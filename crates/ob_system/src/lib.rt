@@ -6,6 +6,7 @@
 //! fault of its link.
 #![tactic(auto)]
 
+mod crowd;
 mod dialer;
 mod disk;
 mod door;
@@ -14,16 +15,18 @@ mod link;
 mod port;
 mod refusal;
 mod standard;
-#[cfg(test)]
-mod tests;
 mod wait_time;
 
+pub use crowd::Crowd;
 pub use dialer::TcpDialer;
 pub use disk::{DiskDevices, DiskFile};
 pub use door::TcpDoor;
+pub use host::without_brackets;
 pub use link::TcpLink;
 pub use port::TcpPort;
+pub use refusal::Refusal;
 pub use standard::{DiskFiles, StdSink, StdSource, SystemClock};
+pub use wait_time::WaitTime;
 
 /// Links, doors, ports, dialers and clocks may go to another thread.
 pub fn crosses_threads<R: Sync + 'static>() {

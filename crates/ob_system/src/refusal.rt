@@ -4,7 +4,7 @@ use std::io;
 
 /// What an error of `accept` is about.
 #[derive(Clone, Copy, PartialEq, Eq, Drop)]
-pub(crate) enum Refusal {
+pub enum Refusal {
     /// The one connection that was to be accepted.
     Connection,
     /// The system has no descriptor or no memory for one more.
@@ -49,7 +49,7 @@ const EHOSTUNREACH: i32 = 113;
 impl Refusal {
     /// What this error is about. Linux's accept(2) hands on errors that are pending on the new connection, and EPERM where
     /// a firewall forbids it.
-    pub(crate) fn of(fault: &io::Error) -> Refusal {
+    pub fn of(fault: &io::Error) -> Refusal {
         match fault.raw_os_error() {
             Some(
                 EPERM

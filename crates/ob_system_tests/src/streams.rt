@@ -1,12 +1,13 @@
-use super::{DiskFiles, StdSink, StdSource, SystemClock};
+//! Streams, files and the clock over std, by readers and writers that fail.
 use ob_io::{Clock, FileFault, Files, Sink, Source};
+use ob_system::{DiskFiles, StdSink, StdSource, SystemClock};
 use std::fs::{File, OpenOptions};
 use std::io;
 use std::io::{ErrorKind, Read, Write};
 use std::rt::Clock as Timer;
 use std::time::Duration;
 
-// Is interrupted once, then moves three bytes, then nothing, then fails.
+/// Is interrupted once, then moves three bytes, then nothing, then fails.
 #[derive(Drop)]
 struct Rough {
     calls: u8,
@@ -40,25 +41,25 @@ impl Write for Rough {
     }
 }
 
-// Whether a read that is interrupted is tried again, and one that fails is a fault.
+/// Whether a read that is interrupted is tried again, and one that fails is a fault.
 fn reads_on() -> bool {
     let mut source = StdSource::new(Rough { calls: 0 });
     let mut piece = [0u8; 8];
     source.read(&mut piece) == Ok(3)
         && source.read(&mut piece) == Ok(0)
-        && source.faults == 0
+        && source.fault_count() == 0
         && source.read(&mut piece).is_err()
-        && source.faults == 1
+        && source.fault_count() == 1
 }
 
-// Whether a write that is interrupted is tried again, and one that takes nothing is a fault, and one that fails.
+/// Whether a write that is interrupted is tried again, and one that takes nothing is a fault, and one that fails.
 fn writes_on() -> bool {
     let mut sink = StdSink::new(Rough { calls: 0 });
     sink.write(b"four") == Ok(3)
-        && sink.faults == 0
+        && sink.fault_count() == 0
         && sink.write(b"four").is_err()
         && sink.write(b"four").is_err()
-        && sink.faults == 2
+        && sink.fault_count() == 2
 }
 
 #[test]
@@ -67,7 +68,7 @@ fn an_interruption_is_no_fault(rt: HostRuntime) {
     assert!(rt; writes_on());
 }
 
-// Whether the files read so many bytes of a file, of 8 at most.
+/// Whether the files read so many bytes of a file, of 8 at most.
 fn reads_so_many(
     rt: &HostRuntime,
     files: &mut DiskFiles<'_, HostRuntime>,
@@ -80,7 +81,7 @@ fn reads_so_many(
     }
 }
 
-// Whether a file can't be read.
+/// Whether a file can't be read.
 fn fails_to_read(rt: &HostRuntime, files: &mut DiskFiles<'_, HostRuntime>, name: &str) -> bool {
     matches!(
         &files.read_file(rt.alloc(), name, 8),
@@ -93,18 +94,18 @@ fn files_that_cannot_be_read_are_counted(rt: HostRuntime) {
     let mut files = DiskFiles::new(&rt);
     for (name, faults) in [("/nowhere/at/all", 1), ("/", 2)] {
         assert!(rt; fails_to_read(&rt, &mut files, name), "{name}");
-        assert!(rt; files.faults == faults, "{name}");
+        assert!(rt; files.fault_count() == faults, "{name}");
     }
     for (name, length) in [("/dev/null", 0), ("/dev/zero", 8)] {
         assert!(rt; reads_so_many(&rt, &mut files, name, length), "{name}");
     }
-    assert!(rt; files.faults == 2);
+    assert!(rt; files.fault_count() == 2);
 }
 
-// Whether a write to a file is a fault.
+/// Whether a write to a file is a fault.
 fn is_full(file: File) -> bool {
     let mut sink = StdSink::new(file);
-    sink.write(b"x").is_err() && sink.faults == 1
+    sink.write(b"x").is_err() && sink.fault_count() == 1
 }
 
 #[test]
@@ -115,7 +116,7 @@ fn a_disk_that_is_full_is_counted(rt: HostRuntime) {
     assert!(rt; is_full(full));
 }
 
-// A system whose clock tells so many seconds since 1970.
+/// A system whose clock tells so many seconds since 1970.
 #[derive(Clone, Copy, Drop)]
 struct At(u64);
 
@@ -129,7 +130,7 @@ impl Timer for At {
     }
 }
 
-// Whether a clock tells the last moment that there is.
+/// Whether a clock tells the last moment that there is.
 fn tells_last() -> bool {
     let last = At(253_402_300_799);
     let mut clock = SystemClock::new(&last);
@@ -137,7 +138,7 @@ fn tells_last() -> bool {
         Ok(moment) => moment.ms() == 253_402_300_799_000,
         Err(_) => false,
     };
-    is_told && clock.faults == 0
+    is_told && clock.fault_count() == 0
 }
 
 #[test]
@@ -146,5 +147,5 @@ fn the_year_10000_is_a_fault(rt: HostRuntime) {
     let next = At(253_402_300_800);
     let mut clock = SystemClock::new(&next);
     assert!(rt; clock.now().is_err());
-    assert!(rt; clock.faults == 1);
+    assert!(rt; clock.fault_count() == 1);
 }
