@@ -13,6 +13,7 @@ import xml.etree.ElementTree as ET
 from tries import TOP, Server, main
 
 sys.path.insert(0, str(TOP / "tools"))
+import link                                # noqa: E402
 from record_file import Record             # noqa: E402
 from points_table import COLUMNS           # noqa: E402
 from lint.asking import Trouble            # noqa: E402
@@ -239,22 +240,33 @@ def trends(room):
 
 def busy(room, server):
     """A small ring that rolls while it is read by the page: no record twice, each in its order."""
-    sys.path.insert(0, str(TOP / "tools"))
-    import history_csv
-    history_csv.PAGE, link = 7, history_csv.Link(server.url, True)
-    start, seen, turns = 100_000, [], 0
+    start, seen, turns, client, gaps = 100_000, [], 0, link.Link(server.url, True), []
     batches(server, "r", range(start, start + 300))
-    reader = history_csv.Reader(link, "/obix/histories/r/query", None)
-    for page in reader.records(None, 10_000):
-        seen += [int(value) for _, value in page]
-        turns += 1
-        if turns < 60:
+    for _, value in link.records(client, "/obix/histories/r/query", page=7, gap=lambda *between: gaps.append(between)):
+        seen.append(int(value.get("val")))
+        if len(seen) % 7 == 0 and turns < 60:
             batches(server, "r", range(start + 300 + turns * 5, start + 300 + turns * 5 + 5))
-    last = start + 300 + 59 * 5 + 4
-    tail = seen[seen.index(start + 300 + 5):]
-    room.judge(seen == sorted(set(seen)) and seen[-1] == last and tail == list(range(tail[0], last + 1)),
-               f"a ring of 500 that rolled {turns - 1} times while it was read, 7 records a page: none twice, none missing", (seen[-5:], reader.gaps))
-    link.close()
+            turns += 1
+    room.judge(is_whole(seen, start),
+               f"a ring of 500 that rolled {turns} times while it was read, 7 records a page: none twice, none missing", (seen[-5:], gaps))
+    room.judge(not gaps, "no gap is told where there is none", gaps)
+    late(room, server, client)
+    client.close()
+
+
+def is_whole(seen, start):
+    """Whether records are each once, in their order: what was there before, then all that was written."""
+    return seen == [it for it in seen if it < start] + list(range(start, start + 600)) and seen == sorted(set(seen))
+
+
+def late(room, server, client):
+    """A reader that is slower than the ring: the gap is told."""
+    gaps, seen = [], []
+    for _, value in link.records(client, "/obix/histories/r/query", page=50, gap=lambda *between: gaps.append(between)):
+        seen.append(int(value.get("val")))
+        if len(seen) == 50:
+            batches(server, "r", range(200_000, 200_600))
+    room.judge(len(gaps) == 1 and seen[50:] == list(range(200_100, 200_600)), "a ring that overtook its reader: the gap is told, and what is left is read", (gaps, seen[48:53]))
 
 
 # ---- records for changed site files
