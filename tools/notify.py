@@ -31,7 +31,7 @@ import time
 import urllib.parse
 
 from follow import Follower, events, is_done, state_of
-from link import LOST, Refused, children, moment, val, words
+from link import LOST, Refused, children, kind, moment, val, words
 from ways import Untold, Unusable, Ways, address
 
 FIRST, AWAY, FAILED = 0.1, 5, 30             # seconds: of the first pause after a fault, and of the longest for a server and for a way
@@ -100,8 +100,9 @@ class Alarms(Follower):
             self.look()
 
     def labelled(self, it, trail):
-        """The path of each object, with what people call it and its unit."""
-        yield it.get("href"), (", ".join(trail), it.get("unit", "").rpartition("/")[2])
+        """The path of each object, with what people call it and its unit; a ref, as a history's to its source, names another object."""
+        if kind(it) != "ref":
+            yield it.get("href"), (", ".join(trail), it.get("unit", "").rpartition("/")[2])
         for part in it:
             yield from self.labelled(part, (*trail, part.get("displayName") or part.get("name") or ""))
 
