@@ -35,6 +35,7 @@ from link import LOST, Refused, children, kind, moment, val, words
 from ways import Untold, Unusable, Ways, address
 
 FIRST, AWAY, FAILED = 0.1, 5, 30             # seconds: of the first pause after a fault, and of the longest for a server and for a way
+LONGEST = 200                                # letters of who acknowledged an alarm
 HEAD = b"obix-notify 1\n"
 WHAT = {"raised": "raised", "normal": "over", "acked": "acknowledged"}
 STATES = {"unackedAlarm": "in alarm, not acknowledged yet", "alarm": "in alarm", "unacked": "over, not acknowledged yet",
@@ -132,6 +133,7 @@ class Alarms(Follower):
     def message(self, name, alarm, n, what, at, source, value, who):
         """An event as it is told."""
         (label, unit), parts = self.labels.get(source, ("", "")), children(alarm)
+        who = who and " ".join(who.split())[:LONGEST]      # what a client said: neither lines of its own, nor more than a way takes
         title, state = self.lobby.get("displayName") or "oBIX", state_of(alarm)
         measured, point = f"{value} {unit}".strip(), f"{label} ({source})" if label else source
         raised, by = clock(val(parts, "timestamp")), f" by {who}" if who else ""
@@ -158,7 +160,7 @@ class Alarms(Follower):
                 if not isinstance(fault, Untold):
                     self.link.close()
                 pause = FIRST if self.went_on else min(pause * 2, FAILED if isinstance(fault, Untold) else AWAY)
-                rest, said = pause, str(fault) if isinstance(fault, Untold) else words(fault)
+                rest, said = pause, str(fault) if isinstance(fault, Untold) else f"server: {words(fault)}"
             if said != trouble:
                 self.log(said or "all is told")
             if self.told.waiting:
