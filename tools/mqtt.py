@@ -32,7 +32,8 @@ from broker import Broker, Unusable, add_options, address
 from homeassistant import config, id_of
 from plant import LOST, Plant, Refused, words
 
-SAID, OLD, MOST = 3, 10, 1000                # seconds until online is said again, until a write is too old; writes that wait
+SAID, OLD = 3, 10                            # seconds until online is said again, until a write is too old
+MOST, LONGEST = 1000, 100_000                # writes that wait, bytes of one
 TEXTS = ("str", "uri", "enum")
 FORMS = {"bool": "true|false", "int": r"-?(0|[1-9]\d*)", "real": r"-?(0|[1-9]\d*)(\.\d+)?"}        # that JSON has as well
 
@@ -68,8 +69,9 @@ class Bridge:
             self.broker.send(topic, b"", True)             # a write that is kept, or a point that isn't there any more
         if is_write and (text or not is_retained):         # a retained one without a text takes one away
             self.last = time.monotonic()
-            why = "it is retained" if is_retained else "the tool ends" if self.is_ending else "too many writes"
-            if is_retained or self.is_ending or self.writes.qsize() >= MOST:
+            ends, is_long, is_full = self.is_ending, len(text) > LONGEST, self.writes.qsize() >= MOST
+            if is_retained or ends or is_long or is_full:
+                why = "it is retained" if is_retained else "the tool ends" if ends else "it is too long" if is_long else "too many writes"
                 return self.refuse(topic, text, why)
             self.writes.put((time.monotonic(), topic, text))
 
@@ -209,7 +211,7 @@ def line():
 def main():
     given = line()
     log = lambda text: print(time.strftime("%Y-%m-%dT%H:%M:%S"), text, flush=True)
-    plant = Plant(given.url, given.every, log)
+    plant = Plant(given.url, given.every, log, seen=0)     # no trend is asked of it
     try:
         bridge = Bridge(plant, given, log)
     except Unusable as fault:
