@@ -160,6 +160,8 @@ class Site:
 
 def serve(site, host, port):
     class Scrapes(BaseHTTPRequestHandler):
+        timeout = 30                                       # seconds for which a silent reader is waited for
+
         def do_GET(self):
             known = self.path.partition("?")[0] == "/metrics"
             body = site.scrape().encode() if known else b"The metrics are at /metrics.\n"
