@@ -82,7 +82,7 @@ class Row:
         names = [name for name, _ in self.choices]
         for at, name in enumerate(names):
             if not re.fullmatch(NAME, name):
-                self.fault("range", f"range: {name!r} is no name of letters, digits, _ and $ that begins with no digit; behind a ="
+                self.fault("range", f"range: {name!r} is no name of letters, digits, _ and $ that begins with no digit; after a ="
                            " may be any text, as in night=At night")
             elif name in names[:at]:
                 self.fault("range", f"range: {name!r} comes twice")
@@ -91,10 +91,10 @@ class Row:
     def of_all(self):
         has, top = self.text, self.path.split("/")[0]
         yield "path", not re.fullmatch(f"{PART}(/{PART}){{0,28}}", self.path) or len(self.path) > 900, (
-            "is no path: names of letters, digits and . _ - ~, with / between, at most 29 of them and 900 letters")
+            "is no path: names of letters from a to z, digits and . _ - ~, with / between, at most 29 of them and 900 letters")
         yield "path", top in OWN, f"begins with {top}, which the server or the site file needs itself"
         yield "kind", self.kind not in KINDS and not self.is_folder, f"is no kind: {' '.join(KINDS)} folder"
-        yield "contract", not re.fullmatch(f"({PART})?", has("contract")), "is no name of letters, digits and . _ - ~"
+        yield "contract", not re.fullmatch(f"({PART})?", has("contract")), "is no name of letters from a to z, digits and . _ - ~"
 
     def of_folder(self):
         for name in COLUMNS[3:14]:
