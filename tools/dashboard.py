@@ -236,7 +236,7 @@ def main():
     except LOST as fault:
         return fail(7, f"{given.url}: {words(fault)}")
     except Refused as fault:
-        return fail(8, f"{given.url}: {words(fault)}" + ("" if given.url.endswith("/") else f" (is it {given.url}/ ?)"))
+        return fail(8, f"{given.url}: {words(fault)}")
     except KeyboardInterrupt:
         signal.signal(signal.SIGINT, signal.SIG_IGN)
         signal.signal(signal.SIGTERM, signal.SIG_IGN)

@@ -77,7 +77,8 @@ def main():
         out.writerows((stamp, value.get("val")) for stamp, value in itertools.islice(found, given.limit))
         sys.stdout.flush()
     except (*LOST, Refused) as fault:
-        print(f"history_csv: {given.url} {given.href}: {words(fault)}", file=sys.stderr)
+        hint = "" if given.url.endswith("/") or not isinstance(fault, Refused) else f" (is it {given.url}/ ?)"
+        print(f"history_csv: {given.url} {given.href}: {words(fault)}{hint}", file=sys.stderr)
         return 1
     except KeyboardInterrupt:
         return 130

@@ -127,7 +127,7 @@ class Alarms(Follower):
                 del self.open[n]
         if self.told.is_new:
             self.told.note([*past, f"{self.run}/0/begun"])
-            self.log(f"begins; {len(past)} events were there before, and aren't told")
+            self.log(f"begins; {len(past)} {'event was' if len(past) == 1 else 'events were'} there before, and not told")
         self.told.is_new = self.owes = False
 
     def message(self, name, alarm, n, what, at, source, value, who):
