@@ -2,7 +2,6 @@
 import bisect
 import json
 import os
-import shutil
 import signal
 import statistics
 import subprocess
@@ -98,8 +97,7 @@ def try_values(room):
     reader.send("p1", "77")
     done = until(lambda: server.value("p1") == 77)
     room.judge(done is not None, f"values: a write is done after {text_of(done)}")
-    told = [("cold", "cold is no int"), ("99999999999999999999", None), ("", None), ("5", "it is retained")]
-    for text, _ in told:
+    for text in ("cold", "99999999999999999999", "", "5"):
         reader.send("p1", text, text == "5")
     reader.send("nothing", "1")
     until(lambda: len(reader.refused) == 5, 10)
@@ -113,9 +111,17 @@ def try_values(room):
         server.put("m", value)
     server.acknowledge(1)
     until(lambda: len(reader.events) == 3, 10)
-    room.judge([it["what"] for it in reader.events] in (["raised", "normal", "acked"],), "values: an alarm is three events", reader.events)
+    room.judge([it["what"] for it in reader.events] == ["raised", "normal", "acked"], "values: an alarm is three events", reader.events)
     config = json.loads(next(text for topic, text in reader.held.items() if topic.startswith("homeassistant/number/") and "p1" in topic))
     room.judge(config["command_topic"] == "obix/plant/p1/set" and config["state_topic"] == "obix/plant/p1", "values: Home Assistant's message of p1", config)
+    ended(tool, server, broker, reader)
+
+
+def try_away(room):
+    """The server is away for a while, and comes back as it was; then the tool is away."""
+    server, broker, tool, reader = whole(room, "away", 3)
+    server.put("p1", 77), server.put("m", 200)
+    until(lambda: reader.events and reader.points().get("p1") == 77, 10)
     server.kill()
     down = until(lambda: reader.stands("offline"))
     heard = len(reader.refused)
@@ -124,12 +130,17 @@ def try_values(room):
     server.start()
     up = until(lambda: reader.stands("online"))
     room.judge(None not in (up, down) and server.value("p1") == 77 and len(reader.refused) == heard + 1,
-               f"values: server killed: offline after {text_of(down)}, a write refused and never done; online {text_of(up)} after its start", reader.refused[heard:])
+               f"away: server killed: offline after {text_of(down)}, a write refused and never done; online {text_of(up)} after its start",
+               reader.refused[heard:])
     time.sleep(1)
-    room.judge(len(reader.events) == 3, "values: no event again after the server's start", reader.events)
+    room.judge(len(reader.events) == 1, "away: no event again after the server's start", reader.events)
     tool.kill()
-    room.judge(until(lambda: reader.stands("offline"), 5) is not None, "values: tool killed: offline by its will")
-    ended(server, broker, reader)
+    down = until(lambda: reader.stands("offline"), 5)
+    room.judge(down is not None, f"away: tool killed: offline by its will after {text_of(down)}")
+    server.put("m", 2), tool.start()
+    room.judge(until(lambda: len(reader.events) == 3, 20) is not None and [it["what"] for it in reader.events] == ["raised", "raised", "normal"],
+               "away: at its start the tool sends the events of an alarm that isn't done", reader.events)
+    ended(tool, server, broker, reader)
 
 
 def try_hang(room):
@@ -154,7 +165,8 @@ def try_hang(room):
     room.judge(status == 0 and until(lambda: reader.stands("offline"), 1) is not None, "hang: SIGTERM: status 0, and offline", status)
     time.sleep(0.2)
     done = server.value("p1")
-    room.judge([int(it["set"]) for it in reader.refused] == list(range(done + 1, 101)), f"hang: of 100 writes {done} are done at SIGTERM, the others are refused", reader.refused)
+    room.judge([int(it["set"]) for it in reader.refused] == list(range(done + 1, 101)),
+               f"hang: of 100 writes {done} are done at SIGTERM, the others are refused", reader.refused)
     ended(server, broker, reader)
 
 
@@ -248,13 +260,13 @@ def try_secure(room):
             ("a wrong password", users, "Not authorized", *ca, *bad),
             ("no user", users, "Not authorized", *ca),
             ("an authority that isn't known", users, "certificate verify failed", "--tls", *good),
-            ("no TLS", users, "", *good),
+            ("no TLS", users, "it ends the connection", *good),
             ("a certificate of the tool's own", signed, "connected", *ca, *own),
             ("no certificate, where one is asked for", signed, "certificate required", *ca))):
         tool = bridge(room, f"secure-{number}", server, broker, *words)
-        told = until(lambda: f"broker: {wanted}" in tool.said() or (wanted != "connected" and wanted in tool.said()), 15)
-        time.sleep(1 if wanted == "connected" else 2)
-        room.judge(told is not None and ("broker: connected" in tool.said()) == (wanted == "connected"), f"secure: {text}: {wanted or 'never connected'}", tool.said())
+        told = until(lambda: wanted in tool.said() and "live" in tool.said(), 30)
+        time.sleep(1)
+        room.judge(told is not None and ("connected" in tool.said()) == (wanted == "connected"), f"secure: {text}: {wanted}", tool.said())
         status = tool.kill(signal.SIGTERM)
         room.judge(status == 0 and "Traceback" not in tool.said(), f"secure: {text}: SIGTERM, status 0", (status, tool.said()))
     ended(server, users, signed)
@@ -268,7 +280,8 @@ def try_left(room):
     other = room.server("other", site(2))
     again = bridge(room, "left-again", other, broker)
     gone = lambda: sorted(topic for topic, text in reader.held.items() if text and ("p2" in topic or "p3" in topic))
-    room.judge(until(lambda: reader.stands("online") and not gone(), 20) is not None, "left: points that aren't there any more are taken away, and their messages", gone())
+    room.judge(until(lambda: reader.stands("online") and not gone(), 20) is not None,
+               "left: points that aren't there any more are taken away, and their messages", gone())
     room.judge(set(reader.points()) >= {"p0", "p1"} and len([it for it in reader.held if it.startswith("homeassistant/") and reader.held[it]]) == 4,
                "left: the others stay", sorted(reader.held))
     reader.client.publish("obix/plant/foreign", "1", 1, True)
@@ -305,11 +318,10 @@ def try_speed(room, count=1000, turns=10):
         reader.send("p1", str(1000 + it))
         waits.append(until(lambda: reader.held["obix/plant/p1"] == f'{{"val": {1000 + it}, "status": "ok"}}', 10, 0.002))
     room.judge(None not in waits, "speed: each write is seen as the point's value")
-    print(f"speed: a write is seen as the point's value after {statistics.median(it or 10 for it in waits) * 1000:.0f} ms (the median of 50), {max(it or 10 for it in waits) * 1000:.0f} ms at the most")
+    waits = sorted(it * 1000 for it in waits if it)
+    print(f"speed: a write is seen as the point's value after {statistics.median(waits):.0f} ms (the median of 50), {waits[-1]:.0f} ms at the most")
     ended(tool, server, broker, reader)
 
 
-if not shutil.which("mosquitto_passwd"):
-    sys.exit(77)
 sys.exit(main("mqtt", {it.partition("_")[2]: globals()[it] for it in (
-    "try_values", "try_hang", "try_kills", "try_together", "try_secure", "try_left", "try_line", "try_speed")}))
+    "try_values", "try_away", "try_hang", "try_kills", "try_together", "try_secure", "try_left", "try_line", "try_speed")}))

@@ -9,7 +9,10 @@ import time
 import urllib.parse
 import uuid
 
-import paho.mqtt.client as mqtt
+try:
+    import paho.mqtt.client as mqtt
+except ImportError:
+    sys.exit(f"{sys.executable} has no paho: apt-get install python3-paho-mqtt, and start the tool by /usr/bin/python3, which sees it")
 
 LATEST = [mqtt.CallbackAPIVersion.VERSION2] if hasattr(mqtt, "CallbackAPIVersion") else []         # paho 2 asks for it
 PORT, TLS_PORT, ALIVE = 1883, 8883, 5        # a broker counts a client as gone that is silent for one and a half of ALIVE seconds
@@ -49,6 +52,7 @@ def secured(client, given):
         if given.tls or given.ca or given.cert:
             file = given.ca
             context = ssl.create_default_context(cafile=file)
+            context.verify_flags &= ~ssl.VERIFY_X509_STRICT            # of Python 3.13: an authority of one's own often lacks a form that it wants
             file = given.cert
             if file:
                 context.load_cert_chain(file, given.key)
@@ -83,8 +87,9 @@ class Broker:
         self.client = Client(*LATEST, client_id=f"obix-{uuid.uuid4().hex[:16]}", protocol=mqtt.MQTTv5)
         self.client.lost = self.lost
         self.client.will_set(will, "offline", qos=1, retain=True)
-        self.client.on_connect, self.client.on_disconnect = self.on_connect, lambda *_: self.lost("gone" if self.is_joined else self.said)
+        self.client.on_connect = self.on_connect
         self.client.on_connect_fail = lambda *_: self.lost(str(sys.exc_info()[1]))
+        self.client.on_disconnect = lambda *_: self.lost("gone" if self.is_joined else self.said or "it ends the connection")
         self.client.on_message = lambda _, __, message: self.heard(message.topic, message.payload, message.retain)
         self.client.reconnect_delay_set(1, 15)
         secured(self.client, given)

@@ -12,9 +12,9 @@ SHAPES = {"int": ("sensor", "number"), "real": ("sensor", "number"), "bool": ("b
 WIDE = 1e9                                   # a limit where the point has none: without it the one there is 1 or 100
 
 
-def plain(text):
-    """What an id may be made of."""
-    return re.sub("[^0-9A-Za-z_-]", "_", text)
+def id_of(topic):
+    """A topic as an id, no other topic's: a / is a _, and what else is no letter or digit is a - and its number."""
+    return re.sub("[^0-9A-Za-z/]", lambda it: f"-{ord(it[0]):02x}", topic).replace("/", "_")
 
 
 def shape_of(point):
@@ -25,7 +25,7 @@ def shape_of(point):
 def config(point, topic, available, device, title):
     """The message that makes an entity of a point, and where it stands below the topic of discovery; `device` is what all belong to."""
     (shape, is_written), kind = shape_of(point), point["kind"]
-    it = {"name": " ".join([*point["group"][-1:], point["name"]]), "unique_id": plain(topic), "state_topic": topic,
+    it = {"name": " ".join([*point["group"][-1:], point["name"]]), "unique_id": id_of(topic), "state_topic": topic,
           "value_template": "{{ value_json.val }}", "json_attributes_topic": topic, "availability_topic": available,
           "device": {"identifiers": [device], "name": title}, "origin": {"name": "mqtt.py of obix"}}
     if is_written:

@@ -10,13 +10,13 @@
   obix/plant/availability             online: all values are right; said every 3 seconds, never retained. offline: retained
   homeassistant/../config             what Home Assistant needs of each point; --discovery '' leaves it out
 
-Only offline is ever retained: what a broker comes back with never looks right, and a new reader waits for online, 3 seconds at
-most. No write is kept: while the server is away it is refused, while this tool is away it is lost, and a retained one is refused.
+Online is never retained: what a broker comes back with doesn't look right, and a new reader waits for online, 3 seconds at most.
+No write is kept: while the server is away it is refused, while this tool is away it is lost, and a retained one is refused.
 Whatever else is retained below obix/plant/ is taken away. This tool stands beside the proved program, and isn't proved. It needs
-plant.py, broker.py and homeassistant.py beside it, and python3-paho-mqtt.
+broker.py, homeassistant.py, plant.py, follow.py and link.py beside it, and python3-paho-mqtt.
 
-status 0: ended by Ctrl-C or SIGTERM, with offline said and the watch deleted. 1: a part of it failed. 2: the words are no command.
-3: a file of the line can't be used.
+status 0: ended by Ctrl-C or SIGTERM, with offline said and the watch deleted. 1: there is no paho, or a part of the tool failed.
+2: the words are no command. 3: a file of the line can't be used.
 """
 import argparse
 import json
@@ -29,7 +29,7 @@ import time
 import urllib.parse
 
 from broker import Broker, Unusable, add_options, address
-from homeassistant import config, plain
+from homeassistant import config, id_of
 from plant import LOST, Plant, Refused, words
 
 SAID, OLD, MOST = 3, 10, 1000                # seconds until online is said again, until a write is too old; writes that wait
@@ -47,7 +47,7 @@ def message_of(point):
 class Bridge:
     def __init__(self, plant, given, log):
         self.plant, self.base, self.discovery = plant, f"{given.prefix}/{given.name}", given.discovery
-        self.node, self.root = plain(f"{given.prefix}_{given.name}"), urllib.parse.urlsplit(plant.url).path
+        self.node, self.root = id_of(self.base), urllib.parse.urlsplit(plant.url).path
         self.feed, self.available = f"{self.base}/alarms", f"{self.base}/availability"
         self.writes, self.is_ending = queue.SimpleQueue(), False
         self.topics, self.shown, self.points, self.facets, self.alarms, self.events = {}, {}, {}, {}, {}, None     # as they were said last
@@ -63,14 +63,15 @@ class Bridge:
             self.plant.news.notify_all()
 
     def heard(self, topic, text, is_retained):
-        if topic.endswith("/set") and (text or not is_retained):           # else a retained one is taken away
+        is_write = topic.endswith("/set")
+        if is_retained and text and (is_write or self.whole and topic not in self.shown and topic != self.available):
+            self.broker.send(topic, b"", True)             # a write that is kept, or a point that isn't there any more
+        if is_write and (text or not is_retained):         # a retained one without a text takes one away
             self.last = time.monotonic()
             why = "it is retained" if is_retained else "the tool ends" if self.is_ending else "too many writes"
             if is_retained or self.is_ending or self.writes.qsize() >= MOST:
                 return self.refuse(topic, text, why)
             self.writes.put((time.monotonic(), topic, text))
-        elif is_retained and text and self.whole and topic not in self.shown and topic != self.available:
-            self.broker.send(topic, b"", True)             # of a point that isn't there any more
 
     def refuse(self, topic, text, why):
         told = json.dumps({"set": text[:200].decode(errors="replace"), "why": why}, ensure_ascii=False)

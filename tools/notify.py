@@ -37,8 +37,8 @@ from ways import Untold, Unusable, Ways, address
 FIRST, AWAY, FAILED = 0.1, 5, 30             # seconds: of the first pause after a fault, and of the longest for a server and for a way
 HEAD = b"obix-notify 1\n"
 WHAT = {"raised": "raised", "normal": "over", "acked": "acknowledged"}
-STATES = {"unackedAlarm": "in alarm, not acknowledged yet", "alarm": "in alarm, acknowledged or without a need of it",
-          "unacked": "over, not acknowledged yet", "ok": "over, nothing is left to do"}
+STATES = {"unackedAlarm": "in alarm, not acknowledged yet", "alarm": "in alarm", "unacked": "over, not acknowledged yet",
+          "ok": "over, nothing is left to do"}
 
 
 class Told:
@@ -125,18 +125,20 @@ class Alarms(Follower):
                 del self.open[n]
         if self.told.is_new:
             self.told.note([*past, f"{self.run}/0/begun"])
+            self.log(f"begins; {len(past)} events were there before, and aren't told")
         self.told.is_new = self.owes = False
 
     def message(self, name, alarm, n, what, at, source, value, who):
         """An event as it is told."""
-        label, unit = self.labels.get(source, ("", ""))
+        (label, unit), parts = self.labels.get(source, ("", "")), children(alarm)
         title, state = self.lobby.get("displayName") or "oBIX", state_of(alarm)
         measured, point = f"{value} {unit}".strip(), f"{label} ({source})" if label else source
-        raised, by = clock(val(children(alarm), "timestamp")), f" by {who}" if who else ""
+        raised, by = clock(val(parts, "timestamp")), f" by {who}" if who else ""
         lines = [f"{title}: an alarm {'was' if what != 'normal' else 'is'} {WHAT[what]}{by}.", "", f"Point:        {point}",
                  f"Value:        {measured} when it was raised", f"Raised:       {raised}"]
         lines += {"raised": [], "normal": [f"Over:         {clock(at)}"], "acked": [f"Acknowledged: {clock(at)}{by}"]}[what]
-        lines += [f"State now:    {STATES[state]}", f"Alarm:        {urllib.parse.urljoin(self.url, f'alarm/{n}/')}", f"Server:       {self.home}", "",
+        acked = ", acknowledged" if state == "alarm" and val(parts, "ackTimestamp") else ""
+        lines += [f"State now:    {STATES[state]}{acked}", f"Alarm:        {urllib.parse.urljoin(self.url, f'alarm/{n}/')}", f"Server:       {self.home}", "",
                   f"The name of this message is {name}: where it comes twice it is one event.", ""]
         return {"id": name, "what": what, "at": at, "source": source, "name": label, "value": value, "unit": unit, "who": who, "state": state,
                 "link": self.home, "subject": f"{title}: {WHAT[what]}: {label or source} {measured}", "text": "\n".join(lines)}
@@ -146,7 +148,7 @@ class Alarms(Follower):
             self.look()
 
     def run_on(self, every):
-        pause, trouble = FIRST, None
+        pause, trouble = FIRST, ""
         while not self.is_ending.is_set():
             try:
                 self.keep_up(self.begin, self.hear)
@@ -157,7 +159,7 @@ class Alarms(Follower):
                 pause = FIRST if self.went_on else min(pause * 2, FAILED if isinstance(fault, Untold) else AWAY)
                 rest, said = pause, str(fault) if isinstance(fault, Untold) else words(fault)
             if said != trouble:
-                self.log(said or "goes on")
+                self.log(said or "all is told")
             if self.told.waiting:
                 self.told.note([])
             trouble, self.went_on = said, False

@@ -62,6 +62,7 @@ class Ways:
             if given.starttls:
                 file = given.ca
                 self.context = ssl.create_default_context(cafile=file)
+                self.context.verify_flags &= ~ssl.VERIFY_X509_STRICT   # of Python 3.13: an authority of one's own often lacks a form that it wants
             if given.user:
                 file = given.password_file
                 self.password = pathlib.Path(file).read_text().rstrip("\n")
