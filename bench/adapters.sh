@@ -15,7 +15,7 @@ while [ $# -gt 1 ]; do
   shift 2
 done
 if [ -z "$obix" ]; then
-  "$top/obix" stdio "$top/examples/point.xml" </dev/null   # builds it where needed
+  "$top/obix" --prove   # builds it where needed
   obix=$top/out/bin/obix
 fi
 site=$top/examples/point.xml

@@ -5,5 +5,5 @@
 # usage: bench/audit.sh [REQUESTS]      (default 100000)
 set -eu
 top=$(cd "$(dirname "$0")/.." && pwd)
-"$top/obix" stdio "$top/examples/point.xml" </dev/null   # builds it where needed
+"$top/obix" --prove   # builds it where needed
 exec python3 "$top/bench/audit.py" "$top/out/bin/obix" "${1:-100000}"

@@ -13,7 +13,7 @@ while [ $# -gt 1 ]; do
   shift 2
 done
 top=$(cd "$(dirname "$0")/.." && pwd)
-"$top/obix" stdio "$top/examples/point.xml" </dev/null   # builds it where needed
+"$top/obix" --prove   # builds it where needed
 obix=$top/out/bin/obix
 work=$(mktemp -d "${TMPDIR:-/tmp}/obix-clients.XXXXXX")
 server=

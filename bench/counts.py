@@ -59,14 +59,14 @@ def requests():
 
 
 def planted():
-    """The bodies that `rt plant` tried and that were refused, by the table of docs/PROOF.md."""
-    text = (TOP / "docs/PROOF.md").read_text(encoding="utf-8").partition("| Crate, calls | Refused |")[2].partition("\n\n")[0]
+    """The bodies that `rt plant` tried and that were refused, by the table of docs/TESTING.md."""
+    text = PAGE.read_text(encoding="utf-8").partition("| Crate, calls | Refused |")[2].partition("\n\n")[0]
     return sum(int(cell) for cell in re.findall(r"^\| [^|]+ \| (\d+) \|", text, re.M))
 
 
 def broken():
-    """The wrong definitions of the tables of docs/PROOF.md."""
-    text = (TOP / "docs/PROOF.md").read_text(encoding="utf-8").partition("## Wrong definitions")[2].partition("\n## ")[0]
+    """The wrong definitions of the tables of docs/TESTING.md."""
+    text = PAGE.read_text(encoding="utf-8").partition("## Wrong definitions")[2].partition("\n## ")[0]
     return len(re.findall(r"^\| (?!Wrong definition|---)", text, re.M))
 
 
@@ -99,9 +99,9 @@ def counted():
         "rows of callers of one machine": rows_of("ob_vectors*", "turns", "desks", "served"),
         "rows of a site of 55,013 parts": rows_of("ob_vectors*", "sizes"),
         "whole runs of two workers": matches("crates/ob_vectors_runs/data/serve.rows", r"^\d+\S* serve .*waits "),
-        "tests of what the system has": matches("crates/ob_system/src/**/*.rt", r"^\s*#\[test\]"),
+        "tests of what the system has": matches("crates/ob_system_tests/src/**/*.rt", r"^\s*#\[test\]"),
         "hostile forms": hostile(),
-        "tries of the front": front(),
+        "tries of nginx": front(),
     }
 
 

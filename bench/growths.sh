@@ -10,6 +10,6 @@ set -euo pipefail
 top=$(cd "$(dirname "$0")/.." && pwd)
 work=$(mktemp -d)
 trap 'rm -rf "$work"' EXIT
-[ -n "${OBIX:-}" ] || "$top/obix" stdio "$top/examples/point.xml" </dev/null   # builds it where needed
+[ -n "${OBIX:-}" ] || "$top/obix" --prove   # builds it where needed
 gcc -O2 -shared -fPIC -o "$work/refuse.so" "$top/bench/growths_refuse.c"
 python3 "$top/bench/growths.py" "${OBIX:-$top/out/bin/obix}" "$work/refuse.so" "$@"

@@ -31,6 +31,7 @@ ADDRESSES = 600_000          # kilobytes of address space, as by `ulimit -v`
 NUMBERS_ROOM = 20_000        # bytes that 100,000 makes may add to a record
 FIRST_LINE = b"obix-record 1"
 SILENCE = 60                 # in seconds, less than a server waits for a client that is silent
+END = 2.5                    # in seconds: so soon it ends once a call of the disk has failed
 
 
 class Skipped(Exception):
@@ -298,21 +299,31 @@ def until_refused(server, limit):
     return count + 1
 
 
-def refuses_for_good(server, workers):
-    """Each worker ends at its next request, and the program with the last one."""
-    for _ in range(10 * workers):
-        if server.run.poll() is not None:
-            break
-        assert not server.put(server.link(), "p0", -1), "a write was answered though one before it wasn't"
-        time.sleep(0.05)
+def ends_at_once(server):
+    """After how many seconds the program has ended, though nobody asks it for anything any more."""
+    began = time.time()
     must(server.ended(), FAULT, "the end")
+    took = time.time() - began
+    assert took <= END, f"it ended after {took:.1f} s"
+    return took
 
 
-def refused(program, room, workers=4, room_again=lambda: None, **how):
-    """A write that the disk doesn't take isn't answered, the program ends with 14, and no answered write is lost."""
+def idle_link(server):
+    """A link that has had an answer, and stays."""
+    link = server.link()
+    answer(link, "GET", "/obix/p0")
+    return link
+
+
+def refused(program, room, workers=4, idle=0, room_again=lambda: None, **how):
+    """A write that the disk doesn't take isn't answered, the program ends with 14 at once, whatever links and workers are idle, and
+    no answered write is lost."""
     with Keep(program, room, workers=workers, **how) as server:
+        idle_links = [idle_link(server) for _ in range(idle)]
         last = until_refused(server, 20_000)
-        refuses_for_good(server, workers)
+        took = ends_at_once(server)
+        for link in idle_links:
+            link.close()
     room_again()
     with Keep(program, room) as server:
         found = server.value()
@@ -320,7 +331,8 @@ def refused(program, room, workers=4, room_again=lambda: None, **how):
         link = server.link()
         assert server.put(link, "p0", last + 1), "a write isn't answered though there is room again"
         link.close()
-    return f"{last - 1} writes answered, the next one {'done' if found == last else 'not done'}"
+    return f"{workers} workers, {idle} idle links: {last - 1} writes answered, the next one {'done' if found == last else 'not done'}, " \
+        f"ended after {took:.1f} s"
 
 
 def full_disk(program, given):
@@ -331,9 +343,14 @@ def full_disk(program, given):
         if mounted.returncode:
             raise Skipped(f"no small disk can be mounted ({mounted.stderr.strip()})")
         try:
-            shutil.copy(f"{room}/site.xml", disk)
-            return refused(program, disk, room_again=lambda: subprocess.run(
-                ["mount", "-o", "remount,size=1m", disk], check=True))
+            told = []
+            for workers, idle in ((1, 0), (64, 0), (64, 63)):
+                subprocess.run(["mount", "-o", "remount,size=64k", disk], check=True)
+                shutil.copy(f"{room}/site.xml", disk)
+                told.append(refused(program, disk, workers=workers, idle=idle, room_again=lambda: subprocess.run(
+                    ["mount", "-o", "remount,size=1m", disk], check=True)))
+                os.remove(f"{disk}/record")
+            return "; ".join(told)
         finally:
             subprocess.run(["umount", disk], check=True)
 
@@ -359,9 +376,6 @@ def disturbed(program, room, call, how):
                 answered += 1
             if answered == 4:
                 return None
-            if "error" in how:
-                refuses_for_good(server, 2)
-                return answered, answered + 1
         end = server.ended()
     finally:
         server.kill()

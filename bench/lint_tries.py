@@ -12,9 +12,12 @@ from xml.parsers import expat
 TOP = Path(__file__).resolve().parent.parent
 sys.path.insert(0, str(TOP / "tools"))
 from lint.asking import Program          # noqa: E402
+from lint import points                  # noqa: E402
 from lint.parts import parts_of          # noqa: E402
 from lint.slips import BUILT_IN          # noqa: E402
-from site_lint import lint, lint_schedule   # noqa: E402
+import lint_others                       # noqa: E402
+from metrics import UNITS                # noqa: E402
+from site_lint import lint, lint_record, lint_super   # noqa: E402
 
 SIGNS = {"␣": " ", "␉": "\t", "␊": "\n", "␍": "\r", "⏎": "\r\n", "␀": "\0", "␡": "\x7f"}
 failed = 0
@@ -43,6 +46,16 @@ def say(data, program):
     return lint("site.xml", program)
 
 
+def say_case(name, data, program):
+    """The same of a case of the table: a site, a config of `super`, or a site and a record."""
+    if not name.startswith("record:"):
+        Path("site.xml").write_bytes(data)
+        return lint_super("site.xml", program, False) if name.startswith("super:") else lint("site.xml", program)
+    for file, text in zip(("site.xml", "site.record"), data.split(b"\n=== RECORD\n")):
+        Path(file).write_bytes(text)
+    return lint_record("site.record", "site.xml", program)
+
+
 def cases():
     """The cases of the table: a name, a document, a status, and the lines that are wanted."""
     for case in re.split("^### ", (TOP / "bench" / "lint_cases.txt").read_text(), flags=re.M)[1:]:
@@ -64,8 +77,8 @@ def try_cases(program):
     """With lines of the file and carets where the case has them, else what is said and where alone."""
     count, said = 0, set()
     for name, data, status, wanted in cases():
-        came, lines = say(data, program)
-        heads = lines if any(it.startswith("    ") for it in wanted) else [it for it in lines if it.startswith("site.xml")]
+        came, lines = say_case(name, data, program)
+        heads = lines if any(it.startswith("    ") for it in wanted) else [it for it in lines if it.startswith("site.")]
         judge((came, heads) == (status, wanted), name, "\ncame out: " + "\n".join([f"=> {came}", *heads]))
         try_carets(name, data, lines)
         count, said = count + 1, said | {it[0] for it in re.findall(r"\[((?:Value )?(?:Contract )?\w+)(.*)\]$", "\n".join(lines), re.M)}
@@ -100,7 +113,7 @@ def try_rows(program):
 def try_places():
     """The starts of all tags, as expat tells them, of every document that both take."""
     documents = [it.read_bytes() for it in (TOP / "examples").glob("*.xml")] + [data for _, data, _ in rows("documents.rows")]
-    documents += [data for _, data, _, wanted in cases() if not any(re.search(r" at \d+\]$", it) for it in wanted)]
+    documents += [data for name, data, _, wanted in cases() if not (name.startswith("record:") or any(re.search(r" at \d+\]$", it) for it in wanted))]
     count = 0
     for data in documents:
         starts, reader = [], expat.ParserCreate()
@@ -157,36 +170,15 @@ def try_statuses(program):
         judge(start(["site.xml"], "/nowhere")[0] == 3, "no program")
 
 
-WEEKS = (   # what is altered in examples/heating.xml, and what is said of it then
-    ("CET-1CEST,M3.5.0,M10.5.0/3", "Europe/Berlin", "no rule of POSIX", 1), ('<str name="zone"', '<int name="zone"', "an int", None),
-    ('name="zone"', 'name="zona"', "no str named zone", 0), ("/obix/boiler/setpoint", "boiler/setpoint", "shows nothing", 4),
-    ("/obix/boiler/setpoint", "/obix/boiler/flow", "no writable point", 4), ('name="entries"', 'name="items"', "no list named entries", 3),
-    ('<list name="entries">', '<list name="entries"><bool/>', "has to be an obj", 6), ('name="day" val="6"', 'name="day" val="8"', "1 (Monday)", 47),
-    ('val="08:00:00"', 'val="08:00:00.0001"', "whole milliseconds", 48), ('val="62.5"', 'val="162.5"', "doesn't take this value", 49),
-    ('<real name="value" val="62.5"/>', '<int name="value" val="62"/>', "of one kind", 49), ('val="13:00:00"', 'val="08:00:00"', "its day and its time", 50),
-    ('val="13:00:00"', 'val="25:00:00"', "wanted is a time", None),
-)
-
-
-def try_schedules(program):
-    """Files of weekly schedules for the plant room: the part that the program refuses, and why."""
-    site, text = str(TOP / "examples" / "plant-room.xml"), (TOP / "examples" / "heating.xml").read_text()
-    judge(lint_schedule(str(TOP / "examples" / "heating.xml"), site, program)[0] == 0, "examples/heating.xml")
-    for old, new, why, number in WEEKS:
-        Path("weeks.xml").write_text(text.replace(old, new, 1))
-        status, lines = lint_schedule("weeks.xml", site, program)
-        said = f"[Schedule {number}]" if number is not None else "]"
-        judge(status == 2 and why in lines[0] and lines[0].endswith(said), f"{old} => {new}", f"\ncame out: {lines[0]}")
-    print(f"{len(WEEKS)} files of schedules are refused at their part")
-
-
 def try_tables():
-    """The built-in contracts are those of docs/PROFILE.md; the tools are of Python 3.9, and of fewer than 300 lines each."""
+    """The built-in contracts are those of docs/PROFILE.md; units that exporter.py converts are known; the tools are of Python 3.9, and
+    of at most 250 lines each."""
     table = (TOP / "docs" / "PROFILE.md").read_text().partition("The built-in contracts")[2].partition("Every other word")[0]
     words = {it for row in table.split("\n") if row.startswith("| obix:") for it in re.findall("obix:\\w+", row.split("|")[1])}
     judge(words == {it for it in BUILT_IN if it[5:6].isupper()}, "the built-in contracts", f": {words ^ set(BUILT_IN)}")
+    judge(set(UNITS) <= points.UNITS, "the units of exporter.py", f": {set(UNITS) - points.UNITS}")
     for tool in (TOP / "tools" / "site_lint.py", *(TOP / "tools" / "lint").glob("*.py")):
-        judge(tool.read_text().count("\n") < 300, f"{tool} has fewer than 300 lines")
+        judge(tool.read_text().count("\n") <= 250, f"{tool} has at most 250 lines")
         ast.parse(tool.read_text(), feature_version=(3, 9))
 
 
@@ -199,7 +191,10 @@ def main():
         try_places()
         try_altered(program)
         try_statuses(program)
-        try_schedules(program)
+        lint_others.try_schedules(program, judge)
+        lint_others.try_asking(program, judge)
+        lint_others.try_kept(program, judge)
+        lint_others.try_altered(program, judge)
         try_tables()
         for example in sorted((TOP / "examples").glob("*.xml")):
             lines = say(example.read_bytes(), program)[1]

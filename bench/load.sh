@@ -6,7 +6,7 @@ set -eu
 top=$(cd "$(dirname "$0")/.." && pwd)
 work=$(mktemp -d "${TMPDIR:-/tmp}/obix-load.XXXXXX")
 trap 'rm -rf "$work"' EXIT
-"$top/obix" stdio "$top/examples/point.xml" </dev/null   # builds it where needed
+"$top/obix" --prove   # builds it where needed
 
 opens() {  # opens KIND COUNT
   python3 "$top/bench/load_sites.py" "$1" "$2" >"$work/site.xml"

@@ -2,7 +2,6 @@
 import os
 import re
 import shutil
-import socket
 import subprocess
 import sys
 import tempfile
@@ -11,13 +10,16 @@ import urllib.error
 import urllib.request
 from pathlib import Path
 
+from pages_room import Room
+
 PAGES = ("README.md", "examples/README.md", "docs/RUNNING.md", "docs/obix.1")
-PORTS = ("8080", "8081", "9180")
-NOT_HERE = (("rt ", "needs the kit, for an hour"), ("cd crates/", "needs the kit"), ("sudo ", "changes the machine"),
-            ("systemctl ", "needs systemd"))
-PRINTED = re.compile(r"(?:listening|served|legal|illegal|obix:) ?\S*.*")
+NOT_HERE = ((r"rt |RT_JOBS=|\./obix --prove", "needs the kit, for an hour"), (r"cd crates/", "needs the kit"),
+            (r"sudoedit ", "needs a person"),
+            (r".*systemctl (enable|status|daemon-reload)", "needs systemd as the first process"))
+OUTSIDE = re.compile(r"(?<![\w./-])/(?!dev/null|tmp/)[a-z]|\bapt|systemctl (?!(reload nginx|stop obix|start obix)$)")      # of the room
+PRINTED = re.compile(r"(?:listening|served|legal|illegal|compacted|403|obix:) ?\S*.*")
 TIME = re.compile(r"\d{4}-\d\d-\d\dT[\d:.]*Z *")
-README_LINES, CELL = 150, 250
+README_LINES = 130
 
 
 class Told:
@@ -67,52 +69,6 @@ def blocks_of(path):
     return found
 
 
-class Room:
-    """A folder in which a page's commands find what they name, and the servers that they start there."""
-
-    def __init__(self, top, program):
-        self.folder = tempfile.TemporaryDirectory(prefix="obix-pages.")
-        self.at, self.running = Path(self.folder.name), []
-        for name in ("examples", "docs", "tools", "bench"):
-            (self.at / name).symlink_to(top / name)
-        for place in ("obix", "out/bin/obix", "bin/obix"):
-            (self.at / place).parent.mkdir(parents=True, exist_ok=True)
-            (self.at / place).symlink_to(program)
-        held = [socket.socket() for _ in PORTS]
-        [it.bind(("127.0.0.1", 0)) for it in held]
-        self.ports = dict(zip(PORTS, (str(it.getsockname()[1]) for it in held)))
-        [it.close() for it in held]
-        self.environment = {**os.environ, "PATH": f"{self.at}/bin:{os.environ['PATH']}"}
-
-    def __enter__(self):
-        return self
-
-    def __exit__(self, *fault):
-        for run in self.running:
-            run.terminate()
-            run.wait(20)
-        self.folder.cleanup()
-
-    def here(self, command):
-        """The command with this room's ports and places."""
-        for old, new in (*self.ports.items(), ("/etc/obix/", "examples/"), ("/var/lib/obix/", f"{self.at}/"),
-                         ("/usr/local/bin/obix", f"{self.at}/bin/obix")):
-            command = command.replace(old, new)
-        return command
-
-    def run(self, command):
-        done = subprocess.run(["bash", "-o", "pipefail", "-c", self.here(command)], cwd=self.at, env=self.environment,
-                              stdin=subprocess.DEVNULL, capture_output=True, timeout=120)
-        return done.returncode, (done.stdout + done.stderr).decode()
-
-    def start(self, command):
-        """Starts what doesn't end by itself, and gives its first line, or nothing where its port is answered first."""
-        run = subprocess.Popen(["bash", "-c", f"exec {self.here(command)}"], cwd=self.at, env=self.environment,
-                               stdout=subprocess.PIPE, stderr=subprocess.STDOUT, text=True)
-        self.running.append(run)
-        return run
-
-
 def is_answered(port, path):
     for _ in range(100):
         try:
@@ -136,23 +92,43 @@ def same(printed, shown, begins):
     return printed.startswith(shown) if begins else printed == shown
 
 
+def is_not_here(room, text):
+    """Why a command can't be run here, if it can't."""
+    gone = next((it for it in re.findall(r"\btools/\S+\.py", text) if not (room.at / it).exists()), None)
+    return (next((why for form, why in NOT_HERE if re.match(form, text)), None) or (gone and f"no {gone}")
+            or next((f"no {it}" for it in ("nginx", "systemd-analyze", "systemd-socket-activate")
+                     if it in text and not shutil.which(it, path=f"{os.environ['PATH']}:/usr/sbin")), None)
+            or ("needs root" if "www-data" in text and os.geteuid() else None)
+            or ("changes the machine" if "sudo" in text and OUTSIDE.search(room.here(text)) else None))
+
+
+def judge_server(told, room, what, text, wanted):
+    """Starts a server, a page, an exporter or a listener, and says whether it comes up; or stops or starts the service."""
+    if text.endswith("systemctl stop obix"):
+        room.service = room.end(room.ports["8080"])
+        return told.ok(what) if room.service else told.not_ok(what, "it doesn't run")
+    run, port = room.start(room.service if text.endswith("systemctl start obix") else text)
+    if "tools/" in text or "socket-activate" in text:
+        good = is_answered(port, "/metrics" if "exporter" in text else "/obix/" if "socket" in text else "/")
+        return told.ok(what) if good else told.not_ok(what, "its page isn't answered")
+    first = run.stdout.readline().strip()
+    wanted = room.here(wanted or "listening 127.0.0.1 8080")
+    return told.ok(what) if first == wanted else told.not_ok(what, f"printed {first!r}, not {wanted!r}")
+
+
+SERVER = re.compile(r"(\./)?obix (serve|keep) |.*tools/(dashboard|exporter)\.py |systemd-socket-activate |sudo systemctl (stop|start) obix$")
+
+
 def judge(told, room, page, command, block):
     """Runs one command, and says whether it does what the page says."""
     text, _, comment = command.partition(" # ") if " # " in command else (command, "", "")
     text, what = text.strip(), f"{page}: {command.split('  ')[0].strip()}"
     line, status = told_of(comment.strip())
-    why = next((why for front, why in NOT_HERE if text.startswith(front)), None)
-    missing = next((it for it in re.findall(r"\btools/\S+\.py", text) if not (room.at / it).exists()), None)
-    if why or missing:
-        return told.skipped(what, why or f"no {missing}")
-    if re.match(r"(\./)?obix (serve|keep) ", text):
-        first = room.start(text).stdout.readline().strip()
-        wanted = room.here(line or "listening 127.0.0.1 8080")
-        return told.ok(what) if first == wanted else told.not_ok(what, f"printed {first!r}, not {wanted!r}")
-    if "tools/dashboard.py" in text or "tools/exporter.py" in text:
-        run, port = room.start(text), re.search(r"--listen \S*?(\d+)$", room.here(text))
-        good = port and is_answered(port[1], "/metrics" if "exporter" in text else "/")
-        return told.ok(what) if good else told.not_ok(what, "its page isn't answered")
+    why = is_not_here(room, text)
+    if why:
+        return told.skipped(what, why)
+    if SERVER.match(text):
+        return judge_server(told, room, what, text, line)
     at, printed = room.run(text)
     if at != status:
         return told.not_ok(what, f"status {at}, not {status}: {printed.strip()[-300:]}")
@@ -179,9 +155,14 @@ def run_page(told, top, program, page):
                     told.not_ok(what, f"printed {block.printed!r}")
 
 
+def pages_of(top):
+    """All pages but those of the crates."""
+    return [*sorted(top.glob("*.md")), *sorted(top.glob("docs/*.md")), *(top / it / "README.md" for it in ("examples", "tools", "bench"))]
+
+
 def look_at_links(told, top):
     """Whether each file that a page leads to is there, and each page that it names in words."""
-    for page in [top / "README.md", *sorted(top.glob("docs/*.md")), top / "examples/README.md", top / "bench/README.md"]:
+    for page in pages_of(top):
         text = page.read_text(encoding="utf-8")
         gone = [it for it in re.findall(r"\]\(([^)#:]+)\)", text) if not (page.parent / it).exists()]
         name = page.relative_to(top)
@@ -192,13 +173,13 @@ def look_at_links(told, top):
 
 
 def look_at_form(told, top):
-    """The README's number of lines, and its longest cell."""
-    lines = (top / "README.md").read_text(encoding="utf-8").splitlines()
-    longest = max(len(cell.strip()) for line in lines if line.startswith("|") for cell in line.strip("|").split(" | "))
-    if len(lines) <= README_LINES and longest <= CELL:
-        told.ok(f"README.md: {len(lines)} lines, the longest cell {longest}")
+    """The README's number of lines; how long lines and cells of the pages are."""
+    lines = (top / "README.md").read_text(encoding="utf-8").count("\n")
+    if lines <= README_LINES:
+        told.ok(f"README.md: {lines} lines")
     else:
-        told.not_ok("README.md: its size", f"{len(lines)} lines, the longest cell {longest}")
+        told.not_ok("README.md: its size", f"{lines} lines")
+    look_by(told, "lines and cells of the pages", [sys.executable, str(top / "dev/pages_check.py"), *map(str, pages_of(top))])
 
 
 def look_at_counts(told, top):
@@ -220,12 +201,15 @@ def look_by(told, what, words):
 
 
 def look_at_files(told, top, program):
-    """The manual page by mandoc; the service by systemd, with this program in the place that it names."""
+    """The manual page by mandoc; the units by systemd, with this program and these tools in the places that they name."""
     look_by(told, "docs/obix.1: mandoc", ["mandoc", "-T", "lint", str(top / "docs/obix.1")])
     with tempfile.TemporaryDirectory(prefix="obix-pages.") as folder:
-        unit = Path(folder) / "obix.service"
-        unit.write_text((top / "examples/obix.service").read_text(encoding="utf-8").replace("/usr/local/bin/obix", program))
-        look_by(told, "examples/obix.service: systemd-analyze verify", ["systemd-analyze", "verify", str(unit)])
+        units = [it for it in sorted((top / "examples").iterdir()) if it.suffix in (".service", ".timer", ".socket")]
+        for unit in units:
+            text = unit.read_text(encoding="utf-8").replace("/usr/local/bin/obix", program).replace("/usr/local/lib/obix/", f"{top}/tools/")
+            (Path(folder) / unit.name).write_text(text, encoding="utf-8")
+        for unit in units:
+            look_by(told, f"examples/{unit.name}: systemd-analyze verify", ["systemd-analyze", "verify", f"{folder}/{unit.name}"])
 
 
 def main():

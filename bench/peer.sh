@@ -20,7 +20,7 @@ servers=()
 trap 'kill "${servers[@]}" 2>/dev/null; wait; rm -rf "$work"' EXIT
 
 gcc -O2 -pthread -o "$work/load" "$top/bench/peers/load.c"
-"$top/obix" stdio "$top/examples/point.xml" </dev/null   # builds it where needed
+"$top/obix" --prove   # builds it where needed
 obix=${OBIX:-$top/out/bin/obix}
 echo '<obj href="http://h/obix/" is="obix:Lobby"><int href="n" val="7" min="0" max="10" writable="true"/></obj>' >"$work/site.xml"
 answer='<int href="/obix/n" val="7" max="10" min="0" writable="true"/>'

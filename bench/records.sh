@@ -4,5 +4,5 @@
 # usage: bench/records.sh [EVERY]      (default 1: each byte; with 7 each seventh)
 set -eu
 top=$(cd "$(dirname "$0")/.." && pwd)
-"$top/obix" storm 0 1 1 >/dev/null   # builds it where needed
+"$top/obix" --prove   # builds it where needed
 exec python3 "$top/bench/records.py" "$top/out/bin/obix" "$top/crates/ob_vectors_sites/data" "${1:-1}"

@@ -5,5 +5,5 @@
 # usage: bench/schedule.sh [PROGRAM]      (out/bin/obix)
 set -eu
 top=$(cd "$(dirname "$0")/.." && pwd)
-[ $# -gt 0 ] || "$top/obix" stdio "$top/examples/point.xml" </dev/null   # builds it where needed
+[ $# -gt 0 ] || "$top/obix" --prove   # builds it where needed
 exec python3 "$top/bench/schedule.py" "${1:-$top/out/bin/obix}"

@@ -18,8 +18,9 @@ import time
 import xml.etree.ElementTree as ET
 
 CLIENTS_TIME = 900
-# Until when another client is answered, in seconds, where peers are silent or take nothing, and where they send a byte now and then.
-SILENCE, DRIP = 85, 310
+# Until when another client is answered, in seconds, where all workers have peers that are silent between requests, that are silent
+# within a request or take nothing, and that send a byte now and then.
+IDLE, SILENCE, DRIP = 10, 85, 310
 ports = None   # where the tries listen, if it matters
 
 
@@ -252,6 +253,32 @@ def held(program, workers, opening, limit, points=1, path="/obix/p0", each=None)
     return f"another client is answered after {took:.1f} s"
 
 
+def silent_again(port, end):
+    """A peer that says nothing, and dials again as soon as it is sent away, until then."""
+    while time.time() < end:
+        try:
+            with socket.create_connection(("127.0.0.1", port), timeout=max(end - time.time(), 0.1)) as link:
+                link.recv(1)
+        except OSError:
+            time.sleep(0.01)
+
+
+def redialled(program, workers, peers, seconds):
+    """Silent peers, more than there are workers, that dial again: each of some clients meanwhile is answered in time."""
+    server, end = Server(program, 1, workers, 100_000), time.time() + seconds
+    with concurrent.futures.ThreadPoolExecutor(peers) as crowd:
+        runs = [crowd.submit(silent_again, server.port, end) for _ in range(peers)]
+        time.sleep(1)
+        took = []
+        while time.time() < end - IDLE:
+            took.append(server.answers("/obix/p0", 3 * IDLE))
+            time.sleep(1.7)
+        server.stop()
+        concurrent.futures.wait(runs)
+    assert max(took) <= IDLE, f"answered after {', '.join(f'{it:.1f}' for it in took)} s"
+    return f"{len(took)} clients are answered after {min(took):.1f} to {max(took):.1f} s"
+
+
 def whole(server, sent):
     """The answer to these bytes, which may be more than the server reads, up to its end."""
     link = server.connect()
@@ -310,9 +337,10 @@ def main():
              ("many clients", lambda it: many(it, given.clients, given.requests)), ("a silent client", silent),
              ("a client that resets", reset), ("noise", lambda it: noise(it, given.noise)), ("[::1]", ipv6),
              ("stopped and continued", stopped), ("few descriptors", few_descriptors), ("refusals over unread bytes", refusals)]
-    waits = [("64 silent clients of 64 workers", lambda it: held(it, 64, b"", SILENCE)),
+    waits = [("64 silent clients of 64 workers", lambda it: held(it, 64, b"", IDLE)),
+             ("16 silent clients that dial again, of 8 workers", lambda it: redialled(it, 8, 16, 60)),
              ("5 half heads of 5 workers", lambda it: held(it, 5, half, SILENCE)),
-             ("4 kept connections of 4 workers", lambda it: held(it, 4, kept, SILENCE)),
+             ("4 kept connections of 4 workers", lambda it: held(it, 4, kept, IDLE)),
              ("2 clients of 2 workers that read nothing", lambda it: held(it, 2, ask * 30, SILENCE, points=20_000)),
              ("4 clients of 4 workers that send a byte each 20 s", lambda it: held(it, 4, field, DRIP, each=lambda peer: peer.send(b"y"))),
              ("2 clients of 2 workers that read 256 kB each 20 s", lambda it: held(it, 2, ask * 90, DRIP, points=20_000, each=lambda peer: peer.recv(1 << 18)))]

@@ -5,5 +5,5 @@
 # usage: bench/site.sh [TIMES]      (default 1; with 0.1 a tenth of the requests)
 set -eu
 top=$(cd "$(dirname "$0")/.." && pwd)
-"$top/obix" stdio "$top/examples/point.xml" </dev/null   # builds it where needed
+"$top/obix" --prove   # builds it where needed
 exec python3 "$top/bench/site.py" "$top/out/bin/obix" "$top/crates/ob_vectors_sites/data/sites.txt" "${1:-1}"

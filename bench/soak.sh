@@ -5,5 +5,5 @@
 # usage: bench/soak.sh [--links N] [--seconds N]      (64 and 300)
 set -eu
 top=$(cd "$(dirname "$0")/.." && pwd)
-"$top/obix" stdio "$top/examples/point.xml" </dev/null   # builds it where needed
+"$top/obix" --prove   # builds it where needed
 exec python3 "$top/bench/soak.py" "$top/out/bin/obix" "$@"

@@ -6,7 +6,7 @@ top=$(cd "$(dirname "$0")/.." && pwd)
 count=${1:-1000000}
 work=$(mktemp -d "${TMPDIR:-/tmp}/obix-stdio.XXXXXX")
 trap 'rm -rf "$work"' EXIT
-"$top/obix" stdio "$top/examples/point.xml" </dev/null   # builds it where needed
+"$top/obix" --prove   # builds it where needed
 
 # Processor seconds (user and system) and seconds on the clock of a command: "PROCESSOR CLOCK".
 timed() {

@@ -5,7 +5,7 @@
 set -eu
 top=$(cd "$(dirname "$0")/.." && pwd)
 [ $# -eq 3 ] || set -- 1 100 1000000
-"$top/obix" storm 0 1 1 >/dev/null   # builds it where needed
+"$top/obix" --prove   # builds it where needed
 python3 - "$top/out/bin/obix" "$@" <<'PY'
 import os, subprocess, sys, time
 

@@ -7,5 +7,5 @@
 # usage: bench/super.sh [--rounds N] [--only TEXT]      (20 rounds of each kind; all tries, or those whose name has TEXT)
 set -eu
 top=$(cd "$(dirname "$0")/.." && pwd)
-if [ -z "${OBIX:-}" ]; then "$top/obix" stdio "$top/examples/point.xml" </dev/null; fi   # builds it where needed
+if [ -z "${OBIX:-}" ]; then "$top/obix" --prove; fi   # builds it where needed
 exec python3 "$top/bench/super_tries.py" "${OBIX:-$top/out/bin/obix}" "$@"

@@ -7,5 +7,5 @@ top=$(cd "$(dirname "$0")/.." && pwd)
 work=$(mktemp -d)
 trap 'rm -rf "$work"' EXIT
 gcc -O2 -pthread -o "$work/load" "$top/bench/peers/load.c"
-"$top/obix" stdio "$top/examples/point.xml" </dev/null   # builds it where needed
+"$top/obix" --prove   # builds it where needed
 python3 "$top/bench/turn_share.py" "${OBIX:-$top/out/bin/obix}" "$work/load" "${1:-40000}"

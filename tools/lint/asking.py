@@ -14,23 +14,24 @@ class Trouble(Exception):
 
 
 class Program:
-    """The program `obix`: the path that is given, or out/bin/obix beside the tools, or the one on the PATH."""
+    """The program `obix`: the path that is given, or one that is built beside the tools (proved, or else not), or the one on the PATH."""
 
     def __init__(self, path):
-        beside = Path(__file__).resolve().parents[2] / "out" / "bin" / "obix"
-        self.path = path or (str(beside) if beside.is_file() else shutil.which("obix"))
+        built = Path(__file__).resolve().parents[2] / "out"
+        beside = [str(it) for it in (built / "bin" / "obix", built / "quick" / "obix") if it.is_file()]
+        self.path = path or (beside[0] if beside else shutil.which("obix"))
         if not self.path:
-            raise Trouble("no program: there is no out/bin/obix beside the tools, and no obix on the PATH; say where it is with --obix")
+            raise Trouble("no program: none is built beside the tools (./obix builds one), and no obix is on the PATH; say where it is with --obix")
 
-    def run(self, *words, requests=b""):
-        """What it writes, and the refusal that it says, if it does; anything else isn't an answer."""
+    def run(self, *words, requests=b"", may=()):
+        """What it writes, and the refusal that it says, if it does (status 2, and those of `may`); anything else isn't an answer."""
         try:
             run = subprocess.run([self.path, *words], input=requests, capture_output=True, timeout=600)
         except (OSError, ValueError, subprocess.SubprocessError) as fault:
             raise Trouble(f"{self.path}: {getattr(fault, 'strerror', None) or fault}") from None
         said = run.stderr.decode(errors="replace").strip()
-        refused = re.search("^obix: refused: (.*)$", said, re.M)
-        if run.returncode != 0 and not (run.returncode == 2 and refused):
+        refused = re.search("^obix: (?:refused: )?(.*)$", said, re.M)
+        if run.returncode != 0 and not (run.returncode in (2, *may) and refused):
             raise Trouble(f"{self.path} {words[0]}: {said or 'no word'} (status {run.returncode})")
         return run.stdout, refused[1] if run.returncode else None
 
@@ -72,7 +73,7 @@ class Site:
     def __init__(self, copy, data, program):
         self.parts = parts_of(data)[0]
         self.root, self.written = self.parts[0], [it.has for it in self.parts]
-        self.kept_sources, self.kept_children, self.kept_nodes = {}, {}, None
+        self.kept_sources, self.kept_children, self.kept_nodes, self.kept_ranged = {}, {}, None, None
         read = parts_of(program.run("check", copy)[0])[0]
         if [it.kind for it in read] != [it.kind for it in self.parts]:
             raise Trouble("the program reads other parts in the file than this tool")

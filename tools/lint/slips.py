@@ -5,6 +5,7 @@ Each function gives findings: a place in bytes, and what is to say of it.
 import re
 from decimal import Decimal
 
+from lint import points
 from lint.openings import has_value, instant
 from lint.parts import parts_of
 from lint.refusals import KINDS, a, meant
@@ -24,11 +25,11 @@ def all_of(site, copy, program):
     see(site, site.root, shown_root(site, copy, program))
     found = root(site) + leads_nowhere(site, copy, program)
     for part, written in zip(site.parts, site.written):
-        found += attributes(part, written) + words(site, part)
+        found += attributes(part, written) + words(site, part) + points.of_unit(part)
         if part.shown is None:
             found += dropped(site, part)
         else:
-            found += limits(site, part)
+            found += limits(site, part) + points.of_point(site, part)
             if not part.inside:
                 found += unreachable(part) + roles(site, part)
     return sorted(found, key=lambda it: it[0])
@@ -74,7 +75,7 @@ def root(site):
 
 
 def attributes(part, written):
-    """Attributes that the program dropped, names that aren't those of the standard, and units that are no URI."""
+    """Attributes that the program dropped, and names that aren't those of the standard."""
     found = []
     for name in written:
         if name in part.has or ":" in name or name in ("xmlns", "null"):
@@ -89,8 +90,6 @@ def attributes(part, written):
     if part.name is not None and not re.fullmatch("[A-Za-z_$][A-Za-z0-9_$]*", part.name):
         found.append((part.place("name"), f"{part}: a name has letters, digits, _ and $ by the standard, and begins with no digit;"
                       " displayName may be any text"))
-    if "unit" in part.has and ":" not in part.has["unit"] and "/" not in part.has["unit"]:
-        found.append((part.place("unit"), f"{part}: a unit is a URI, such as obix:units/celsius"))
     return found
 
 
@@ -166,29 +165,32 @@ def unreachable(part):
 
 
 def roles(site, part):
-    """Words of a role that the part doesn't get, histories that record nothing, and rules that are broken from the start."""
+    """Words of a role that the part doesn't get, histories that record nothing or without an end, rules that are never broken or
+    from the start."""
     found = []
     for word, kind in ROLES.items():
         if word in part.words("is") and not site.has_role(part, word) and not (part.path is None and is_written(part.shown)):
             why = "has no href" if part.path is None else f"is {a(part.kind)} and not {kind}"
             found.append((part.place("is"), f"{part}: it is no {word[5:]}, since it {why}"))
-    if site.has_role(part, "obix:History") and part.child("source", "ref") is None:
-        found.append((part.at, f"{part}: a history without a ref named source records no writes"))
+    if site.has_role(part, "obix:History"):
+        found += points.of_history(site, part)
     if site.has_role(part, "obix:AlarmSubject"):
         rules = part.child("rules", "list")
         if rules is None:
             found.append((part.at, f"{part}: an alarm subject without a list named rules has no alarms"))
         for rule in rules.children if rules else []:
-            found += begins_outside(site, rule)
+            found += points.never_raised(site, rule) or begins_outside(site, rule)
+        if rules and rules.children:
+            found += points.room_for_alarms(site, part)
     return found
 
 
 def begins_outside(site, rule):
-    source = site.nodes[site.paths[rule.child("source").has["href"]]]
+    ref, source = points.source_of(site, rule)
     low, high = (rule.child(it).has["val"] for it in ("low", "high"))
     if not has_value(source.shown) or Decimal(low) <= Decimal(source.shown.has["val"]) <= Decimal(high):
         return []
-    return [(rule.child("source").at, f"{rule}: {source.path} begins at {source.shown.has['val']}, outside {low} to {high}:"
+    return [(ref.at, f"{rule}: {source.path} begins at {source.shown.has['val']}, outside {low} to {high}:"
              " no alarm is raised at the opening, only when another value outside is written")]
 
 

@@ -47,4 +47,10 @@ pub trait Door {
             (Self.L.held link) (Self.L.read_faults link) (Self.L.write_faults link)) }
         ensures apart { (handed self.new ≡ handed self.old) × (faults self.new ≡ faults self.old)
             × (is_closed self.new ≡ is_closed self.old) };
+
+    /// Closes it. Takes no memory.
+    fn close(&mut self)
+        ensures closed { is_closed self.new ≡ true }
+        ensures apart { (handed self.new ≡ handed self.old) × (returned self.new ≡ returned self.old)
+            × (faults self.new ≡ faults self.old) × (visits self.new ≡ visits self.old) };
 }

@@ -49,7 +49,7 @@ impl<L: Link + Drop> MemDoor<L> {
         self.back.all()
     }
 
-    // Whether it has failed.
+    /// Whether it has failed.
     pub(crate) fn has_failed(&self) -> bool
         ensures { result ≡ not (self.now.calls.faults == 0) }
     {
@@ -113,5 +113,10 @@ impl<L: Link + Drop> Door for MemDoor<L> {
     fn back(&mut self, link: L) {
         self.returned = self.returned.saturating_add(1);
         self.back.keep(link);
+    }
+
+    /// Closes it: the links that wait are let go.
+    fn close(&mut self) {
+        self.waiting.clear();
     }
 }

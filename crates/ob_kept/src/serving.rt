@@ -72,8 +72,8 @@ impl<'a, D: Device> Machine for Shared<'a, D> {
 /// a clock can't be had, or there is no memory to begin, no link is served. The port and the clock have all their doors and twins
 /// back.
 ///
-/// Want of memory ends the one link, and its worker goes on with the next one. Once a call of the device has failed, each worker
-/// ends with the link that it has then, or with its next one, for want of a reply.
+/// Want of memory ends the one link, and its worker goes on with the next one. Once a call of the device has failed, no request is
+/// answered any more: the worker that meets that closes its door and ends.
 pub fn serve_port<
     R: Threads + Wait + Sync,
     V: Device + Send,

@@ -7,7 +7,7 @@ use Rattle.ob_object.specs.Object.{Object}
 use Rattle.ob_history.specs.declared.records.Record.{Record}
 use Rattle.ob_alarms.specs.declared.alarm.Alarm.{Alarm}
 use Rattle.ob_alarms.specs.Changes.{State as Board, alarm_of}
-use Rattle.ob_site_rules.proofs.Nameless.{by_alarm}
+use Rattle.ob_site_rules.proofs.AlarmNames.{by_alarm}
 use Rattle.ob_site_rules.specs.Build.{valued, number_slot}
 use Rattle.ob_site_rules.specs.Entries.{record_object, alarm_object}
 use Rattle.ob_site_rules.specs.Replies.{dropped_child}

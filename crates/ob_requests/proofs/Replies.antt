@@ -25,7 +25,7 @@ use Rattle.ob_site_rules.specs.declared.resource.Resource.TheVariants.{About, Ac
 use Rattle.ob_site_rules.specs.Writes.{target_fault, value_fault, given_by, showing, unless, written, put, write_by}
 use Rattle.ob_site_rules.specs.Posts.{ack_fault, acked, acknowledge, user_in, call, child_of_obj, or_nil, records_of, write_point}
 use Rattle.ob_site_rules.specs.Actions.{act_at, act_item, is_left_out, item_at, item_on, put_at}
-use Rattle.ob_site_rules.proofs.Nameless.{by_alarm}
+use Rattle.ob_site_rules.proofs.AlarmNames.{by_alarm}
 
 -- a state and a reply without a name
 abbrev pub IsPlain : State × Object → Type 0

@@ -25,7 +25,7 @@ abbrev pub IsLast : List Exchange → Type 0
 IsLast [] = ⊤
 IsLast (x ∷ xs) = IsExchange x × (xs ≡ [])
 
--- Behind the answers stands a front of the next answer, or of the refusal of what comes next.
+-- After the complete answers a prefix of the next answer was written, or of the refusal of what comes next.
 pub record BreaksOff (ns : Option (List ℕ)) (taken : List ℕ) (done last : List Exchange) (tail : List ℕ) : Type 0 where
   pub one : IsLast last
   pub first : AreFirst taken (requests_of (done ++ last))

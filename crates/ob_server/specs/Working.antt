@@ -208,6 +208,8 @@ pub record WorkerRan {S D C : Type 0} (act : S → Asked → ℕ → S × Object
   pub clocks_later : clocks old.clock ≤ clocks new.clock
   pub comes : EndComes new.end new.links quota (closed new.door) (doors old.door) (doors new.door) (clocks old.clock) (clocks new.clock)
   pub whole : WorksWhole new.end (doors old.door) (doors new.door) (clocks old.clock) (clocks new.clock)
+  -- a worker that could have stayed, and ended for want of memory, has closed its door
+  pub closes : stays ≡ true → new.end ≡ workers.Memory → closed new.door ≡ true
 
 -- All that a worker did since its door and clock were new, where these tell it; its clock goes at this pace.
 pub record HasWorked {S D C : Type 0} (handed returned : D → ℕ) (visits : D → Option (List Visit)) (given : C → Option (List ℕ))

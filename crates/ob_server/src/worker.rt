@@ -149,6 +149,10 @@ impl<M: Machine<Request = Request, Reply = Obj>, D: Door, C: Clock> Worker<M, D,
         let (links, end) = self.serve_links(service, quota, stays);
         self.links = links;
         self.end = end;
+        // The flag is lowered, and the machine answers no request any more: nobody is to wait at the door.
+        if end == WorkerEnd::Memory && stays.is_some() {
+            self.door.close();
+        }
     }
 }
 
@@ -226,7 +230,7 @@ pub struct Served<M: Machine, D, C> {
 ///
 /// A worker serves one link after the other, and gives each back to its door, until it has had `quota` links, its door
 /// is closed, its door or clock failed or memory was wanting. With a flag `stays` it goes on after a link for which memory was
-/// wanting, where the flag is true then. Where no thread can be started, the caller's does the work.
+/// wanting, where the flag is true then; else it closes its door. Where no thread can be started, the caller's does the work.
 pub fn serve<
     R: Threads + Wait + Sync,
     M: Machine<Request = Request, Reply = Obj> + Send,

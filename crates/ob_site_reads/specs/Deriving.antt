@@ -16,7 +16,7 @@ use Rattle.ob_site_reads.specs.Parents.{has_slash}
 abbrev pub IsOff : Plan → State → Path → Path → Type 0
 IsOff plan s p q = is_some (place_of q (paths s.tree)) ≡ true → is_in p (in_row (derived_at plan s q)) ≡ false
 
--- and so at each path behind which, with a name without a slash, the first one stands
+-- that holds for every parent path q of p: q, a slash and a name without a slash are p
 abbrev pub IsOffBelow : Plan → State → Path → Type 0
 IsOffBelow plan s p = (q name : Path) → has_slash name ≡ false → below q name ≡ p → IsOff plan s p q
 

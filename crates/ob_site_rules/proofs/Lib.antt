@@ -1,1 +1,1 @@
-pub mod Nameless
+pub mod AlarmNames

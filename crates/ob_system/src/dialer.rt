@@ -44,13 +44,13 @@ impl<'a, R: Net<Listener = TcpListener, Stream = TcpStream> + Timer> TcpDialer<'
         self.rose
     }
 
-    // A connection to a port of a host. The server may be silent for as long as a whole request may take it: it answers when
-    // it has a worker free.
+    /// A connection to a port of a host. The server may be silent for as long as a whole request may take it: it answers when
+    /// it has a worker free.
     fn connect(&self, host: &str, port: u16) -> io::Result<TcpLink<'a, R>>
         ensures { IfOk result (λ link. (link.read_faults ≡ 0) × (link.write_faults ≡ 0)) }
     {
         match TcpStream::connect(self.net, (without_brackets(host), port)) {
-            Ok(stream) => TcpLink::new(stream, self.net, TURN_S),
+            Ok(stream) => TcpLink::new(stream, self.net, TURN_S, None),
             Err(fault) => Err(fault),
         }
     }

@@ -6,6 +6,7 @@
 //! fault of its link.
 #![tactic(auto)]
 
+mod crowd;
 mod dialer;
 mod disk;
 mod door;
@@ -16,6 +17,7 @@ mod refusal;
 mod standard;
 mod wait_time;
 
+pub use crowd::Crowd;
 pub use dialer::TcpDialer;
 pub use disk::{DiskDevices, DiskFile};
 pub use door::TcpDoor;

@@ -2,8 +2,9 @@
 ghost use Rattle.std.specs.Prelude.{◌≡◌, IfOk, None};
 ghost use Rattle.std.specs.Io.{ReadsAtMost, WritesAtMost};
 
+use crate::crowd::Crowd;
 use crate::standard::{read_some, write_some};
-use crate::wait_time::{READ_LOOK_S, WRITE_LOOK_S, WaitTime};
+use crate::wait_time::{IDLE_S, LOOK_S, WaitTime};
 use ob_io::{Failed, Link};
 use std::io;
 use std::io::{ErrorKind, Read, Write};
@@ -20,15 +21,22 @@ const LEFTOVER: usize = 4_194_304;
 const PIECE: usize = 4_096;
 
 /// A connection over TCP. A write that takes nothing is a fault, and so is a call that waits too long: for a peer that is
-/// silent or takes nothing, or, with the calls since the last one in the other direction, for 300 seconds in all.
+/// silent or takes nothing, or, with the calls since the last one in the other direction, for 300 seconds in all. A link of a
+/// port is between requests where nothing was read since it was accepted or last written to: then a read is a fault, too, once
+/// it has waited 5 seconds while somebody else waits at the door in vain. Where the port is closed, all calls that wait are.
 #[derive(Drop)]
 pub struct TcpLink<'a, R> {
     stream: TcpStream,
     timer: &'a R,
-    // How many seconds the peer may be silent.
+    /// How many seconds the peer may be silent.
     silence_s: u64,
-    // How long reads have waited since the last write, and writes since the last read.
+    /// The others of its port, where it was accepted.
+    crowd: Option<&'a Crowd>,
+    /// Whether nothing was read since it was accepted or last written to.
+    is_between: bool,
+    /// How long reads have waited since the last write.
     read_wait: Duration,
+    /// How long writes have waited since the last read.
     write_wait: Duration,
     pub(crate) read_faults: u64,
     pub(crate) write_faults: u64,
@@ -36,22 +44,39 @@ pub struct TcpLink<'a, R> {
 
 impl<'a, R: Timer> TcpLink<'a, R> {
     /// A link over this connection, which no longer waits to fill a packet (TCP_NODELAY), and whose peer may be silent for
-    /// so many seconds. Fails where the system refuses that.
-    pub fn new(stream: TcpStream, timer: &'a R, silence_s: u64) -> io::Result<TcpLink<'a, R>>
+    /// so many seconds; of a port whose others are `crowd`. Fails where the system refuses that.
+    pub fn new(
+        stream: TcpStream,
+        timer: &'a R,
+        silence_s: u64,
+        crowd: Option<&'a Crowd>,
+    ) -> io::Result<TcpLink<'a, R>>
         ensures { IfOk result (λ link. (link.read_faults ≡ 0) × (link.write_faults ≡ 0)) }
     {
         stream.set_nodelay(true)?;
-        stream.set_read_timeout(Some(Duration::from_secs(READ_LOOK_S)))?;
-        stream.set_write_timeout(Some(Duration::from_secs(WRITE_LOOK_S)))?;
+        stream.set_read_timeout(Some(Duration::from_secs(LOOK_S)))?;
+        stream.set_write_timeout(Some(Duration::from_secs(LOOK_S)))?;
         Ok(TcpLink {
             stream,
             timer,
             silence_s,
+            crowd,
+            is_between: true,
             read_wait: Duration::ZERO,
             write_wait: Duration::ZERO,
             read_faults: 0,
             write_faults: 0,
         })
+    }
+
+    /// How long its calls may wait.
+    fn patience(&self, is_between: bool) -> Patience<'a, R> {
+        Patience {
+            timer: self.timer,
+            silence_s: self.silence_s,
+            crowd: self.crowd,
+            is_between,
+        }
     }
 
     /// How many reads have failed so far.
@@ -104,52 +129,74 @@ impl<'a, R: Timer> TcpLink<'a, R> {
     }
 }
 
-// A read that waits as long as it may.
-fn read_in_time<R: Timer, S: Read>(
-    timer: &R,
+/// How long calls on a link may wait for its peer.
+#[derive(Clone, Copy, Drop)]
+struct Patience<'a, R> {
+    timer: &'a R,
     silence_s: u64,
-    waited: &mut Duration,
-    reader: &mut S,
-    buf: &mut [u8],
-) -> io::Result<usize>
-    ensures { ReadsAtMost result buf.new }
-{
-    let wait = WaitTime::new(timer, *waited)?;
-    for _ in 0..u64::MAX {
-        match read_some(reader, buf) {
-            Err(fault) if fault.kind() == ErrorKind::WouldBlock && wait.is_left(timer, silence_s) =>
-                {}
-            read => {
-                *waited = wait.total(timer);
-                return read;
-            }
-        }
-    }
-    Err(io::Error::from(ErrorKind::TimedOut))
+    crowd: Option<&'a Crowd>,
+    /// Whether the call is a read between requests.
+    is_between: bool,
 }
 
-// A write that waits as long as it may.
-fn write_in_time<R: Timer, S: Write>(
-    timer: &R,
-    silence_s: u64,
-    waited: &mut Duration,
-    writer: &mut S,
-    piece: &[u8],
-) -> io::Result<usize>
-    ensures { WritesAtMost result piece.now }
-{
-    let wait = WaitTime::new(timer, *waited)?;
-    for _ in 0..u64::MAX {
-        match write_some(writer, piece) {
-            Err(fault) if fault.kind() == ErrorKind::WouldBlock && wait.is_left(timer, silence_s) =>
-                {}
-            written => {
-                *waited = wait.total(timer);
-                return written;
+impl<'a, R: Timer> Patience<'a, R> {
+    /// Whether a call that has waited so may wait on.
+    fn is_left(&self, wait: &WaitTime) -> bool {
+        wait.is_left(self.timer, self.silence_s) && !self.gives_way(wait)
+    }
+
+    /// Whether it ends for others: the port is closed, or somebody waits at its door in vain while this link is idle.
+    fn gives_way(&self, wait: &WaitTime) -> bool {
+        let Some(crowd) = self.crowd else {
+            return false;
+        };
+        crowd.is_closed()
+            || (self.is_between && wait.has_lasted(self.timer, IDLE_S) && crowd.keeps_waiting())
+    }
+
+    /// A read that waits as long as it may, and adds to how long reads have waited.
+    fn read<S: Read>(
+        &self,
+        waited: &mut Duration,
+        reader: &mut S,
+        buf: &mut [u8],
+    ) -> io::Result<usize>
+        ensures { ReadsAtMost result buf.new }
+    {
+        let wait = WaitTime::new(self.timer, *waited)?;
+        for _ in 0..u64::MAX {
+            match read_some(reader, buf) {
+                Err(fault) if fault.kind() == ErrorKind::WouldBlock && self.is_left(&wait) => {}
+                read => {
+                    *waited = wait.total(self.timer);
+                    return read;
+                }
             }
         }
+        Err(io::Error::from(ErrorKind::TimedOut))
     }
-    Err(io::Error::from(ErrorKind::TimedOut))
+
+    /// A write that waits as long as it may, and adds to how long writes have waited.
+    fn write<S: Write>(
+        &self,
+        waited: &mut Duration,
+        writer: &mut S,
+        piece: &[u8],
+    ) -> io::Result<usize>
+        ensures { WritesAtMost result piece.now }
+    {
+        let wait = WaitTime::new(self.timer, *waited)?;
+        for _ in 0..u64::MAX {
+            match write_some(writer, piece) {
+                Err(fault) if fault.kind() == ErrorKind::WouldBlock && self.is_left(&wait) => {}
+                written => {
+                    *waited = wait.total(self.timer);
+                    return written;
+                }
+            }
+        }
+        Err(io::Error::from(ErrorKind::TimedOut))
+    }
 }
 
 impl<'a, R: Timer> Link for TcpLink<'a, R> {
@@ -164,11 +211,11 @@ impl<'a, R: Timer> Link for TcpLink<'a, R> {
     ghost write_faults = { λ s. s.write_faults };
 
     fn read(&mut self, buf: &mut [u8]) -> Result<usize, Failed> {
-        let (timer, silence_s) = (self.timer, self.silence_s);
-        let read = read_in_time(timer, silence_s, &mut self.read_wait, &mut self.stream, buf);
-        match read {
+        let patience = self.patience(self.is_between);
+        match patience.read(&mut self.read_wait, &mut self.stream, buf) {
             Ok(count) => {
                 self.write_wait = Duration::ZERO;
+                self.is_between = false;
                 Ok(count)
             }
             Err(_) => {
@@ -179,18 +226,13 @@ impl<'a, R: Timer> Link for TcpLink<'a, R> {
     }
 
     fn write(&mut self, piece: &[u8]) -> Result<usize, Failed> {
-        let (timer, silence_s) = (self.timer, self.silence_s);
-        let written = write_in_time(
-            timer,
-            silence_s,
-            &mut self.write_wait,
-            &mut self.stream,
-            piece,
-        );
+        let patience = self.patience(false);
+        let written = patience.write(&mut self.write_wait, &mut self.stream, piece);
         if let Ok(count) = written
             && count > 0
         {
             self.read_wait = Duration::ZERO;
+            self.is_between = true;
             return Ok(count);
         }
         self.write_faults = self.write_faults.saturating_add(1);

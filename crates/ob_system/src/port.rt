@@ -1,16 +1,19 @@
 //! Ports over TCP.
 ghost use Rattle.std.specs.Prelude.{◌≡◌, IfSome, None};
 
+use crate::crowd::Crowd;
 use crate::door::TcpDoor;
 use crate::host::without_brackets;
 use ob_io::{Failed, Port};
 use std::net::{Net, TcpListener, TcpStream};
+use std::os::fd::AsRawFd;
 use std::rt::Clock as Timer;
 
 /// A port of this machine.
 #[derive(Drop)]
 pub struct TcpPort<'a, R> {
     net: &'a R,
+    crowd: &'a Crowd,
     listener: Option<TcpListener>,
     opened: u64,
     returned: u64,
@@ -18,13 +21,14 @@ pub struct TcpPort<'a, R> {
 }
 
 impl<'a, R: Net<Listener = TcpListener, Stream = TcpStream> + Timer> TcpPort<'a, R> {
-    /// A port that doesn't listen yet and has not failed.
-    pub fn new(net: &'a R) -> TcpPort<'a, R>
+    /// A port that doesn't listen yet and has not failed, whose doors and links know of each other by `crowd`.
+    pub fn new(net: &'a R, crowd: &'a Crowd) -> TcpPort<'a, R>
         ensures net { result.net ≡ net.entry }
         ensures unused { (result.opened ≡ 0) × (result.returned ≡ 0) × (result.faults ≡ 0) }
     {
         TcpPort {
             net,
+            crowd,
             listener: None,
             opened: 0,
             returned: 0,
@@ -39,7 +43,7 @@ impl<'a, R: Net<Listener = TcpListener, Stream = TcpStream> + Timer> TcpPort<'a,
         self.faults
     }
 
-    // A door on the place that it listens on.
+    /// A door on the place that it listens on.
     fn open(&self) -> Option<TcpDoor<'a, R>>
         ensures { IfSome result (λ door. (door.handed ≡ 0) × (door.returned ≡ 0) × (door.faults ≡ 0)) }
     {
@@ -47,7 +51,7 @@ impl<'a, R: Net<Listener = TcpListener, Stream = TcpStream> + Timer> TcpPort<'a,
             return None;
         };
         match listener.try_clone() {
-            Ok(listener) => Some(TcpDoor::new(listener, self.net)),
+            Ok(listener) => Some(TcpDoor::new(listener, self.net, self.crowd)),
             Err(_) => None,
         }
     }
@@ -70,6 +74,7 @@ impl<'a, R: Net<Listener = TcpListener, Stream = TcpStream> + Timer + Sync> Port
     fn listen(&mut self, host: &str, port: u16) -> Result<(), Failed> {
         match TcpListener::bind(self.net, (without_brackets(host), port)) {
             Ok(listener) => {
+                self.crowd.listen_on(listener.as_raw_fd());
                 self.listener = Some(listener);
                 Ok(())
             }

@@ -11,11 +11,12 @@ pub(crate) const SILENCE_S: u64 = 75;
 /// How many seconds are waited in all for a whole request or reply, and in all until what was written is taken.
 pub(crate) const TURN_S: u64 = 300;
 
-/// After how many seconds a read that waits looks at the timer.
-pub(crate) const READ_LOOK_S: u64 = 5;
+/// How many seconds a link between requests is silent before it gives way to somebody who waits at the door.
+pub(crate) const IDLE_S: u64 = 5;
 
-/// After how many seconds a write that waits looks at the timer, or tells how much was taken until then.
-pub(crate) const WRITE_LOOK_S: u64 = 1;
+/// After how many seconds a call that waits looks at the timer and at the others of its port, and a write tells how much was
+/// taken until then.
+pub(crate) const LOOK_S: u64 = 1;
 
 /// How long a call waits, and those before it in its direction have waited.
 #[derive(Clone, Copy, Drop)]
@@ -34,7 +35,7 @@ impl WaitTime {
         Ok(WaitTime { begun, before })
     }
 
-    // How long the call has waited. With a timer that fails the time is up.
+    /// How long the call has waited. With a timer that fails the time is up.
     fn so_far<R: Timer>(&self, timer: &R) -> Duration {
         self.begun.elapsed(timer).unwrap_or(Duration::MAX)
     }
@@ -43,6 +44,11 @@ impl WaitTime {
     pub fn is_left<R: Timer>(&self, timer: &R, silence_s: u64) -> bool {
         let so_far = self.so_far(timer);
         so_far.as_secs() < silence_s && self.before.saturating_add(so_far).as_secs() < TURN_S
+    }
+
+    /// Whether the call has waited for so many seconds.
+    pub fn has_lasted<R: Timer>(&self, timer: &R, seconds: u64) -> bool {
+        self.so_far(timer).as_secs() >= seconds
     }
 
     /// How long all of them have waited.

@@ -1,6 +1,6 @@
 //! Both ends of a link over loopback, in one thread; when a wait ends; what an error of `accept` is about; brackets.
 use ob_io::{Dialer, Door, Link, Port, send};
-use ob_system::{Refusal, TcpDialer, TcpDoor, TcpLink, TcpPort, WaitTime, without_brackets};
+use ob_system::{Crowd, Refusal, TcpDialer, TcpDoor, TcpLink, TcpPort, WaitTime, without_brackets};
 use std::io;
 use std::rt::Clock as Timer;
 use std::time::{Duration, Instant};
@@ -89,7 +89,8 @@ fn opens<'a>(
 
 /// Whether both ends of a link read what the other one writes, and nothing is a fault.
 fn ends_meet(rt: &HostRuntime) -> bool {
-    let mut port = TcpPort::new(rt);
+    let crowd = Crowd::new();
+    let mut port = TcpPort::new(rt, &crowd);
     let mut dialer = TcpDialer::new(rt);
     let is_carried = match listen_somewhere(&mut port) {
         Some(number) => opens(rt, &mut port, &mut dialer, number),
@@ -138,7 +139,8 @@ fn is_reset<'a>(
 
 /// Whether a port that another one has is a fault, and a door of a port that doesn't listen.
 fn is_taken(rt: &HostRuntime, number: u16) -> bool {
-    let mut second = TcpPort::new(rt);
+    let crowd = Crowd::new();
+    let mut second = TcpPort::new(rt, &crowd);
     second.listen("127.0.0.1", number).is_err()
         && second.door().is_err()
         && second.fault_count() == 2
@@ -158,8 +160,12 @@ fn counts_resets<'a>(
 }
 
 /// The number of a port at which nobody listens any more, where what went before was counted.
-fn listened_at<'a>(rt: &'a HostRuntime, dialer: &mut TcpDialer<'a, HostRuntime>) -> Option<u16> {
-    let mut port = TcpPort::new(rt);
+fn listened_at<'a>(
+    rt: &'a HostRuntime,
+    crowd: &'a Crowd,
+    dialer: &mut TcpDialer<'a, HostRuntime>,
+) -> Option<u16> {
+    let mut port = TcpPort::new(rt, crowd);
     let number = listen_somewhere(&mut port)?;
     if counts_resets(rt, &mut port, dialer, number) {
         return Some(number);
@@ -169,13 +175,90 @@ fn listened_at<'a>(rt: &'a HostRuntime, dialer: &mut TcpDialer<'a, HostRuntime>)
 
 #[test]
 fn faults_are_counted(rt: HostRuntime) {
+    let crowd = Crowd::new();
     let mut dialer = TcpDialer::new(&rt);
-    let Some(number) = listened_at(&rt, &mut dialer) else {
+    let Some(number) = listened_at(&rt, &crowd, &mut dialer) else {
         panic!(rt; "not counted, or no port from 42000 to 42099 is free")
     };
     assert!(rt; dialer.dial("127.0.0.1", number).is_err());
     assert!(rt; (dialer.has_risen(), dialer.fault_count()) == (true, 2));
     assert!(rt; dialer.dial("[::1", number).is_err());
+}
+
+/// Whether a read of a link that a door handed out is a fault within a quarter of a minute, though its peer may be silent for
+/// longer.
+fn gives_way(rt: &HostRuntime, far: &mut TcpLink<'_, HostRuntime>) -> bool {
+    let begun = Instant::now(rt);
+    let mut piece = [0u8; 8];
+    let is_fault = far.read(&mut piece).is_err() && far.read_fault_count() == 1;
+    let Ok(begun) = begun else {
+        return false;
+    };
+    match begun.elapsed(rt) {
+        Ok(gone) => is_fault && gone.as_secs() < 15,
+        Err(_) => false,
+    }
+}
+
+/// Whether a link whose peer says nothing gives way to another one that waits at the door.
+fn waits<'a>(
+    rt: &'a HostRuntime,
+    door: &mut TcpDoor<'a, HostRuntime>,
+    dialer: &mut TcpDialer<'a, HostRuntime>,
+    number: u16,
+) -> bool {
+    let Ok(silent) = dialer.dial("127.0.0.1", number) else {
+        return false;
+    };
+    let Ok(Some(mut far)) = door.accept() else {
+        return false;
+    };
+    let Ok(other) = dialer.dial("127.0.0.1", number) else {
+        return false;
+    };
+    let gives_way = gives_way(rt, &mut far);
+    drop(silent);
+    drop(other);
+    gives_way
+}
+
+/// Whether a port that is closed lets nobody in any more: its doors hand out nothing, and who dials is refused.
+fn is_shut<'a>(
+    port: &mut TcpPort<'a, HostRuntime>,
+    door: &mut TcpDoor<'a, HostRuntime>,
+    dialer: &mut TcpDialer<'a, HostRuntime>,
+    number: u16,
+) -> bool {
+    let Ok(mut other) = port.door() else {
+        return false;
+    };
+    door.close();
+    matches!(&other.accept(), Ok(None))
+        && matches!(&door.accept(), Ok(None))
+        && dialer.dial("127.0.0.1", number).is_err()
+}
+
+/// Whether a port gives way, and is shut.
+fn is_left<'a>(rt: &'a HostRuntime, crowd: &'a Crowd) -> bool {
+    let mut port = TcpPort::new(rt, crowd);
+    let mut dialer = TcpDialer::new(rt);
+    let Some(number) = listen_somewhere(&mut port) else {
+        return false;
+    };
+    let Ok(mut door) = port.door() else {
+        return false;
+    };
+    let waits = waits(rt, &mut door, &mut dialer, number);
+    waits && is_shut(&mut port, &mut door, &mut dialer, number)
+}
+
+#[test]
+fn idle_links_give_way_and_a_closed_port_lets_nobody_in(rt: HostRuntime) {
+    let crowd = Crowd::new();
+    assert!(rt;
+        is_left(&rt, &crowd),
+        "or no port from 42000 to 42099 is free"
+    );
 }
 
 /// A timer that stands still.

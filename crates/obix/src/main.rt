@@ -4,7 +4,9 @@
 
 use ob_io::{Pair, Sink, write_all};
 use ob_program::{Exit, run};
-use ob_system::{DiskDevices, DiskFiles, StdSink, StdSource, SystemClock, TcpDialer, TcpPort};
+use ob_system::{
+    Crowd, DiskDevices, DiskFiles, StdSink, StdSource, SystemClock, TcpDialer, TcpPort,
+};
 use std::alloc::Global;
 use std::env;
 use std::io::ErrorKind;
@@ -64,7 +66,8 @@ fn main(rt: HostRuntime) -> ExitCode {
                 source: StdSource::new(rt.stdin()),
                 sink: StdSink::new(rt.stdout()),
             };
-            let mut port = TcpPort::new(&rt);
+            let crowd = Crowd::new();
+            let mut port = TcpPort::new(&rt, &crowd);
             let mut dialer = TcpDialer::new(&rt);
             let mut clock = SystemClock::new(&rt);
             run(
