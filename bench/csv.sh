@@ -4,5 +4,5 @@
 # usage: bench/csv.sh [--obix PROGRAM] [--from PORT] [TRY..]      (out/bin/obix, free ports, all tries)
 set -eu
 top=$(cd "$(dirname "$0")/.." && pwd)
-case " $* " in *" --obix"*) ;; *) "$top/obix" stdio "$top/examples/point.xml" </dev/null ;; esac   # builds it where needed
+case " $* " in *" --obix"*) ;; *) "$top/obix" --prove ;; esac   # builds it where needed
 exec python3 "$top/bench/csv_tries.py" "$@"

@@ -1,18 +1,17 @@
 """The tries of bench/csv.sh: tables of points, trends as CSV, records for changed site files."""
 import csv
 import io
-import json
 import os
 import random
 import re
 import subprocess
 import sys
 import time
-import xml.etree.ElementTree as ET
 
 from tries import TOP, Server, main
 
 sys.path.insert(0, str(TOP / "tools"))
+import link                                # noqa: E402
 from record_file import Record             # noqa: E402
 from points_table import COLUMNS           # noqa: E402
 from lint.asking import Trouble            # noqa: E402
@@ -60,7 +59,8 @@ FAULTS = [                                 # K history, L low, M high, N ack, O 
     ("a,,int,,,,,,,,5", "2:K: history '5' stands at a point that isn't writable"),
     ("a,,int,,,,,,yes,,600000\nb,,int,,,,,,yes,,600000\nc,,int,,,,,,yes,,600000",
      "3:K: with this one the histories keep 1,200,000 records together, and may keep 1,000,000"),
-    ("a,,int,5,,,,,yes,,900000,1,9\nb,,int,,,,,,yes,,1", "3:K: with this one the histories keep 900,001 records together, and may keep 900,000"),
+    ("a,,int,5,,,,,yes,,900000,1,9\nb,,int,,,,,,yes,,1",
+     "3:K: with this one the histories keep 900,001 records together, and may keep 900,000"),
     ("a,,int,1,,,,,yes,,,1", "2:M: high '' is missing: there is a low"),
     ("a,,int,1,,,,,yes,,,,1", "2:L: low '' is missing: there is a high"),
     ("a,,int,5,,,,,yes,,,9,1", "2:M: high 1 is below low 9"),
@@ -142,8 +142,8 @@ def back(room):
         good, found = lint(room, site)
         (room.folder / "back.xml").write_text(site)
         again = run("site_to_csv.py", room.folder / "back.xml")
-        same = rows_of(again.stdout) == rows_of(text)
-        room.judge(status == 0 and good and same and len(rows_of(text)) == points, f"{name}: {points} rows, nothing to say of its site, and back the same", f"{said} {found[:400]}")
+        same = rows_of(again.stdout) == rows_of(text) and len(rows_of(text)) == points
+        room.judge(status == 0 and good and same, f"{name}: {points} rows, nothing to say of its site, and back the same", f"{said} {found[:400]}")
     building = subprocess.run([sys.executable, TOP / "dev/building.py"], capture_output=True, text=True).stdout
     room.judge(building == (TOP / "examples/building.csv").read_text(), "building.csv is what dev/building.py writes")
     room.judge(site.count('is="obix:History"') == 200 and site.count('name="needsAck"') == 300, "building.csv: 200 histories and 300 rules")
@@ -152,7 +152,8 @@ def back(room):
 def random_rows(chance, count):
     rows, seen = [], set()
     for _ in range(count):
-        path = "/".join(chance.choice(["a", "b-1", "c.2", "3d", "E_", "x~y"]) + str(chance.randrange(9)) for _ in range(chance.randrange(1, 5)))
+        parts = (chance.choice(["a", "b-1", "c.2", "3d", "E_", "x~y"]) + str(chance.randrange(9)) for _ in range(chance.randrange(1, 5)))
+        path = "/".join(parts)
         if any(it == path or it.startswith(path + "/") or path.startswith(it + "/") for it in seen):
             continue
         seen.add(path)
@@ -161,8 +162,8 @@ def random_rows(chance, count):
                    writable=chance.choice(["", "yes", "point"]))
         if kind in ("int", "real"):
             low = chance.randrange(-50, 50)
-            row.update(value=chance.choice([str(low + 5) + (".5" if kind == "real" else ""), "null"]), unit=chance.choice(["", "celsius", "percent"]),
-                       min=chance.choice(["", str(low)]), max=str(low + 100))
+            value = chance.choice([str(low + 5) + (".5" if kind == "real" else ""), "null"])
+            row.update(value=value, unit=chance.choice(["", "celsius", "percent"]), min=chance.choice(["", str(low)]), max=str(low + 100))
             if row["writable"]:
                 row["history"] = chance.choice(["", "100", "7"])
             if row["writable"] and chance.random() < 0.3:
@@ -178,9 +179,9 @@ def random_rows(chance, count):
 def tables(room, count=30):
     points = 0
     for turn in range(count):
-        rows, out = random_rows(room.chance, 40), io.StringIO()
-        table = csv.DictWriter(out, room.chance.sample(COLUMNS, len(COLUMNS)), delimiter=room.chance.choice(",;\t"),
-                               lineterminator=room.chance.choice(["\n", "\r\n"]), quoting=room.chance.choice([csv.QUOTE_MINIMAL, csv.QUOTE_ALL]))
+        rows, out, choice = random_rows(room.chance, 40), io.StringIO(), room.chance.choice
+        table = csv.DictWriter(out, room.chance.sample(COLUMNS, len(COLUMNS)), delimiter=choice(",;\t"),
+                               lineterminator=choice(["\n", "\r\n"]), quoting=choice([csv.QUOTE_MINIMAL, csv.QUOTE_ALL]))
         table.writeheader()
         table.writerows(rows)
         status, site, said = site_of(room, ("\ufeff" if turn % 3 == 0 else "") + out.getvalue(), "--url", "http://h:8080/site/x/")
@@ -189,7 +190,8 @@ def tables(room, count=30):
         got = rows_of(run("site_to_csv.py", room.folder / "back.xml").stdout)
         wanted = {row["path"]: row for row in rows}
         if status or not good or got != wanted:
-            room.judge(False, f"random table {turn}", next(((got.get(it), wanted[it]) for it in wanted if got.get(it) != wanted[it]), said + found[:300]))
+            other = next(((got.get(it), wanted[it]) for it in wanted if got.get(it) != wanted[it]), said + found[:300])
+            room.judge(False, f"random table {turn}", other)
         points += len(rows)
     room.judge(True, f"random: {count} tables with {points} points: nothing to say of their sites, and back each row is the same")
 
@@ -215,23 +217,26 @@ def trends(room):
     batches(server, "p", range(1, 25_001))
     told = server.records("histories/p")
     status, got, _ = trend(server, "histories/p")
-    room.judge(status == 0 and got == told and len(got) == 25_000, f"25,000 records at {len({it[0] for it in told})} moments, by the page: as the server has them")
+    moments = len({it[0] for it in told})
+    room.judge(status == 0 and got == told and len(got) == 25_000, f"25,000 records at {moments} moments, by the page: as the server has them")
     at = told[3500][0]
     for words, wanted in (
-            (("--limit", "10500"), told[:10_500]), (("--from", at), [it for it in told if it[0] >= at]), (("--to", at), [it for it in told if it[0] <= at]),
+            (("--limit", "10500"), told[:10_500]),
+            (("--from", at), [it for it in told if it[0] >= at]), (("--to", at), [it for it in told if it[0] <= at]),
             (("--from", at, "--to", at), [it for it in told if it[0] == at]), (("--from", "2100-01-01"), []),
             (("--from", at[:10], "--to", at[:10], "--limit", "5"), told[:5])):
         room.judge(trend(server, "p", *words)[:2] == (0, wanted), f"{' '.join(words)}: {len(wanted)} records, of the point's own path")
     batches(server, "r", range(1, 2001))
-    room.judge(trend(server, "r")[1] == server.records("histories/r") and len(server.records("histories/r")) == 500, "a history that rolled: its 500 records")
+    told = server.records("histories/r")
+    room.judge(trend(server, "r")[1] == told and len(told) == 500, "a history that rolled: its 500 records")
     for value in ("0.1", "-12345678.123456789", "1e3"):
         server.ask("PUT", "q", f'<real val="{value}"/>')
     room.judge([it[1] for it in trend(server, "q")[1]] == ["0.1", "-12345678.123456789", "1000"], "exact values")
     server.ask("PUT", "q", '<real null="true"/>')
     room.judge(trend(server, "q")[1][-1][1] == "", "null is empty")
-    for words, status in ((("n",), 1), (("none",), 1), (("p", "--from", "yesterday"), 2), (("p", "--from", "2026-02-30"), 2), (("p", "--limit", "x"), 2)):
-        it = trend(server, *words)
-        room.judge(it[0] == status and it[2].startswith(("history_csv:", "usage:")), f"{' '.join(words)}: status {status}", it)
+    for words, status in (("n", 1), ("none", 1), ("p --from yesterday", 2), ("p --from 2026-02-30", 2), ("p --to 2026-01-05T08:00", 2), ("p --limit x", 2)):
+        it = trend(server, *words.split())
+        room.judge(it[0] == status and it[2].startswith(("history_csv:", "usage:")), f"{words}: status {status}", it)
     busy(room, server)
     server.kill()
     room.judge(trend(server, "p")[0] == 1, "no server: status 1")
@@ -239,22 +244,34 @@ def trends(room):
 
 def busy(room, server):
     """A small ring that rolls while it is read by the page: no record twice, each in its order."""
-    sys.path.insert(0, str(TOP / "tools"))
-    import history_csv
-    history_csv.PAGE, link = 7, history_csv.Link(server.url, True)
-    start, seen, turns = 100_000, [], 0
+    start, seen, turns, client, gaps = 100_000, [], 0, link.Link(server.url, True), []
     batches(server, "r", range(start, start + 300))
-    reader = history_csv.Reader(link, "/obix/histories/r/query", None)
-    for page in reader.records(None, 10_000):
-        seen += [int(value) for _, value in page]
-        turns += 1
-        if turns < 60:
+    for _, value in link.records(client, "/obix/histories/r/query", page=7, gap=lambda *between: gaps.append(between)):
+        seen.append(int(value.get("val")))
+        if len(seen) % 7 == 0 and turns < 60:
             batches(server, "r", range(start + 300 + turns * 5, start + 300 + turns * 5 + 5))
-    last = start + 300 + 59 * 5 + 4
-    tail = seen[seen.index(start + 300 + 5):]
-    room.judge(seen == sorted(set(seen)) and seen[-1] == last and tail == list(range(tail[0], last + 1)),
-               f"a ring of 500 that rolled {turns - 1} times while it was read, 7 records a page: none twice, none missing", (seen[-5:], reader.gaps))
-    link.close()
+            turns += 1
+    room.judge(is_whole(seen, start),
+               f"a ring of 500 that rolled {turns} times while it was read, 7 records a page: none twice, none missing", (seen[-5:], gaps))
+    room.judge(not gaps, "no gap is told where there is none", gaps)
+    late(room, server, client)
+    client.close()
+
+
+def is_whole(seen, start):
+    """Whether records are each once, in their order: what was there before, then all that was written."""
+    return seen == [it for it in seen if it < start] + list(range(start, start + 600)) and seen == sorted(set(seen))
+
+
+def late(room, server, client):
+    """A reader that is slower than the ring: the gap is told."""
+    gaps, seen = [], []
+    for _, value in link.records(client, "/obix/histories/r/query", page=50, gap=lambda *between: gaps.append(between)):
+        seen.append(int(value.get("val")))
+        if len(seen) == 50:
+            batches(server, "r", range(200_000, 200_600))
+    room.judge(len(gaps) == 1 and seen[50:] == list(range(200_100, 200_600)),
+               "a ring that overtook its reader: the gap is told, and what is left is read", (gaps, seen[48:53]))
 
 
 # ---- records for changed site files
@@ -296,6 +313,9 @@ def state(server, top="/obix/", moved=()):
         text = "/" + text[len(top):]
         return next((old + text[len(new):] for old, new in moved if text == new or text.startswith(new + "/")), text)
 
+    def alarm(it):
+        return tuple(path(part.get("href")) if part.get("name") == "source" else part.get("val") or "" for part in it if part.get("name") != "ack")
+
     tree, found = server.ask("GET", "../" + top[1:] if top != "/obix/" else ""), {}
     for it in tree.iter():
         parts = {part.get("name"): part for part in it}
@@ -305,10 +325,10 @@ def state(server, top="/obix/", moved=()):
             reply = server.ask("POST", "../" + parts["query"].get("href")[1:], '<obj><int name="limit" val="100000"/></obj>')
             data = next(part for part in reply if part.get("name") == "data")
             if "source" in parts:
-                found["history of " + path(parts["source"].get("href"))] = [tuple(part.get("val") for part in record) for record in data]
+                records = [tuple(part.get("val") for part in record) for record in data]
+                found["history of " + path(parts["source"].get("href"))] = records
             else:
-                found["alarms"] = sorted(tuple(path(part.get("href")) if part.get("name") == "source" else part.get("val") or "" for part in alarm if part.get("name") != "ack")
-                                         for alarm in data)
+                found["alarms"] = sorted(map(alarm, data))
     return found
 
 
@@ -319,13 +339,22 @@ def changed(text, *pairs):
     return text
 
 
-def move(room, name, old, text, *words, top="/obix/"):
-    """The record of a server for another site file: status, lines, and the server of it, that is started."""
-    new = Server(room, name, text)
-    it = run("move_record.py", old.site, old.record, new.site, new.record, *words, "--obix", room.program)
-    if it.returncode in (0, 3):
-        new.start()
-    return it.returncode, it.stdout.splitlines(), it.stderr, new
+class Moved:
+    """The record of a server moved to another site file: the status, the lines, and the server of it, that is started."""
+
+    def __init__(self, room, name, old, text, *words):
+        self.room, self.server = room, Server(room, name, text)
+        it = run("move_record.py", old.site, old.record, self.server.site, self.server.record, *words, "--obix", room.program)
+        self.status, self.lines, self.said = it.returncode, it.stdout.splitlines(), it.stderr
+        if self.status in (0, 3):
+            self.server.start()
+
+    def says(self, *wanted):
+        """Whether some line begins with each of these."""
+        return all(any(re.match(it, line) for line in self.lines) for it in wanted)
+
+    def judge(self, text, status, holds):
+        self.room.judge(self.status == status and holds, text, (self.status, self.lines, self.said))
 
 
 def same_but(one, other, *paths):
@@ -340,13 +369,14 @@ def moves(room):
     it = run("move_record.py", old.site, old.record, old.site, room.folder / "no", "--obix", room.program)
     room.judge(it.returncode == 1 and "a server has it" in it.stderr, "a record in use: status 1", it.stderr)
     old.kill()
-    told = move(room, "labels", old, changed(text, ("Temperature", "Flow"), ("obix:units/celsius", "obix:units/kelvin"), ("Count", "Number &amp; more"), ("http://plant", "https://x:8443")))
-    room.judge(told[0] == 0 and len(told[1]) == 1 and state(told[3]) == before, "labels, units and host: nothing left out, all at its old instant", told)
-    write_all(told[3])
-    more = state(told[3])
-    told[3].kill()
-    again = move(room, "again", told[3], text)
-    room.judge(again[0] == 0 and state(again[3]) == more and len(more["alarms"]) == 9, "and moved back, once more was written to it", again)
+    names = ("Temperature", "Flow"), ("obix:units/celsius", "obix:units/kelvin"), ("Count", "Number &amp; more"), ("http://plant", "https://x:8443")
+    told = Moved(room, "labels", old, changed(text, *names))
+    told.judge("names, units and host: nothing left out, all at its old instant", 0, len(told.lines) == 1 and state(told.server) == before)
+    write_all(told.server)
+    more = state(told.server)
+    told.server.kill()
+    again = Moved(room, "again", told.server, text)
+    again.judge("and moved back, once more was written to it", 0, state(again.server) == more and len(more["alarms"]) == 9)
     limits(room, old, text, before)
     paths(room, old, text, before)
     refusals(room, old, text)
@@ -354,59 +384,58 @@ def moves(room):
 
 
 def limits(room, old, text, before):
-    told = move(room, "high", old, changed(text, ('name="high" val="30"', 'name="high" val="37"')))
-    now = state(told[3])
-    lost = [it for it in before["alarms"] if it[0] == "/t" and "35" in it]
-    room.judge(told[0] == 3 and same_but(before, now, "alarms") and now["alarms"] == [it for it in before["alarms"] if it not in lost] and len(lost) == 1
-               and any(re.match("/obix/t: 1 acknowledgement left out: its alarm isn't raised", line) for line in told[1])
-               and any(re.match("/obix/t: an alarm of .*: isn't raised any more", line) for line in told[1]),
-               "an alarm limit: an alarm of five isn't raised, the others have their acknowledgements", told)
-    told = move(room, "higher", old, changed(text, ('name="high" val="30"', 'name="high" val="42"')))
-    now = state(told[3])
-    room.judge(told[0] == 3 and len(now["alarms"]) == 3 and [it for it in now["alarms"] if it in before["alarms"]] == now["alarms"] and same_but(before, now, "alarms")
-               and any(line.startswith("/obix/t: 2 acknowledgements left out") for line in told[1]), "an acknowledgement in a batch, of an alarm that isn't raised", told)
-    told = move(room, "more", old, site_of(room, SITE.replace(",100,,,,\n", ",100,10,60,no,\n"))[1])
-    now = state(told[3])
-    room.judge(told[0] == 0 and set(before["alarms"]) < set(now["alarms"]) and len(now["alarms"]) == 6 and re.match("/obix/p: an alarm of .*: is raised now", told[1][0]),
-               "an alarm more than before: the others are as they were, though they have other numbers", told)
-    told = move(room, "max", old, changed(text, ('max="90"', 'max="60"')))
-    room.judge(told[0] == 3 and same_but(before, state(told[3]), "history of /p") and told[1][0].startswith("/obix/p: 1 write left out: above max (20"), "a maximum", told)
-    told = move(room, "first", old, changed(text, ('val="20"', 'val="35"'), ('name="high" val="30"', 'name="high" val="50"')))
-    room.judge(told[0] == 3 and any(line.startswith("/obix/histories/t: 6 records before, 5 now") for line in told[1]), "a first value that was written first", told)
-    told = move(room, "capacity", old, changed(text, ('val="1000"', 'val="2"')))
-    room.judge(told[0] == 3 and "/obix/histories/t: 6 records before, 2 now" in told[1], "a capacity", told)
+    def tried(name, what, status, judge, *pairs, table=None):
+        told = Moved(room, name, old, changed(text, *pairs) if table is None else site_of(room, table)[1])
+        told.judge(what, status, judge(told, state(told.server)))
+
+    alarms, gone = before["alarms"], [it for it in before["alarms"] if it[0] == "/t" and "35" in it]
+    tried("high", "an alarm limit: an alarm of five isn't raised, the others have their acknowledgements", 3, lambda told, now:
+          same_but(before, now, "alarms") and now["alarms"] == [it for it in alarms if it not in gone] and len(gone) == 1 and told.says(
+              "/obix/t: 1 acknowledgement left out: its alarm isn't raised", "/obix/t: an alarm of .*: isn't raised any more"),
+          ('name="high" val="30"', 'name="high" val="37"'))
+    tried("higher", "an acknowledgement in a batch, of an alarm that isn't raised", 3, lambda told, now:
+          same_but(before, now, "alarms") and len(now["alarms"]) == 3 and set(now["alarms"]) < set(alarms) and told.says(
+              "/obix/t: 2 acknowledgements left out"),
+          ('name="high" val="30"', 'name="high" val="42"'))
+    tried("more", "an alarm more than before: the others are as they were, though they have other numbers", 0, lambda told, now:
+          set(alarms) < set(now["alarms"]) and len(now["alarms"]) == 6 and told.says("/obix/p: an alarm of .*: is raised now"),
+          table=SITE.replace(",100,,,,\n", ",100,10,60,no,\n"))
+    tried("max", "a maximum", 3, lambda told, now:
+          same_but(before, now, "history of /p") and told.says("/obix/p: 1 write left out: above max \\(20"), ('max="90"', 'max="60"'))
+    tried("first", "a first value that was written first", 3, lambda told, now: told.says("/obix/histories/t: 6 records before, 5 now"),
+          ('val="20"', 'val="35"'), ('name="high" val="30"', 'name="high" val="50"'))
+    tried("capacity", "a capacity", 3, lambda told, now: told.says("/obix/histories/t: 6 records before, 2 now"), ('val="1000"', 'val="2"'))
 
 
 def paths(room, old, text, before):
-    told = move(room, "removed", old, re.sub(r'<(obj|int)[^\n]*"u"[^\n]*\n', "", re.sub('<obj href="histories/u"[^\n]*\n', "", text)))
-    now = state(told[3])
-    room.judge(told[0] == 3 and same_but(before, now, "/u", "history of /u", "alarms") and len(now["alarms"]) == 3
-               and any(line.startswith("/obix/u: 3 writes left out: no such object") for line in told[1])
-               and "/obix/histories/u: 3 records before, 0 now" in told[1], "a point that is gone: all else is there, one of a batch too", told)
+    told = Moved(room, "removed", old, site_of(room, re.sub("\nu,.*", "", SITE))[1])
+    now = state(told.server)
+    told.judge("a point that is gone: all else is there, one of a batch too", 3,
+               same_but(before, now, "/u", "history of /u", "alarms") and len(now["alarms"]) == 3
+               and told.says("/obix/u: 3 writes left out: no such object", "/obix/histories/u: 3 records before, 0 now"))
     table = SITE.replace("\nt,", "\nroom/1/temp,").replace("\np,", "\nroom/1/set,")
-    told = move(room, "renamed", old, site_of(room, table)[1], "--moved", "t", "room/1/temp", "--moved", "/obix/p", "/obix/room/1/set")
-    now = state(told[3], moved=(("/t", "/room/1/temp"), ("/p", "/room/1/set")))
-    room.judge(told[0] == 0 and now == before, "renamed points, also in batches: all at its old instant, a text with the old path as it was", told)
-    told = move(room, "typo", old, text, "--moved", "tt", "t")
-    room.judge(told[0] == 0 and "--moved tt t: nothing of the record is of tt" in told[1], "--moved of what isn't there is told", told)
-    told = move(room, "root", old, changed(text, ("http://plant/obix/", "http://plant/site/7/")))
-    now = state(told[3], "/site/7/")
-    room.judge(told[0] == 0 and now == before, "another path of the root", told)
-    late = changed(text, ('<ref name="source" href="p"/>', '<ref name="source" href="p"/><list name="data"><obj><abstime name="timestamp" val="2031-01-01T00:00:00Z"/><real name="value" val="1"/></obj></list>'))
-    told = move(room, "late", old, late)
-    room.judge(told[0] == 0 and min(state(told[3])["history of /t"])[0] == "2031-01-01T00:00:00Z", "a site file with a later record: the site's time is its own", told)
+    told = Moved(room, "renamed", old, site_of(room, table)[1], "--moved", "t", "room/1/temp", "--moved", "/obix/p", "/obix/room/1/set")
+    now = state(told.server, moved=(("/t", "/room/1/temp"), ("/p", "/room/1/set")))
+    told.judge("renamed points, also in batches: all at its old instant, a text with the old path as it was", 0, now == before)
+    told = Moved(room, "typo", old, text, "--moved", "tt", "t")
+    told.judge("--moved of what isn't there is told", 0, told.says("--moved tt t: nothing of the record is of tt"))
+    told = Moved(room, "root", old, changed(text, ("http://plant/obix/", "http://plant/site/7/")))
+    told.judge("another path of the root", 0, state(told.server, "/site/7/") == before)
+    first = '<list name="data"><obj><abstime name="timestamp" val="2031-01-01T00:00:00Z"/><real name="value" val="1"/></obj></list>'
+    told = Moved(room, "late", old, changed(text, ('<ref name="source" href="p"/>', '<ref name="source" href="p"/>' + first)))
+    told.judge("a site file with a later record: the site's time is its own", 0,
+               min(state(told.server)["history of /t"])[0] == "2031-01-01T00:00:00Z")
 
 
 def refusals(room, old, text):
-    new, record = room.folder / "new.xml", room.folder / "new.record"
+    new, record, wrong, empty = (room.folder / it for it in ("new.xml", "new.record", "wrong", "empty.record"))
     new.write_text(text)
 
     def refused(what, wanted, *files):
         it = run("move_record.py", *files, "--obix", room.program)
-        left = sorted(path.name for path in room.folder.glob("new.record*"))
-        room.judge(it.returncode == 1 and wanted in it.stderr and not left, f"{what}: status 1, and no new record", (it.stdout, it.stderr, left))
+        left = sorted(path.name for path in room.folder.iterdir() if "new.record" in path.name or "move_record" in path.name)
+        room.judge(it.returncode == 1 and wanted in it.stderr and not left, f"{what}: status 1, and no new record", (it, left))
 
-    wrong = room.folder / "wrong.xml"
     wrong.write_text(text.replace("Temperature", "Flow"))
     refused("a record of another site file", "is no record of", wrong, old.record, new, record)
     wrong.write_text(text.replace('name="low" val="10"', 'name="low" val="99"'))
@@ -417,12 +446,21 @@ def refusals(room, old, text):
     it = run("move_record.py", old.site, old.record, new, old.record, "--obix", room.program)
     room.judge(it.returncode == 1 and "there is such a file" in it.stderr, "a new record that is there: status 1", it.stderr)
     room.judge(run("move_record.py", old.site).returncode == 2, "words that are no command: status 2")
-    empty = room.folder / "empty.record"
     for bytes_ in (b"", b"obix-record 1\0"):
         empty.write_bytes(bytes_)
         it = run("move_record.py", old.site, empty, new, record, "--obix", room.program)
-        room.judge(it.returncode == 0 and record.read_bytes() == b"obix-record 1\0", f"a record without an entry, {len(bytes_)} bytes", it.stderr)
+        is_empty = it.returncode == 0 and record.read_bytes() == b"obix-record 1\0"
+        room.judge(is_empty, f"a record without an entry, {len(bytes_)} bytes", it.stderr)
         record.unlink()
+
+
+def cut_or_damaged(whole):
+    """A record cut at each byte, with another byte at each place of its end, and with something behind it."""
+    begin = whole.index(b" PUT ", whole.index(b" PUT ") + 1) - 20
+    yield from (whole[:at] for at in range(len(whole)))
+    yield from (whole[:at] + bytes([byte]) + whole[at + 1:] for at in range(begin, len(whole)) for byte in (0, 10, 88))
+    yield from (whole + more for more in (b"\0", b"x", b"1796 PUT 1 1 1\nabc\0", b"\n", b"1 GET 0 0 6\n<obj/>"))
+    yield from (whole[:-1] + more for more in (b"\n1", b"x1", b"\nabc", b"x1 GET 0 0 6\n<obj/>y"))
 
 
 def ends(room):
@@ -431,41 +469,36 @@ def ends(room):
     for value in range(1, 4):
         server.put("a", value)
     server.kill()
-    whole, file, out = server.record.read_bytes(), room.folder / "end.record", room.folder / "end.short"
-    begin = whole.index(b" PUT ", whole.index(b" PUT ") + 1) - 20
-    cases = [whole[:at] for at in range(0, len(whole))] + [whole[:at] + bytes([byte]) + whole[at + 1:] for at in range(begin, len(whole)) for byte in (0, 10, 88)]
-    cases += [whole + more for more in (b"\0", b"x", b"1796 PUT 1 1 1\nabc\0", b"\n", b"1 GET 0 0 6\n<obj/>")] + [whole[:-1] + more for more in (b"\n1", b"x1", b"\nabc", b"x1 GET 0 0 6\n<obj/>y")]
-    agree = 0
+    whole, file, out, agree = server.record.read_bytes(), room.folder / "end.record", room.folder / "end.short", 0
+    cases = list(cut_or_damaged(whole))
     for it in cases:
         file.write_bytes(it)
         out.unlink(missing_ok=True)
         done = subprocess.run([room.program, "compact", server.site, file, out], capture_output=True, text=True)
         try:
             count = len(list(Record(file)))
-        except (Trouble, UnicodeDecodeError):
+        except Trouble:
             count = None
         told = re.fullmatch(r"compacted \d+ of (\d+)\n", done.stdout)
-        # where a reply or a body is another, or a number's spelling, the program refuses what this reader takes: the runs tell it
-        good = count == int(told[1]) if told else count is None or done.returncode == 13 or "Record" in done.stderr and has_changed(it, whole)
-        agree += bool(good)
+        # a byte of a reply, of a body or of a number that is another: the program refuses it here, move_record.py when it runs it
+        is_later = done.returncode == 13 or ("Record" in done.stderr and len(it) == len(whole))
+        good = count == int(told[1]) if told else count is None or is_later
+        agree += good
         if not good:
             room.judge(False, f"{len(it)} bytes, {it[-60:]!r}", (count, done.stdout, done.stderr))
     room.judge(agree == len(cases), f"{agree} records that are cut or damaged: the same entries as the program, or a refusal")
 
 
-def has_changed(it, whole):
-    return len(it) == len(whole)
-
-
-def many(room, count=200_000):
-    """A record of so many entries for another display name on all points: processor seconds, and what `keep` makes of it."""
-    points = 1000
-    table = HEAD + "".join(f"f{n // 40}/p{n},Point {n},real,20,celsius,-50,950,1,point,,{100 if n % 5 == 0 else ''},{'-50,40,yes' if n % 7 == 0 else ',,'},\n" for n in range(points))
-    site, new, record, out = (room.folder / it for it in ("many.xml", "many.new.xml", "many.record", "many.new.record"))
+def many(room, count=200_000, points=1000):
+    """A record of so many entries for another name to show on all points: the processor's seconds, and what `keep` makes of it."""
+    rows = (f"f{n // 40}/p{n},Point {n},real,20,celsius,-50,950,1,point,,{'' if n % 5 else 100},{',,' if n % 7 else '-50,40,yes'},\n"
+            for n in range(points))
+    table, (site, new, record, out) = HEAD + "".join(rows), (room.folder / it for it in ("m.xml", "m.new.xml", "m.record", "m.new.record"))
     site.write_text(site_of(room, table)[1])
     new.write_text(site_of(room, table.replace("Point ", "Sensor "))[1])
+    bodies = (b'<real val="%d.5"/>' % ((n * 7919 // points) % 60 + n % 3) for n in range(count))
     requests = b"".join(b"PUT /obix/f%d/p%d HTTP/1.1\r\nContent-Length: %d\r\n\r\n%s" % (n % points // 40, n % points, len(body), body)
-                        for n in range(count) for body in (b'<real val="%d.5"/>' % ((n * 7919 // points) % 60 + n % 3),))
+                        for n, body in enumerate(bodies))
     with open(record, "wb") as file:
         subprocess.run([room.program, "record", site, "--at", "1767600000000", "--tick", "250"], input=requests, stdout=file, check=True)
     with open(record, "r+b") as file:
@@ -473,9 +506,9 @@ def many(room, count=200_000):
         file.write(b"\0")
     began, before = time.monotonic(), os.times()
     it = run("move_record.py", site, record, new, out, "--obix", room.program)
-    after = os.times()
-    spent = after.children_user + after.children_system - before.children_user - before.children_system
-    room.judge(it.returncode == 0, f"{count:,} entries, {record.stat().st_size / 1e6:.0f} MB, in {spent:.1f} s of the processor, {time.monotonic() - began:.1f} by the clock: {it.stdout.strip().splitlines()[-1:]}", it)
+    spent = sum(os.times()[2:4]) - sum(before[2:4])
+    room.judge(it.returncode == 0, f"{count:,} entries, {record.stat().st_size / 1e6:.0f} MB, in {spent:.1f} s of the processor,"
+               f" {time.monotonic() - began:.1f} by the clock: {it.stdout.strip()[-60:]}", it)
 
 
 if __name__ == "__main__":

@@ -6,21 +6,21 @@
 Stop the server first. The requests of RECORD are done again on NEWSITE, each at its own moment; one that NEWSITE refuses is left
 out. With --moved what was written to OLD, or to what is below it, is written to NEW; both are paths, /obix/boiler or boiler. What
 isn't in NEWRECORD is said by path, a line each. RECORD isn't changed, and NEWRECORD must not be there; it is there only when the
-program has opened it. This tool stands beside the proved program, and isn't proved. It needs moving.py, record_file.py and lint/ beside it.
+program has opened it. This tool stands beside the proved program, and isn't proved. It needs moving.py, record_file.py and lint/.
 
 status 0: NEWRECORD opens, and has all of RECORD. 3: it opens, and the lines say what it doesn't have. 1: there is no NEWRECORD:
 RECORD isn't of SITE, is damaged or in use, NEWSITE opens no site, or the program couldn't be asked. 2: the words are no command.
 """
 import argparse
-import collections
 import os
 import re
 import signal
 import sys
+import tempfile
 import xml.etree.ElementTree as ET
 
 from lint.asking import Program, Trouble
-from moving import Left, Run, Site, check, renumbered, several
+from moving import Left, Run, Site, alarm_lines, check, renumbered, several
 from record_file import Record, index_of, text_of
 
 TIMES = re.compile(rb'(<abstime name="(?:timestamp|normalTimestamp|ackTimestamp)" val=")([^"]*)"')
@@ -36,8 +36,7 @@ class Mover:
         pairs = [(old.path(one).rstrip("/"), new.path(other).rstrip("/")) for one, other in moved]
         self.moves = sorted(pairs, key=lambda it: -len(it[0])) + [(old.root.rstrip("/"), new.root.rstrip("/"))]
         self.is_plain, self.used = not pairs and old.root == new.root, set()
-        self.moments = []
-        self.errs, self.acked = {}, set()
+        self.moments, self.errs, self.acked = [], {}, set()   # of the entries; refused items of batches; acknowledged alarms
 
     def moved(self, path):
         for one, other in self.moves:
@@ -193,40 +192,30 @@ class Mover:
             now = self.new.histories.get(self.moved(path), (sources.get(self.moved(source or ""), 0),))[0]
             if now < count:
                 yield True, f"{path}: {several(count, 'record')} before, {now} now"
-        old = collections.Counter((self.moved(source), entry) for source, entry in self.old.alarms.values())
-        new = collections.Counter(self.new.alarms.values())
-        for is_loss, found, what in ((True, old - new, "isn't raised any more"), (False, new - old, "is raised now, and wasn't before")):
-            for path, count in collections.Counter(path for path, _ in found.elements()).items():
-                first = min(entry for it, entry in found if it == path)
-                more = f"{several(count, 'alarm')}, the first of" if count > 1 else "an alarm of"
-                yield is_loss, f"{path}: {more} {text_of(self.moments_after[first])}: {what}"
+        old = ((self.moved(source), entry) for source, entry in self.old.alarms.values())
+        yield from alarm_lines(old, self.new.alarms.values(), self.moments_after)
 
 
 def move(given):
     program, old, new = Program(given.obix).path, Site(given.site), Site(given.newsite)
     if os.path.lexists(given.newrecord):
         raise Trouble(f"{given.newrecord}: there is such a file")
-    record, part = Record(given.record), given.newrecord + ".part"
-    mover = Mover(program, old, record, new, given.moved)
-    try:
-        with open(part, "wb") as file:
-            count = mover.carry(file)
-        check(program, new.name, part)
+    mover = Mover(program, old, Record(given.record), new, given.moved)
+    with tempfile.NamedTemporaryFile(dir=os.path.dirname(given.newrecord) or ".", prefix=".move_record.") as file:
+        count = mover.carry(file)
+        check(program, new.name, file.name)
         owner = os.stat(given.record)
-        os.chmod(part, owner.st_mode & 0o777)
+        os.chmod(file.name, owner.st_mode & 0o777)
         if os.geteuid() == 0:
-            os.chown(part, owner.st_uid, owner.st_gid)
-        os.link(part, given.newrecord)                     # fails where there is one by now
-    finally:
-        if os.path.exists(part):
-            os.unlink(part)
+            os.chown(file.name, owner.st_uid, owner.st_gid)
+        os.link(file.name, given.newrecord)                # fails where there is one by now
     lines = list(mover.told())
     for _, line in lines:
         print(line)
     for one, other in given.moved:
         if old.path(one).rstrip("/") not in mover.used:
             print(f"--moved {one} {other}: nothing of the record is of {one}")
-    print(f"{given.newrecord}: it opens, and has {count:,} of the entries, which are {len(mover.moments):,}")
+    print(f"{given.newrecord}: it opens, with {count:,} of {several(len(mover.moments), 'entry', 'entries')}")
     return 3 if any(is_loss for is_loss, _ in lines) else 0
 
 

@@ -183,8 +183,19 @@ class Left:
             yield f"{path}: {several(count, what)} left out: {cause} ({text_of(first)}{f' to {text_of(last)}' if count > 1 else ''})"
 
 
-def several(count, what):
-    return f"{count:,} {what}" if count == 1 else f"{count:,} {what}s"
+def alarm_lines(old, new, moments):
+    """Lines of alarms, (source, number of the entry), that are raised on one of two sites alone, by source: (whether it's the old one,
+    line)."""
+    before, now = collections.Counter(old), collections.Counter(new)
+    for is_loss, found in ((True, before - now), (False, now - before)):
+        what = "isn't raised any more" if is_loss else "is raised now, and wasn't before"
+        for path, count in collections.Counter(path for path, _ in found.elements()).items():
+            first = text_of(moments[min(entry for it, entry in found if it == path)])
+            yield is_loss, f"{path}: " + (f"{count:,} alarms, the first of {first}: each" if count > 1 else f"an alarm of {first}:") + f" {what}"
+
+
+def several(count, one, more=None):
+    return f"{count:,} {one if count == 1 else more or one + 's'}"
 
 
 def check(program, site, record):

@@ -9,6 +9,7 @@ import re
 import typing
 
 from lint.asking import Trouble
+from lint.records import written
 
 HEAD = re.compile(rb"(\d{1,18}) (GET|PUT|POST) (\d{1,10}) (\d{1,10}) (\d{1,10})\n")
 EPOCH = datetime.datetime(1970, 1, 1)
@@ -16,8 +17,7 @@ EPOCH = datetime.datetime(1970, 1, 1)
 
 def text_of(ms):
     """A moment as the server writes it."""
-    digits = f".{ms % 1000:03}".rstrip("0").rstrip(".")
-    return (EPOCH + datetime.timedelta(seconds=ms // 1000)).strftime("%Y-%m-%dT%H:%M:%S") + digits + "Z"
+    return written(ms).decode()
 
 
 def index_of(text, first):
