@@ -604,7 +604,7 @@ def try_lines(browser):
     page.js("scrollTo(0, 0)")
     page.call("Input.dispatchMouseEvent", type="mouseMoved", x=page.js(f"{SETPOINTS}.plot.svg.getBoundingClientRect().right - 12"),
               y=page.js(f"{SETPOINTS}.plot.svg.getBoundingClientRect().top + 50"))
-    ok(page.until(begins(f"{SETPOINTS}.plot.told", "at ")), "the pointer shows the values of a moment")
+    ok(page.until(begins(f"{SETPOINTS}.plot.note", "at ")), "the pointer shows the values of a moment")
     shot(page, "lines2")
     page.go(shown.url)
     ok(page.until("charts.size === 2 && plots.size === 1"), "the lines stay over a reload")
