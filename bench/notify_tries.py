@@ -87,6 +87,7 @@ def try_webhook(room, seconds=60):
     count = room.kills(seconds - 2, (0.3, 2), (0, 0.5), server=server, tool=tool)
     for it in work:
         it.join()
+    server.put("m", 5), server.put("q", 5)
     twice = compared(room, server, lambda: list(hook.told), f"webhook: {count}")
     print(f"webhook: {hook.refused} refusals of the hook")
     room.judge(twice <= count.get("tool", 0) and hook.keys == hook.told, f"webhook: {twice} were told twice, under one name: no more than kills of the tool")
