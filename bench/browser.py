@@ -18,7 +18,7 @@ class Socket:
 
     def __init__(self, url):
         parts = urllib.parse.urlsplit(url)
-        self.link = socket.create_connection((parts.hostname, parts.port), timeout=30)
+        self.link = socket.create_connection((parts.hostname, parts.port), timeout=120)
         key = base64.b64encode(os.urandom(16)).decode()
         self.link.sendall(f"GET {parts.path} HTTP/1.1\r\nHost: {parts.netloc}\r\nUpgrade: websocket\r\nConnection: Upgrade\r\n"
                           f"Sec-WebSocket-Key: {key}\r\nSec-WebSocket-Version: 13\r\n\r\n".encode())
@@ -69,7 +69,7 @@ class Browser:
         self.port = int(told.read_text().split()[0])
 
     def open(self, url, width=1280, height=900):
-        link = http.client.HTTPConnection("127.0.0.1", self.port, timeout=30)
+        link = http.client.HTTPConnection("127.0.0.1", self.port, timeout=120)
         link.request("PUT", "/json/new?" + urllib.parse.quote("about:blank", safe=":"))
         page = Page(json.loads(link.getresponse().read())["webSocketDebuggerUrl"])
         page.call("Emulation.setLocaleOverride", locale="en-GB")
@@ -117,7 +117,7 @@ class Page:
         assert "exceptionDetails" not in told, (text, told)
         return told["result"].get("value")
 
-    def until(self, text, seconds=10):
+    def until(self, text, seconds=30):
         """Whether a JavaScript expression becomes true in time; one that can't be evaluated yet isn't."""
         end = time.monotonic() + seconds
         while time.monotonic() < end:

@@ -41,7 +41,8 @@ def free_port():
 
 
 def ran(words, **given_to):
-    run = subprocess.Popen([str(word) for word in words], stdout=subprocess.PIPE, text=True, **given_to)
+    hears = lambda: signal.signal(signal.SIGINT, signal.SIG_DFL)           # what a shell starts in the background doesn't
+    run = subprocess.Popen([str(word) for word in words], stdout=subprocess.PIPE, text=True, preexec_fn=hears, **given_to)
     started.append(run)
     return run
 
@@ -656,6 +657,7 @@ def try_three_lines(browser):
     for n in (2, 3):
         page.click("document.querySelector('.add input')")
         page.type(f"Floor 1 › Room 10{n} › Temperature")
+        page.until(f"charts.size === {n} && [...charts.values()].every(it => it.pairs)")
     ok(page.until("charts.size === 3 && plots.size === 1 && [...charts.values()].every(it => it.pairs?.length > 100)"), "three histories in one plot")
     page.js("document.activeElement.blur()")
     time.sleep(0.5)

@@ -11,5 +11,5 @@ for python in python3 /usr/bin/python3 none; do "$python" -c 'import psycopg' 2>
 [ $python != none ] || { echo "historian.sh: no psycopg here (Debian: python3-psycopg): nothing was tried" >&2; exit 77; }
 command -v initdb >/dev/null || ls /usr/lib/postgresql/*/bin/initdb >/dev/null 2>&1 || {
   echo "historian.sh: no PostgreSQL here (Debian: postgresql): nothing was tried" >&2; exit 77; }
-case " $* " in *" --obix "*) ;; *) "$top/obix" stdio "$top/examples/point.xml" </dev/null ;; esac      # builds it where needed
+case " $* " in *" --obix "*) ;; *) "$top/obix" --prove ;; esac      # builds it where needed
 exec "$python" "$top/bench/historian_tries.py" "$@"

@@ -14,7 +14,9 @@ from pages_room import Room
 
 PAGES = ("README.md", "examples/README.md", "docs/RUNNING.md", "docs/obix.1")
 NOT_HERE = ((r"rt |RT_JOBS=|\./obix --prove", "needs the kit, for an hour"), (r"cd crates/", "needs the kit"),
+            (r"sudoedit ", "needs a person"),
             (r".*systemctl (enable|status|daemon-reload)", "needs systemd as the first process"))
+OUTSIDE = re.compile(r"(?<![\w./-])/(?!dev/null|tmp/)[a-z]|\bapt|systemctl (?!(reload nginx|stop obix|start obix)$)")      # of the room
 PRINTED = re.compile(r"(?:listening|served|legal|illegal|compacted|403|obix:) ?\S*.*")
 TIME = re.compile(r"\d{4}-\d\d-\d\dT[\d:.]*Z *")
 README_LINES = 130
@@ -96,7 +98,8 @@ def is_not_here(room, text):
     return (next((why for form, why in NOT_HERE if re.match(form, text)), None) or (gone and f"no {gone}")
             or next((f"no {it}" for it in ("nginx", "systemd-analyze", "systemd-socket-activate")
                      if it in text and not shutil.which(it, path=f"{os.environ['PATH']}:/usr/sbin")), None)
-            or ("needs root" if "www-data" in text and os.geteuid() else None))
+            or ("needs root" if "www-data" in text and os.geteuid() else None)
+            or ("changes the machine" if "sudo" in text and OUTSIDE.search(room.here(text)) else None))
 
 
 def judge_server(told, room, what, text, wanted):

@@ -26,8 +26,8 @@ import xml.etree.ElementTree as ET
 from xml.sax.saxutils import quoteattr
 
 from follow import Follower, is_done
-from historian_tables import ANEW, BACK, PAGE, History, Tables, database, instant, psycopg
-from link import VALUES, Refused, children, kind, needed, val, words
+from historian_tables import ANEW, BACK, PAGE, TABLES, History, Tables, database, instant, psycopg
+from link import LOST, VALUES, Refused, children, kind, needed, val, words
 
 TOGETHER = 20                                # histories of a batch
 SECONDS, SWEEP = 30, 60                      # how long an answer is waited for; between looks at all histories
@@ -153,7 +153,10 @@ class Server(Follower):
         self.store(self.watch(self.held, self.oldest))
         while not self.stop.is_set():
             yield
+            link = self.link.link
             news = self.changes()
+            if self.link.link is not link:                 # of the same boot time, but it may have another record by now
+                raise Refused("the connection was lost")
             if time.monotonic() - self.swept > SWEEP:      # a watch says nothing of a record that changes neither count, start nor end
                 self.swept, news = time.monotonic(), [self.subject, *self.held]
                 self.tables.answers()
@@ -169,9 +172,10 @@ class Server(Follower):
                     self.stop.wait(self.given.every)
                 break
             except Exception as fault:
-                said = f"{type(fault).__name__}: {words(fault)}".replace("\n", " ")
+                whose = "the database: " if isinstance(fault, psycopg.Error) else f"{type(fault).__name__}: "
+                said = ("" if isinstance(fault, (*LOST, Refused)) else whose) + " ".join(words(fault).split())
                 if said != trouble:
-                    self.log(said if self.given.once else f"{said}; tried again until it goes on")
+                    self.log(said if self.given.once else f"{said} (tried again until it goes on)")
                 trouble, self.failed = said, True
             self.close()
             if self.given.once:
@@ -192,8 +196,10 @@ def servers(given):
     """The name, if one is given, of each server by its URL."""
     found = {}
     for text in given:
-        it = re.fullmatch("(?:([^=/]+)=)?(https?://[^/].*)", text)
-        pairs = [it.groups()] if it else [(it.get("name"), needed(it, "url").get("val")) for it in ET.parse(text).getroot()]
+        one = re.fullmatch("(?:([^=/]+)=)?(https?://[^/].*)", text)
+        pairs = [one.groups()] if one else [(it.get("name"), val(children(it), "url")) for it in ET.parse(text).getroot()]
+        if not pairs or None in [url for _, url in pairs]:
+            raise ValueError(f"{text} is no CONFIG of `obix super`, which has a url for each server")
         found.update((url if url.endswith("/") else f"{url}/", name) for name, url in pairs)
     return found
 
@@ -218,7 +224,8 @@ def main():
         return 2
     try:
         found, to = servers(given.servers), database(given.to)
-    except (OSError, ET.ParseError, Refused, ValueError) as fault:
+        TABLES.stat()
+    except (OSError, ET.ParseError, ValueError) as fault:
         print(f"historian: {fault}", file=sys.stderr)
         return 2
     stop = threading.Event()

@@ -109,7 +109,7 @@ class Tables:
             self.execute("INSERT INTO server (url, name) VALUES (%s, %s) ON CONFLICT DO NOTHING", (self.url, self.url))
         self.server, = self.one("SELECT id FROM server WHERE url = %s", (self.url,))
         if not self.one("SELECT pg_try_advisory_lock(%s, %s)", (LOCK, self.server))[0]:
-            raise Refused("another historian stores this server; this one goes on when that one ends")
+            raise Refused("another historian stores this server")
 
     def one(self, query, words=()):
         return self.execute(query, words).fetchone()
@@ -151,74 +151,6 @@ class Tables:
         self.many("INSERT INTO point VALUES (%s, %s, %s, %s, %s, %s, %s, %s) ON CONFLICT (server, path) DO UPDATE SET (name, kind, unit, low, "
                   "high, writable) = (EXCLUDED.name, EXCLUDED.kind, EXCLUDED.unit, EXCLUDED.low, EXCLUDED.high, EXCLUDED.writable)",
                   [(self.server, *it) for it in points if it not in known])
-
-    def gap(self, data, shown):
-        """From when to when records may be missing before those that a query gave, and why, by what the history showed in that moment;
-        else None. Records have no numbers: where the oldest that is kept is of the place's moment, nothing says whether one is missing."""
-        known = self.careful if self.careful and not self.k else self.at
-        oldest, capacity = val(shown, "start"), val(shown, "capacity")
-        if known and oldest and capacity and val(shown, "count") == capacity and instant(oldest) >= known:
-            return known, instant(oldest), "rolled over" if instant(oldest) > known else "perhaps rolled over within one moment"
-        again = sum(instant(needed(record, "timestamp").get("val")) == self.at for record in data[:self.k])
-        return (self.at, None, BACK) if again < self.k else None
-
-
-class Tables:
-    def __init__(self, words, url):
-        self.base, self.url, self.known = psycopg.connect(autocommit=True, **words), url, {"record": set(), "alarm_event": set()}
-        self.execute, self.transaction = self.base.execute, self.base.transaction
-
-    def take(self):
-        """Makes the tables where there are none, and takes the server for this connection; one whose machine is gone ends by itself."""
-        self.execute("SET TIME ZONE 'UTC'; SET tcp_keepalives_idle = 60; SET tcp_keepalives_interval = 20")
-        with self.transaction():
-            self.execute("SELECT pg_advisory_xact_lock(%s, 0)", (LOCK,))
-            if self.one("SELECT to_regclass('gap')")[0] is None:
-                self.execute(TABLES.read_text())
-            self.execute("INSERT INTO server (url, name) VALUES (%s, %s) ON CONFLICT DO NOTHING", (self.url, self.url))
-        self.server, = self.one("SELECT id FROM server WHERE url = %s", (self.url,))
-        if not self.one("SELECT pg_try_advisory_lock(%s, %s)", (LOCK, self.server))[0]:
-            raise Refused("another historian stores this server; this one goes on when that one ends")
-
-    def one(self, query, words=()):
-        return self.execute(query, words).fetchone()
-
-    def many(self, query, rows):
-        """Executes a query for each of some rows. How many rows it changed."""
-        with self.base.cursor() as cursor:
-            cursor.executemany(query, rows)
-            return max(cursor.rowcount, 0)
-
-    def close(self):
-        self.base.close()
-
-    def months(self, table, moments):
-        """Makes the partitions of the months of moments, and of the months after them, which so are there before their first record.
-        A table that is made apart and attached waits for no reader of the others."""
-        wanted = {at.year * 12 + at.month - 1 + more for at in moments for more in (0, 1)} - self.known[table]
-        for month in sorted(wanted):
-            first, end = (f"{it // 12:04}-{it % 12 + 1:02}-01 00:00+00" for it in (month, month + 1))
-            name = f"{table}_{first[:4]}_{first[5:7]}"
-            with self.transaction():
-                self.execute("SELECT pg_advisory_xact_lock(%s, 0)", (LOCK,))
-                if self.one("SELECT to_regclass(%s)", (name,))[0] is None:
-                    self.execute(f"CREATE TABLE {name} (LIKE {table} INCLUDING DEFAULTS INCLUDING CONSTRAINTS)")
-                    self.execute(f"ALTER TABLE {table} ATTACH PARTITION {name} FOR VALUES FROM ('{first}') TO ('{end}')")
-            self.known[table].add(month)
-
-    def answers(self):
-        self.execute("UPDATE server SET answered = now() WHERE id = %s", (self.server,))
-
-    def join(self, boot, name, points):
-        """Notes the run of a server, its name and its points."""
-        found = self.one("SELECT run FROM run WHERE server = %s AND boot = %s", (self.server, boot))
-        self.run, = found or self.one("INSERT INTO run SELECT %s, coalesce(max(run), 0) + 1, %s FROM run WHERE server = %s RETURNING run",
-                                      (self.server, boot, self.server))
-        self.boot, self.is_new = boot, found is None
-        self.execute("UPDATE server SET (name, run, answered) = (%s, %s, now()) WHERE id = %s", (name, self.run, self.server))
-        self.many("INSERT INTO point VALUES (%s, %s, %s, %s, %s, %s, %s, %s) ON CONFLICT (server, path) DO UPDATE SET (name, kind, unit, low, "
-                  "high, writable) = (EXCLUDED.name, EXCLUDED.kind, EXCLUDED.unit, EXCLUDED.low, EXCLUDED.high, EXCLUDED.writable)",
-                  [(self.server, *it) for it in points])
 
     def gap(self, path, since, until, why):
         """Notes that something may be missing; True where that is news."""

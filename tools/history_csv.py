@@ -6,32 +6,33 @@
 URL is that of the server's lobby, such as http://127.0.0.1:8080/obix/. HREF is that of a history, or of a point that one history
 records. The first line is time,value; then comes a line for each record, from the oldest on, with time and value as the server
 has them. MOMENT is 2026-01-05T08:00:00Z, also with an offset (+01:00) in place of Z, or a date: from its first instant, to its
-last, in UTC. Both are inclusive. This tool stands beside the proved program, and isn't proved. It needs plant.py beside it.
+last, in UTC. Both are inclusive. This tool stands beside the proved program, and isn't proved. It needs link.py beside it.
 
 status 0: all records are written. 1: the server doesn't answer, or has no such history; what was written until then is the
 beginning. 2: the words are no command.
 """
 import argparse
 import csv
+import itertools
 import re
 import signal
 import sys
 import urllib.parse
 
-from plant import LOST, Link, Refused, kind, named, needed, words
+from link import LOST, PAGE, Link, Refused, kind, moment, named, records, words
 
-PAGE, MOST = 10_000, 1_000_000   # records of an answer; all that a site can have
+MOST = 1_000_000   # records that a site can have
 MOMENT = re.compile(r"(\d{4}-\d\d-\d\d)(?:T(\d\d:\d\d)(:\d\d(?:\.\d{1,9})?)?(Z|[+-]\d\d:\d\d))?", re.ASCII)
 
 
-def moment(rest):
-    """Reads a moment or a date, of which `rest` is the time that it stands for."""
+def bound(rest):
+    """Reads a moment, or a date, for which `rest` of it stands."""
     def read(text):
-        found = MOMENT.fullmatch(text)
-        if not found:
+        day, minute, second, zone = (MOMENT.fullmatch(text) or re.match("()()()()", "")).groups()
+        told = f"{day}T{minute}{second or ':00'}{zone}" if minute else f"{day}T{rest}Z"
+        if moment(told) is None:
             raise argparse.ArgumentTypeError(f"{text!r} is no moment such as 2026-01-05T08:00:00Z, and no date")
-        day, minute, second, zone = found.groups()
-        return f"{day}T{minute}{second or ':00'}{zone}" if minute else f"{day}T{rest}Z"
+        return told
     return read
 
 
@@ -55,70 +56,25 @@ def query_of(link, url, href):
     return named(found[0], "query").get("href")
 
 
-class Reader:
-    """Reads a history by the page. Records stand in the order of their moments, and several may have one moment: so each page begins
-    at the moment of the last record, and the records that were read of it are left out."""
-
-    def __init__(self, link, query, end):
-        self.link, self.query, self.end = link, query, end
-        self.last, self.gaps = [], []   # the records of the last moment that was read; where some rolled off meanwhile
-
-    def ask(self, start, limit):
-        bounds = "".join(f'<abstime name="{name}" val="{it}"/>' for name, it in (("start", start), ("end", self.end)) if it)
-        reply = self.link.ask("POST", self.query, f'<obj><int name="limit" val="{limit}"/>{bounds}</obj>')
-        return [(needed(it, "timestamp").get("val"), needed(it, "value").get("val")) for it in needed(reply, "data")]
-
-    def new(self, page):
-        """The records of a page that weren't read before it."""
-        if not self.last:
-            return page
-        at = self.last[0][0]
-        same = next((n for n, it in enumerate(page) if it[0] != at), len(page))
-        for rolled in range(len(self.last) + 1):   # a full history drops its oldest record for each new one
-            known = self.last[rolled:rolled + same]
-            if page[:len(known)] == known and (rolled or len(known) == len(self.last)):
-                break
-        if rolled == len(self.last) and page:
-            self.gaps.append((at, page[0][0]))
-        return page[len(self.last) - rolled:] if rolled < len(self.last) else page
-
-    def records(self, start, most):
-        """All records from a moment on, a page at a time."""
-        limit = PAGE
-        while most > 0:
-            asked = min(limit, most + len(self.last), MOST)
-            page = self.ask(start, asked)
-            fresh = self.new(page)[:most]
-            yield fresh
-            most -= len(fresh)
-            if len(page) < asked or asked == MOST:
-                return
-            if fresh:
-                start, limit = page[-1][0], PAGE
-                self.last = [it for it in self.last + fresh if it[0] == start]
-            else:
-                limit *= 10                        # one moment has more records than a page
-
-
 def main():
     asked = argparse.ArgumentParser(description=__doc__, formatter_class=argparse.RawDescriptionHelpFormatter)
     asked.add_argument("url", metavar="URL", help="the server's lobby")
     asked.add_argument("href", metavar="HREF", help="the history, or its point")
-    asked.add_argument("--from", dest="start", metavar="MOMENT", type=moment("00:00:00"), help="the first moment")
-    asked.add_argument("--to", dest="end", metavar="MOMENT", type=moment("23:59:59.999999999"), help="the last moment")
+    asked.add_argument("--from", dest="start", metavar="MOMENT", type=bound("00:00:00"), help="the first moment")
+    asked.add_argument("--to", dest="end", metavar="MOMENT", type=bound("23:59:59.999999999"), help="the last moment")
     asked.add_argument("--limit", metavar="N", type=count, default=MOST, help="at most N records, the oldest")
     given = asked.parse_args()
     parts = urllib.parse.urlsplit(given.url)
-    if parts.scheme != "http" or not parts.hostname:
+    if parts.scheme not in ("http", "https") or not parts.hostname:
         asked.error(f"{given.url}: an http URL is wanted, such as http://127.0.0.1:8080/obix/")
     signal.signal(signal.SIGPIPE, signal.SIG_DFL)  # a reader may have seen enough
     sys.stdout.reconfigure(encoding="utf-8")
-    out, link = csv.writer(sys.stdout, lineterminator="\n"), Link(given.url, True)
+    out, link, gaps = csv.writer(sys.stdout, lineterminator="\n"), Link(given.url, True), []
     try:
-        reader = Reader(link, query_of(link, given.url, given.href), given.end)
+        found = records(link, query_of(link, given.url, given.href), given.start or "", 0, given.end or "", min(PAGE, given.limit),
+                        lambda before, after: gaps.append((before, after)))
         out.writerow(("time", "value"))
-        for page in reader.records(given.start, given.limit):
-            out.writerows(page)
+        out.writerows((stamp, value.get("val")) for stamp, value in itertools.islice(found, given.limit))
         sys.stdout.flush()
     except (*LOST, Refused) as fault:
         print(f"history_csv: {given.url} {given.href}: {words(fault)}", file=sys.stderr)
@@ -127,8 +83,8 @@ def main():
         return 130
     finally:
         link.close()
-    for before, after in reader.gaps:
-        print(f"history_csv: records between {before} and {after} rolled off while this was read", file=sys.stderr)
+    for before, after in gaps:
+        print(f"history_csv: records between {before} and {after or 'now'} rolled off before they were read", file=sys.stderr)
     return 0
 
 

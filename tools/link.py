@@ -4,6 +4,7 @@ It stands beside the proved program and isn't proved. The standard library alone
 """
 import datetime
 import http.client
+import itertools
 import re
 import socket
 import threading
@@ -114,18 +115,28 @@ class Link:
             raise
 
 
-def records(link, query, since="", known=0, until="", page=PAGE):
+def records(link, query, since="", known=0, until="", page=PAGE, gap=lambda before, after: None):
     """The records of a history from the abstime `since` to `until`, each its abstime and its value, asked in pages; `known` ones of
-    the moment `since` are passed over. A query doesn't say whether there are more: a page that isn't full is the last."""
-    end = f"<abstime name='end' val={quoteattr(until)}/>" if until else ""
+    the moment `since` are passed over. A query doesn't say whether there are more: a page that isn't full is the last.
+
+    Each page begins at the moment of the last record, and what was read of that moment is passed over. A full history drops its
+    oldest record for each new one, so the first ones of these may be gone by then; where all of them are, `gap` is told it."""
+    end, last = f"<abstime name='end' val={quoteattr(until)}/>" if until else "", None
     while True:
         start = f"<abstime name='start' val={quoteattr(since)}/>" if since else ""
-        data = list(needed(link.ask("POST", query, f"<obj><int name='limit' val='{page}'/>{start}{end}</obj>"), "data"))
-        stamps = [needed(record, "timestamp").get("val") for record in data]
-        first = min(known, stamps.count(since))
-        for stamp, record in list(zip(stamps, data))[first:]:
-            known, since = known + 1 if stamp == since else 1, stamp
-            yield stamp, needed(record, "value")
-        if len(data) < page:
+        limit = page + (known if last is None else len(last))
+        data = needed(link.ask("POST", query, f"<obj><int name='limit' val='{limit}'/>{start}{end}</obj>"), "data")
+        pairs = [(needed(record, "timestamp").get("val"), needed(record, "value")) for record in data]
+        told = [(stamp, value.get("val")) for stamp, value in pairs]
+        if last is None:
+            first = min(known, sum(stamp == since for stamp, _ in told))
+        else:
+            first = next(n for n in range(len(last), -1, -1) if told[:n] == last[len(last) - n:])
+            if first == 0:
+                gap(since, told[0][0] if told else until)
+        yield from pairs[first:]
+        if len(pairs) < limit:
             return
-        page *= 2 if first == len(data) else 1             # all of them are of one moment
+        since = told[-1][0]
+        read = (last or []) + told[first:]
+        last = list(itertools.takewhile(lambda it: moment(it[0]) == moment(since), reversed(read)))[::-1]
