@@ -489,7 +489,7 @@ def ends(room):
     room.judge(agree == len(cases), f"{agree} records that are cut or damaged: the same entries as the program, or a refusal")
 
 
-def many(room, count=200_000, points=1000):
+def many(room, count=20_000, points=1000):
     """A record of so many entries for another name to show on all points: the processor's seconds, and what `keep` makes of it."""
     rows = (f"f{n // 40}/p{n},Point {n},real,20,celsius,-50,950,1,point,,{'' if n % 5 else 100},{',,' if n % 7 else '-50,40,yes'},\n"
             for n in range(points))

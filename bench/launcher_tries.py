@@ -77,7 +77,7 @@ def try_cut_off(place):
 
 
 def try_two(place):
-    place.say("slow", 1)
+    place.say("slow", 3)
     both = [place.start("which") for _ in range(2)]
     said = [it.communicate(timeout=30) for it in both]
     judge("two at once: one builds, the other waits and says so", all(out == "unproved of one\n" for out, _ in said),
@@ -112,11 +112,10 @@ def try_changes(place):
         place.change(f"crates/{name}")
     (place.top / "crates/obix/out").mkdir()
     judge("proofs, READMEs, data, wrong bodies, another crate changed: stays", place.is_run("unproved of one", False))
-    place.say("slow", 1)
+    place.say("slow", 3)
     place.change("crates/obix/src/main.rt", "two")
     started = place.start("which")
-    until(lambda: len(place.calls("try")) == 8)
-    time.sleep(0.3)
+    until(lambda: list(place.rooms.glob("obix-build.*/*/start.bc")))
     place.change("crates/obix/src/main.rt", "three")
     place.forget("slow")
     judge("a file changed while it was compiled: the next start builds again", started.communicate()[0] == "unproved of two\n",

@@ -12,5 +12,5 @@ for it in mosquitto openssl; do
 done
 for python in python3 /usr/bin/python3 ''; do [ -n "$python" ] && "$python" -c 'import paho.mqtt.client' 2>/dev/null && break; done
 [ -n "$python" ] || { echo "mqtt.sh: no paho here (apt-get install python3-paho-mqtt): nothing was tried" >&2; exit 77; }
-case " $* " in *" --obix "*) ;; *) "$top/obix" --prove ;; esac   # builds it where needed
+case " $* " in *" --obix "* | *" --help "* | *" -h "*) ;; *) "$top/obix" --prove ;; esac   # builds it where needed
 exec "$python" "$top/bench/mqtt_tries.py" "$@"

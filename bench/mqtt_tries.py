@@ -165,7 +165,7 @@ def try_hang(room):
     room.judge(status == 0 and until(lambda: reader.stands("offline"), 1) is not None, "hang: SIGTERM: status 0, and offline", status)
     time.sleep(0.2)
     done = server.value("p1")
-    room.judge([int(it["set"]) for it in reader.refused] == list(range(done + 1, 101)),
+    room.judge(sorted(int(it["set"]) for it in reader.refused) == list(range(done + 1, 101)),
                f"hang: of 100 writes {done} are done at SIGTERM, the others are refused", reader.refused)
     ended(server, broker, reader)
 

@@ -8,5 +8,5 @@
 set -eu
 top=$(cd "$(dirname "$0")/.." && pwd)
 export PATH=$PATH:/usr/sbin
-case " $* " in *" --obix "*) ;; *) "$top/obix" --prove ;; esac   # builds it where needed
+case " $* " in *" --obix "* | *" --help "* | *" -h "*) ;; *) "$top/obix" --prove ;; esac   # builds it where needed
 exec python3 "$top/bench/notify_tries.py" "$@"

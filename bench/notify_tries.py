@@ -87,6 +87,7 @@ def try_webhook(room, seconds=60):
     count = room.kills(seconds - 2, (0.3, 2), (0, 0.5), server=server, tool=tool)
     for it in work:
         it.join()
+    server.put("m", 5), server.put("q", 5)
     twice = compared(room, server, lambda: list(hook.told), f"webhook: {count}")
     print(f"webhook: {hook.refused} refusals of the hook")
     room.judge(twice <= count.get("tool", 0) and hook.keys == hook.told, f"webhook: {twice} were told twice, under one name: no more than kills of the tool")
@@ -112,7 +113,7 @@ def try_command(room):
     server.put("m", 200)
     until(lambda: len(lines()) == 1, 15)
     server.acknowledge(2, "ann $(id) &quot; '")
-    until(lambda: len(lines()) == 2, 15)
+    until(lambda: "/2/acked/" in (room.folder / "command-tool.state").read_text(), 15)
     tool.kill()
     server.put("m", 2)
     server.kill()
@@ -134,7 +135,7 @@ def try_command(room):
 
 
 def try_back(room):
-    """A copy of the record is put in its place: alarm 2 comes again, and is another one."""
+    """A copy of the record is put in its place: the alarms 2 to 4 come again, and are other ones, before the tool looks."""
     server, out = room.server("back", site(1)), room.folder / "back.told"
     tool = notify(room, "back-tool", server, "--past", "--command", f'echo "$ALARM_ID $ALARM_VALUE" >> {out}')
     server.put("m", 200)
@@ -145,11 +146,13 @@ def try_back(room):
     server.kill()
     server.record.write_bytes(copy)
     server.start()
-    server.put("m", 3), server.put("m", 400)
+    for value in (3, 400, 3, 401, 3, 402):
+        server.put("m", value)
     lines = lambda: [(short(it), it.split()[-1]) for it in out.read_text().splitlines()]
-    told = until(lambda: ("2/raised", "400") in lines(), 15)
-    room.judge(told is not None and ("2/raised", "301") in lines() and len(set(out.read_text().splitlines())) == len(lines()),
-               "back: a copy of the record in its place: the second alarm 2 is told as well, nothing twice", lines())
+    until(lambda: ("4/raised", "402") in lines(), 15)
+    again = [(f"{n}/raised", str(398 + n)) for n in (2, 3, 4)]
+    room.judge({*again, ("2/raised", "301")} <= {*lines()} and len(set(out.read_text().splitlines())) == len(lines()),
+               "back: a copy of the record in its place: the second alarms 2, 3 and 4 are told as well, nothing twice", lines())
     tool.kill(), server.kill()
 
 

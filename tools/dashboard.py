@@ -59,6 +59,7 @@ def thinned(pairs):
 
 
 def as_csv(rows):
+    """Rows as a spreadsheet reads them."""
     text = io.StringIO()
     csv.writer(text).writerows([("time", "value"), *rows])
     return text.getvalue().encode()

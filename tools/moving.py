@@ -15,7 +15,7 @@ import xml.etree.ElementTree as ET
 from xml.sax.saxutils import unescape
 
 from lint.asking import Trouble
-from record_file import HEAD, index_of, text_of
+from record_file import index_of, text_of
 
 ALARM = re.compile(rb'<obj href="[^"]*/alarm/(\d+)/"[^>]*><ref name="source" href="([^"]*)"/><abstime name="timestamp" val="([^"]*)"/>')
 
@@ -49,7 +49,7 @@ class Run:
     def __enter__(self):
         self.feeder.start()
         for _ in range(2):                                 # the first two lines of a record
-            self.line()
+            _ = self.process.stdout.readline() or self.ended()
         return self
 
     def __exit__(self, *fault):
@@ -83,23 +83,20 @@ class Run:
         except Exception as fault:
             self.asked.put(fault)
 
-    def line(self):
-        text = self.process.stdout.readline()
-        if not text:
-            status = self.process.wait()
-            self.said.seek(0)
-            raise Trouble(f"{self.site}: {self.said.read().decode(errors='replace').strip()} (status {status})")
-        return text
+    def ended(self):
+        status = self.process.wait()
+        self.said.seek(0)
+        raise Trouble(f"{self.site}: {self.said.read().decode(errors='replace').strip()} (status {status})")
 
     def answer(self, target):
         """The body and the reply of the next entry, which has this target."""
-        found = HEAD.fullmatch(self.line())
-        if not found:
+        line = self.process.stdout.readline() or self.ended()
+        _, _, at, body, reply = line.split(b" ")
+        if reply == b"-\n":
             raise Trouble(f"{self.site}: the program was out of memory")
-        at = int(found[3])
-        end = at + int(found[4])
-        text = self.process.stdout.read(end + int(found[5]) + 1)
-        if text[:at] != target:
+        at, end = int(at), int(at) + int(body)
+        text = self.process.stdout.read(end + int(reply) + 1)
+        if not text.startswith(target) or at != len(target):
             raise Trouble(f"{self.site}: {target.decode()} is refused before the site is asked")
         return text[at:end], text[end:-1]
 

@@ -93,12 +93,17 @@ class Alarms(Follower):
         self.join()
         if self.subject is None:
             raise Refused("it has no alarm subject")
-        if self.run != self.known or self.last > self.count:
-            self.known, self.last, self.open = self.run, 0, {}
+        if self.run != self.known or not self.is_as_known():
+            self.known, self.last, self.mark, self.open = self.run, 0, None, {}
         self.labels = dict(self.labelled(self.lobby, ()))
         self.look()
         if self.watch((), self.open[min(self.open)] if self.open else None):
             self.look()
+
+    def is_as_known(self):
+        """Whether the alarm that was looked at last is that one: where a copy of the record was put in its place, it is another or isn't there."""
+        found = next(self.alarms([self.last], 0)) if self.last else ()
+        return not self.last or bool(found) and val(children(found[0]), "timestamp") == self.mark
 
     def labelled(self, it, trail):
         """The path of each object, with what people call it and its unit; a ref, as a history's to its source, names another object."""
@@ -122,7 +127,9 @@ class Alarms(Follower):
                     self.went_on = True
                 if self.is_ending.is_set():
                     return
-            self.last, self.open[n] = max(self.last, n), val(children(it), "timestamp")
+            self.open[n] = val(children(it), "timestamp")
+            if n > self.last:
+                self.last, self.mark = n, self.open[n]
             if is_done(it):
                 del self.open[n]
         if self.told.is_new:

@@ -12,6 +12,7 @@ from lint.asking import Trouble
 from lint.records import written
 
 HEAD = re.compile(rb"(\d{1,18}) (GET|PUT|POST) (\d{1,10}) (\d{1,10}) (\d{1,10})\n")
+GATE = 10   # the line feed before an entry that counts
 EPOCH = datetime.datetime(1970, 1, 1)
 
 
@@ -81,20 +82,19 @@ class Record:
         raise Trouble(f"{self.name}: damaged, or no record, from byte {at} on: docs/RUNNING.md, \"Backups, and damage\"")
 
     def __iter__(self):
-        data, at, is_over = self.data, self.begin, self.is_new
+        data, at, is_over, size = self.data, self.begin, self.is_new, len(self.data)
         while not is_over:
             found, body, reply, end = block(data, at) or self.refuse(at)
             entry = Entry(int(found[1]), found[2], data[found.end():body], data[body:reply], data[reply:end])
             if entry.verb == b"GET" and (entry.target or entry.body):
                 raise Trouble(f"{self.name}: it has a read, so it is a record of obix record, and not of obix keep")
             yield entry
-            at, is_over = end + 1, self.ends(end)
+            at = end + 1
+            is_over = (at >= size or data[end] != GATE) and self.ends(end)
 
     def ends(self, at):
         """Whether the entries end at a place: what a stop may leave stands there."""
-        gate, more = self.data[at:at + 1], at + 1 < len(self.data)
-        if gate == b"\n" and more:
-            return False
+        gate = self.data[at:at + 1]
         following = block(self.data, at + 1) if gate not in (b"", b"\0", b"\n") else None
         if following and self.data[following[3]:] not in (b"", b"\0"):
             self.refuse(at)

@@ -88,9 +88,8 @@ fn opens<'a>(
 }
 
 /// Whether both ends of a link read what the other one writes, and nothing is a fault.
-fn ends_meet(rt: &HostRuntime) -> bool {
-    let crowd = Crowd::new();
-    let mut port = TcpPort::new(rt, &crowd);
+fn ends_meet<'a>(rt: &'a HostRuntime, crowd: &'a Crowd) -> bool {
+    let mut port = TcpPort::new(rt, crowd);
     let mut dialer = TcpDialer::new(rt);
     let is_carried = match listen_somewhere(&mut port) {
         Some(number) => opens(rt, &mut port, &mut dialer, number),
@@ -101,7 +100,11 @@ fn ends_meet(rt: &HostRuntime) -> bool {
 
 #[test]
 fn what_one_end_writes_the_other_reads(rt: HostRuntime) {
-    assert!(rt; ends_meet(&rt), "or no port from 42000 to 42099 is free");
+    let crowd = Crowd::new();
+    assert!(rt;
+        ends_meet(&rt, &crowd),
+        "or no port from 42000 to 42099 is free"
+    );
 }
 
 /// Whether the door's end is closed over a byte that it didn't read, so that its system resets the connection.

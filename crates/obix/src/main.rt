@@ -2,15 +2,20 @@
 //! network and the system's clock, and ends with its status.
 #![tactic(auto)]
 
-use ob_io::{Pair, Sink, write_all};
+use ob_io::{Pair, Sink, Source, write_all};
 use ob_program::{Exit, run};
 use ob_system::{
     Crowd, DiskDevices, DiskFiles, StdSink, StdSource, SystemClock, TcpDialer, TcpPort,
 };
-use std::alloc::Global;
+use std::alloc::{AllocGlobal, Global};
 use std::env;
+use std::fs::File;
 use std::io::ErrorKind;
+use std::net::{Net, TcpListener, TcpStream};
 use std::process::ExitCode;
+use std::rt::{Clock, Files};
+use std::sync::Wait;
+use std::thread::Threads;
 
 /// Why the words of the command line can't be had.
 #[derive(Clone, Copy)]
@@ -55,33 +60,53 @@ fn without_words<E: Sink>(errors: &mut E, fault: WordFault) -> Exit {
     }
 }
 
+/// Runs the command of these words over the system, and gives its exit. `crowd` is what the doors of its port share.
+fn run_words<'a, R, S: Source, K: Sink, E: Sink>(
+    rt: &'a R,
+    crowd: &'a Crowd,
+    words: &[String],
+    link: &mut Pair<S, K>,
+    errors: &mut E,
+) -> Exit
+where
+    R: Threads
+        + Wait
+        + Sync
+        + AllocGlobal
+        + Net<Listener = TcpListener, Stream = TcpStream>
+        + Clock
+        + Files<File = File>,
+{
+    let mut files = DiskFiles::new(rt);
+    let mut devices = DiskDevices::new(rt);
+    let mut port = TcpPort::new(rt, crowd);
+    let mut dialer = TcpDialer::new(rt);
+    let mut clock = SystemClock::new(rt);
+    run(
+        rt,
+        rt.alloc(),
+        words,
+        &mut files,
+        &mut devices,
+        link,
+        errors,
+        &mut port,
+        &mut dialer,
+        &mut clock,
+    )
+}
+
 fn main(rt: HostRuntime) -> ExitCode {
     let alloc = rt.alloc();
     let mut errors = StdSink::new(rt.stderr());
     let exit = match read_words(&rt, alloc) {
         Ok(words) => {
-            let mut files = DiskFiles::new(&rt);
-            let mut devices = DiskDevices::new(&rt);
             let mut link = Pair {
                 source: StdSource::new(rt.stdin()),
                 sink: StdSink::new(rt.stdout()),
             };
             let crowd = Crowd::new();
-            let mut port = TcpPort::new(&rt, &crowd);
-            let mut dialer = TcpDialer::new(&rt);
-            let mut clock = SystemClock::new(&rt);
-            run(
-                &rt,
-                alloc,
-                &words,
-                &mut files,
-                &mut devices,
-                &mut link,
-                &mut errors,
-                &mut port,
-                &mut dialer,
-                &mut clock,
-            )
+            run_words(&rt, &crowd, &words, &mut link, &mut errors)
         }
         Err(fault) => without_words(&mut errors, fault),
     };
