@@ -104,15 +104,16 @@ def try_webhook(room, seconds=60):
 
 
 def try_command(room):
-    server, out = room.server("command", site(1)), room.folder / "command.told"
-    words = ("--command", f'echo "$ALARM_ID|$ALARM_SOURCE|$ALARM_VALUE|$ALARM_WHO|$ALARM_STATE" >> {out}')
+    history = '<obj name="hm" href="hm" is="obix:History" displayName="H"><ref name="source" href="m"/></obj>'     # its ref has the point's href
+    server, out = room.server("command", site(1).replace('<obj name="alarms"', history + '<obj name="alarms"')), room.folder / "command.told"
+    words = ("--command", f'echo "$ALARM_ID|$ALARM_SOURCE|$ALARM_NAME|$ALARM_VALUE|$ALARM_WHO|$ALARM_STATE" >> {out}')
     lines = lambda: [re.sub("^[^/]*/|/2[^|]*", "", it) for it in out.read_text().splitlines()] if out.exists() else []
     server.put("q", -1), server.put("q", 1)
     tool = notify(room, "command-tool", server, *words)
     begun(room.folder / "command-tool.state")
     server.put("m", 200)
     until(lambda: len(lines()) == 1, 15)
-    server.acknowledge(2, "ann $(id) &quot; '")
+    server.acknowledge(2, "ann $(id) &quot;&#10;'")
     until(lambda: "/2/acked/" in (room.folder / "command-tool.state").read_text(), 15)
     tool.kill()
     server.put("m", 2)
@@ -120,7 +121,7 @@ def try_command(room):
     server.start(), tool.start()
     until(lambda: len(lines()) >= 3, 15)
     time.sleep(1)
-    must = ["2/raised|/obix/m|200||unackedAlarm", "2/acked|/obix/m|200|ann $(id) \" '|alarm", "2/normal|/obix/m|200||ok"]
+    must = ["2/raised|/obix/m|m|200||unackedAlarm", "2/acked|/obix/m|m|200|ann $(id) \" '|alarm", "2/normal|/obix/m|m|200||ok"]
     room.judge(lines() == must, "command: raised, acked and normal over restarts of both, none of before; a user's name isn't read by the shell", lines())
     second = notify(room, "command-tool", server, *words)
     room.judge(second.run.wait(20) == 3 and "another notify has it" in second.said(), "command: a second one on the same file: status 3", second.said())
