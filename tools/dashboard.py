@@ -48,7 +48,8 @@ FIELDS = {"Cache-Control": "no-store", "X-Content-Type-Options": "nosniff", "Ref
 
 
 def log(text):
-    print(time.strftime("%Y-%m-%dT%H:%M:%S"), text.encode("unicode_escape").decode(), flush=True)
+    shown = "".join(it if it.isprintable() else it.encode("unicode_escape").decode() for it in text)
+    print(time.strftime("%Y-%m-%dT%H:%M:%S"), shown.encode(sys.stdout.encoding, "backslashreplace").decode(sys.stdout.encoding), flush=True)
 
 
 def thinned(pairs):
