@@ -12,8 +12,10 @@ import uuid
 try:
     import paho.mqtt.client as mqtt
 except ImportError:
-    sys.exit(f"{sys.executable} has no paho: apt-get install python3-paho-mqtt, and start the tool by /usr/bin/python3, which sees it")
+    mqtt = None
 
+# What is to be done where paho isn't there.
+MISSING = None if mqtt else f"{sys.executable} has no paho: apt-get install python3-paho-mqtt, and start the tool by /usr/bin/python3, which sees it"
 LATEST = [mqtt.CallbackAPIVersion.VERSION2] if hasattr(mqtt, "CallbackAPIVersion") else []         # paho 2 asks for it
 PORT, TLS_PORT, ALIVE = 1883, 8883, 5        # a broker counts a client as gone that is silent for one and a half of ALIVE seconds
 
@@ -61,7 +63,7 @@ def secured(client, given):
         raise Unusable(f"{file}: {getattr(fault, 'strerror', None) or fault}") from fault
 
 
-class Client(mqtt.Client):
+class Client(mqtt.Client if mqtt else object):
     """paho's, but that its thread outlives each fault of the connection: an alert of TLS, or a host that can't be reached, ends it there."""
     lost = None                                            # is called with the fault
 

@@ -28,7 +28,7 @@ import threading
 import time
 import urllib.parse
 
-from broker import Broker, Unusable, add_options, address
+from broker import MISSING, Broker, Unusable, add_options, address
 from homeassistant import config, id_of
 from plant import LOST, Plant, Refused, words
 
@@ -210,6 +210,9 @@ def line():
 
 def main():
     given = line()
+    if MISSING:
+        print(f"mqtt: {MISSING}", file=sys.stderr)
+        return 1
     log = lambda text: print(time.strftime("%Y-%m-%dT%H:%M:%S"), text, flush=True)
     plant = Plant(given.url, given.every, log, seen=0)     # no trend is asked of it
     try:
