@@ -19,7 +19,7 @@ CREATE TABLE run (
   UNIQUE (server, boot)
 );
 
--- A point, as the lobby showed it when the server was joined last.
+-- A point, as the lobby showed it when the server was joined last. One that was renamed or taken away keeps its row.
 CREATE TABLE point (
   server int NOT NULL REFERENCES server,
   path text NOT NULL,
