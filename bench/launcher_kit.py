@@ -79,7 +79,7 @@ echo "rattle $*" >>"$(dirname "$(readlink -f "$0")")/../calls"
 
 # It is called without an environment, and compiles a program only by the words that the launcher is to give.
 CLANG = r"""#!/usr/bin/env bash
-[[ " $* " != *" program.bc "* || " $* " == *" -O2 "* && " $* " != *fsanitize* ]] || { echo "clang: wrong words: $*"; exit 1; }
+[[ " $* " != *" program.bc "* || " $* " == *" -Os "* && " $* " != *fsanitize* ]] || { echo "clang: wrong words: $*"; exit 1; }
 while [ $# -gt 0 ]; do
   case $1 in *.bc) from=$1 ;; -o) to=$2 ;; esac
   shift
