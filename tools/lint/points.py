@@ -128,21 +128,27 @@ def of_unit(part):
     if ":" not in text and "/" not in text:
         return [(part.place("unit"), f"{part}: a unit is a URI, such as {UNIT}celsius")]
     if text.startswith(UNIT):
-        near = nearest(text[len(UNIT):])
-        return [(part.place("unit"), f"{part}: {text}: is {UNIT}{near} meant?")] if near else []
+        name = text[len(UNIT):]
+        near = None if is_known(name) else nearest(name)
+        said = f"is {UNIT}{near} meant?" if near else "a name that this tool doesn't know, and the standard may not have: programs may show it as it stands"
+        return [] if is_known(name) else [(part.place("unit"), f"{part}: {text}: {said}")]
     if text.lower().startswith("obix:"):
         return [(part.place("unit"), f"{part}: {text}: a unit of the standard is {UNIT} and its name, such as {UNIT}celsius")]
     return []
 
 
+def is_known(name):
+    return name in UNITS or (name.endswith("s") and name[:-1] in UNITS)
+
+
 def nearest(name):
     """The name of a known unit that this one misspells, by one letter, or in a name of seven or more by two inside it; None where it
-    is known itself, or isn't near to any."""
+    isn't near to any."""
     small = name.lower()
-    if name in UNITS or (name.endswith("s") and name[:-1] in UNITS) or len(name) < 4:
-        return None
-    if small in UNITS or (small.endswith("s") and small[:-1] in UNITS):
+    if is_known(small):
         return small
+    if len(name) < 4:
+        return None
     near = [it for it in UNITS if it[0] == small[0] and abs(len(it) - len(small)) <= 2]
     near = [(distance(small, it), it) for it in near]
     near = [it for it in near if it[0] == 1 or (it[0] == 2 and len(small) > 6 and it[1][-1] == small[-1])]
