@@ -35,6 +35,17 @@ pub trait Dialer {
         ensures rose { rose self.new ≡ is_err result }
         ensures apart { visits self.new ≡ visits self.old };
 
+    /// The same, and all that is done until a call of the link's `within`, this dial included, may take so many milliseconds: a
+    /// dial that has no link by then fails, and so does a read or a write that goes on for longer. No clause promises that.
+    fn dial_within(&mut self, host: &str, port: u16, ms: u32) -> Result<Self::L, Failed>
+        ensures fresh { IfOk result (λ link. IsFresh (Self.L.taken link) (Self.L.held link)
+            (Self.L.read_faults link) (Self.L.write_faults link)) }
+        ensures dials { Gains (dials self.old)
+            (record { host = host.now; port = port; failed = is_err result } ∷ []) (dials self.new) }
+        ensures cause { HasCause (faults self.old) (faults self.new) result }
+        ensures rose { rose self.new ≡ is_err result }
+        ensures apart { visits self.new ≡ visits self.old };
+
     /// Takes a link back. The count rises where one of the link's isn't 0.
     fn back(&mut self, link: Self::L)
         ensures visit { (visit : Visit) × Gains (visits self.old) (visit ∷ []) (visits self.new)

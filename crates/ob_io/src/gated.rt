@@ -79,6 +79,10 @@ impl<L: Link> Link for Gated<L> {
         self.signal.store(1, Ordering::SeqCst);
         written
     }
+
+    fn within(&mut self, ms: u32) {
+        self.link.within(ms);
+    }
 }
 
 impl<L: Counting> Counting for Gated<L> {

@@ -44,6 +44,15 @@ pub trait Link {
         ensures cause { HasCause (write_faults self.old) (write_faults self.new) result }
         ensures apart { (left self.new ≡ left self.old) × (taken self.new ≡ taken self.old)
             × (read_faults self.new ≡ read_faults self.old) };
+
+    /// All reads and writes from now on, until the next such call, may take so many milliseconds together: one that goes on for
+    /// longer fails. No clause promises that.
+    fn within(&mut self, ms: u32)
+        ensures left { left self.new ≡ left self.old }
+        ensures taken { taken self.new ≡ taken self.old }
+        ensures held { held self.new ≡ held self.old }
+        ensures faults { (read_faults self.new ≡ read_faults self.old)
+            × (write_faults self.new ≡ write_faults self.old) };
 }
 
 /// Writes all the bytes, or those before the first write that fails.

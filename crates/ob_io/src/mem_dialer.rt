@@ -99,6 +99,29 @@ impl<L: Counting + Drop> Dialer for MemDialer<L> {
         Err(self.calls.fail())
     }
 
+    fn dial_within(&mut self, host: &str, port: u16, ms: u32) -> Result<L, Failed>
+        ensures fresh { IfOk result (λ link. IsFresh (L.taken link) (L.held link)
+            (L.read_faults link) (L.write_faults link)) }
+        ensures dials { Gains (dials_of self.old.dials.is_told self.old.dials.things.items)
+            (record { host = host.now; port = port; failed = is_err result } ∷ [])
+            (dials_of self.new.dials.is_told self.new.dials.things.items) }
+        ensures cause { HasCause self.old.calls.faults self.new.calls.faults result }
+        ensures rose { self.new.rose ≡ is_err result }
+        ensures apart { visits_of L.left L.taken L.held L.read_faults L.write_faults
+            self.new.back.is_told self.new.back.things.items
+            ≡ visits_of L.left L.taken L.held L.read_faults L.write_faults
+            self.old.back.is_told self.old.back.things.items }
+        ensures next { MatchResult result
+            (λ link. map (λ fresh. fresh.link) self.old.waiting.items
+            ≡ link ∷ map (λ fresh. fresh.link) self.new.waiting.items)
+            (λ _. self.new.waiting.items ≡ self.old.waiting.items) }
+        ensures planned { is_err result ≡ (next_fails self.old.calls || (length self.old.waiting.items == 0)) }
+        ensures counted { CountsCall self.old.calls self.new.calls }
+    {
+        let _ = ms;
+        self.dial(host, port)
+    }
+
     fn back(&mut self, link: L) {
         let failed = link.has_failed();
         self.calls.fail_if(failed);

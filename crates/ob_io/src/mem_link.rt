@@ -132,6 +132,12 @@ impl Link for MemLink {
         }
         Ok(count)
     }
+
+    fn within(&mut self, ms: u32)
+        ensures same { self.new ≡ self.old }
+    {
+        let _ = ms;
+    }
 }
 
 impl Counting for MemLink {

@@ -29,4 +29,8 @@ impl<S: Source, K: Sink> Link for Pair<S, K> {
     fn write(&mut self, piece: &[u8]) -> Result<usize, Failed> {
         self.sink.write(piece)
     }
+
+    fn within(&mut self, ms: u32) {
+        let _ = ms;
+    }
 }
