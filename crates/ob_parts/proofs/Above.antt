@@ -1,9 +1,12 @@
 -- In a list that offends no part has a number below the list's own.
 use Rattle.std.proofs.Common.{◌≡◌, ℕ, ◌+◌, ◌-◌, ◌^◌, ◌≤◌, min, Bool, true, false, List, [], ◌∷◌, ◌++◌, Option, Some, None, cond, find, refl, ap, ap₂, sym, subst, ◌∙◌, arith}
 use Rattle.ob_object.specs.Object.{Object, children, parts}
+use Rattle.std.specs.Prelude.{nat_lt}
+use Rattle.std.proofs.lemmas.Bool.Decides.{nat_tests}
+use Rattle.ob_parts.specs.declared.offence.Offence.{Offence}
 use Rattle.ob_parts.specs.Least.{earlier, least}
 use Rattle.ob_parts.specs.Numbered.{Part, plus, numbered_from, inside, child, inside_child}
-use Rattle.ob_parts.specs.Offences.{unless, needs, each}
+use Rattle.ob_parts.specs.Offences.{breaks, unless, needs, each}
 use Rattle.ob_parts.proofs.Earliest.{least_append, earlier_assoc}
 use Rattle.ob_parts.proofs.Needed.{needs_none, needs_some, inside_none, inside_some, unless_right, unless_wrong}
 
@@ -26,21 +29,21 @@ behind_plus n k by h =
     let both = capped n (k + by) (2 ^ 64 - 1) (more n k by h.above) (within n k (2 ^ 64 - 1) h.above h.fits) in
     record { above = both.0; fits = both.1 }
 
--- no number of a list is below this one
-abbrev pub Above : ℕ → List ℕ → Type 0
-Above n xs = earlier (Some n) (least xs) ≡ Some n
+-- no offence of a list is at a part before that of this one
+abbrev pub Above : {R : Type 0} → Offence R → List (Offence R) → Type 0
+Above o xs = earlier (Some o) (least xs) ≡ Some o
 
-above_one : (n m : ℕ) → n ≤ m → Above n (m ∷ [])
-above_one n m h = ap Some (omega (arith, h))
+above_one : {R : Type 0} (o other : Offence R) → o.part ≤ other.part → Above o (other ∷ [])
+above_one o other h = let e : nat_lt other.part o.part ≡ false = grind (arith, nat_tests, h) in rw e refl
 
-pub above_append : (n : ℕ) (xs ys : List ℕ) → Above n xs → Above n ys → Above n (xs ++ ys)
-above_append n xs ys a b =
-    ap (earlier (Some n)) (least_append xs ys)
-    ∙ (sym (earlier_assoc (Some n) (least xs) (least ys)) ∙ (ap (λ o. earlier o (least ys)) a ∙ b))
+pub above_append : {R : Type 0} (o : Offence R) (xs ys : List (Offence R)) → Above o xs → Above o ys → Above o (xs ++ ys)
+above_append o xs ys a b =
+    ap (earlier (Some o)) (least_append xs ys)
+    ∙ (sym (earlier_assoc (Some o) (least xs) (least ys)) ∙ (ap (λ l. earlier l (least ys)) a ∙ b))
 
-pub above_unless : (n : ℕ) (b : Bool) (p : Part) → n ≤ p.number → Above n (unless b p)
-above_unless n true p h = refl
-above_unless n false p h = above_one n p.number h
+pub above_unless : {R : Type 0} (o : Offence R) (b : Bool) (rule : R) (p : Part) → o.part ≤ p.number → Above o (unless b rule p)
+above_unless o true rule p h = refl
+above_unless o false rule p h = above_one o (breaks rule p) h
 
 same_part : (a b : Part) → Some a ≡ Some b → a ≡ b
 same_part a b e = cc
@@ -60,33 +63,33 @@ found_behind n test m (o ∷ os) c h e = go (test (record { number = m; object =
 child_behind : (n : ℕ) (name : List ℕ) (p c : Part) → IsBehind n p.number → child name p ≡ Some c → IsBehind n c.number
 child_behind n name p c h e = found_behind n _ (plus p.number 1) (children p.object) c (behind_plus n p.number 1 h) e
 
-pub above_needs : (n : ℕ) (name : List ℕ) (test : Object → Bool) (p : Part) → IsBehind n p.number → Above n (needs name test p)
-above_needs n name test p h = go (child name p) refl
+pub above_needs : {R : Type 0} (o : Offence R) (name : List ℕ) (rule : Option Object → R) (test : Object → Bool) (p : Part) → IsBehind o.part p.number → Above o (needs name rule test p)
+above_needs o name rule test p h = go (child name p) refl
   where
-    go : (found : Option Part) → child name p ≡ found → Above n (needs name test p)
-    go None e = subst (Above n) (sym (needs_none name test p e)) (above_one n p.number h.above)
-    go (Some c) e = subst (Above n) (sym (needs_some name test p c e)) (above_unless n (test c.object) c (child_behind n name p c h e).above)
+    go : (found : Option Part) → child name p ≡ found → Above o (needs name rule test p)
+    go None e = subst (Above o) (sym (needs_none name rule test p e)) (above_one o (breaks (rule None) p) h.above)
+    go (Some c) e = subst (Above o) (sym (needs_some name rule test p c e)) (above_unless o (test c.object) (rule (Some c.object)) c (child_behind o.part name p c h e).above)
 
--- what is judged tells no number below that of the part
-abbrev pub TellsBehind : ℕ → (List Object → Part → List ℕ) → Type 0
-TellsBehind n judge = (b : List Object) (p : Part) → IsBehind n p.number → Above n (judge b p)
+-- what is judged tells no part before that of the offence
+abbrev pub TellsBehind : {R : Type 0} → Offence R → (List Object → Part → List (Offence R)) → Type 0
+TellsBehind o judge = (b : List Object) (p : Part) → IsBehind o.part p.number → Above o (judge b p)
 
-above_each : (n : ℕ) (judge : List Object → Part → List ℕ) → TellsBehind n judge → (b : List Object) (m : ℕ) (os : List Object) → IsBehind n m → Above n (each judge b (numbered_from m os))
-above_each n judge tells b m [] h = refl
-above_each n judge tells b m (o ∷ os) h =
-    let p : Part = record { number = m; object = o } in
-    above_append n (judge b p) (each judge (b ++ o ∷ []) (numbered_from (plus m (parts o)) os)) (tells b p h)
-    (above_each n judge tells (b ++ o ∷ []) (plus m (parts o)) os (behind_plus n m (parts o) h))
+above_each : {R : Type 0} (o : Offence R) (judge : List Object → Part → List (Offence R)) → TellsBehind o judge → (b : List Object) (m : ℕ) (os : List Object) → IsBehind o.part m → Above o (each judge b (numbered_from m os))
+above_each o judge tells b m [] h = refl
+above_each o judge tells b m (x ∷ xs) h =
+    let p : Part = record { number = m; object = x } in
+    above_append o (judge b p) (each judge (b ++ x ∷ []) (numbered_from (plus m (parts x)) xs)) (tells b p h)
+    (above_each o judge tells (b ++ x ∷ []) (plus m (parts x)) xs (behind_plus o.part m (parts x) h))
 
-above_inside : (n : ℕ) (judge : List Object → Part → List ℕ) → TellsBehind n judge → (c : Part) → IsBehind n c.number → Above n (each judge [] (inside c))
-above_inside n judge tells c h = above_each n judge tells [] (plus c.number 1) (children c.object) (behind_plus n c.number 1 h)
+above_inside : {R : Type 0} (o : Offence R) (judge : List Object → Part → List (Offence R)) → TellsBehind o judge → (c : Part) → IsBehind o.part c.number → Above o (each judge [] (inside c))
+above_inside o judge tells c h = above_each o judge tells [] (plus c.number 1) (children c.object) (behind_plus o.part c.number 1 h)
 
-pub above_listed : (n : ℕ) (judge : List Object → Part → List ℕ) → TellsBehind n judge → (name : List ℕ) (p : Part) → IsBehind n p.number → Above n (each judge [] (inside_child name p))
-above_listed n judge tells name p h = go (child name p) refl
+pub above_listed : {R : Type 0} (o : Offence R) (judge : List Object → Part → List (Offence R)) → TellsBehind o judge → (name : List ℕ) (p : Part) → IsBehind o.part p.number → Above o (each judge [] (inside_child name p))
+above_listed o judge tells name p h = go (child name p) refl
   where
-    go : (found : Option Part) → child name p ≡ found → Above n (each judge [] (inside_child name p))
-    go None e = subst (λ l. Above n (each judge [] l)) (sym (inside_none name p e)) refl
-    go (Some c) e = subst (λ l. Above n (each judge [] l)) (sym (inside_some name p c e)) (above_inside n judge tells c (child_behind n name p c h e))
+    go : (found : Option Part) → child name p ≡ found → Above o (each judge [] (inside_child name p))
+    go None e = subst (λ l. Above o (each judge [] l)) (sym (inside_none name p e)) refl
+    go (Some c) e = subst (λ l. Above o (each judge [] l)) (sym (inside_some name p c e)) (above_inside o judge tells c (child_behind o.part name p c h e))
 
 none_below : (n : ℕ) → 0 ≤ n
 none_below n = omega arith
@@ -95,24 +98,25 @@ at_most : (a top : ℕ) → min a top ≤ top
 at_most a top = omega arith
 
 -- a list and what is in it, where there is none
-pub no_list : (name : List ℕ) (test : Object → Bool) (judge : List Object → Part → List ℕ) (p : Part) → child name p ≡ None
-    → Some p.number ≡ least (needs name test p ++ each judge [] (inside_child name p))
-no_list name test judge p e = sym (ap₂ (λ a l. least (a ++ each judge [] l)) (needs_none name test p e) (inside_none name p e))
+pub no_list : {R : Type 0} (name : List ℕ) (rule : Option Object → R) (test : Object → Bool) (judge : List Object → Part → List (Offence R)) (p : Part) → child name p ≡ None
+    → Some (breaks (rule None) p) ≡ least (needs name rule test p ++ each judge [] (inside_child name p))
+no_list name rule test judge p e = sym (ap₂ (λ a l. least (a ++ each judge [] l)) (needs_none name rule test p e) (inside_none name p e))
 
 -- where it is as it has to be
-pub right_list : (name : List ℕ) (test : Object → Bool) (judge : List Object → Part → List ℕ) (p c : Part) → child name p ≡ Some c → test c.object ≡ true
-    → least (each judge [] (inside c)) ≡ least (needs name test p ++ each judge [] (inside_child name p))
-right_list name test judge p c e right =
-    sym (ap₂ (λ a l. least (a ++ each judge [] l)) (needs_some name test p c e ∙ unless_right (test c.object) c right) (inside_some name p c e))
+pub right_list : {R : Type 0} (name : List ℕ) (rule : Option Object → R) (test : Object → Bool) (judge : List Object → Part → List (Offence R)) (p c : Part) → child name p ≡ Some c → test c.object ≡ true
+    → least (each judge [] (inside c)) ≡ least (needs name rule test p ++ each judge [] (inside_child name p))
+right_list name rule test judge p c e right =
+    sym (ap₂ (λ a l. least (a ++ each judge [] l)) (needs_some name rule test p c e ∙ unless_right (test c.object) (rule (Some c.object)) c right) (inside_some name p c e))
 
 -- and where it isn't
-pub wrong_list : (name : List ℕ) (test : Object → Bool) (judge : List Object → Part → List ℕ) → ((n : ℕ) → TellsBehind n judge) → (p c : Part) → child name p ≡ Some c → test c.object ≡ false
-    → Some c.number ≡ least (needs name test p ++ each judge [] (inside_child name p))
-wrong_list name test judge tells p c e wrong =
+pub wrong_list : {R : Type 0} (name : List ℕ) (rule : Option Object → R) (test : Object → Bool) (judge : List Object → Part → List (Offence R)) → ((o : Offence R) → TellsBehind o judge) → (p c : Part) → child name p ≡ Some c → test c.object ≡ false
+    → Some (breaks (rule (Some c.object)) c) ≡ least (needs name rule test p ++ each judge [] (inside_child name p))
+wrong_list name rule test judge tells p c e wrong =
     let low : IsBehind 0 (plus p.number 1) = record { above = none_below (plus p.number 1); fits = at_most (p.number + 1) (2 ^ 64 - 1) } in
     let own : IsBehind c.number c.number = record { above = same c.number; fits = (found_behind 0 _ (plus p.number 1) (children p.object) c low e).fits } in
-    sym (ap₂ (λ a l. least (a ++ each judge [] l)) (needs_some name test p c e ∙ unless_wrong (test c.object) c wrong) (inside_some name p c e)
-    ∙ above_inside c.number judge (tells c.number) c own)
+    let o = breaks (rule (Some c.object)) c in
+    sym (ap₂ (λ a l. least (a ++ each judge [] l)) (needs_some name rule test p c e ∙ unless_wrong (test c.object) (rule (Some c.object)) c wrong) (inside_some name p c e)
+    ∙ above_inside o judge (tells o) c own)
   where
     same : (n : ℕ) → n ≤ n
     same n = omega arith

@@ -7,6 +7,7 @@ use Rattle.ob_object.specs.Object.{Object, parts}
 use Rattle.ob_object.specs.WellFormed.{has_name}
 use Rattle.ob_parts.specs.Numbered.{Part, plus, numbered_from}
 use Rattle.ob_parts.specs.Offences.{each}
+use Rattle.ob_parts.specs.declared.offence.Offence.{Offence}
 use Rattle.ob_parts.specs.Least.{earlier, least}
 use Rattle.ob_parts.proofs.Earliest.{least_append, earlier_assoc, earlier_none}
 
@@ -54,7 +55,7 @@ pub none_found : (name : List ℕ) (n : ℕ) (xs : List Object) (k : ℕ) → le
 none_found name n xs k h = ap (λ l. find (named_part name) (numbered_from n l)) (drop_all xs k h)
 
 -- one more object is judged
-pub walk_more : (judge : List Object → Part → List ℕ) (first : Option ℕ) (n : ℕ) (xs : List Object) (k : ℕ) (x : Object) → k < length xs → x ≡ get_or xs k x
+pub walk_more : {R : Type 0} (judge : List Object → Part → List (Offence R)) (first : Option (Offence R)) (n : ℕ) (xs : List Object) (k : ℕ) (x : Object) → k < length xs → x ≡ get_or xs k x
     → earlier (earlier first (least (judge (take k xs) (record { number = n; object = x })))) (least (each judge (take (k + 1) xs) (numbered_from (plus n (parts x)) (drop (k + 1) xs))))
     ≡ earlier first (least (each judge (take k xs) (numbered_from n (drop k xs))))
 walk_more judge first n xs k x h is =
@@ -67,6 +68,6 @@ walk_more judge first n xs k x h is =
     ∙ sym (ap (λ l. least (each judge b (numbered_from n l))) (ahead xs k x h is))))
 
 -- all are judged
-pub walk_end : (judge : List Object → Part → List ℕ) (first : Option ℕ) (n : ℕ) (xs : List Object) (k : ℕ) → length xs ≤ k
+pub walk_end : {R : Type 0} (judge : List Object → Part → List (Offence R)) (first : Option (Offence R)) (n : ℕ) (xs : List Object) (k : ℕ) → length xs ≤ k
     → earlier first (least (each judge (take k xs) (numbered_from n (drop k xs)))) ≡ first
 walk_end judge first n xs k h = ap (λ l. earlier first (least (each judge (take k xs) (numbered_from n l)))) (drop_all xs k h) ∙ earlier_none first

@@ -7,5 +7,5 @@
 mod offence;
 mod part;
 
-pub use offence::earlier;
+pub use offence::{Offence, earlier};
 pub use part::{Part, number_behind};

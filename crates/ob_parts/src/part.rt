@@ -6,6 +6,7 @@ ghost use Rattle.ob_parts.specs.Numbered.{child, plus, root};
 ghost use Rattle.ob_parts.specs.Offences as form;
 ghost use Rattle.ob_parts.specs.Views.{part_of};
 
+use crate::offence::Offence;
 use ob_object::Obj;
 
 /// An object of a document, with its number: the root has 0, and the others follow in document order. Numbers stand still at
@@ -45,11 +46,25 @@ impl<'a> Part<'a> {
         None
     }
 
-    /// The number of this part, unless it is as it has to be.
-    pub fn unless(self, is_right: bool) -> Option<u64>
-        ensures { result ≡ least (form.unless is_right (part_of self.entry)) }
+    /// This part, which breaks a rule.
+    pub fn breaks<R>(self, rule: R) -> Offence<R>
+        ensures { result ≡ form.breaks rule (part_of self.entry) }
     {
-        if is_right { None } else { Some(self.number) }
+        Offence {
+            part: self.number,
+            rule,
+        }
+    }
+
+    /// This part, which breaks a rule unless it is as it has to be.
+    pub fn unless<R: Copy>(self, is_right: bool, rule: R) -> Option<Offence<R>>
+        ensures { result ≡ least (form.unless is_right rule (part_of self.entry)) }
+    {
+        if is_right {
+            None
+        } else {
+            Some(self.breaks(rule))
+        }
     }
 }
 
