@@ -15,5 +15,6 @@ pub mod Replies
 pub mod Sites
 pub mod Locating
 pub mod Roles
+pub mod RuleWords
 pub mod Loading
 pub mod Opening

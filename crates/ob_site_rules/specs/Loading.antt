@@ -1,32 +1,31 @@
 -- The site that a document opens, or why it opens none. Source: oBIX 1.1, chapters 5 to 7 and 13 to 15; the form of the site
 -- file, its refusals and their order are this profile's own.
-use Rattle.std.specs.Prelude.{ℕ, ℤ, pos, ◌+◌, ◌*◌, ◌/◌, max, Bool, true, false, cond, not, ◌&&◌, ◌||◌, ◌==◌, nat_lt, nat_le, int_lt, codes, List, [], ◌∷◌, ◌++◌, map, filter, filter_map, flat_map, find, length, Option, Some, None, is_some, is_none, unwrap_or, option_map, option_and_then, Result, Ok, Err}
-use Rattle.std.specs.List.{list_any}
+use Rattle.std.specs.Prelude.{ℕ, ℤ, pos, ◌+◌, ◌*◌, ◌/◌, max, Bool, true, false, cond, not, ◌&&◌, ◌||◌, nat_lt, nat_le, int_lt, codes, List, [], ◌∷◌, ◌++◌, map, filter, filter_map, flat_map, find, length, Option, Some, None, is_some, is_none, unwrap_or, option_map, option_and_then, Result, Ok, Err}
 use Rattle.url.specs.Parts.{Parts}
 use Rattle.ob_times.specs.Times.{Instant, instant, moment_instant}
-use Rattle.ob_values.specs.declared.value.Value.{Value}
 use Rattle.ob_values.specs.declared.value.Value.TheVariants as value
 use Rattle.ob_object.specs.declared.kind.Kind.{Kind}
 use Rattle.ob_object.specs.declared.kind.Kind.TheVariants as kind
 use Rattle.ob_object.specs.declared.head.Slot.{Slot}
 use Rattle.ob_object.specs.declared.head.Slot.TheVariants.{Is}
-use Rattle.ob_object.specs.declared.head.Head.{Head}
 use Rattle.ob_object.specs.Kinds.{same_kind, has_values}
-use Rattle.ob_object.specs.Object.{Objects, none, node, Object, listed, children, count, parts}
-use Rattle.ob_object.specs.WellFormed.{has_name}
+use Rattle.ob_object.specs.Object.{Objects, none, node, Object, children, count, parts}
 use Rattle.ob_object.specs.Paths.{is_path, node_path}
-use Rattle.ob_contracts.specs.Inherit.{Contracts, Words, slot_or_default}
+use Rattle.ob_parts.specs.declared.offence.Offence.{Offence}
+use Rattle.ob_parts.specs.Least.{least}
+use Rattle.ob_contracts.specs.Inherit.{Contracts, slot_or_default}
 use Rattle.ob_contracts.specs.Adding.{added}
 use Rattle.ob_contracts.specs.declared.adding.LibFault.{LibFault}
 use Rattle.ob_history.specs.declared.records.Record.{Record}
 use Rattle.ob_href.specs.Href.{is_root_url}
 use Rattle.ob_hrefs.specs.Hrefs.{bad_href, made_object}
 use Rattle.ob_alarms.specs.declared.rule.Num.{Num}
-use Rattle.ob_alarms.specs.declared.rule.Num.TheVariants as num
 use Rattle.ob_alarms.specs.Limits.{is_below}
 use Rattle.ob_site_rules.specs.Build.{Text, Path, child}
-use Rattle.ob_site_rules.specs.State.{Log, is_among, rolled}
+use Rattle.ob_site_rules.specs.State.{is_among, rolled}
 use Rattle.ob_site_rules.specs.declared.plan.PointRule.{PointRule}
+use Rattle.ob_site_rules.specs.declared.site_rule.SiteRule.{SiteRule}
+use Rattle.ob_site_rules.specs.declared.site_rule.SiteRule.TheVariants as site_rule
 use Rattle.ob_site_rules.specs.Paths.{below, behind}
 use Rattle.ob_site_rules.specs.Shown.{shown_root}
 use Rattle.ob_site_rules.specs.Writes.{number_in, site_contracts, stored_in}
@@ -35,13 +34,13 @@ use Rattle.ob_site_rules.specs.declared.roles.Roles.{Roles}
 use Rattle.ob_site_rules.specs.Roles.{no_roles, is_dropped, is_part, holds_contracts, role_at, all_roles, worded_contracts}
 
 -- Why a document opens no site, in the order in which the refusals are looked for; a part is told by its number in the order
--- of the document, the root being 0.
+-- of the document, the root being 0, and with it the rule that it breaks.
 pub data LoadFault : Type 0 where
   RootHref : LoadFault
   Href : (part : ℕ) → LoadFault
   Contract : (fault : LibFault) → LoadFault
   PathTwice : (path : Path) → LoadFault
-  BadRule : (part : ℕ) → LoadFault
+  BadRule : (offence : Offence SiteRule) → LoadFault
   Size : LoadFault
 
 -- one more contract is added, unless one before it wasn't taken
@@ -142,11 +141,13 @@ record_from None v = None
 record_from (Some t) None = None
 record_from (Some t) (Some v) = Some (record { time = t; kind = v.head.kind; slot = slot_or_default v.head.kind v.head.slot })
 
+-- the time of a record, which an item has as its own child
+abbrev pub time_of_record : Object → Option Instant
+time_of_record o = option_and_then (λ t. time_of t.head.slot) (child_of (codes "timestamp") kind.Abstime o)
+
 -- the record that an item of `data` is, if it is one: by its own children alone
 abbrev pub record_in : Object → Option Record
-record_in o =
-    cond (same_kind o.head.kind kind.Obj)
-    (record_from (option_and_then (λ t. time_of t.head.slot) (child_of (codes "timestamp") kind.Abstime o)) (value_of_record o)) None
+record_in o = cond (same_kind o.head.kind kind.Obj) (record_from (time_of_record o) (value_of_record o)) None
 
 -- the last moment that a site may begin at: the end of the year 9999, in milliseconds
 abbrev pub last_moment : ℕ
@@ -171,11 +172,26 @@ abbrev pub is_bad_item : Option Instant → Option Record → Bool
 is_bad_item before None = true
 is_bad_item before (Some r) = is_late before r
 
--- the items of `data` that are no records, or out of order
-abbrev pub bad_records : Option Instant → List (ℕ × Object) → List ℕ
+-- whether a record is earlier than the one before it
+abbrev pub falls : Option Instant → Record → Bool
+falls None r = false
+falls (Some before) r = is_earlier r.time before
+
+-- the first rule of records that an item breaks which is none, or is out of order
+abbrev pub record_rule : Option Instant → Object → Option Record → SiteRule
+record_rule before o None = cond (same_kind o.head.kind kind.Obj) (cond (is_none (time_of_record o)) site_rule.Timestamp site_rule.Value) site_rule.Kind
+record_rule before o (Some r) = cond (falls before r) site_rule.Order site_rule.Late
+
+-- the part of a number breaks a rule
+abbrev pub breaks : SiteRule → ℕ → Offence SiteRule
+breaks rule n = record { part = n; rule = rule }
+
+-- the items of `data` that are no records, or out of order, each with the rule that it breaks
+abbrev pub bad_records : Option Instant → List (ℕ × Object) → List (Offence SiteRule)
 bad_records before [] = []
 bad_records before (i ∷ items) =
-    cond (is_bad_item before (record_in i.1)) (i.0 ∷ []) [] ++ bad_records (after_item before (record_in i.1)) items
+    cond (is_bad_item before (record_in i.1)) (breaks (record_rule before i.1 (record_in i.1)) i.0 ∷ []) []
+    ++ bad_records (after_item before (record_in i.1)) items
 
 -- the records that a history's `data` gives
 abbrev pub records_of : Part → List Record
@@ -195,11 +211,11 @@ abbrev pub has_bad_capacity : Part → Bool
 has_bad_capacity p = is_some (child (codes "capacity") p.own) && is_none (capacity_of p)
 
 -- the first history with which capacities, and the records of histories without one, are more than 1,000,000 together
-abbrev pub overfull : ℕ → List Part → List ℕ
+abbrev pub overfull : ℕ → List Part → List (Offence SiteRule)
 overfull sum [] = []
 overfull sum (p ∷ ps) =
     let more : ℕ = sum + stored_in (capacity_of p) (length (records_of p)) in
-    cond (nat_lt 1_000_000 more) (p.number ∷ []) (overfull more ps)
+    cond (nat_lt 1_000_000 more) (breaks site_rule.Total p.number ∷ []) (overfull more ps)
 
 -- a node outside `contracts` with this path and a kind that passes
 abbrev pub node_there : (Kind → Bool) → List Part → Path → Option Object
@@ -214,11 +230,16 @@ abbrev pub has_bad_source : List Part → Part → Bool
 has_bad_source ps p =
     unwrap_or (option_map (λ r. is_none (option_and_then (node_there has_values ps) r.head.href)) (source_ref p.own)) false
 
+-- the first of the two rules that a history breaks itself
+abbrev pub setting_rule : List Part → Part → SiteRule
+setting_rule ps p = cond (has_bad_source ps p) site_rule.Source site_rule.Capacity
+
 -- what is wrong with a part that is a history: with itself, and with the items of its `data`
-abbrev pub bad_history : List Part → Part → List ℕ
+abbrev pub bad_history : List Part → Part → List (Offence SiteRule)
 bad_history ps p =
     cond p.roles.history
-    (cond (has_bad_source ps p || has_bad_capacity p) (p.number ∷ []) [] ++ bad_records None (items_of (codes "data") p)) []
+    (cond (has_bad_source ps p || has_bad_capacity p) (breaks (setting_rule ps p) p.number ∷ []) []
+    ++ bad_records None (items_of (codes "data") p)) []
 
 -- the number of the child of a name, if it is of this kind
 abbrev pub own_number : Text → Kind → Object → Option Num
@@ -246,10 +267,14 @@ rule_on p (Some source) o =
     rule_from p (own_number (codes "low") source.head.kind o) (own_number (codes "high") source.head.kind o)
     (option_and_then (λ c. truth_in c.head.slot) (child_of (codes "needsAck") kind.Bool o))
 
+-- the path that an own `source` leads to
+abbrev pub source_path : Object → Option Path
+source_path o = option_and_then (λ r. r.head.href) (source_ref o)
+
 -- the rule that an item of `rules` is, if it is one
 abbrev pub rule_in : List Part → Object → Option PointRule
 rule_in ps o =
-    let p : Option Path = option_and_then (λ r. r.head.href) (source_ref o) in
+    let p : Option Path = source_path o in
     cond (same_kind o.head.kind kind.Obj) (rule_on p (option_and_then (node_there is_number_kind ps) p) o) None
 
 -- whether an item is no rule, or has the source of an earlier one
@@ -262,25 +287,39 @@ abbrev pub after_rule : List Path → Option PointRule → List Path
 after_rule seen None = seen
 after_rule seen (Some r) = r.source ∷ seen
 
--- the items of `rules` that are no rules, or have the source of an earlier one
-abbrev pub bad_rules : List Part → List Path → List (ℕ × Object) → List ℕ
+-- the first rule that limits break which aren't all there, or of which the high one is below the low one
+abbrev pub limits_rule : Option Num → Option Num → SiteRule
+limits_rule None high = site_rule.Low
+limits_rule (Some low) None = site_rule.High
+limits_rule (Some low) (Some high) = cond (is_below high low) site_rule.Bounds site_rule.NeedsAck
+
+-- the first rule that an obj breaks on its source, if the source is there
+abbrev pub source_rule : Option Object → Object → SiteRule
+source_rule None o = site_rule.Source
+source_rule (Some source) o =
+    limits_rule (own_number (codes "low") source.head.kind o) (own_number (codes "high") source.head.kind o)
+
+-- the first rule that an item of `rules` breaks which is none, or has the source of an earlier one
+abbrev pub alarm_rule : List Part → Object → Option PointRule → SiteRule
+alarm_rule ps o None =
+    cond (same_kind o.head.kind kind.Obj) (source_rule (option_and_then (node_there is_number_kind ps) (source_path o)) o) site_rule.Kind
+alarm_rule ps o (Some r) = site_rule.SourceTwice
+
+-- the items of `rules` that are no rules, or have the source of an earlier one, each with the rule that it breaks
+abbrev pub bad_rules : List Part → List Path → List (ℕ × Object) → List (Offence SiteRule)
 bad_rules ps seen [] = []
 bad_rules ps seen (i ∷ items) =
-    cond (is_bad_rule seen (rule_in ps i.1)) (i.0 ∷ []) [] ++ bad_rules ps (after_rule seen (rule_in ps i.1)) items
+    cond (is_bad_rule seen (rule_in ps i.1)) (breaks (alarm_rule ps i.1 (rule_in ps i.1)) i.0 ∷ []) []
+    ++ bad_rules ps (after_rule seen (rule_in ps i.1)) items
 
 -- the parts that are alarm subjects
 abbrev pub subjects : List Part → List Part
 subjects ps = filter (λ p. p.roles.subject) ps
 
 -- what is wrong with the rules of the first alarm subject, and each further one
-abbrev pub bad_subjects : List Part → List Part → List ℕ
+abbrev pub bad_subjects : List Part → List Part → List (Offence SiteRule)
 bad_subjects ps [] = []
-bad_subjects ps (p ∷ others) = bad_rules ps [] (items_of (codes "rules") p) ++ map (λ q. q.number) others
-
--- the least number
-abbrev pub least : List ℕ → Option ℕ
-least [] = None
-least (n ∷ ns) = Some (unwrap_or (option_map (λ k. cond (nat_lt k n) k n) (least ns)) n)
+bad_subjects ps (p ∷ others) = bad_rules ps [] (items_of (codes "rules") p) ++ map (λ q. breaks site_rule.SecondSubject q.number) others
 
 -- the path of a part; one with a role has one
 abbrev pub path_of : Part → Path
@@ -290,8 +329,9 @@ path_of p = unwrap_or (node_path p.own.head) []
 abbrev pub histories_in : List Part → List Part
 histories_in ps = filter (λ p. p.roles.history) ps
 
--- the part that breaks a rule of the roles, of several the first in the document
-abbrev pub bad_part : List Part → Option ℕ
+-- the part that breaks a rule of the roles, of several the first in the document; and the rule, of several at one part the first
+-- in this order: a history's source, its capacity, what all histories keep together
+abbrev pub bad_part : List Part → Option (Offence SiteRule)
 bad_part ps = least (flat_map (bad_history ps) ps ++ (overfull 0 (histories_in ps) ++ bad_subjects ps (subjects ps)))
 
 -- a time in milliseconds, rounded up
@@ -371,9 +411,9 @@ or_twice None next = next
 or_twice (Some p) next = Err (PathTwice p)
 
 -- the refusal for a part, before the next one
-abbrev pub or_bad : (ℕ → LoadFault) → Option ℕ → Result SiteState LoadFault → Result SiteState LoadFault
+abbrev pub or_bad : {A : Type 0} → (A → LoadFault) → Option A → Result SiteState LoadFault → Result SiteState LoadFault
 or_bad fault None next = next
-or_bad fault (Some n) next = Err (fault n)
+or_bad fault (Some part) next = Err (fault part)
 
 -- the refusal of a site that shows more than 200,000 parts
 abbrev pub within_size : SiteState → Result SiteState LoadFault

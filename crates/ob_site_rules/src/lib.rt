@@ -8,6 +8,7 @@ mod plan;
 mod request;
 mod resource;
 mod roles;
+mod site_rule;
 mod watch_part;
 
 pub use build::nameless;
@@ -17,4 +18,5 @@ pub use plan::{Plan, PointRule};
 pub use request::Request;
 pub use resource::Resource;
 pub use roles::Roles;
+pub use site_rule::SiteRule;
 pub use watch_part::WatchPart;
