@@ -12,7 +12,7 @@ use Rattle.ob_history.specs.declared.records.Record.{Record}
 use Rattle.ob_history.specs.declared.records.Filter.{Filter}
 use Rattle.ob_history.proofs.Order.{InOrder-left, InOrder-right, Ends, ends, low_before, low_until, filter_from, take_filter, filter_front, none_behind}
 
-ends_before : (start : Option Instant) (xs : List Record) → InOrder xs → Ends (is_before start) xs
+pub ends_before : (start : Option Instant) (xs : List Record) → InOrder xs → Ends (is_before start) xs
 ends_before (Some start) xs o = ends (λ z. int_lt z (instant start)) (low_before (instant start)) xs o
 ends_before None [] o = tt
 ends_before None (x ∷ xs) o = ((λ f. none xs), ends_before None xs o.1)
@@ -21,7 +21,7 @@ ends_before None (x ∷ xs) o = ((λ f. none xs), ends_before None xs o.1)
     none [] = tt
     none (y ∷ ys) = (refl, none ys)
 
-ends_until : (end : Option Instant) (xs : List Record) → InOrder xs → Ends (λ r. not (is_after end r)) xs
+pub ends_until : (end : Option Instant) (xs : List Record) → InOrder xs → Ends (λ r. not (is_after end r)) xs
 ends_until (Some end) xs o = ends (λ z. not (int_lt (instant end) z)) (low_until (instant end)) xs o
 ends_until None [] o = tt
 ends_until None (x ∷ xs) o = ((λ f. absurd (true≢false f)), ends_until None xs o.1)

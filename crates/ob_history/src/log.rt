@@ -1,12 +1,14 @@
 //! The log of a history.
-ghost use Rattle.std.specs.Prelude.{◌≡◌, ◌↔◌, ◌+◌, ◌-◌, ◌^◌, ◌≤◌, ◌<◌, ◌++◌, [], length, min, Some, None, All, IsTrue, OnOk, OnErr};
+ghost use Rattle.std.specs.Prelude.{◌≡◌, ◌↔◌, ◌+◌, ◌-◌, ◌^◌, ◌≤◌, ◌<◌, ◌++◌, [], length, drop, min, unwrap_or, Some, None, All, IsTrue, OnOk, OnErr};
+ghost use Rattle.std.specs.List.{enumerate_from};
 ghost use Rattle.std.specs.Option.{option_copied};
 ghost use Rattle.ob_history.specs.Records.{InOrder, IsRecord, Follows, MayFollow, asked};
 ghost use Rattle.ob_history.specs.Logs.{History, empty_log, pushed, cut_to, settled, kept_since};
+ghost use Rattle.ob_history.specs.Queries.{numbered};
 
-use crate::records::{Filter, Record};
+use crate::records::{Filter, Query, Record, Stretch};
 use crate::ring::{keep_first, keep_newest, last, make_room, push_last};
-use crate::slices::{between, end_until, first_from};
+use crate::slices::{asked_of, between};
 use circular_buffer::HeapCircularBuffer;
 use std::alloc::{AllocError, Global};
 use std::marker::Model;
@@ -53,15 +55,6 @@ fn follows(last: Option<&Record>, entry: &Record) -> bool
         Some(last) => last.time.instant() <= entry.time.instant(),
         None => true,
     }
-}
-
-// Where the answer to a query ends that begins at `from`, where `to` is the end without a limit.
-fn limited(from: usize, to: usize, limit: u64) -> usize
-    requires { to < 2 ^ 63 }
-    ensures { result ≡ from + min limit (to - from) }
-{
-    let found = to.saturating_sub(from);
-    from + found.min(limit as usize)
 }
 
 impl Log {
@@ -164,6 +157,21 @@ impl Log {
         }
     }
 
+    // The kept records from an event number on, in two slices, and the event number of the first of them.
+    fn from_number<'a>(&'a self, from: u64) -> (u64, &'a [Record], &'a [Record])
+        ensures number { result.0 ≡ self.entry.now.gone + min (from - self.entry.now.gone) (length self.entry.now.kept) }
+        ensures value { result.1.now ++ result.2.now ≡ kept_since from self.entry.now }
+        ensures in_order { InOrder (result.1.now ++ result.2.now) }
+        ensures counted { result.0 + length (result.1.now ++ result.2.now) < 2 ^ 63 }
+        ensures records { All IsRecord (result.1.now ++ result.2.now) }
+    {
+        let (front, back) = self.slices();
+        let len = front.len() + back.len();
+        let before = (from.saturating_sub(self.gone) as usize).min(len);
+        let (front, back) = between((front, back), before, len);
+        (self.gone + before as u64, front, back)
+    }
+
     /// What a filter asks for, in two slices: the first `limit` of the kept records that it passes, in
     /// their order. Both bounds are found by halving, and nothing is copied.
     pub fn range<'a>(&'a self, filter: &Filter) -> (&'a [Record], &'a [Record])
@@ -171,11 +179,26 @@ impl Log {
         ensures records { All IsRecord (result.0.now ++ result.1.now) }
     {
         let (front, back) = self.slices();
-        let from = first_from(front, back, &filter.start);
-        let last = limited(from, front.len() + back.len(), filter.limit);
-        let (front, back) = between((front, back), from, last);
-        let to = end_until(front, back, &filter.end);
-        between((front, back), 0, to)
+        let (_early, front, back) = asked_of(front, back, filter);
+        (front, back)
+    }
+
+    /// What a query asks for: the first `limit` of the kept records that its filter passes and whose
+    /// number is at least its `from`, where it gives one, in their order, and the number of the first of
+    /// them. As with `range` nothing is copied.
+    pub fn query<'a>(&'a self, query: &Query) -> Stretch<'a>
+        ensures value { enumerate_from result.first (result.front.now ++ result.back.now) ≡ numbered query.now self.entry.now.gone self.entry.now.kept }
+        ensures kept { result.front.now ++ result.back.now ≡ asked query.now.filter (drop (unwrap_or query.now.from 0 - self.entry.now.gone) self.entry.now.kept) }
+        ensures counted { result.first < 2 ^ 63 }
+        ensures records { All IsRecord (result.front.now ++ result.back.now) }
+    {
+        let (number, front, back) = self.from_number(query.from.unwrap_or(0));
+        let (early, front, back) = asked_of(front, back, &query.filter);
+        Stretch {
+            first: number + early as u64,
+            front,
+            back,
+        }
     }
 
     /// The kept records from an event number on, the first event ever being 0, in two slices.
@@ -183,9 +206,7 @@ impl Log {
         ensures value { result.0.now ++ result.1.now ≡ kept_since from self.entry.now }
         ensures records { All IsRecord (result.0.now ++ result.1.now) }
     {
-        let (front, back) = self.slices();
-        let len = front.len() + back.len();
-        let from = (from.saturating_sub(self.gone) as usize).min(len);
-        between((front, back), from, len)
+        let (_number, front, back) = self.from_number(from);
+        (front, back)
     }
 }

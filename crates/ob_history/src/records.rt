@@ -47,3 +47,21 @@ pub struct Filter {
     pub start: Option<Abstime>,
     pub end: Option<Abstime>,
 }
+
+/// What a query of a history asks for: what its filter says, of those records alone whose number is at
+/// least `from`, where it gives one. The first record that a history ever had has the number 0.
+///
+/// Source: this profile's own; oBIX 1.1, section 14.2 (HistoryFilter), asks by times alone.
+#[derive(Clone, Copy)]
+pub struct Query {
+    pub filter: Filter,
+    pub from: Option<u64>,
+}
+
+/// Records that stand one behind the other in a log, in two slices, and the number of the first of them.
+/// Where there are none, the number says nothing.
+pub struct Stretch<'a> {
+    pub first: u64,
+    pub front: &'a [Record],
+    pub back: &'a [Record],
+}
