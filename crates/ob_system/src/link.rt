@@ -4,10 +4,10 @@ ghost use Rattle.std.specs.Io.{ReadsAtMost, WritesAtMost};
 
 use crate::crowd::Crowd;
 use crate::standard::{read_some, write_some};
-use crate::wait_time::{IDLE_S, LOOK_S, WaitTime};
+use crate::wait_time::{Deadline, IDLE_S, LOOK_S, WaitTime};
 use ob_io::{Failed, Link};
 use std::io;
-use std::io::{ErrorKind, Read, Write};
+use std::io::ErrorKind;
 use std::net::{Shutdown, TcpStream};
 use std::rt::Clock as Timer;
 use std::time::{Duration, Instant};
@@ -23,7 +23,8 @@ const PIECE: usize = 4_096;
 /// A connection over TCP. A write that takes nothing is a fault, and so is a call that waits too long: for a peer that is
 /// silent or takes nothing, or, with the calls since the last one in the other direction, for 300 seconds in all. A link of a
 /// port is between requests where nothing was read since it was accepted or last written to: then a read is a fault, too, once
-/// it has waited 5 seconds while somebody else waits at the door in vain. Where the port is closed, all calls that wait are.
+/// it has waited 5 seconds while somebody else waits at the door in vain. Where the port is closed, all calls that wait are. A link
+/// with a deadline has no call that ends well after it.
 #[derive(Drop)]
 pub struct TcpLink<'a, R> {
     stream: TcpStream,
@@ -38,6 +39,8 @@ pub struct TcpLink<'a, R> {
     read_wait: Duration,
     /// How long writes have waited since the last read.
     write_wait: Duration,
+    /// When all calls have to have ended, where that is limited.
+    deadline: Option<Deadline>,
     pub(crate) read_faults: u64,
     pub(crate) write_faults: u64,
 }
@@ -64,9 +67,17 @@ impl<'a, R: Timer> TcpLink<'a, R> {
             is_between: true,
             read_wait: Duration::ZERO,
             write_wait: Duration::ZERO,
+            deadline: None,
             read_faults: 0,
             write_faults: 0,
         })
+    }
+
+    /// All calls from now on have to end by then.
+    pub(crate) fn end_by(&mut self, deadline: Deadline)
+        ensures { (self.new.read_faults ≡ self.old.read_faults) × (self.new.write_faults ≡ self.old.write_faults) }
+    {
+        self.deadline = Some(deadline);
     }
 
     /// How long its calls may wait.
@@ -76,6 +87,7 @@ impl<'a, R: Timer> TcpLink<'a, R> {
             silence_s: self.silence_s,
             crowd: self.crowd,
             is_between,
+            deadline: self.deadline,
         }
     }
 
@@ -137,9 +149,22 @@ struct Patience<'a, R> {
     crowd: Option<&'a Crowd>,
     /// Whether the call is a read between requests.
     is_between: bool,
+    deadline: Option<Deadline>,
 }
 
 impl<'a, R: Timer> Patience<'a, R> {
+    /// Lets the stream wait until the deadline, where there is one, or the next look before it. Fails where the time is up.
+    fn limit(&self, stream: &TcpStream) -> io::Result<()> {
+        let Some(deadline) = &self.deadline else {
+            return Ok(());
+        };
+        let left = deadline.left(self.timer);
+        let look = Some(left.min(Duration::from_secs(LOOK_S)));
+        // No time left is refused.
+        stream.set_read_timeout(look)?;
+        stream.set_write_timeout(look)
+    }
+
     /// Whether a call that has waited so may wait on.
     fn is_left(&self, wait: &WaitTime) -> bool {
         wait.is_left(self.timer, self.silence_s) && !self.gives_way(wait)
@@ -155,17 +180,18 @@ impl<'a, R: Timer> Patience<'a, R> {
     }
 
     /// A read that waits as long as it may, and adds to how long reads have waited.
-    fn read<S: Read>(
+    fn read(
         &self,
         waited: &mut Duration,
-        reader: &mut S,
+        stream: &mut TcpStream,
         buf: &mut [u8],
     ) -> io::Result<usize>
         ensures { ReadsAtMost result buf.new }
     {
         let wait = WaitTime::new(self.timer, *waited)?;
         for _ in 0..u64::MAX {
-            match read_some(reader, buf) {
+            self.limit(stream)?;
+            match read_some(stream, buf) {
                 Err(fault) if fault.kind() == ErrorKind::WouldBlock && self.is_left(&wait) => {}
                 read => {
                     *waited = wait.total(self.timer);
@@ -177,17 +203,18 @@ impl<'a, R: Timer> Patience<'a, R> {
     }
 
     /// A write that waits as long as it may, and adds to how long writes have waited.
-    fn write<S: Write>(
+    fn write(
         &self,
         waited: &mut Duration,
-        writer: &mut S,
+        stream: &mut TcpStream,
         piece: &[u8],
     ) -> io::Result<usize>
         ensures { WritesAtMost result piece.now }
     {
         let wait = WaitTime::new(self.timer, *waited)?;
         for _ in 0..u64::MAX {
-            match write_some(writer, piece) {
+            self.limit(stream)?;
+            match write_some(stream, piece) {
                 Err(fault) if fault.kind() == ErrorKind::WouldBlock && self.is_left(&wait) => {}
                 written => {
                     *waited = wait.total(self.timer);
@@ -237,5 +264,9 @@ impl<'a, R: Timer> Link for TcpLink<'a, R> {
         }
         self.write_faults = self.write_faults.saturating_add(1);
         Err(Failed)
+    }
+
+    fn within(&mut self, ms: u32) {
+        self.end_by(Deadline::after(self.timer, ms));
     }
 }

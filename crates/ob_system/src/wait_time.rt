@@ -1,4 +1,4 @@
-//! How long a call waits for the peer.
+//! How long a call waits for the peer, and when all that is asked of it has to have ended.
 
 use std::io;
 use std::io::ErrorKind;
@@ -54,5 +54,34 @@ impl WaitTime {
     /// How long all of them have waited.
     pub fn total<R: Timer>(&self, timer: &R) -> Duration {
         self.before.saturating_add(self.so_far(timer))
+    }
+}
+
+/// When all that is asked of a peer has to have ended.
+#[derive(Clone, Copy, Drop)]
+pub struct Deadline {
+    /// From when on the time counts; None where the timer couldn't be read.
+    begun: Option<Instant>,
+    limit: Duration,
+}
+
+impl Deadline {
+    /// So many milliseconds from now on.
+    pub fn after<R: Timer>(timer: &R, ms: u32) -> Deadline {
+        Deadline {
+            begun: Instant::now(timer).ok(),
+            limit: Duration::from_millis(u64::from(ms)),
+        }
+    }
+
+    /// How much time is left. With a timer that fails there is none.
+    pub fn left<R: Timer>(&self, timer: &R) -> Duration {
+        let Some(begun) = &self.begun else {
+            return Duration::ZERO;
+        };
+        match begun.elapsed(timer) {
+            Ok(gone) => self.limit.saturating_sub(gone),
+            Err(_) => Duration::ZERO,
+        }
     }
 }

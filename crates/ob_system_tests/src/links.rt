@@ -225,6 +225,40 @@ fn waits<'a>(
     gives_way
 }
 
+/// Whether a call on a link whose peer says nothing is a fault by its deadline, each time that it gets one, and not before.
+fn keeps_time(rt: &HostRuntime, near: &mut TcpLink<'_, HostRuntime>) -> bool {
+    let begun = Instant::now(rt);
+    let mut piece = [0u8; 8];
+    let is_first = near.read(&mut piece).is_err() && near.read_fault_count() == 1;
+    near.within(1_500);
+    let is_second = near.read(&mut piece).is_err() && near.read_fault_count() == 2;
+    let Ok(begun) = begun else {
+        return false;
+    };
+    match begun.elapsed(rt) {
+        Ok(gone) => is_first && is_second && gone.as_millis() >= 1_700 && gone.as_secs() < 15,
+        Err(_) => false,
+    }
+}
+
+/// Whether a link that was dialled with a limit of a fifth of a second keeps it, while its peer says nothing.
+fn is_limited<'a>(
+    rt: &'a HostRuntime,
+    door: &mut TcpDoor<'a, HostRuntime>,
+    dialer: &mut TcpDialer<'a, HostRuntime>,
+    number: u16,
+) -> bool {
+    let Ok(mut near) = dialer.dial_within("127.0.0.1", number, 200) else {
+        return false;
+    };
+    let Ok(Some(far)) = door.accept() else {
+        return false;
+    };
+    let is_limited = keeps_time(rt, &mut near);
+    drop(far);
+    is_limited
+}
+
 /// Whether a port that is closed lets nobody in any more: its doors hand out nothing, and who dials is refused.
 fn is_shut<'a>(
     port: &mut TcpPort<'a, HostRuntime>,
@@ -252,11 +286,12 @@ fn is_left<'a>(rt: &'a HostRuntime, crowd: &'a Crowd) -> bool {
         return false;
     };
     let waits = waits(rt, &mut door, &mut dialer, number);
-    waits && is_shut(&mut port, &mut door, &mut dialer, number)
+    let is_limited = is_limited(rt, &mut door, &mut dialer, number);
+    waits && is_limited && is_shut(&mut port, &mut door, &mut dialer, number)
 }
 
 #[test]
-fn idle_links_give_way_and_a_closed_port_lets_nobody_in(rt: HostRuntime) {
+fn links_end_in_time_and_a_closed_port_lets_nobody_in(rt: HostRuntime) {
     let crowd = Crowd::new();
     assert!(rt;
         is_left(&rt, &crowd),
