@@ -229,6 +229,16 @@ impl<L: Link> Session<L> {
         answer
     }
 
+    /// All reads and writes of the calls from now on, until the next such call, may take so many milliseconds together, as the
+    /// link's `within` has it.
+    pub fn within(&mut self, ms: u32)
+        ensures bytes { (L.left self.new.link ≡ L.left self.old.link) × (L.taken self.new.link ≡ L.taken self.old.link) × (L.held self.new.link ≡ L.held self.old.link) }
+        ensures faults { (L.read_faults self.new.link ≡ L.read_faults self.old.link) × (L.write_faults self.new.link ≡ L.write_faults self.old.link) }
+        ensures stands { (self.new.host ≡ self.old.host) × (self.new.framer ≡ self.old.framer) × (self.new.is_dead ≡ self.old.is_dead) }
+    {
+        self.link.within(ms);
+    }
+
     /// The link.
     pub fn end(self) -> L
         ensures { result ≡ self.link }
