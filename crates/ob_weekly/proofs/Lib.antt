@@ -9,3 +9,4 @@ pub mod Force
 pub mod Rows
 pub mod Again
 pub mod Behind
+pub mod Quiet

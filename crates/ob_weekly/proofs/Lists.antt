@@ -1,5 +1,5 @@
 -- Places in lists, and the last of a list in order.
-use Rattle.std.proofs.Common.{◌≡◌, ℕ, ◌+◌, ◌<◌, ◌≤◌, List, [], ◌∷◌, length, false, refl, ap, sym, subst, ◌∙◌, arith, inl, inr, Some, None, ℤ, ◌<ℤ◌}
+use Rattle.std.proofs.Common.{◌≡◌, ℕ, ◌+◌, ◌<◌, ◌≤◌, List, [], ◌∷◌, length, false, refl, ap, sym, subst, ◌∙◌, arith, inl, inr, Some, None, ℤ, ◌<ℤ◌, ◌≤ℤ◌}
 use Rattle.std.specs.Prelude.{zero, suc, slice_get, slice_index_or}
 use Rattle.std.specs.declared.cmp.Ordering.{Ordering}
 use Rattle.std.specs.declared.cmp.Ordering.TheVariants.{Less, Equal, Greater}
@@ -71,6 +71,24 @@ last_of R total (y ∷ ys) (suc k) x end at sorted d c =
       | inl e ↦ (let before = of_all (λ z. R y z ≡ Less) ys x sorted.0 (at_in ys k x at) in subst (λ z. is_gt (R z x) ≡ false) e (ap is_gt before))
       | inr later ↦ last_of R total ys k x (omega (arith, end)) at sorted.1 d later
     ]
+
+upto_of : (o p : Ordering) (a b : ℤ) → ordering_then o p ≡ Less → MatchOrdering o (a <ℤ b) (a ≡ b) (b <ℤ a) → a ≤ℤ b
+upto_of Less p a b e m = omega (arith, ints, m)
+upto_of Equal p a b e m = omega (arith, ints, m)
+upto_of Greater p a b e m = absurd (let f : Greater ≡ Less = e in cc)
+
+-- none fires before the first of a list in order
+pub first_at : (x : Due) (xs : List Due) → IsStrictlySortedBy due_cmp (x ∷ xs) → (d : Due) → Contains (x ∷ xs) d → x.at ≤ℤ d.at
+unfolding IsStrictlySortedBy
+first_at x xs sorted d c =
+    elim (first_or x d xs c) [
+      | inl e ↦ subst (λ z. x.at ≤ℤ z.at) e (omega (arith, ints))
+      | inr later ↦ upto_of (int_cmp x.at d.at) _ x.at d.at (of_all (λ z. due_cmp x z ≡ Less) xs d sorted.0 later) (int_ranked x.at d.at (int_cmp x.at d.at) refl)
+    ]
+
+pub first_of : (xs : List Due) (x : Due) → IsStrictlySortedBy due_cmp xs → (d : Due) → Contains xs d → slice_get xs 0 ≡ Some x → x.at ≤ℤ d.at
+first_of [] x sorted d c at = absurd (not_in_none d c)
+first_of (y ∷ ys) x sorted d c at = subst (λ z. z.at ≤ℤ d.at) (some_one y x at) (first_at y ys sorted d c)
 
 gt_of : (o p : Ordering) (a b : ℤ) → a <ℤ b → MatchOrdering o (a <ℤ b) (a ≡ b) (b <ℤ a) → is_gt (ordering_then o p) ≡ false
 gt_of Less p a b lt m = refl

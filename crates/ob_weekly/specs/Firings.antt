@@ -1,5 +1,5 @@
 -- The firings of schedules, and the value in force.
-use Rattle.std.specs.Prelude.{◌≡◌, ◌↔◌, ℕ, List, map, pos, ◌+ℤ◌, ◌<ℤ◌, ◌≤ℤ◌, unsigned_abs, Some, slice_get, false}
+use Rattle.std.specs.Prelude.{◌≡◌, ◌↔◌, ◌⊎◌, ℕ, ◌+◌, ◌≤◌, List, map, pos, ◌+ℤ◌, ◌<ℤ◌, ◌≤ℤ◌, unsigned_abs, Some, slice_get, false}
 use Rattle.std.specs.declared.cmp.Ordering.{Ordering}
 use Rattle.std.specs.List.{Contains}
 use Rattle.std.specs.List.Sorted.{IsStrictlySortedBy}
@@ -53,3 +53,16 @@ pub record IsInForce (zone : TimeZone) (schedules : List Schedule) (schedule mom
   pub past : last.at ≤ℤ pos moment
   pub none_later : (d : Due) → IsDue zone schedules d → d.schedule ≡ schedule → d.at ≤ℤ pos moment → is_gt (due_cmp d last) ≡ false
   pub slot_is : slot ≡ is.entry.slot
+
+-- nothing fires after a moment and up to another
+abbrev pub IsQuiet : TimeZone → List Schedule → ℕ → ℕ → Type 0
+IsQuiet zone schedules from to = (d : Due) → IsDue zone schedules d → pos from <ℤ d.at → d.at ≤ℤ pos to → ⊥
+
+-- something fires in the millisecond behind a moment
+abbrev pub HasNext : TimeZone → List Schedule → ℕ → Type 0
+HasNext zone schedules until = (d : Due) × IsDue zone schedules d × (d.at ≡ pos until +ℤ pos 1)
+
+-- Quiet until just before the next firing after a moment, or for 8 days, or up to the end of time.
+pub record IsQuietUntil (zone : TimeZone) (schedules : List Schedule) (from until : ℕ) : Type 0 where
+  pub quiet : IsQuiet zone schedules from until
+  pub next : HasNext zone schedules until ⊎ ((from + 691_200_000 ≤ until) ⊎ (until ≡ 253_402_300_799_999))

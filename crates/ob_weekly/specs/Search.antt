@@ -1,5 +1,5 @@
 -- How firings are looked for; no public clause stands on this.
-use Rattle.std.specs.Prelude.{◌≡◌, ◌↔◌, ◌⊎◌, ℕ, ◌+◌, ◌*◌, ◌<◌, List, ℤ, pos, ◌*ℤ◌, ◌<ℤ◌, ◌≤ℤ◌, Some, slice_get}
+use Rattle.std.specs.Prelude.{◌≡◌, ◌↔◌, ◌⊎◌, ℕ, ◌+◌, ◌*◌, ◌<◌, List, ℤ, pos, ◌+ℤ◌, ◌*ℤ◌, ◌<ℤ◌, ◌≤ℤ◌, Some, slice_get}
 use Rattle.std.specs.List.{Contains}
 use Rattle.std.specs.List.Sorted.{IsStrictlySortedBy}
 use Rattle.jiff.specs.Types.{DateTime, TimeZone}
@@ -87,3 +87,9 @@ pub record AreAll (P : Due → Type 0) (dues : List Due) : Type 0 where
 -- in order, all that is due after the first instant and up to the second, and nothing else
 abbrev pub AreDue : TimeZone → List Schedule → ℤ → ℤ → List Due → Type 0
 AreDue zone schedules low to dues = AreAll (IsDueAmong zone schedules low to) dues
+
+-- a moment is just before the first of what is due
+abbrev pub IsJustBefore : List Due → ℕ → Type 0
+IsJustBefore dues moment =
+    (first : Due) × Contains dues first × (first.at ≡ pos moment +ℤ pos 1)
+    × (IsStrictlySortedBy due_cmp dues → (d : Due) → Contains dues d → first.at ≤ℤ d.at)

@@ -228,3 +228,12 @@ pub(crate) fn last_due(dues: &[Due]) -> Due
 {
     dues[dues.len() - 1]
 }
+
+/// The first of what is due.
+pub(crate) fn first_due(dues: &[Due]) -> Due
+    requires { 1 ≤ length dues.now }
+    ensures one { Contains dues.now result }
+    ensures first { IsStrictlySortedBy due_cmp dues.now → (d : Plain) → Contains dues.now d → result.at ≤ℤ d.at }
+{
+    dues[0]
+}

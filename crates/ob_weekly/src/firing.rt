@@ -1,14 +1,16 @@
 //! Firings, and the value in force.
-ghost use Rattle.std.specs.Prelude.{◌≡◌, ◌⊎◌, ◌<◌, ◌≤◌, length, map, slice_get, pos, neg_ℤ, ◌+ℤ◌, ◌-ℤ◌, ◌≤ℤ◌, Some, IfOk};
+ghost use Rattle.std.specs.Prelude.{◌≡◌, ◌⊎◌, ◌<◌, ◌≤◌, true, false, length, map, slice_get, pos, neg_ℤ, ◌+ℤ◌, ◌-ℤ◌, ◌≤ℤ◌, Some, IfOk};
 ghost use Rattle.std.specs.List.{All};
 ghost use Rattle.jiff.specs.Words.{IsBetween, plain_zone};
 ghost use Rattle.ob_weekly.specs.declared.schedule.Entry.{Entry as Weekly};
 ghost use Rattle.ob_weekly.specs.Schedules.{IsEntry, IsWeekly};
-ghost use Rattle.ob_weekly.specs.Search.{IsDueIn, AreAll, AreDue};
+ghost use Rattle.ob_weekly.specs.Search.{IsDueIn, AreAll, AreDue, IsJustBefore};
 ghost use Rattle.ob_weekly.specs.Zones.{FiresAt};
-ghost use Rattle.ob_weekly.specs.Firings.{AreFirings, IsInForce, firing_of};
+ghost use Rattle.ob_weekly.specs.Firings.{AreFirings, IsInForce, IsQuiet, IsQuietUntil, HasNext, firing_of};
 
-use crate::due::{Due, Span, day_of, last_due, push_entries, push_schedules, put_in_order};
+use crate::due::{
+    Due, Span, day_of, first_due, last_due, push_entries, push_schedules, put_in_order,
+};
 use crate::instant::some_firing;
 use crate::schedule::{Entry, Schedule, Schedules, entries_at, entry_at};
 use jiff::tz::TimeZone;
@@ -18,6 +20,18 @@ use std::alloc::{AllocError, Global};
 
 /// How long before a moment a firing may lie that is still told, in milliseconds.
 const WINDOW: i64 = 3_024_000_000;
+
+/// How far the next firing is looked for at first, in milliseconds: an hour.
+const HOUR: i64 = 3_600_000;
+
+/// And then: a day.
+const DAY: i64 = 86_400_000;
+
+/// And at last. An entry fires within 8 days.
+const LONGEST: i64 = 691_200_000;
+
+/// The last of all moments.
+const LAST: i64 = 253_402_300_799_999;
 
 /// An entry fires.
 #[derive(Clone, Copy, PartialEq, Eq)]
@@ -117,7 +131,86 @@ fn slot_at(entries: &[Entry], place: usize) -> &Slot
     &entry.slot
 }
 
+/// The moment so many milliseconds after another, or the last of all.
+fn later(from: Moment, ms: i64) -> Moment
+    requires { IsBetween (pos 0) (pos 691_200_000) ms }
+    ensures behind { from ≤ result }
+    ensures is { (pos result ≡ pos from +ℤ ms) ⊎ (result ≡ 253_402_300_799_999) }
+{
+    let far = from.ms() as i64 + ms;
+    let to = if far < LAST { far } else { LAST };
+    match Moment::new(to as u64) {
+        Some(to) => to,
+        None => unreachable!(),
+    }
+}
+
+/// The moment before the first of what is due.
+fn just_before(dues: &[Due]) -> Moment
+    requires some { 1 ≤ length dues.now }
+    requires range { All (λ d. IsBetween (pos 1) (pos 253_402_300_799_999) d.at) dues.now }
+    ensures { IsJustBefore dues.now result }
+{
+    let first = first_due(dues);
+    match Moment::new((first.at - 1) as u64) {
+        Some(moment) => moment,
+        None => unreachable!(),
+    }
+}
+
+/// How long it is quiet, as far as was looked.
+#[derive(Clone, Copy)]
+struct Quiet {
+    until: Moment,
+    /// Whether something fires in the millisecond behind.
+    is_next: bool,
+}
+
 impl Schedules {
+    /// How long it is quiet after a moment, looked for so many milliseconds far. An error only for want of memory.
+    fn quiet_within(&self, alloc: Global, from: Moment, ms: i64) -> Result<Quiet, AllocError>
+        requires { IsBetween (pos 0) (pos 691_200_000) ms }
+        ensures quiet { IfOk result (λ q. IsQuiet (plain_zone self.now.zone) self.now.list.items from q.until) }
+        ensures next { IfOk result (λ q. q.is_next ≡ true → HasNext (plain_zone self.now.zone) self.now.list.items q.until) }
+        ensures far { IfOk result (λ q. q.is_next ≡ false → (pos q.until ≡ pos from +ℤ ms) ⊎ (q.until ≡ 253_402_300_799_999)) }
+    {
+        let to = later(from, ms);
+        let dues = all_due(
+            alloc,
+            &self.zone,
+            &self.list,
+            from.ms() as i64,
+            to.ms() as i64,
+        )?;
+        if dues.is_empty() {
+            return Ok(Quiet {
+                until: to,
+                is_next: false,
+            });
+        }
+        Ok(Quiet {
+            until: just_before(&dues),
+            is_next: true,
+        })
+    }
+
+    /// Until when nothing fires after a moment: just before the next firing, or where none is so near, for 8 days or up to the
+    /// last of all moments. An error only for want of memory.
+    pub fn quiet_until(&self, alloc: Global, from: Moment) -> Result<Moment, AllocError>
+        ensures { IfOk result (λ until. IsQuietUntil (plain_zone self.now.zone) self.now.list.items from until) }
+    {
+        let hour = self.quiet_within(alloc, from, HOUR)?;
+        if hour.is_next {
+            return Ok(hour.until);
+        }
+        let day = self.quiet_within(alloc, from, DAY)?;
+        if day.is_next {
+            return Ok(day.until);
+        }
+        let longest = self.quiet_within(alloc, from, LONGEST)?;
+        Ok(longest.until)
+    }
+
     /// The firings after a moment and up to another, by instant, then by the place of the schedule, then by day and time; but
     /// none that lies more than 3,024,000,000 ms before the second moment. An error only for want of memory.
     pub fn firings(
