@@ -9,8 +9,9 @@ use Rattle.ob_object.specs.declared.head.Slot.TheVariants.{Is}
 use Rattle.ob_object.specs.Kinds.{same_kind}
 use Rattle.ob_object.specs.Object.{Object}
 use Rattle.ob_history.specs.declared.records.Record.{Record}
-use Rattle.ob_history.specs.declared.records.Filter.{Filter}
+use Rattle.ob_history.specs.declared.records.Query.{Query}
 use Rattle.ob_history.specs.Filters.{filter_of}
+use Rattle.ob_history.specs.Queries.{query_of}
 use Rattle.ob_alarms.specs.Changes.{State as Board, alarm_of, on_ack}
 use Rattle.ob_alarms.specs.declared.alarm.Alarm.{Alarm}
 use Rattle.ob_site_rules.specs.Build.{Text, Path, child}
@@ -43,9 +44,9 @@ abbrev pub write_point : Plan → State → ℕ → Path → Option Object → S
 write_point plan s now p None = (s, err OtherShape)
 write_point plan s now p (Some new) = write_by plan s now p (unwrap_or (shown plan s p) new) None new
 
--- the answer for a filter, where the input is one
-abbrev pub query : (Filter → Object) → Option Object → Object
-query out input = unwrap_or (option_map out (filter_of input)) (err OtherShape)
+-- the answer for what an input asks for, where it asks for something
+abbrev pub query : {Asked : Type 0} → (Asked → Object) → Option Asked → Object
+query out asked = unwrap_or (option_map out asked) (err OtherShape)
 
 -- the records that a log, if there is one, keeps
 abbrev pub kept_in : Option Log → List Record
@@ -55,6 +56,11 @@ kept_in (Some l) = l.kept
 -- the kept records of a history
 abbrev pub records_of : State → Path → List Record
 records_of s h = kept_in (at h s.logs)
+
+-- what a log answers to a query: one that isn't there has no records
+abbrev pub log_out : Option Log → Query → Object
+log_out None q = records_out q 0 []
+log_out (Some l) q = records_out q l.gone l.kept
 
 -- the text of a slot that is a str
 abbrev pub text_of : Slot → Option Text
@@ -104,6 +110,6 @@ acknowledge plan s now number input =
 abbrev pub call : Plan → State → ℕ → Resource → Option Object → State × Object
 call plan s now (AckOf n) input = acknowledge plan s now n (or_nil input)
 call plan s now (WritePointOf p) input = write_point plan s now p (child_of_obj (codes "value") (or_nil input))
-call plan s now (QueryOf h) input = (s, query (λ f. records_out f (records_of s h)) input)
-call plan s now AlarmQuery input = (s, query (alarms_out (board plan s)) input)
+call plan s now (QueryOf h) input = (s, query (log_out (at h s.logs)) (query_of input))
+call plan s now AlarmQuery input = (s, query (alarms_out (board plan s)) (filter_of input))
 call plan s now _ input = (s, err NotSupported)
