@@ -57,7 +57,7 @@ impl AuditEnd {
             | LoadFault::Href { .. }
             | LoadFault::Contract(_)
             | LoadFault::PathTwice { .. }
-            | LoadFault::Rule { .. }
+            | LoadFault::Rule(_)
             | LoadFault::Size => AuditEnd::NoSite(fault),
         }
     }

@@ -53,7 +53,7 @@ impl ServeEnd {
             | LoadFault::Href { .. }
             | LoadFault::Contract(_)
             | LoadFault::PathTwice { .. }
-            | LoadFault::Rule { .. }
+            | LoadFault::Rule(_)
             | LoadFault::Size => ServeEnd::Refused(fault),
         }
     }

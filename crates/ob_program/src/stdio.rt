@@ -64,7 +64,7 @@ impl StdioEnd {
             | LoadFault::Href { .. }
             | LoadFault::Contract(_)
             | LoadFault::PathTwice { .. }
-            | LoadFault::Rule { .. }
+            | LoadFault::Rule(_)
             | LoadFault::Size => StdioEnd::Refused(fault),
         }
     }

@@ -13,7 +13,8 @@ use Rattle.ob_parts.specs.Offences.{unless, needs, each}
 use Rattle.ob_parts.proofs.Needed.{said_some, judged_nil}
 use Rattle.ob_weekly.specs.declared.schedule.Entry.{Entry}
 use Rattle.ob_weekly.specs.declared.schedule.Schedule.{Schedule}
-use Rattle.ob_schedule.specs.Forms.{point_text, point_said, is_text, right_point, is_point, is_written, slot_given, is_value, is_day, is_time, is_zone, is_list, is_same_time, week_time, entry_offences, point_of, schedule_offences, offences}
+use Rattle.ob_schedule.specs.Forms.{point_text, point_said, is_text, right_point, is_point, is_written, slot_given, is_value, is_day, is_time, is_zone, is_list, is_same_time, week_time, entry_offences, point_of, schedule_offences, offences, point_rule, value_rule}
+use Rattle.ob_schedule.specs.declared.rule.ScheduleRule.TheVariants as rule
 use Rattle.ob_values.proofs.Bools.{both_true}
 use Rattle.ob_schedule.proofs.Right.{append_nil, listed_is}
 use Rattle.ob_schedule.specs.PointRules.{PointRules, Text}
@@ -28,12 +29,12 @@ pub record EntryFits (site : PointRules) (t : Text) (k : Kind) (e : Object) : Ty
 
 entry_fits : (site : PointRules) (t : Text) (k : Kind) (before : List Object) (p : Part) → entry_offences site (Some (t, k)) before p ≡ [] → EntryFits site t k p.object
 entry_fits site t k before p e =
-    let once = unless (not (list_any (λ other. is_same_time (week_time other) (week_time p.object)) before)) p in
-    let value = needs (codes "value") (is_value site (Some (t, k))) p in
-    let day = needs (codes "day") is_day p in
-    let time = needs (codes "at") is_time p in
-    let two = (append_nil value once (append_nil time (value ++ once) (append_nil day (time ++ (value ++ once)) (append_nil (unless (same_kind p.object.head.kind kind.Obj) p) (day ++ (time ++ (value ++ once))) e).1).1).1).0 in
-    let d = judged_nil (is_value site (Some (t, k))) p (child (codes "value") p) two in
+    let once = unless (not (list_any (λ other. is_same_time (week_time other) (week_time p.object)) before)) rule.TimeTwice p in
+    let value = needs (codes "value") (value_rule (Some (t, k))) (is_value site (Some (t, k))) p in
+    let day = needs (codes "day") (λ _. rule.Day) is_day p in
+    let time = needs (codes "at") (λ _. rule.At) is_time p in
+    let two = (append_nil value once (append_nil time (value ++ once) (append_nil day (time ++ (value ++ once)) (append_nil (unless (same_kind p.object.head.kind kind.Obj) rule.Kind p) (day ++ (time ++ (value ++ once))) e).1).1).1).0 in
+    let d = judged_nil (value_rule (Some (t, k))) (is_value site (Some (t, k))) p (child (codes "value") p) two in
     let right = both_true (same_kind d.0.object.head.kind k) (is_written site t (slot_given d.0.object.head.kind d.0.object.head.slot)) d.2 in
     record {
       slot = ap (λ o. is_written site t (unwrap_or o Null)) (said_some (codes "value") slot_in p d.0 d.1) ∙ right.1;
@@ -105,13 +106,13 @@ schedule_fits : (site : PointRules) (before : List Object) (p : Part) → schedu
 schedule_fits site before p e =
     let judge = entry_offences site (point_of site before p.object) in
     let listed = each judge [] (inside_child (codes "entries") p) in
-    let list = needs (codes "entries") (is_list 1 100) p in
-    let point = needs (codes "point") (is_point site before) p in
-    let from_point = append_nil point (list ++ listed) (append_nil (unless (same_kind p.object.head.kind kind.Obj) p) (point ++ (list ++ listed)) e).1 in
+    let list = needs (codes "entries") (λ _. rule.Entries) (is_list 1 100) p in
+    let point = needs (codes "point") (point_rule site) (is_point site before) p in
+    let from_point = append_nil point (list ++ listed) (append_nil (unless (same_kind p.object.head.kind kind.Obj) rule.Kind p) (point ++ (list ++ listed)) e).1 in
     let from_list = append_nil list listed from_point.1 in
-    let d = judged_nil (is_point site before) p (child (codes "point") p) from_point.0 in
+    let d = judged_nil (point_rule site) (is_point site before) p (child (codes "point") p) from_point.0 in
     let right = right_of site before d.0.object d.2 in
-    let l = judged_nil (is_list 1 100) p (child (codes "entries") p) from_list.0 in
+    let l = judged_nil (λ _. rule.Entries) (is_list 1 100) p (child (codes "entries") p) from_list.0 in
     let bounds = both_true (nat_le 1 (length (children l.0.object))) (nat_le (length (children l.0.object)) 100) (both_true (same_kind l.0.object.head.kind kind.List) (nat_le 1 (length (children l.0.object)) && nat_le (length (children l.0.object)) 100) l.2).1 in
     let listed_are = listed_is (codes "entries") p l.0 l.1 in
     let judged_by : point_of site before p.object ≡ Some (right.point, right.kind) = said_some (codes "point") (right_point site before) p d.0 d.1 ∙ right.right in
@@ -143,10 +144,10 @@ file_fits : (site : PointRules) (doc : Object) → offences site doc ≡ [] → 
 file_fits site doc e =
     let p = root doc in
     let listed = each (schedule_offences site) [] (inside_child (codes "schedules") p) in
-    let list = needs (codes "schedules") (is_list 0 1_000) p in
-    let zone = needs (codes "zone") is_zone p in
-    let from_list = append_nil list listed (append_nil zone (list ++ listed) (append_nil (unless (same_kind doc.head.kind kind.Obj) p) (zone ++ (list ++ listed)) e).1).1 in
-    let d = judged_nil (is_list 0 1_000) p (child (codes "schedules") p) from_list.0 in
+    let list = needs (codes "schedules") (λ _. rule.Schedules) (is_list 0 1_000) p in
+    let zone = needs (codes "zone") (λ _. rule.Zone) is_zone p in
+    let from_list = append_nil list listed (append_nil zone (list ++ listed) (append_nil (unless (same_kind doc.head.kind kind.Obj) rule.Kind p) (zone ++ (list ++ listed)) e).1).1 in
+    let d = judged_nil (λ _. rule.Schedules) (is_list 0 1_000) p (child (codes "schedules") p) from_list.0 in
     subst (AllFit site []) (sym (listed_is (codes "schedules") p d.0 d.1))
     (all_fit site [] (plus d.0.number 1) (children d.0.object) (sym (ap (λ c. each (schedule_offences site) [] (unwrap_or (option_map inside c) [])) d.1) ∙ from_list.1))
 

@@ -120,7 +120,11 @@ fn bad_subject(
 }
 
 // The first wrong item of the first alarm subject, or the second subject.
-fn bad_subjects(alloc: Global, nodes: &Nodes, parts: &[Part]) -> Result<Option<Offence<SiteRule>>, AllocError>
+fn bad_subjects(
+    alloc: Global,
+    nodes: &Nodes,
+    parts: &[Part],
+) -> Result<Option<Offence<SiteRule>>, AllocError>
     requires { AreNumbered (map site_part parts.now) }
     ensures { IfOk result (λ bad. (ps : List SitePart) → Sees nodes.now ps → bad ≡ least (bad_subjects ps (subjects (map site_part parts.now)))) }
 {

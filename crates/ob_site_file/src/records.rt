@@ -1,5 +1,5 @@
 //! The records that the items of a history's `data` are.
-ghost use Rattle.std.specs.Prelude.{◌≡◌, ◌+◌, ◌<◌, ◌^◌, true, false, codes, Some, None, option_and_then, IfOk, IfErr, IfSome, IsTrue};
+ghost use Rattle.std.specs.Prelude.{◌≡◌, ◌+◌, ◌<◌, ◌^◌, true, false, cond, codes, Option, Some, None, is_some, option_and_then, IfOk, IfErr, IfSome, IsTrue};
 ghost use Rattle.std.specs.List.{list_all, filter_map};
 ghost use Rattle.std.specs.Option.{option_copied};
 ghost use Rattle.ob_object.specs.Fits.{fits_slot};
@@ -9,7 +9,8 @@ ghost use Rattle.ob_parts.specs.Least.{least};
 ghost use Rattle.ob_contracts.specs.Inherit.{slot_or_default};
 ghost use Rattle.ob_times.specs.Times.{Instant, moment_instant};
 ghost use Rattle.ob_history.specs.declared.records.Record.{Record as Stored};
-ghost use Rattle.ob_site_rules.specs.Loading.{time_of, child_of, time_of_record, value_of_record, record_in, is_earlier, last_moment, falls, record_rule, is_bad_item, after_item, bad_records, numbered};
+ghost use Rattle.ob_site_rules.specs.Loading.{time_of, child_of, time_of_record, value_of_record, record_in, is_earlier, last_moment, is_late, falls, record_rule, is_bad_item, after_item, bad_records, numbered};
+ghost use Rattle.ob_site_rules.specs.declared.site_rule.SiteRule.TheVariants as site_rule;
 ghost use Rattle.ob_site_file.specs.RulesAndRecords.{record_by};
 
 use crate::items::{Items, child_of};
@@ -58,10 +59,11 @@ fn own_value(item: &Obj) -> Option<&Obj>
     }
 }
 
-/// The time and the value of the record that an item is, by its own children alone; where it is none, the first rule that it breaks.
-pub(crate) fn record_parts(item: &Obj) -> Result<(Abstime, &Obj), SiteRule>
+// The time and the value of the record that an item is, by its own children alone; where it is none, the first rule that it breaks.
+fn record_parts(item: &Obj) -> Result<(Abstime, &Obj), SiteRule>
     ensures ok { IfOk result (λ x. record_in item.now ≡ Some (record_by x)) }
-    ensures err { (before : Option Instant) → IfErr result (λ rule. (record_in item.now ≡ None) × (record_rule before item.now None ≡ rule)) }
+    ensures none { IfErr result (λ _. record_in item.now ≡ None) }
+    ensures rule { (before : Option Instant) → IfErr result (λ rule. record_rule before item.now None ≡ rule) }
 {
     if !item.kind().same(Kind::Obj) {
         return Err(SiteRule::Kind);
@@ -72,6 +74,16 @@ pub(crate) fn record_parts(item: &Obj) -> Result<(Abstime, &Obj), SiteRule>
     match own_value(item) {
         Some(value) => Ok((time, value)),
         None => Err(SiteRule::Value),
+    }
+}
+
+/// Whether an item is a record.
+pub(crate) fn is_record(item: &Obj) -> bool
+    ensures { result ≡ is_some (record_in item.now) }
+{
+    match record_parts(item) {
+        Ok(_) => true,
+        Err(_) => false,
     }
 }
 
@@ -136,12 +148,11 @@ fn is_late(time: Abstime) -> bool
     LAST < time.instant()
 }
 
-// The time of the record that an item is in its order; where it is none, the first rule that it breaks.
-fn next_time(before: Option<Abstime>, item: &Obj) -> Result<Abstime, SiteRule>
-    ensures ok { IfOk result (λ t. (is_bad_item before (record_in item.now) ≡ false) × (after_item before (record_in item.now) ≡ Some t)) }
-    ensures err { IfErr result (λ rule. (is_bad_item before (record_in item.now) ≡ true) × (record_rule before item.now (record_in item.now) ≡ rule)) }
+// The time of a record in its order, or the rule of order that it breaks.
+fn in_order(before: Option<Abstime>, time: Abstime) -> Result<Abstime, SiteRule>
+    ensures ok { IfOk result (λ t. (t ≡ time) × ((r : Stored) → r.time ≡ time → is_late before r ≡ false)) }
+    ensures err { IfErr result (λ rule. (r : Stored) → r.time ≡ time → (is_late before r ≡ true) × (cond (falls before r) site_rule.Order site_rule.Late ≡ rule)) }
 {
-    let (time, _value) = record_parts(item)?;
     if falls(before, time) {
         return Err(SiteRule::Order);
     }
@@ -149,6 +160,17 @@ fn next_time(before: Option<Abstime>, item: &Obj) -> Result<Abstime, SiteRule>
         return Err(SiteRule::Late);
     }
     Ok(time)
+}
+
+// The time of the record that an item is in its order; where it is none, the first rule that it breaks.
+fn next_time(before: Option<Abstime>, item: &Obj) -> Result<Abstime, SiteRule>
+    ensures ok { IfOk result (λ t. (is_bad_item before (record_in item.now) ≡ false) × (after_item before (record_in item.now) ≡ Some t)) }
+    ensures err { IfErr result (λ rule. (is_bad_item before (record_in item.now) ≡ true) × (record_rule before item.now (record_in item.now) ≡ rule)) }
+{
+    match record_parts(item) {
+        Ok((time, _value)) => in_order(before, time),
+        Err(rule) => Err(rule),
+    }
 }
 
 /// The first item that is no record, or out of order, and the rule that it breaks.

@@ -171,7 +171,8 @@ pub(crate) fn bad_rule(
     let mut number = items.number;
     let mut sources = BTreeSet::new(alloc);
     for item in items.objects {
-        if let Some(rule) = broken_by(&mut sources, nodes, item)? {
+        let broken = broken_by(&mut sources, nodes, item)?;
+        if let Some(rule) = broken {
             return Ok(Some(Offence { part: number, rule }));
         }
         number += item.parts();

@@ -8,7 +8,7 @@ ghost use Rattle.ob_roles.specs.SiteParts.{part as site_part};
 
 use crate::histories::capacity_of;
 use crate::items::items_of;
-use crate::records::record_parts;
+use crate::records::is_record;
 use ob_object::Obj;
 use ob_parts::Offence;
 use ob_roles::Part;
@@ -23,7 +23,7 @@ fn record_count(items: &[Obj]) -> u64
 {
     let mut count: u64 = 0;
     for item in items {
-        if record_parts(item).is_ok() {
+        if is_record(item) {
             count += 1;
         }
     }
