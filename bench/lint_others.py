@@ -12,12 +12,12 @@ from site_lint import lint_record, lint_schedule, lint_super
 
 TOP = Path(__file__).resolve().parent.parent
 WEEKS = (   # what is altered in examples/heating.xml, and what is said of it then
-    ("CET-1CEST,M3.5.0,M10.5.0/3", "Europe/Berlin", "no rule of POSIX", 1), ('<str name="zone"', '<int name="zone"', "an int", None),
-    ('name="zone"', 'name="zona"', "no str named zone", 0), ("/obix/boiler/setpoint", "boiler/setpoint", "shows nothing", 4),
-    ("/obix/boiler/setpoint", "/obix/boiler/flow", "no writable point", 4), ('name="entries"', 'name="items"', "no list named entries", 3),
-    ('<list name="entries">', '<list name="entries"><bool/>', "has to be an obj", 6), ('name="day" val="6"', 'name="day" val="8"', "1 (Monday)", 47),
-    ('val="08:00:00"', 'val="08:00:00.0001"', "whole milliseconds", 48), ('val="62.5"', 'val="162.5"', "doesn't take this value", 49),
-    ('<real name="value" val="62.5"/>', '<int name="value" val="62"/>', "of one kind", 49), ('val="13:00:00"', 'val="08:00:00"', "its day and its time", 50),
+    ("CET-1CEST,M3.5.0,M10.5.0/3", "Europe/Berlin", "no rule of POSIX", "1 zone"), ('<str name="zone"', '<int name="zone"', "an int", None),
+    ('name="zone"', 'name="zona"', "no str named zone", "0 zone"), ("/obix/boiler/setpoint", "boiler/setpoint", "shows nothing", "4 not writable"),
+    ("/obix/boiler/setpoint", "/obix/boiler/flow", "no writable point", "4 not writable"), ('name="entries"', 'name="items"', "no list named entries", "3 entries"),
+    ('<list name="entries">', '<list name="entries"><bool/>', "has to be an obj", "6 kind"), ('name="day" val="6"', 'name="day" val="8"', "1 (Monday)", "47 day"),
+    ('val="08:00:00"', 'val="08:00:00.0001"', "whole milliseconds", "48 at"), ('val="62.5"', 'val="162.5"', "doesn't take this value", "49 value limits"),
+    ('<real name="value" val="62.5"/>', '<int name="value" val="62"/>', "of one kind", "49 value kind"), ('val="13:00:00"', 'val="08:00:00"', "its day and its time", "50 time twice"),
     ('val="13:00:00"', 'val="25:00:00"', "wanted is a time", None),
 )
 
@@ -26,10 +26,10 @@ def try_schedules(program, judge):
     """Files of weekly schedules for the plant room: the part that the program refuses, and why."""
     site, text = str(TOP / "examples" / "plant-room.xml"), (TOP / "examples" / "heating.xml").read_text()
     judge(lint_schedule(str(TOP / "examples" / "heating.xml"), site, program)[0] == 0, "examples/heating.xml")
-    for old, new, why, number in WEEKS:
+    for old, new, why, part in WEEKS:
         Path("weeks.xml").write_text(text.replace(old, new, 1))
         status, lines = lint_schedule("weeks.xml", site, program)
-        said = f"[Schedule {number}]" if number is not None else "]"
+        said = f"[Schedule {part}]" if part is not None else "]"
         judge(status == 2 and why in lines[0] and lines[0].endswith(said), f"{old} => {new}", f"\ncame out: {lines[0]}")
     print(f"{len(WEEKS)} files of schedules are refused at their part")
 

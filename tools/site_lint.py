@@ -98,7 +98,7 @@ def lint_schedule(name, site, program):
     """The same of a file of schedules, for the site of a file that opens."""
     with copied(name) as (told, copy):
         cause = program.run("schedule", site, copy)[1]
-        place, number = re.fullmatch(r"(.*) at (\d+)", cause or ""), re.fullmatch(r"Schedule (\d+)", cause or "")
+        place, number = re.fullmatch(r"(.*) at (\d+)", cause or ""), re.match(r"Schedule (\d+) ", cause or "")
         if cause is None:
             told.lines.append(f"{told.name}: {count(told.data)}")
             return 0, told.lines
@@ -121,7 +121,7 @@ def lint_super(name, program, is_asked):
             return warn(told, sorted(found, key=lambda it: it[0]), f"{count} server{'s' if count != 1 else ''}"), told.lines
         place = re.fullmatch(r"(.*) at (\d+)", cause)
         return refuse(told, refusals.of_document(told.data, place[1], int(place[2])) if place
-                      else configs.of_config(parts, int(cause.partition(" ")[2])), cause), told.lines
+                      else configs.of_config(parts, int(cause.split(" ")[1])), cause), told.lines
 
 
 def lint_record(name, site, program):

@@ -128,12 +128,12 @@ def rule(site, part):
             return limit.at, f"{name} is {a(limit.kind)}, and the source {path} {a(source.kind)}: both have to be of one kind"
         if not has_value(limit):
             return limit.at, f"{name} has no val"
-    needs = part.child("needsAck")
-    if needs is None or needs.kind != "bool" or not has_value(needs):
-        return needs.at if needs else part.at, "the rule needs a bool named needsAck with a val"
     low, high = part.child("low"), part.child("high")
     if Decimal(low.has["val"]) > Decimal(high.has["val"]):
         return low.place("val"), f"low {low.has['val']} is above high {high.has['val']}"
+    needs = part.child("needsAck")
+    if needs is None or needs.kind != "bool" or not has_value(needs):
+        return needs.at if needs else part.at, "the rule needs a bool named needsAck with a val"
     earlier = (it.child("source", "ref") for it in part.parent.children[:part.nth - 1])
     if any(it is not None and site.paths.get(it.has.get("href")) == path for it in earlier):
         return ref.place("href"), f"an earlier rule has the source {path}, and no two have one"

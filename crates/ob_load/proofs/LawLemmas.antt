@@ -20,7 +20,7 @@ refusal_none expected site RootHref is e = let no : Ok site ≡ Err loading.Root
 refusal_none expected site (Href part) is e = let no : Ok site ≡ Err (loading.Href part) = sym is ∙ e in absurd (cc)
 refusal_none expected site (Contract why) is e = let no : Ok site ≡ Err (loading.Contract why) = sym is ∙ e in absurd (cc)
 refusal_none expected site (PathTwice path) is e = let no : Ok site ≡ Err (loading.PathTwice path) = sym is ∙ e in absurd (cc)
-refusal_none expected site (Rule part) is e = let no : Ok site ≡ Err (loading.BadRule part) = sym is ∙ e in absurd (cc)
+refusal_none expected site (Rule offence) is e = let no : Ok site ≡ Err (loading.BadRule offence) = sym is ∙ e in absurd (cc)
 refusal_none expected site Size is e = let no : Ok site ≡ Err loading.Size = sym is ∙ e in absurd (cc)
 refusal_none expected site Memory is e = tt
 refusal_none expected site Read is e = absurd e
@@ -36,7 +36,7 @@ module _ (one_verdict : (bytes : List ℕ) (ended : Bool) (v w : Verdict) → Ju
   spelled_none bytes d (Href part) is e = absurd e
   spelled_none bytes d (Contract r) is e = absurd e
   spelled_none bytes d (PathTwice path) is e = absurd e
-  spelled_none bytes d (Rule part) is e = absurd e
+  spelled_none bytes d (Rule offence) is e = absurd e
   spelled_none bytes d Size is e = absurd e
 
   pub opened_unrefused : (only : (bytes : List ℕ) (ns : Option (List ℕ)) (o : Object) → Spells bytes ns o → Judged bytes true (document (record { ns = ns; root = o })))

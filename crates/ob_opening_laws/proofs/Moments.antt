@@ -82,7 +82,7 @@ size_alike other time st =
     go true = refl
     go false = (time, refl)
 
-bad_alike : (other : ℕ) (fault : ℕ → LoadFault) (o : Option ℕ) (a b : Result SiteState LoadFault) → Alike other a b → Alike other (or_bad fault o a) (or_bad fault o b)
+bad_alike : {A : Type 0} (other : ℕ) (fault : A → LoadFault) (o : Option A) (a b : Result SiteState LoadFault) → Alike other a b → Alike other (or_bad fault o a) (or_bad fault o b)
 bad_alike other fault None a b h = h
 bad_alike other fault (Some n) a b h = refl
 

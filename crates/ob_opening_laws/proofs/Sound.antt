@@ -56,7 +56,7 @@ module _ (locate : Parts → Text → Option Path) where
       go true = tt
       go false = h
 
-  bad_sound : (fault : ℕ → LoadFault) (o : Option ℕ) (r : Result SiteState LoadFault) → Sound r → Sound (or_bad fault o r)
+  bad_sound : {A : Type 0} (fault : A → LoadFault) (o : Option A) (r : Result SiteState LoadFault) → Sound r → Sound (or_bad fault o r)
   bad_sound fault None r h = h
   bad_sound fault (Some n) r h = tt
 

@@ -6,6 +6,7 @@ use Rattle.std.proofs.lemmas.Slice.Eq.{bytes_eq-Decides}
 use Rattle.url.specs.Parts.{Parts}
 use Rattle.ob_object.specs.declared.kind.Kind.{Kind}
 use Rattle.ob_object.specs.Object.{Object}
+use Rattle.ob_parts.specs.declared.offence.Offence.{Offence}
 use Rattle.ob_object.specs.Paths.{is_path, node_path}
 use Rattle.ob_object.specs.Kinds.{has_values}
 use Rattle.ob_contracts.specs.Inherit.{Contracts}
@@ -18,7 +19,8 @@ use Rattle.ob_plain_state.specs.States.{IsOfKindAt, NodesAre}
 use Rattle.ob_site_rules.specs.declared.roles.Roles.{Roles}
 use Rattle.ob_site_rules.specs.Roles.{no_roles, all_roles}
 use Rattle.ob_site_rules.specs.Opening.{standard_words}
-use Rattle.ob_site_rules.specs.Loading.{Part, row_of, kept_root, kept_row, parts_of, paths_in, path_of, histories_in, source_ref, node_there, has_bad_source, has_bad_capacity, bad_history, bad_part, bad_records, items_of, taken_twice, opened}
+use Rattle.ob_site_rules.specs.Loading.{Part, row_of, kept_root, kept_row, parts_of, paths_in, path_of, histories_in, source_ref, node_there, has_bad_source, has_bad_capacity, bad_history, bad_part, bad_records, items_of, taken_twice, opened, breaks, setting_rule}
+use Rattle.ob_site_rules.specs.declared.site_rule.SiteRule.{SiteRule}
 use Rattle.ob_step_laws.specs.Laws.{Apart, row_paths, kind_or_obj}
 use Rattle.ob_step_laws.proofs.Lists.{each_found}
 use Rattle.ob_values.proofs.Bools.{neither_left}
@@ -49,11 +51,11 @@ source_there ps (Some r) h p e = sym (ap (λ o. is_none (option_and_then (node_t
 
 good_source : (ps : List Part) (q : Part) → bad_history ps q ≡ [] → q.roles.history ≡ true → HasGoodSource ps q
 good_source ps q h is =
-    let wrong : List ℕ = cond (has_bad_source ps q || has_bad_capacity q) (q.number ∷ []) [] in
-    let items : List ℕ = bad_records None (items_of (codes "data") q) in
+    let wrong : List (Offence SiteRule) = cond (has_bad_source ps q || has_bad_capacity q) (breaks (setting_rule ps q) q.number ∷ []) [] in
+    let items : List (Offence SiteRule) = bad_records None (items_of (codes "data") q) in
     let both : wrong ++ items ≡ [] = subst (λ (b : Bool). cond b (wrong ++ items) [] ≡ []) is h in
     source_there ps (source_ref q.own)
-    (neither_left (has_bad_source ps q) (has_bad_capacity q) (none_if (has_bad_source ps q || has_bad_capacity q) q.number (first_none wrong items both)))
+    (neither_left (has_bad_source ps q) (has_bad_capacity q) (none_if (has_bad_source ps q || has_bad_capacity q) (breaks (setting_rule ps q) q.number) (first_none wrong items both)))
 
 good_sources : (ps qs : List Part) → flat_map (bad_history ps) qs ≡ [] → AllByRecursion (HasGoodSource ps) (histories_in qs)
 good_sources ps [] e = tt

@@ -95,7 +95,7 @@ load_unjudged site boot files files' fault refuses read = by_fault fault refuses
     by_fault (loads.Href part) r k = told (loads.Href part) (λ no. no) site r
     by_fault (loads.Contract fault) r k = told (loads.Contract fault) (λ no. no) site r
     by_fault (loads.PathTwice path) r k = told (loads.PathTwice path) (λ no. no) site r
-    by_fault (loads.Rule part) r k = told (loads.Rule part) (λ no. no) site r
+    by_fault (loads.Rule offence) r k = told (loads.Rule offence) (λ no. no) site r
     by_fault loads.Size r k = told loads.Size (λ no. no) site r
 
 -- the record's file was read before

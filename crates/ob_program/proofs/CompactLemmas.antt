@@ -43,7 +43,7 @@ load_rose loads.RootHref files files' records records' writes writes' read = tt
 load_rose (loads.Href part) files files' records records' writes writes' read = tt
 load_rose (loads.Contract fault) files files' records records' writes writes' read = tt
 load_rose (loads.PathTwice path) files files' records records' writes writes' read = tt
-load_rose (loads.Rule part) files files' records records' writes writes' read = tt
+load_rose (loads.Rule offence) files files' records records' writes writes' read = tt
 load_rose loads.Size files files' records records' writes writes' read = tt
 
 so_far_site : (fault : LoadFault) (files files' records records' failures failures' : ℕ) → (fault ≡ loads.Read → Rose files files')

@@ -1,6 +1,6 @@
 -- What the service of a file's site with schedules comes to, and what that says of the exit.
 use Rattle.std.proofs.Common.{◌≡◌, ◌≢◌, ◌⊎◌, ◌≤◌, ◌∙◌, ℕ, true, List, [], length, Option, Some, None, Result, Ok, Err, refl, sym, ap, subst, arith, inl, inr}
-use Rattle.std.specs.Prelude.{codes, IfSome, IsSome, IfOk, IfErr, Contains, min}
+use Rattle.std.specs.Prelude.{IfSome, IsSome, IfOk, IfErr, find, ◌==◌, min}
 use Rattle.ob_documents.specs.Spelling.{Spells}
 use Rattle.ob_io.specs.Faults.{Rose}
 use Rattle.ob_io.specs.Links.{inlet}
@@ -12,6 +12,8 @@ use Rattle.ob_opening_laws.specs.Moments.{at_moment}
 use Rattle.ob_opening_laws.proofs.Moments.{opens_at_each}
 use Rattle.ob_schedule.specs.Forms.{offences, IsFile, IsFirstOffence}
 use Rattle.ob_schedule.specs.PointRules.{PointRules}
+use Rattle.ob_schedule.specs.declared.rule.ScheduleRule.{ScheduleRule}
+use Rattle.ob_parts.specs.declared.offence.Offence.{Offence}
 use Rattle.ob_schedule.specs.Weeks.{Says}
 use Rattle.ob_schedule_rules.specs.Rules.{rules_of}
 use Rattle.ob_scheduling.specs.Scheduled.{ServesScheduled}
@@ -34,7 +36,7 @@ use Rattle.ob_program.specs.declared.document.DocumentFault.TheVariants as docum
 use Rattle.ob_program.specs.declared.exit.Exit.{Exit}
 use Rattle.ob_program.specs.declared.exit.Exit.TheVariants as exits
 use Rattle.ob_program.specs.declared.form.FormEnd.{FormEnd}
-use Rattle.ob_program.specs.declared.form.FormEnd.TheVariants.{Stdio, NoDocument, Shape}
+use Rattle.ob_program.specs.declared.form.FormEnd.TheVariants.{Stdio, NoDocument, Config, Schedule}
 use Rattle.ob_program.specs.declared.stdio.StdioEnd.{StdioEnd}
 use Rattle.ob_program.specs.declared.stdio.StdioEnd.TheVariants.{Served, Refused, ReadFault, ClockFault, Memory}
 use Rattle.ob_command.specs.declared.server.Output.TheVariants.{Answers}
@@ -58,7 +60,8 @@ formless_says_none file site ns root (Stdio (Refused fault)) spelled formless = 
 formless_says_none file site ns root (Stdio ReadFault) spelled formless = absurd formless
 formless_says_none file site ns root (Stdio ClockFault) spelled formless = absurd formless
 formless_says_none file site ns root (NoDocument refusal) spelled formless = absurd formless
-formless_says_none file site ns root (Shape part) spelled formless = record { ns = ns; root = root; spelled = spelled; first = formless }
+formless_says_none file site ns root (Config offence) spelled formless = absurd formless
+formless_says_none file site ns root (Schedule offence) spelled formless = record { ns = ns; root = root; spelled = spelled; first = formless }
 
 pub formless_unread : (rules : PointRules) (root : Object) (end : FormEnd) → IsFormless rules root end → end ≡ Stdio ReadFault → ⊥
 formless_unread rules root (Stdio Memory) formless is = cc is
@@ -67,7 +70,8 @@ formless_unread rules root (Stdio (Refused fault)) formless is = formless
 formless_unread rules root (Stdio ReadFault) formless is = formless
 formless_unread rules root (Stdio ClockFault) formless is = formless
 formless_unread rules root (NoDocument refusal) formless is = formless
-formless_unread rules root (Shape part) formless is = cc is
+formless_unread rules root (Config offence) formless is = formless
+formless_unread rules root (Schedule offence) formless is = cc is
 
 -- what a document says or doesn't, of a file that spells it
 module _ (file : Option (List ℕ)) (site : SiteState) (ns : Option (List ℕ)) (root : Object) (spelled : IfSome file (λ whole. Spells whole ns root)) where
@@ -126,7 +130,8 @@ comes_unscheduled site file boot ns opening (Stdio (Served link)) left taken hel
 comes_unscheduled site file boot ns opening (Stdio (Refused fault)) left taken held given opened none = absurd none
 comes_unscheduled site file boot ns opening (Stdio ClockFault) left taken held given opened none = absurd none
 comes_unscheduled site file boot ns opening (NoDocument refusal) left taken held given opened none = (idle left held given, record { ns = ns; opening = opening; opened = opened; none = none })
-comes_unscheduled site file boot ns opening (Shape part) left taken held given opened none = (idle left held given, record { ns = ns; opening = opening; opened = opened; none = none })
+comes_unscheduled site file boot ns opening (Config offence) left taken held given opened none = absurd none
+comes_unscheduled site file boot ns opening (Schedule offence) left taken held given opened none = (idle left held given, record { ns = ns; opening = opening; opened = opened; none = none })
 
 pub unscheduled_serves_none : (file : Option (List ℕ)) (opening : SiteState) (end : FormEnd) (link : LinkEnd) → SaysNone file opening end → plain end ≡ Served link → ⊥
 unscheduled_serves_none file opening (Stdio ReadFault) link none is = cc is
@@ -135,7 +140,8 @@ unscheduled_serves_none file opening (Stdio (Served other)) link none is = none
 unscheduled_serves_none file opening (Stdio (Refused fault)) link none is = none
 unscheduled_serves_none file opening (Stdio ClockFault) link none is = none
 unscheduled_serves_none file opening (NoDocument refusal) link none is = cc is
-unscheduled_serves_none file opening (Shape part) link none is = cc is
+unscheduled_serves_none file opening (Config offence) link none is = none
+unscheduled_serves_none file opening (Schedule offence) link none is = cc is
 
 -- only the count of the files may have risen
 pub unscheduled_cause : (file : Option (List ℕ)) (opening : SiteState) (end : FormEnd) (files mid files' reads writes clocks : ℕ) → files ≤ mid → mid ≤ files' → (end ≡ Stdio ReadFault → Rose mid files')
@@ -149,7 +155,8 @@ unscheduled_cause file opening end files mid files' reads writes clocks first th
     by_end (Stdio (Refused fault)) r n = absurd n
     by_end (Stdio ClockFault) r n = absurd n
     by_end (NoDocument refusal) r n = unserved_cause _ files files' reads writes clocks (omega (arith, first, then)) (λ link is. absurd (cc is)) (λ is. cc is) (λ is. absurd (cc is))
-    by_end (Shape part) r n = unserved_cause _ files files' reads writes clocks (omega (arith, first, then)) (λ link is. absurd (cc is)) (λ is. cc is) (λ is. absurd (cc is))
+    by_end (Config offence) r n = absurd n
+    by_end (Schedule offence) r n = unserved_cause _ files files' reads writes clocks (omega (arith, first, then)) (λ link is. absurd (cc is)) (λ is. cc is) (λ is. absurd (cc is))
 
 -- ---- moments
 
@@ -168,9 +175,16 @@ schedule_moments site file boot (Stdio ReadFault) left taken left' taken' held h
 schedule_moments site file boot (Stdio ClockFault) left taken left' taken' held held' given h = told_empty given h.given_is
 schedule_moments site file boot (Stdio Memory) left taken left' taken' held held' given h = told_empty given h.given_is
 schedule_moments site file boot (NoDocument refusal) left taken left' taken' held held' given h = told_empty given h.0.given_is
-schedule_moments site file boot (Shape part) left taken left' taken' held held' given h = told_empty given h.0.given_is
+schedule_moments site file boot (Config offence) left taken left' taken' held held' given h = absurd h
+schedule_moments site file boot (Schedule offence) left taken left' taken' held held' given h = told_empty given h.0.given_is
 
 -- ---- files that are not refused
+
+-- a file without offences has no first one
+no_first : (offence : Offence ScheduleRule) (rules : PointRules) (root : Object) → offences rules root ≡ [] → IsFirstOffence rules root offence → ⊥
+no_first offence rules root none first =
+    let found : None ≡ Some offence = subst (λ (l : List (Offence ScheduleRule)). find (λ o. o.part == offence.part) l ≡ Some offence) none first.told in
+    cc found
 
 module _ (only : IsOnly) (once : IsOnce) where
   -- two moments of one site have the same points
@@ -193,13 +207,13 @@ module _ (only : IsOnly) (once : IsOnce) where
   never_refused law whole other boot (NoDocument refusal) why left taken left' taken' held held' given given' is opens comes =
       let same = once other true _ _ (only other opens.4.0 opens.4.1 opens.4.2) comes.1.none in
       cc same
-  never_refused law whole other boot (Shape part) why left taken left' taken' held held' given given' is opens comes =
+  never_refused law whole other boot (Config offence) why left taken left' taken' held held' given given' is opens comes = comes
+  never_refused law whole other boot (Schedule offence) why left taken left' taken' held held' given given' is opens comes =
       let none = comes.1 in
       let points : rules_of none.opening ≡ rules_of opens.2 = one_site (site_bytes whole) opens.0 boot opens.1 none.ns opens.2 none.opening opens.3 none.opened in
       let root : none.none.root ≡ opens.4.1 = one_root only once other none.none.ns opens.4.0 none.none.root opens.4.1 none.none.spelled opens.4.2 in
       let no_offence : offences (rules_of none.opening) none.none.root ≡ [] = ap (λ (rs : PointRules). offences rs none.none.root) points ∙ ap (λ (r : Object). offences (rules_of opens.2) r) root ∙ opens.4.3 in
-      let found = subst (λ (l : List ℕ). Contains l part) no_offence none.none.first.offends in
-      absurd (omega (arith, found.1))
+      no_first offence (rules_of none.opening) none.none.root no_offence none.none.first
 
   schedule_opens : (law : OpenedIsNotRefused) (site file : Option (List ℕ)) (at : Option ℕ) (tick : ℕ) (end : FormEnd) (exit : Exit) (left taken left' taken' held held' given given' : Option (List ℕ)) → exit ≡ exit_of (plain end)
       → ScheduleComes site file at tick end left taken left' taken' held held' given given' → IfSome site (λ whole. IfSome file (λ other. OpensScheduled whole other → exit ≢ exits.Refused))
@@ -221,7 +235,7 @@ module _ (only : IsOnly) (once : IsOnce) where
       → ScheduleComes site file at tick end s.left None s'.left None s.held s'.held t.given t'.given
       → HasCause (plain end) files files' s.reads s'.reads s.writes s'.writes t.faults t'.faults
       → ((link : LinkEnd) → plain end ≡ Served link → ServesWhole s.left s.reads s'.reads s.writes s'.writes t.faults t'.faults link)
-      → Tells e e' exit (form_words (codes "Schedule") end)
+      → Tells e e' exit (form_words end)
       → ScheduledRan site file at tick files files' s s' t t' e e' exit
   schedule_ran law site file at tick files files' s s' t t' e e' end exit is comes cause whole says = record {
     end = end;

@@ -34,7 +34,7 @@ unserved_refused faults.RootHref file boot k = told_refused faults.RootHref file
 unserved_refused (faults.Href part) file boot k = told_refused (faults.Href part) file boot (λ no. no) k
 unserved_refused (faults.Contract fault) file boot k = told_refused (faults.Contract fault) file boot (λ no. no) k
 unserved_refused (faults.PathTwice path) file boot k = told_refused (faults.PathTwice path) file boot (λ no. no) k
-unserved_refused (faults.Rule part) file boot k = told_refused (faults.Rule part) file boot (λ no. no) k
+unserved_refused (faults.Rule offence) file boot k = told_refused (faults.Rule offence) file boot (λ no. no) k
 unserved_refused faults.Size file boot k = told_refused faults.Size file boot (λ no. no) k
 
 -- the cause of a refusal
@@ -46,7 +46,7 @@ refused_rose faults.RootHref files files' writes writes' p p' t t' k = tt
 refused_rose (faults.Href part) files files' writes writes' p p' t t' k = tt
 refused_rose (faults.Contract fault) files files' writes writes' p p' t t' k = tt
 refused_rose (faults.PathTwice path) files files' writes writes' p p' t t' k = tt
-refused_rose (faults.Rule part) files files' writes writes' p p' t t' k = tt
+refused_rose (faults.Rule offence) files files' writes writes' p p' t t' k = tt
 refused_rose faults.Size files files' writes writes' p p' t t' k = tt
 
 -- the clock was asked for the boot's moment before, and the file was read

@@ -106,7 +106,7 @@ comes_refused output fault file boot left taken held given h = by_fault fault h
     by_fault (faults.Href part) k = (idle, told_refused (faults.Href part) file boot (λ no. no) k)
     by_fault (faults.Contract fault) k = (idle, told_refused (faults.Contract fault) file boot (λ no. no) k)
     by_fault (faults.PathTwice path) k = (idle, told_refused (faults.PathTwice path) file boot (λ no. no) k)
-    by_fault (faults.Rule part) k = (idle, told_refused (faults.Rule part) file boot (λ no. no) k)
+    by_fault (faults.Rule offence) k = (idle, told_refused (faults.Rule offence) file boot (λ no. no) k)
     by_fault faults.Size k = (idle, told_refused faults.Size file boot (λ no. no) k)
 
 -- an end of what is asked of a site, by what is written of it
@@ -138,7 +138,7 @@ refused_cause fault files files' reads writes clocks later read = by_fault fault
     by_fault (faults.Href part) k = unserved_cause _ files files' reads writes clocks later (λ link is. absurd (cc is)) (λ is. cc is) (λ is. absurd (cc is))
     by_fault (faults.Contract fault) k = unserved_cause _ files files' reads writes clocks later (λ link is. absurd (cc is)) (λ is. cc is) (λ is. absurd (cc is))
     by_fault (faults.PathTwice path) k = unserved_cause _ files files' reads writes clocks later (λ link is. absurd (cc is)) (λ is. cc is) (λ is. absurd (cc is))
-    by_fault (faults.Rule part) k = unserved_cause _ files files' reads writes clocks later (λ link is. absurd (cc is)) (λ is. cc is) (λ is. absurd (cc is))
+    by_fault (faults.Rule offence) k = unserved_cause _ files files' reads writes clocks later (λ link is. absurd (cc is)) (λ is. cc is) (λ is. absurd (cc is))
     by_fault faults.Size k = unserved_cause _ files files' reads writes clocks later (λ link is. absurd (cc is)) (λ is. cc is) (λ is. absurd (cc is))
 
 pub refused_serves_none : (fault : LoadFault) (link : LinkEnd) → end_of_fault fault ≡ Served link → ⊥
@@ -149,7 +149,7 @@ refused_serves_none faults.RootHref link is = cc is
 refused_serves_none (faults.Href part) link is = cc is
 refused_serves_none (faults.Contract fault) link is = cc is
 refused_serves_none (faults.PathTwice path) link is = cc is
-refused_serves_none (faults.Rule part) link is = cc is
+refused_serves_none (faults.Rule offence) link is = cc is
 refused_serves_none faults.Size link is = cc is
 
 -- ---- counts, over clocks

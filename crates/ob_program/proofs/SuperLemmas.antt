@@ -1,6 +1,6 @@
 -- What the supervision of the servers of a config comes to, and what that says of the exit.
 use Rattle.std.proofs.Common.{◌≡◌, ◌≢◌, ◌⊎◌, ◌≤◌, ◌<◌, ◌^◌, ◌∙◌, ℕ, true, List, [], length, Option, Some, None, Result, Ok, Err, refl, sym, ap, subst, arith, inl, inr}
-use Rattle.std.specs.Prelude.{codes, IfSome, Contains}
+use Rattle.std.specs.Prelude.{IfSome, find, ◌==◌}
 use Rattle.ob_documents.specs.Spelling.{Spells}
 use Rattle.ob_io.specs.Faults.{Rose}
 use Rattle.ob_object.specs.Object.{Object}
@@ -8,7 +8,9 @@ use Rattle.ob_server.specs.Complete.{ServesWhole, IsWellFramed}
 use Rattle.ob_server.specs.declared.end.LinkEnd.{LinkEnd}
 use Rattle.ob_site_file.specs.declared.fault.LoadFault.{LoadFault}
 use Rattle.ob_super.specs.InHand.{Outside, Configures}
-use Rattle.ob_super.specs.Upstreams.{Upstream, offences}
+use Rattle.ob_super.specs.Upstreams.{Upstream, offences, IsFirstOffence}
+use Rattle.ob_super.specs.declared.config_rule.ConfigRule.{ConfigRule}
+use Rattle.ob_parts.specs.declared.offence.Offence.{Offence}
 use Rattle.ob_super.specs.declared.config_fault.ConfigFault.{ConfigFault}
 use Rattle.ob_super.specs.declared.config_fault.ConfigFault.TheVariants as configs
 use Rattle.ob_super.specs.declared.state.Super.{Super}
@@ -26,7 +28,7 @@ use Rattle.ob_program.specs.declared.document.DocumentFault.TheVariants as docum
 use Rattle.ob_program.specs.declared.exit.Exit.{Exit}
 use Rattle.ob_program.specs.declared.exit.Exit.TheVariants as exits
 use Rattle.ob_program.specs.declared.form.FormEnd.{FormEnd}
-use Rattle.ob_program.specs.declared.form.FormEnd.TheVariants.{Stdio, NoDocument, Shape}
+use Rattle.ob_program.specs.declared.form.FormEnd.TheVariants.{Stdio, NoDocument, Config, Schedule}
 use Rattle.ob_program.specs.declared.stdio.StdioEnd.{StdioEnd}
 use Rattle.ob_program.specs.declared.stdio.StdioEnd.TheVariants.{Served, Refused, ReadFault, ClockFault, Memory}
 use Rattle.ob_program.proofs.FileLemmas.{IsOnce}
@@ -42,11 +44,11 @@ unread_follows_none config documents.Memory reads = tt
 
 pub unformed_follows_none : (L : Type 0) (config : Option (List ℕ)) (ns : Option (List ℕ)) (root : Object) (why : ConfigFault) → IfSome config (λ whole. Spells whole ns root)
     → Configures {L = L} root (Err why) → FollowsNone config (end_of_config why)
-unformed_follows_none L config ns root (configs.Shape part) spelled first = record { ns = ns; root = root; spelled = spelled; first = first }
+unformed_follows_none L config ns root (configs.Shape offence) spelled first = record { ns = ns; root = root; spelled = spelled; first = first }
 unformed_follows_none L config ns root configs.Memory spelled first = tt
 
 pub unformed_unread : (why : ConfigFault) → end_of_config why ≡ Stdio ReadFault → ⊥
-unformed_unread (configs.Shape part) is = cc is
+unformed_unread (configs.Shape offence) is = cc is
 unformed_unread configs.Memory is = cc is
 
 -- ---- a config that follows nothing
@@ -65,7 +67,8 @@ comes_unfollowed config rounds end left taken held before none = by_end end none
     by_end (Stdio (Refused fault)) n = n
     by_end (Stdio ClockFault) n = n
     by_end (NoDocument refusal) n = (untouched, n)
-    by_end (Shape part) n = (untouched, n)
+    by_end (Config offence) n = (untouched, n)
+    by_end (Schedule offence) n = absurd n
 
 pub unfollowed_serves_none : (config : Option (List ℕ)) (end : FormEnd) (link : LinkEnd) → FollowsNone config end → plain end ≡ Served link → ⊥
 unfollowed_serves_none config (Stdio ReadFault) link none is = cc is
@@ -74,7 +77,8 @@ unfollowed_serves_none config (Stdio (Served other)) link none is = none
 unfollowed_serves_none config (Stdio (Refused fault)) link none is = none
 unfollowed_serves_none config (Stdio ClockFault) link none is = none
 unfollowed_serves_none config (NoDocument refusal) link none is = cc is
-unfollowed_serves_none config (Shape part) link none is = cc is
+unfollowed_serves_none config (Config offence) link none is = cc is
+unfollowed_serves_none config (Schedule offence) link none is = none
 
 -- only the count of the files may have risen
 pub unfollowed_cause : (config : Option (List ℕ)) (end : FormEnd) (files files' reads writes clocks : ℕ) → files ≤ files' → (end ≡ Stdio ReadFault → Rose files files')
@@ -88,7 +92,8 @@ unfollowed_cause config end files files' reads writes clocks later rose none = b
     by_end (Stdio (Refused fault)) r n = absurd n
     by_end (Stdio ClockFault) r n = absurd n
     by_end (NoDocument refusal) r n = unserved_cause _ files files' reads writes clocks later (λ link is. absurd (cc is)) (λ is. cc is) (λ is. absurd (cc is))
-    by_end (Shape part) r n = unserved_cause _ files files' reads writes clocks later (λ link is. absurd (cc is)) (λ is. cc is) (λ is. absurd (cc is))
+    by_end (Schedule offence) r n = absurd n
+    by_end (Config offence) r n = unserved_cause _ files files' reads writes clocks later (λ link is. absurd (cc is)) (λ is. cc is) (λ is. absurd (cc is))
 
 -- ---- the exit
 
@@ -99,6 +104,12 @@ timeless : (left : Option (List ℕ)) (files files' reads reads' writes writes' 
     → (exit ≡ exits.Ok) ⊎ ((exit ≡ exits.Refused) ⊎ (exit ≡ exits.Memory)))
 timeless None files files' reads reads' writes writes' exit told = tt
 timeless (Some all) files files' reads reads' writes writes' exit told = λ short framed f r w. told short framed f r w never_rose
+
+-- a config without offences has no first one
+no_first : (offence : Offence ConfigRule) (root : Object) → offences root ≡ [] → IsFirstOffence root offence → ⊥
+no_first offence root none first =
+    let found : None ≡ Some offence = subst (λ (l : List (Offence ConfigRule)). find (λ o. o.part == offence.part) l ≡ Some offence) none first.told in
+    cc found
 
 module _ (only : IsOnly) (once : IsOnce) where
   never_refused : (whole : List ℕ) (rounds : ℕ) (end : FormEnd) (why : LoadFault) (left taken left' taken' held held' : Option (List ℕ)) (before after : Outside) → plain end ≡ Refused why
@@ -111,12 +122,12 @@ module _ (only : IsOnly) (once : IsOnce) where
   never_refused whole rounds (NoDocument refusal) why left taken left' taken' held held' before after is spells comes =
       let same = once whole true _ _ (only whole spells.0 spells.1 spells.2) comes.1 in
       cc same
-  never_refused whole rounds (Shape part) why left taken left' taken' held held' before after is spells comes =
+  never_refused whole rounds (Schedule offence) why left taken left' taken' held held' before after is spells comes = comes
+  never_refused whole rounds (Config offence) why left taken left' taken' held held' before after is spells comes =
       let none = comes.1 in
       let root : none.root ≡ spells.1 = one_root only once whole none.ns spells.0 none.root spells.1 none.spelled spells.2 in
       let no_offence : offences none.root ≡ [] = ap offences root ∙ spells.3 in
-      let found = subst (λ (l : List ℕ). Contains l part) no_offence none.first.offends in
-      absurd (omega (arith, found.1))
+      no_first offence none.root no_offence none.first
 
   super_opens : (config : Option (List ℕ)) (rounds : ℕ) (end : FormEnd) (exit : Exit) (left taken left' taken' held held' : Option (List ℕ)) (before after : Outside) → exit ≡ exit_of (plain end)
       → SuperComes config rounds end left taken left' taken' held held' before after → IfSome config (λ whole. SpellsConfig whole → exit ≢ exits.Refused)
@@ -130,7 +141,7 @@ module _ (only : IsOnly) (once : IsOnce) where
       → SuperComes config rounds end s.left None s'.left None s.held s'.held (reached d) (reached d')
       → HasCause (plain end) files files' s.reads s'.reads s.writes s'.writes 0 0
       → ((link : LinkEnd) → plain end ≡ Served link → ServesWhole s.left s.reads s'.reads s.writes s'.writes 0 0 link)
-      → Tells e e' exit (form_words (codes "Config") end)
+      → Tells e e' exit (form_words end)
       → SuperRan config rounds files files' s s' d d' e e' exit
   super_ran config rounds files files' s s' d d' e e' end exit is comes cause whole says = record {
     end = end;

@@ -6,15 +6,16 @@ use Rattle.ob_xml.specs.declared.refused.Refused as refused
 use Rattle.ob_program.specs.declared.document.DocumentFault.{DocumentFault}
 use Rattle.ob_program.specs.declared.document.DocumentFault.TheVariants as documents
 use Rattle.ob_program.specs.declared.form.FormEnd.{FormEnd}
-use Rattle.ob_program.specs.declared.form.FormEnd.TheVariants.{Stdio, NoDocument, Shape}
+use Rattle.ob_program.specs.declared.form.FormEnd.TheVariants.{Stdio, NoDocument, Config, Schedule}
 use Rattle.ob_program.specs.declared.stdio.StdioEnd.{StdioEnd}
 use Rattle.ob_program.specs.declared.stdio.StdioEnd.TheVariants.{Refused, ReadFault, Memory}
 
--- The end of `stdio` that has its exit and its cause: a file of another form is refused as a site file is.
+-- The end of `stdio` that has its exit and its cause: a file of another form is refused as a site file is of which the root is none.
 abbrev pub plain : FormEnd → StdioEnd
 plain (Stdio end) = end
 plain (NoDocument refusal) = Refused (faults.Document refusal)
-plain (Shape part) = Refused (faults.Rule part)
+plain (Config offence) = Refused faults.RootHref
+plain (Schedule offence) = Refused faults.RootHref
 
 -- where the file gives no document
 abbrev pub end_of_document : DocumentFault → FormEnd

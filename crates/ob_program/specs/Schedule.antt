@@ -1,5 +1,5 @@
 -- What the service of a file's site with the weekly schedules of another file comes to.
-use Rattle.std.specs.Prelude.{codes, ◌≡◌, ◌≢◌, ◌⊎◌, ◌<◌, ◌^◌, ⊤, ℕ, List, [], ◌∷◌, Option, Some, None, IfSome, IsSome, min, length}
+use Rattle.std.specs.Prelude.{◌≡◌, ◌≢◌, ◌⊎◌, ◌<◌, ◌^◌, ⊤, ℕ, List, [], ◌∷◌, Option, Some, None, IfSome, IsSome, min, length}
 use Rattle.ob_documents.specs.Spelling.{Spells}
 use Rattle.ob_io.specs.Faults.{Rose}
 use Rattle.ob_io.specs.Links.{inlet}
@@ -18,6 +18,8 @@ use Rattle.ob_server.specs.declared.end.LinkEnd.{LinkEnd}
 use Rattle.ob_site_laws.specs.SiteLaws.{acts, IsSoundSite}
 use Rattle.ob_site_rules.specs.Sites.{SiteState}
 use Rattle.ob_weekly.specs.declared.schedule.Schedules.{Schedules}
+use Rattle.ob_parts.specs.declared.offence.Offence.{Offence}
+use Rattle.ob_schedule.specs.declared.rule.ScheduleRule.{ScheduleRule}
 use Rattle.ob_program.specs.Form.{plain, IsUnspelled}
 use Rattle.ob_program.specs.Outside.{Streams, ClockTold}
 use Rattle.ob_program.specs.Stdio.{exit_of, site_bytes, IsIdle, IsRefusedAs}
@@ -26,7 +28,7 @@ use Rattle.ob_program.specs.Words.{form_words}
 use Rattle.ob_program.specs.declared.exit.Exit.{Exit}
 use Rattle.ob_program.specs.declared.exit.Exit.TheVariants as exits
 use Rattle.ob_program.specs.declared.form.FormEnd.{FormEnd}
-use Rattle.ob_program.specs.declared.form.FormEnd.TheVariants.{Stdio, NoDocument, Shape}
+use Rattle.ob_program.specs.declared.form.FormEnd.TheVariants.{Stdio, NoDocument, Config, Schedule}
 use Rattle.ob_program.specs.declared.stdio.StdioEnd.TheVariants.{Served, Refused, ReadFault, ClockFault, Memory}
 
 -- ---- the file of the schedules, where it is told
@@ -39,19 +41,21 @@ pub record IsScheduled (file : Option (List ℕ)) (site : SiteState) (schedules 
   pub form : IsFile (rules_of site) root
   pub says : Says root schedules
 
--- It is a document, and this is its first part that offends against the form for the points of this site.
-pub record Offends (file : Option (List ℕ)) (site : SiteState) (part : ℕ) : Type 0 where
+-- It is a document, this is its first part that offends against the form for the points of this site, and this the first rule that
+-- it breaks.
+pub record Offends (file : Option (List ℕ)) (site : SiteState) (offence : Offence ScheduleRule) : Type 0 where
   pub ns : Option (List ℕ)
   pub root : Object
   pub spelled : IfSome file (λ whole. Spells whole ns root)
-  pub first : IsFirstOffence (rules_of site) root part
+  pub first : IsFirstOffence (rules_of site) root offence
 
 -- why a document says no schedules for such points
 abbrev pub IsFormless : PointRules → Object → FormEnd → Type 0
 IsFormless rules root (Stdio Memory) = ⊤
 IsFormless rules root (Stdio _) = ⊥
 IsFormless rules root (NoDocument refusal) = ⊥
-IsFormless rules root (Shape part) = IsFirstOffence rules root part
+IsFormless rules root (Config offence) = ⊥
+IsFormless rules root (Schedule offence) = IsFirstOffence rules root offence
 
 -- why the file says none
 abbrev pub SaysNone : Option (List ℕ) → SiteState → FormEnd → Type 0
@@ -59,7 +63,8 @@ SaysNone file site (Stdio ReadFault) = ⊤
 SaysNone file site (Stdio Memory) = ⊤
 SaysNone file site (Stdio _) = ⊥
 SaysNone file site (NoDocument refusal) = IsUnspelled file refusal
-SaysNone file site (Shape part) = Offends file site part
+SaysNone file site (Config offence) = ⊥
+SaysNone file site (Schedule offence) = Offends file site offence
 
 -- ---- the service
 
@@ -92,7 +97,8 @@ ScheduleComesAt site file boot (Stdio ReadFault) left taken left' taken' held he
 ScheduleComesAt site file boot (Stdio ClockFault) left taken left' taken' held held' given given' = IsIdle left left' held held' given given'
 ScheduleComesAt site file boot (Stdio Memory) left taken left' taken' held held' given given' = IsIdle left left' held held' given given'
 ScheduleComesAt site file boot (NoDocument refusal) left taken left' taken' held held' given given' = IsIdle left left' held held' given given' × IsUnscheduled site file boot (NoDocument refusal)
-ScheduleComesAt site file boot (Shape part) left taken left' taken' held held' given given' = IsIdle left left' held held' given given' × IsUnscheduled site file boot (Shape part)
+ScheduleComesAt site file boot (Config offence) left taken left' taken' held held' given given' = ⊥
+ScheduleComesAt site file boot (Schedule offence) left taken left' taken' held held' given given' = IsIdle left left' held held' given given' × IsUnscheduled site file boot (Schedule offence)
 
 -- The boot and the requests have their moments as those of a service without schedules do.
 abbrev pub ScheduleComes : (site file : Option (List ℕ)) → Option ℕ → ℕ → FormEnd → (left taken left' taken' held held' given given' : Option (List ℕ)) → Type 0
@@ -126,5 +132,5 @@ pub record ScheduledRan (site file : Option (List ℕ)) (at : Option ℕ) (tick 
   pub complete : IfSome s.left (λ all. length all < 2 ^ 40 → IsWellFramed all
       → ¬ (Rose files files') → ¬ (Rose s.reads s'.reads) → ¬ (Rose s.writes s'.writes) → ¬ (Rose t.faults t'.faults)
       → (exit ≡ exits.Ok) ⊎ ((exit ≡ exits.Refused) ⊎ (exit ≡ exits.Memory)))
-  pub says : Tells e e' exit (form_words (codes "Schedule") end)
+  pub says : Tells e e' exit (form_words end)
   pub opens : IfSome site (λ whole. IfSome file (λ other. OpensScheduled whole other → exit ≢ exits.Refused))

@@ -1,14 +1,16 @@
 -- What the supervision of the servers of a config comes to.
-use Rattle.std.specs.Prelude.{codes, ◌≡◌, ◌≢◌, ◌⊎◌, ◌<◌, ◌^◌, ⊤, ℕ, List, Option, Some, None, IfSome, length}
+use Rattle.std.specs.Prelude.{◌≡◌, ◌≢◌, ◌⊎◌, ◌<◌, ◌^◌, ⊤, ℕ, List, Option, Some, None, IfSome, length}
 use Rattle.ob_documents.specs.Spelling.{Spells}
 use Rattle.ob_io.specs.Faults.{Rose}
 use Rattle.ob_io.specs.Links.{inlet}
 use Rattle.ob_object.specs.Object.{Object}
+use Rattle.ob_parts.specs.declared.offence.Offence.{Offence}
 use Rattle.ob_server.specs.Complete.{IsWellFramed}
 use Rattle.ob_super.specs.InHand.{Outside, outside}
 use Rattle.ob_super.specs.Upstreams.{Upstream, configured, IsConfig, IsFirstOffence}
 use Rattle.ob_super.specs.declared.config_fault.ConfigFault.{ConfigFault}
 use Rattle.ob_super.specs.declared.config_fault.ConfigFault.TheVariants as configs
+use Rattle.ob_super.specs.declared.config_rule.ConfigRule.{ConfigRule}
 use Rattle.ob_supervising.specs.Supervising.{SupervisesLink}
 use Rattle.ob_program.specs.Form.{plain, IsUnspelled}
 use Rattle.ob_program.specs.Outside.{Streams, Dialled}
@@ -18,7 +20,7 @@ use Rattle.ob_program.specs.Words.{form_words}
 use Rattle.ob_program.specs.declared.exit.Exit.{Exit}
 use Rattle.ob_program.specs.declared.exit.Exit.TheVariants as exits
 use Rattle.ob_program.specs.declared.form.FormEnd.{FormEnd}
-use Rattle.ob_program.specs.declared.form.FormEnd.TheVariants.{Stdio, NoDocument, Shape}
+use Rattle.ob_program.specs.declared.form.FormEnd.TheVariants.{Stdio, NoDocument, Config, Schedule}
 use Rattle.ob_program.specs.declared.stdio.StdioEnd.TheVariants.{Served, Refused, ReadFault, ClockFault, Memory}
 
 -- ---- the file of the config, where it is told
@@ -31,16 +33,16 @@ pub record IsFollowed (config : Option (List ℕ)) (us : List Upstream) : Type 0
   pub form : IsConfig root
   pub tells : configured root ≡ Some us
 
--- It is a document, and this is its first part that offends against the form.
-pub record OffendsConfig (config : Option (List ℕ)) (part : ℕ) : Type 0 where
+-- It is a document, this is its first part that offends against the form, and this the first rule that it breaks.
+pub record OffendsConfig (config : Option (List ℕ)) (offence : Offence ConfigRule) : Type 0 where
   pub ns : Option (List ℕ)
   pub root : Object
   pub spelled : IfSome config (λ whole. Spells whole ns root)
-  pub first : IsFirstOffence root part
+  pub first : IsFirstOffence root offence
 
 -- where a document tells none
 abbrev pub end_of_config : ConfigFault → FormEnd
-end_of_config (configs.Shape part) = Shape part
+end_of_config (configs.Shape offence) = Config offence
 end_of_config configs.Memory = Stdio Memory
 
 -- why it tells no upstreams
@@ -49,7 +51,8 @@ FollowsNone config (Stdio ReadFault) = ⊤
 FollowsNone config (Stdio Memory) = ⊤
 FollowsNone config (Stdio _) = ⊥
 FollowsNone config (NoDocument refusal) = IsUnspelled config refusal
-FollowsNone config (Shape part) = OffendsConfig config part
+FollowsNone config (Config offence) = OffendsConfig config offence
+FollowsNone config (Schedule offence) = ⊥
 
 -- ---- the run
 
@@ -69,7 +72,8 @@ SuperComes config rounds (Stdio Memory) left taken left' taken' held held' befor
 SuperComes config rounds (Stdio (Refused fault)) left taken left' taken' held held' before after = ⊥
 SuperComes config rounds (Stdio ClockFault) left taken left' taken' held held' before after = ⊥
 SuperComes config rounds (NoDocument refusal) left taken left' taken' held held' before after = IsUntouched left left' held held' before after × IsUnspelled config refusal
-SuperComes config rounds (Shape part) left taken left' taken' held held' before after = IsUntouched left left' held held' before after × OffendsConfig config part
+SuperComes config rounds (Config offence) left taken left' taken' held held' before after = IsUntouched left left' held held' before after × OffendsConfig config offence
+SuperComes config rounds (Schedule offence) left taken left' taken' held held' before after = ⊥
 
 -- what is told of a dialer to a supervisor
 abbrev pub reached : Dialled → Outside
@@ -93,5 +97,5 @@ pub record SuperRan (config : Option (List ℕ)) (rounds files files' : ℕ) (s 
   pub complete : IfSome s.left (λ all. length all < 2 ^ 40 → IsWellFramed all
       → ¬ (Rose files files') → ¬ (Rose s.reads s'.reads) → ¬ (Rose s.writes s'.writes)
       → (exit ≡ exits.Ok) ⊎ ((exit ≡ exits.Refused) ⊎ (exit ≡ exits.Memory)))
-  pub says : Tells e e' exit (form_words (codes "Config") end)
+  pub says : Tells e e' exit (form_words end)
   pub opens : IfSome config (λ whole. SpellsConfig whole → exit ≢ exits.Refused)

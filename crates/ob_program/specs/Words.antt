@@ -6,7 +6,9 @@ use Rattle.ob_dialogue.specs.declared.ending.Ending.TheVariants as endings
 use Rattle.ob_http.specs.declared.fault.FrameFault.{FrameFault}
 use Rattle.ob_server.specs.declared.end.LinkEnd.{LinkEnd}
 use Rattle.ob_server.specs.declared.end.LinkEnd.TheVariants as links
+use Rattle.ob_schedule.specs.RuleWords as schedules
 use Rattle.ob_site_file.specs.Words.{load_words}
+use Rattle.ob_super.specs.RuleWords as configs
 use Rattle.ob_xml.specs.Words.{refusal_words}
 use Rattle.ob_program.specs.declared.audit.AuditEnd.{AuditEnd}
 use Rattle.ob_program.specs.declared.audit.AuditEnd.TheVariants as audits
@@ -36,11 +38,12 @@ stdio_words (services.Served end) = link_words end
 stdio_words (services.Refused fault) = load_words fault
 stdio_words _ = []
 
--- with the name of the form that the file is of
-abbrev pub form_words : (form : List ℕ) → FormEnd → List ℕ
-form_words form (forms.Stdio end) = stdio_words end
-form_words form (forms.NoDocument refused) = refusal_words refused
-form_words form (forms.Shape part) = form ++ (codes " " ++ decimal part)
+-- the form that the file isn't of, its part that offends, and the rule that this breaks
+abbrev pub form_words : FormEnd → List ℕ
+form_words (forms.Stdio end) = stdio_words end
+form_words (forms.NoDocument refused) = refusal_words refused
+form_words (forms.Config offence) = codes "Config" ++ (codes " " ++ (decimal offence.part ++ (codes " " ++ configs.rule_word offence.rule)))
+form_words (forms.Schedule offence) = codes "Schedule" ++ (codes " " ++ (decimal offence.part ++ (codes " " ++ schedules.rule_word offence.rule)))
 
 abbrev pub serve_words : ServeEnd → List ℕ
 serve_words (serves.Refused fault) = load_words fault

@@ -4,7 +4,10 @@ ghost use Rattle.std.specs.Prelude.{◌≡◌, IfOk};
 use crate::document::DocumentFault;
 use crate::exit::Exit;
 use crate::stdio::StdioEnd;
-use crate::words::{refusal_words, word_and_number};
+use crate::words::{offence_words, refusal_words};
+use ob_parts::Offence;
+use ob_schedule::ScheduleRule;
+use ob_super::ConfigRule;
 use ob_xml::Refused;
 use std::alloc::{AllocError, Global};
 
@@ -15,8 +18,10 @@ pub(crate) enum FormEnd {
     Stdio(StdioEnd),
     /// The file is no document.
     NoDocument(Refused),
-    /// It is a document of another form: its first part that offends.
-    Shape { part: u64 },
+    /// It is a document that is no config: its first part that offends, and the rule that it breaks.
+    Config(Offence<ConfigRule>),
+    /// It is a document that is no file of schedules.
+    Schedule(Offence<ScheduleRule>),
 }
 
 impl FormEnd {
@@ -42,18 +47,23 @@ impl FormEnd {
         match self {
             FormEnd::Stdio(end) => end.exit(),
             FormEnd::NoDocument(_) => Exit::Refused,
-            FormEnd::Shape { .. } => Exit::Refused,
+            FormEnd::Config(_) | FormEnd::Schedule(_) => Exit::Refused,
         }
     }
 
-    /// The words that tell it on `errors`, where its line has some, with this name for the form.
-    pub(crate) fn words(&self, alloc: Global, form: &str) -> Result<Vec<u8>, AllocError>
-        ensures { IfOk result (λ words. words.items ≡ form_words form.now self.now) }
+    /// The words that tell it on `errors`, where its line has some.
+    pub(crate) fn words(&self, alloc: Global) -> Result<Vec<u8>, AllocError>
+        ensures { IfOk result (λ words. words.items ≡ form_words self.now) }
     {
         match self {
             FormEnd::Stdio(end) => end.words(alloc),
             FormEnd::NoDocument(refused) => refusal_words(alloc, *refused),
-            FormEnd::Shape { part } => word_and_number(alloc, form, *part),
+            FormEnd::Config(offence) => {
+                offence_words(alloc, "Config", offence.part, offence.rule.word())
+            }
+            FormEnd::Schedule(offence) => {
+                offence_words(alloc, "Schedule", offence.part, offence.rule.word())
+            }
         }
     }
 }

@@ -46,7 +46,7 @@ fn schedules_in(alloc: Global, root: &Obj, site: &Site) -> Result<Schedules, For
     let _head = root.head();
     match read_schedules(alloc, root, &SitePoints { site }) {
         Ok(schedules) => Ok(schedules),
-        Err(ScheduleFault::Shape { part }) => Err(FormEnd::Shape { part }),
+        Err(ScheduleFault::Shape(offence)) => Err(FormEnd::Schedule(offence)),
         Err(ScheduleFault::Memory) => Err(FormEnd::Stdio(StdioEnd::Memory)),
     }
 }
@@ -189,6 +189,6 @@ pub(crate) fn run_schedule<F: Files, S: Source, K: Sink, E: Sink, C: Clock>(
     ob_xml::one_verdict();
     let end = serve_file(alloc, service, files, timed);
     let exit = end.exit();
-    tell(alloc, errors, exit, end.words(alloc, "Schedule"));
+    tell(alloc, errors, exit, end.words(alloc));
     exit
 }

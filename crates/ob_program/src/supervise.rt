@@ -30,7 +30,7 @@ fn of_config(fault: ConfigFault) -> FormEnd
     ensures { result ≡ end_of_config fault }
 {
     match fault {
-        ConfigFault::Shape { part } => FormEnd::Shape { part },
+        ConfigFault::Shape(offence) => FormEnd::Config(offence),
         ConfigFault::Memory => FormEnd::Stdio(StdioEnd::Memory),
     }
 }
@@ -110,6 +110,6 @@ where
     ob_xml::one_verdict();
     let end = serve_tree(alloc, asked, files, relay);
     let exit = end.exit();
-    tell(alloc, errors, exit, end.words(alloc, "Config"));
+    tell(alloc, errors, exit, end.words(alloc));
     exit
 }

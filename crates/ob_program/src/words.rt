@@ -15,6 +15,19 @@ pub(crate) fn word_and_number(alloc: Global, word: &str, number: u64) -> Result<
     text.as_bytes().to_vec(alloc)
 }
 
+/// The form that a file isn't of, its part that offends, and the rule that this breaks.
+pub(crate) fn offence_words(
+    alloc: Global,
+    form: &str,
+    part: u64,
+    rule: &str,
+) -> Result<Vec<u8>, AllocError>
+    ensures { IfOk result (λ words. words.items ≡ form.now ++ (codes " " ++ (decimal part ++ (codes " " ++ rule.now)))) }
+{
+    let text = format!(in alloc; "{form} {part} {rule}")?;
+    text.as_bytes().to_vec(alloc)
+}
+
 /// Why a document is refused, and where.
 pub(crate) fn refusal_words(alloc: Global, refused: Refused) -> Result<Vec<u8>, AllocError>
     ensures { IfOk result (λ words. words.items ≡ refusal_words refused) }

@@ -12,7 +12,10 @@ use Rattle.ob_object.specs.declared.kind.Kind.{Kind}
 use Rattle.ob_object.specs.declared.kind.Kind.TheVariants as kind
 use Rattle.ob_weekly.specs.Schedules.{IsEntry, IsWeekly}
 use Rattle.ob_weekly.specs.declared.schedule.Schedule.{Schedule}
-use Rattle.ob_schedule.specs.Forms.{holds, zone_text, day_value, time_value, is_zone, is_day, is_time, is_list, is_point, is_value, is_same_time, week_time, entry_offences, schedule_offences, offences, point_of}
+use Rattle.ob_schedule.specs.declared.rule.ScheduleRule.{ScheduleRule}
+use Rattle.ob_schedule.specs.declared.rule.ScheduleRule.TheVariants as rule
+use Rattle.ob_parts.specs.declared.offence.Offence.{Offence}
+use Rattle.ob_schedule.specs.Forms.{holds, zone_text, day_value, time_value, is_zone, is_day, is_time, is_list, is_point, is_value, point_rule, value_rule, is_same_time, week_time, entry_offences, schedule_offences, offences, point_of}
 use Rattle.ob_parts.specs.Numbered.{Part, plus, numbered_from, inside, child, inside_child, root}
 use Rattle.ob_parts.specs.Offences.{unless, needs, said, each}
 use Rattle.ob_parts.proofs.Needed.{said_some, judged_nil}
@@ -20,18 +23,18 @@ use Rattle.ob_schedule.specs.PointRules.{PointRules, Text}
 use Rattle.ob_schedule.specs.Right.{IsRightEntry, IsRightSchedule, IsRightFile}
 use Rattle.ob_schedule.specs.Weeks.{week, week_of, entry_of, listed_in}
 
-pub append_nil : (xs ys : List ℕ) → xs ++ ys ≡ [] → (xs ≡ []) × (ys ≡ [])
+pub append_nil : {A : Type 0} (xs ys : List A) → xs ++ ys ≡ [] → (xs ≡ []) × (ys ≡ [])
 append_nil [] ys e = (refl, e)
 append_nil (x ∷ xs) ys e = absurd (let f : x ∷ (xs ++ ys) ≡ [] = e in cc)
 
 pub right_entry : (site : PointRules) (point : Option (Text × Kind)) (before : List Object) (p : Part) → entry_offences site point before p ≡ [] → IsRightEntry p.object
 right_entry site point before p e =
-    let value = needs (codes "value") (is_value site point) p ++ unless (not (list_any (λ other. is_same_time (week_time other) (week_time p.object)) before)) p in
-    let day = append_nil (needs (codes "day") is_day p) (needs (codes "at") is_time p ++ value)
-    (append_nil (unless (same_kind p.object.head.kind kind.Obj) p) (needs (codes "day") is_day p ++ (needs (codes "at") is_time p ++ value)) e).1 in
-    let time = append_nil (needs (codes "at") is_time p) value day.1 in
-    let d = judged_nil is_day p (child (codes "day") p) day.0 in
-    let t = judged_nil is_time p (child (codes "at") p) time.0 in
+    let value = needs (codes "value") (value_rule point) (is_value site point) p ++ unless (not (list_any (λ other. is_same_time (week_time other) (week_time p.object)) before)) rule.TimeTwice p in
+    let day = append_nil (needs (codes "day") (λ _. rule.Day) is_day p) (needs (codes "at") (λ _. rule.At) is_time p ++ value)
+    (append_nil (unless (same_kind p.object.head.kind kind.Obj) rule.Kind p) (needs (codes "day") (λ _. rule.Day) is_day p ++ (needs (codes "at") (λ _. rule.At) is_time p ++ value)) e).1 in
+    let time = append_nil (needs (codes "at") (λ _. rule.At) is_time p) value day.1 in
+    let d = judged_nil (λ _. rule.Day) is_day p (child (codes "day") p) day.0 in
+    let t = judged_nil (λ _. rule.At) is_time p (child (codes "at") p) time.0 in
     record {
       day = ap (holds (λ i. int_le (pos 1) i && int_le i (pos 7))) (said_some (codes "day") day_value p d.0 d.1) ∙ d.2;
       time = ap (holds (λ t. nat_lt t 86_400_000_000_000 && (t % 1_000_000 == 0))) (said_some (codes "at") time_value p t.0 t.1) ∙ t.2;
@@ -42,7 +45,7 @@ all_cons P x xs is all zero d h = is
 all_cons P x xs is all (suc k) d h = all k d (omega (arith, h))
 
 -- where no part offends each is right
-each_nil : (judge : List Object → Part → List ℕ) (P : Object → Type 0) → ((b : List Object) (p : Part) → judge b p ≡ [] → P p.object)
+each_nil : (judge : List Object → Part → List (Offence ScheduleRule)) (P : Object → Type 0) → ((b : List Object) (p : Part) → judge b p ≡ [] → P p.object)
     → (b : List Object) (n : ℕ) (os : List Object) → each judge b (numbered_from n os) ≡ [] → All P os
 each_nil judge P right b n [] e = λ k d h. absurd (omega (arith, h))
 each_nil judge P right b n (o ∷ os) e =
@@ -53,7 +56,7 @@ each_nil judge P right b n (o ∷ os) e =
 pub listed_is : (name : List ℕ) (p d : Part) → child name p ≡ Some d → listed_in name p.object ≡ children d.object
 listed_is name p d e = ap (λ r. unwrap_or r []) (said_some name (λ c. Some (children c)) p d e)
 
-all_listed : (judge : List Object → Part → List ℕ) (P : Object → Type 0) → ((b : List Object) (p : Part) → judge b p ≡ [] → P p.object)
+all_listed : (judge : List Object → Part → List (Offence ScheduleRule)) (P : Object → Type 0) → ((b : List Object) (p : Part) → judge b p ≡ [] → P p.object)
     → (name : List ℕ) (p d : Part) → child name p ≡ Some d → each judge [] (inside_child name p) ≡ [] → All P (listed_in name p.object)
 all_listed judge P right name p d e none =
     subst (All P) (sym (listed_is name p d e))
@@ -75,10 +78,10 @@ pub right_schedule : (site : PointRules) (before : List Object) (p : Part) → s
 right_schedule site before p e =
     let judge = entry_offences site (point_of site before p.object) in
     let listed = each judge [] (inside_child (codes "entries") p) in
-    let list = append_nil (needs (codes "entries") (is_list 1 100) p) listed
-    (append_nil (needs (codes "point") (is_point site before) p) (needs (codes "entries") (is_list 1 100) p ++ listed)
-    (append_nil (unless (same_kind p.object.head.kind kind.Obj) p) (needs (codes "point") (is_point site before) p ++ (needs (codes "entries") (is_list 1 100) p ++ listed)) e).1).1 in
-    let d = judged_nil (is_list 1 100) p (child (codes "entries") p) list.0 in
+    let list = append_nil (needs (codes "entries") (λ _. rule.Entries) (is_list 1 100) p) listed
+    (append_nil (needs (codes "point") (point_rule site) (is_point site before) p) (needs (codes "entries") (λ _. rule.Entries) (is_list 1 100) p ++ listed)
+    (append_nil (unless (same_kind p.object.head.kind kind.Obj) rule.Kind p) (needs (codes "point") (point_rule site) (is_point site before) p ++ (needs (codes "entries") (λ _. rule.Entries) (is_list 1 100) p ++ listed)) e).1).1 in
+    let d = judged_nil (λ _. rule.Entries) (is_list 1 100) p (child (codes "entries") p) list.0 in
     let few = few_listed 1 100 (codes "entries") p d.0 d.1 d.2 in
     record {
       some = few.0;
@@ -90,11 +93,11 @@ pub right_file : (site : PointRules) (doc : Object) → offences site doc ≡ []
 right_file site doc e =
     let p = root doc in
     let listed = each (schedule_offences site) [] (inside_child (codes "schedules") p) in
-    let zone = append_nil (needs (codes "zone") is_zone p) (needs (codes "schedules") (is_list 0 1_000) p ++ listed)
-    (append_nil (unless (same_kind doc.head.kind kind.Obj) p) (needs (codes "zone") is_zone p ++ (needs (codes "schedules") (is_list 0 1_000) p ++ listed)) e).1 in
-    let list = append_nil (needs (codes "schedules") (is_list 0 1_000) p) listed zone.1 in
-    let z = judged_nil is_zone p (child (codes "zone") p) zone.0 in
-    let d = judged_nil (is_list 0 1_000) p (child (codes "schedules") p) list.0 in
+    let zone = append_nil (needs (codes "zone") (λ _. rule.Zone) is_zone p) (needs (codes "schedules") (λ _. rule.Schedules) (is_list 0 1_000) p ++ listed)
+    (append_nil (unless (same_kind doc.head.kind kind.Obj) rule.Kind p) (needs (codes "zone") (λ _. rule.Zone) is_zone p ++ (needs (codes "schedules") (λ _. rule.Schedules) (is_list 0 1_000) p ++ listed)) e).1 in
+    let list = append_nil (needs (codes "schedules") (λ _. rule.Schedules) (is_list 0 1_000) p) listed zone.1 in
+    let z = judged_nil (λ _. rule.Zone) is_zone p (child (codes "zone") p) zone.0 in
+    let d = judged_nil (λ _. rule.Schedules) (is_list 0 1_000) p (child (codes "schedules") p) list.0 in
     record {
       zone = ap (holds (λ t. is_some (read_whole t))) (said_some (codes "zone") zone_text p z.0 z.1) ∙ z.2;
       few = (few_listed 0 1_000 (codes "schedules") p d.0 d.1 d.2).1;

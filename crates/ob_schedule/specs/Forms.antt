@@ -15,8 +15,11 @@ use Rattle.ob_object.specs.Kinds.{same_kind, has_values}
 use Rattle.ob_object.specs.Object.{Object, children}
 use Rattle.ob_parts.specs.Numbered.{Part, inside_child, root}
 use Rattle.ob_parts.specs.Offences.{IsFirst}
+use Rattle.ob_parts.specs.declared.offence.Offence.{Offence}
 pub use Rattle.ob_parts.specs.Offences.{unless, needs, said, each}
 use Rattle.ob_schedule.specs.PointRules.{PointRules, Text}
+use Rattle.ob_schedule.specs.declared.rule.ScheduleRule.{ScheduleRule}
+use Rattle.ob_schedule.specs.declared.rule.ScheduleRule.TheVariants as rule
 
 -- ---- what an object holds
 
@@ -120,41 +123,56 @@ abbrev pub is_same_time : Option (ℤ × ℕ) → Option (ℤ × ℕ) → Bool
 is_same_time (Some a) (Some b) = int_eq a.0 b.0 && (a.1 == b.1)
 is_same_time _ _ = false
 
--- ---- the parts that offend
+-- ---- the parts that offend, each with the rule that it breaks
+
+-- the first rule that a point breaks, which is missing or isn't right
+abbrev pub point_rule : PointRules → Option Object → ScheduleRule
+point_rule site None = rule.Point
+point_rule site (Some o) = text_rule (point_text o)
+  where
+    text_rule : Option Text → ScheduleRule
+    text_rule None = rule.Point
+    text_rule (Some t) = cond (is_some (site.kind_at t)) rule.PointTwice rule.NotWritable
+
+-- the first rule that a value breaks, which is missing or isn't right
+abbrev pub value_rule : Option (Text × Kind) → Option Object → ScheduleRule
+value_rule p None = rule.Value
+value_rule None (Some o) = rule.ValueKind
+value_rule (Some p) (Some o) = cond (same_kind o.head.kind p.1) rule.ValueLimits rule.ValueKind
 
 -- an object with an int `day`, a time `at` and a `value`; and no entry before it has both its day and its time
-abbrev pub entry_offences : PointRules → Option (Text × Kind) → List Object → Part → List ℕ
+abbrev pub entry_offences : PointRules → Option (Text × Kind) → List Object → Part → List (Offence ScheduleRule)
 entry_offences site point before e =
-    unless (same_kind e.object.head.kind kind.Obj) e
-    ++ (needs (codes "day") is_day e
-    ++ (needs (codes "at") is_time e
-    ++ (needs (codes "value") (is_value site point) e
-    ++ unless (not (list_any (λ other. is_same_time (week_time other) (week_time e.object)) before)) e)))
+    unless (same_kind e.object.head.kind kind.Obj) rule.Kind e
+    ++ (needs (codes "day") (λ _. rule.Day) is_day e
+    ++ (needs (codes "at") (λ _. rule.At) is_time e
+    ++ (needs (codes "value") (value_rule point) (is_value site point) e
+    ++ unless (not (list_any (λ other. is_same_time (week_time other) (week_time e.object)) before)) rule.TimeTwice e)))
 
 -- the point of a schedule, with its kind, where it is right
 abbrev pub point_of : PointRules → List Object → Object → Option (Text × Kind)
 point_of site before s = said (codes "point") (right_point site before) s
 
 -- an object with a uri `point` and a list `entries`
-abbrev pub schedule_offences : PointRules → List Object → Part → List ℕ
+abbrev pub schedule_offences : PointRules → List Object → Part → List (Offence ScheduleRule)
 schedule_offences site before s =
-    unless (same_kind s.object.head.kind kind.Obj) s
-    ++ (needs (codes "point") (is_point site before) s
-    ++ (needs (codes "entries") (is_list 1 100) s
+    unless (same_kind s.object.head.kind kind.Obj) rule.Kind s
+    ++ (needs (codes "point") (point_rule site) (is_point site before) s
+    ++ (needs (codes "entries") (λ _. rule.Entries) (is_list 1 100) s
     ++ each (entry_offences site (point_of site before s.object)) [] (inside_child (codes "entries") s)))
 
--- the numbers of all parts of a document that offend
-abbrev pub offences : PointRules → Object → List ℕ
+-- all parts of a document that offend
+abbrev pub offences : PointRules → Object → List (Offence ScheduleRule)
 offences site doc =
-    unless (same_kind doc.head.kind kind.Obj) (root doc)
-    ++ (needs (codes "zone") is_zone (root doc)
-    ++ (needs (codes "schedules") (is_list 0 1_000) (root doc)
+    unless (same_kind doc.head.kind kind.Obj) rule.Kind (root doc)
+    ++ (needs (codes "zone") (λ _. rule.Zone) is_zone (root doc)
+    ++ (needs (codes "schedules") (λ _. rule.Schedules) (is_list 0 1_000) (root doc)
     ++ each (schedule_offences site) [] (inside_child (codes "schedules") (root doc))))
 
 -- a document of the form
 abbrev pub IsFile : PointRules → Object → Type 0
 IsFile site doc = offences site doc ≡ []
 
--- this part is the first that offends
-abbrev pub IsFirstOffence : PointRules → Object → ℕ → Type 0
-IsFirstOffence site doc part = IsFirst (offences site doc) part
+-- this part is the first that offends, and this the first rule that it breaks
+abbrev pub IsFirstOffence : PointRules → Object → Offence ScheduleRule → Type 0
+IsFirstOffence site doc offence = IsFirst (offences site doc) offence

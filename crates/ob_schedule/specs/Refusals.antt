@@ -5,7 +5,7 @@ use Rattle.ob_schedule.specs.declared.fault.ScheduleFault.TheVariants.{Shape, Me
 use Rattle.ob_schedule.specs.Forms.{IsFirstOffence}
 use Rattle.ob_schedule.specs.PointRules.{PointRules}
 
--- the part is the first that offends, or memory was wanting
+-- the offence is the first, or memory was wanting
 abbrev pub Refuses : PointRules → Object → ScheduleFault → Type 0
-Refuses site doc (Shape part) = IsFirstOffence site doc part
+Refuses site doc (Shape offence) = IsFirstOffence site doc offence
 Refuses site doc Memory = Unit {0}

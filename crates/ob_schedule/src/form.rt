@@ -7,38 +7,42 @@ ghost use Rattle.ob_schedule.specs.Forms as form;
 ghost use Rattle.ob_parts.specs.Least as order;
 ghost use Rattle.ob_parts.specs.Numbered.{inside, inside_child};
 ghost use Rattle.ob_schedule.specs.Refusals.{Refuses};
+ghost use Rattle.ob_schedule.specs.declared.rule.ScheduleRule.TheVariants as rules;
 ghost use Rattle.ob_parts.specs.Views.{part_of};
 ghost use Rattle.ob_schedule.specs.Views.{point_of};
 
 use crate::fault::ScheduleFault;
-use crate::judged::{have_time, is_day, is_list, is_time, is_value, is_zone, right_point};
+use crate::judged::{
+    have_time, is_day, is_list, is_time, is_value, is_zone, point_rule, right_point, value_rule,
+};
 use crate::point::{Point, object_at};
 use crate::points::Points;
+use crate::rule::ScheduleRule;
 use ob_object::{Kind, Obj};
-use ob_parts::{Part, earlier, number_behind};
+use ob_parts::{Offence, Part, earlier, number_behind};
 use std::alloc::AllocError;
 
 /// The part, unless it is an obj.
-fn kind_offence(part: Part<'_>) -> Option<u64>
-    ensures { result ≡ order.least (form.unless (same_kind part.entry.object.now.head.kind kind.Obj) (part_of part.entry)) }
+fn kind_offence(part: Part<'_>) -> Option<Offence<ScheduleRule>>
+    ensures { result ≡ order.least (form.unless (same_kind part.entry.object.now.head.kind kind.Obj) rules.Kind (part_of part.entry)) }
 {
-    part.unless(part.object.kind().same(Kind::Obj))
+    part.unless(part.object.kind().same(Kind::Obj), ScheduleRule::Kind)
 }
 
 /// An entry, where one before it has both its day and its time.
-fn twice_offence(before: &[Obj], entry: Part<'_>) -> Option<u64>
-    ensures { result ≡ order.least (form.unless (not (list_any (λ other. form.is_same_time (form.week_time other) (form.week_time entry.entry.object.now)) before.now)) (part_of entry.entry)) }
+fn twice_offence(before: &[Obj], entry: Part<'_>) -> Option<Offence<ScheduleRule>>
+    ensures { result ≡ order.least (form.unless (not (list_any (λ other. form.is_same_time (form.week_time other) (form.week_time entry.entry.object.now)) before.now)) rules.TimeTwice (part_of entry.entry)) }
 {
-    entry.unless(!have_time(before, entry.object))
+    entry.unless(!have_time(before, entry.object), ScheduleRule::TimeTwice)
 }
 
 /// The zone of a document, unless it is one.
-fn zone_offence(doc: Part<'_>) -> Option<u64>
-    ensures { result ≡ order.least (form.needs (codes "zone") form.is_zone (part_of doc.entry)) }
+fn zone_offence(doc: Part<'_>) -> Option<Offence<ScheduleRule>>
+    ensures { result ≡ order.least (form.needs (codes "zone") (λ _. rules.Zone) form.is_zone (part_of doc.entry)) }
 {
     match doc.child("zone") {
-        Some(zone) => zone.unless(is_zone(zone.object)),
-        None => Some(doc.number),
+        Some(zone) => zone.unless(is_zone(zone.object), ScheduleRule::Zone),
+        None => Some(doc.breaks(ScheduleRule::Zone)),
     }
 }
 
@@ -47,36 +51,37 @@ fn judge_point<'a, P: Points>(
     points: &P,
     before: &[Obj],
     schedule: Part<'a>,
-) -> (Option<Point<'a>>, Option<u64>)
+) -> (Option<Point<'a>>, Option<Offence<ScheduleRule>>)
     ensures point { option_map point_of result.0 ≡ form.point_of (P.rules points.now) before.now schedule.entry.object.now }
-    ensures offence { result.1 ≡ order.least (form.needs (codes "point") (form.is_point (P.rules points.now) before.now) (part_of schedule.entry)) }
+    ensures offence { result.1 ≡ order.least (form.needs (codes "point") (form.point_rule (P.rules points.now)) (form.is_point (P.rules points.now) before.now) (part_of schedule.entry)) }
 {
     match schedule.child("point") {
         Some(point) => {
             let right = right_point(points, before, point.object);
-            (right, point.unless(right.is_some()))
+            let rule = point_rule(points, point.object);
+            (right, point.unless(right.is_some(), rule))
         }
-        None => (None, Some(schedule.number)),
+        None => (None, Some(schedule.breaks(ScheduleRule::Point))),
     }
 }
 
 /// The day of an entry, unless it is one.
-fn day_offence(entry: Part<'_>) -> Option<u64>
-    ensures { result ≡ order.least (form.needs (codes "day") form.is_day (part_of entry.entry)) }
+fn day_offence(entry: Part<'_>) -> Option<Offence<ScheduleRule>>
+    ensures { result ≡ order.least (form.needs (codes "day") (λ _. rules.Day) form.is_day (part_of entry.entry)) }
 {
     match entry.child("day") {
-        Some(day) => day.unless(is_day(day.object)),
-        None => Some(entry.number),
+        Some(day) => day.unless(is_day(day.object), ScheduleRule::Day),
+        None => Some(entry.breaks(ScheduleRule::Day)),
     }
 }
 
 /// The time of an entry, unless it is one.
-fn time_offence(entry: Part<'_>) -> Option<u64>
-    ensures { result ≡ order.least (form.needs (codes "at") form.is_time (part_of entry.entry)) }
+fn time_offence(entry: Part<'_>) -> Option<Offence<ScheduleRule>>
+    ensures { result ≡ order.least (form.needs (codes "at") (λ _. rules.At) form.is_time (part_of entry.entry)) }
 {
     match entry.child("at") {
-        Some(time) => time.unless(is_time(time.object)),
-        None => Some(entry.number),
+        Some(time) => time.unless(is_time(time.object), ScheduleRule::At),
+        None => Some(entry.breaks(ScheduleRule::At)),
     }
 }
 
@@ -85,15 +90,15 @@ fn value_offence<P: Points>(
     points: &P,
     point: Option<Point<'_>>,
     entry: Part<'_>,
-) -> Result<Option<u64>, AllocError>
-    ensures { IfOk result (λ first. first ≡ order.least (form.needs (codes "value") (form.is_value (P.rules points.now) (option_map point_of point.entry)) (part_of entry.entry))) }
+) -> Result<Option<Offence<ScheduleRule>>, AllocError>
+    ensures { IfOk result (λ first. first ≡ order.least (form.needs (codes "value") (form.value_rule (option_map point_of point.entry)) (form.is_value (P.rules points.now) (option_map point_of point.entry)) (part_of entry.entry))) }
 {
     match entry.child("value") {
         Some(value) => {
             let is_right = is_value(points, point, value.object)?;
-            Ok(value.unless(is_right))
+            Ok(value.unless(is_right, value_rule(point, value.object)))
         }
-        None => Ok(Some(entry.number)),
+        None => Ok(Some(entry.breaks(ScheduleRule::Value))),
     }
 }
 
@@ -103,7 +108,7 @@ fn entry_offence<P: Points>(
     point: Option<Point<'_>>,
     before: &[Obj],
     entry: Part<'_>,
-) -> Result<Option<u64>, AllocError>
+) -> Result<Option<Offence<ScheduleRule>>, AllocError>
     ensures { IfOk result (λ first. first ≡ order.least (form.entry_offences (P.rules points.now) (option_map point_of point.entry) before.now (part_of entry.entry))) }
 {
     let kind = kind_offence(entry);
@@ -119,7 +124,7 @@ fn entries_offence<P: Points>(
     points: &P,
     point: Option<Point<'_>>,
     list: Part<'_>,
-) -> Result<Option<u64>, AllocError>
+) -> Result<Option<Offence<ScheduleRule>>, AllocError>
     ensures { IfOk result (λ first. first ≡ order.least (form.each (form.entry_offences (P.rules points.now) (option_map point_of point.entry)) [] (inside (part_of list.entry)))) }
 {
     let entries = list.object.children();
@@ -140,13 +145,13 @@ fn listed_entries<P: Points>(
     points: &P,
     point: Option<Point<'_>>,
     schedule: Part<'_>,
-) -> Result<Option<u64>, AllocError>
-    ensures { IfOk result (λ first. first ≡ order.least (form.needs (codes "entries") (form.is_list 1 100) (part_of schedule.entry) ++ form.each (form.entry_offences (P.rules points.now) (option_map point_of point.entry)) [] (inside_child (codes "entries") (part_of schedule.entry)))) }
+) -> Result<Option<Offence<ScheduleRule>>, AllocError>
+    ensures { IfOk result (λ first. first ≡ order.least (form.needs (codes "entries") (λ _. rules.Entries) (form.is_list 1 100) (part_of schedule.entry) ++ form.each (form.entry_offences (P.rules points.now) (option_map point_of point.entry)) [] (inside_child (codes "entries") (part_of schedule.entry)))) }
 {
     match schedule.child("entries") {
         Some(list) if is_list(list.object, 1, 100) => entries_offence(points, point, list),
-        Some(list) => Ok(Some(list.number)),
-        None => Ok(Some(schedule.number)),
+        Some(list) => Ok(Some(list.breaks(ScheduleRule::Entries))),
+        None => Ok(Some(schedule.breaks(ScheduleRule::Entries))),
     }
 }
 
@@ -155,7 +160,7 @@ fn schedule_offence<P: Points>(
     points: &P,
     before: &[Obj],
     schedule: Part<'_>,
-) -> Result<Option<u64>, AllocError>
+) -> Result<Option<Offence<ScheduleRule>>, AllocError>
     ensures { IfOk result (λ first. first ≡ order.least (form.schedule_offences (P.rules points.now) before.now (part_of schedule.entry))) }
 {
     let kind = kind_offence(schedule);
@@ -165,7 +170,10 @@ fn schedule_offence<P: Points>(
 }
 
 /// The first part of schedules that offends.
-fn schedules_offence<P: Points>(points: &P, list: Part<'_>) -> Result<Option<u64>, AllocError>
+fn schedules_offence<P: Points>(
+    points: &P,
+    list: Part<'_>,
+) -> Result<Option<Offence<ScheduleRule>>, AllocError>
     ensures { IfOk result (λ first. first ≡ order.least (form.each (form.schedule_offences (P.rules points.now)) [] (inside (part_of list.entry)))) }
 {
     let schedules = list.object.children();
@@ -182,18 +190,24 @@ fn schedules_offence<P: Points>(points: &P, list: Part<'_>) -> Result<Option<u64
 
 /// The first part of a document's list of schedules that offends, itself or in it. Where it offends itself, nothing in it is
 /// looked at: its own number is the least.
-fn listed_schedules<P: Points>(points: &P, doc: Part<'_>) -> Result<Option<u64>, AllocError>
-    ensures { IfOk result (λ first. first ≡ order.least (form.needs (codes "schedules") (form.is_list 0 1_000) (part_of doc.entry) ++ form.each (form.schedule_offences (P.rules points.now)) [] (inside_child (codes "schedules") (part_of doc.entry)))) }
+fn listed_schedules<P: Points>(
+    points: &P,
+    doc: Part<'_>,
+) -> Result<Option<Offence<ScheduleRule>>, AllocError>
+    ensures { IfOk result (λ first. first ≡ order.least (form.needs (codes "schedules") (λ _. rules.Schedules) (form.is_list 0 1_000) (part_of doc.entry) ++ form.each (form.schedule_offences (P.rules points.now)) [] (inside_child (codes "schedules") (part_of doc.entry)))) }
 {
     match doc.child("schedules") {
         Some(list) if is_list(list.object, 0, 1_000) => schedules_offence(points, list),
-        Some(list) => Ok(Some(list.number)),
-        None => Ok(Some(doc.number)),
+        Some(list) => Ok(Some(list.breaks(ScheduleRule::Schedules))),
+        None => Ok(Some(doc.breaks(ScheduleRule::Schedules))),
     }
 }
 
 /// The first part of a document that offends, if one does.
-fn first_offence<P: Points>(points: &P, doc: &Obj) -> Result<Option<u64>, AllocError>
+fn first_offence<P: Points>(
+    points: &P,
+    doc: &Obj,
+) -> Result<Option<Offence<ScheduleRule>>, AllocError>
     ensures { IfOk result (λ first. first ≡ order.least (form.offences (P.rules points.now) doc.now)) }
 {
     let doc = Part::root(doc);
@@ -205,13 +219,13 @@ fn first_offence<P: Points>(points: &P, doc: &Obj) -> Result<Option<u64>, AllocE
 
 /// Whether a document is a file of schedules for these points.
 ///
-/// `Shape` comes exactly where it isn't, with the first part that offends. `Memory` comes for want of memory alone.
+/// `Shape` comes exactly where it isn't, with the first part that offends and the first rule that it breaks. `Memory` comes for want of memory alone.
 pub fn check_form<P: Points>(doc: &Obj, points: &P) -> Result<(), ScheduleFault>
     ensures is { OnOk result (form.IsFile (P.rules points.now) doc.now) }
     ensures refuses { IfErr result (Refuses (P.rules points.now) doc.now) }
 {
     match first_offence(points, doc)? {
-        Some(part) => Err(ScheduleFault::Shape { part }),
+        Some(offence) => Err(ScheduleFault::Shape(offence)),
         None => Ok(()),
     }
 }

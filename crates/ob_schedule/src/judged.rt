@@ -1,11 +1,12 @@
 //! What single objects are to be.
-ghost use Rattle.std.specs.Prelude.{◌≡◌, codes, IfOk, option_copied, option_map};
+ghost use Rattle.std.specs.Prelude.{◌≡◌, Some, codes, IfOk, option_copied, option_map};
 ghost use Rattle.std.specs.List.{list_any};
 ghost use Rattle.ob_schedule.specs.Forms as form;
 ghost use Rattle.ob_schedule.specs.Views as view;
 
 use crate::point::Point;
 use crate::points::Points;
+use crate::rule::ScheduleRule;
 use jiff::tz::TimeZone;
 use ob_object::{Kind, Obj, Slot};
 use ob_values::{Text, Value};
@@ -135,6 +136,29 @@ pub(crate) fn right_point<'a, P: Points>(
     match points.kind_at(path) {
         Some(kind) => Some(Point { path, kind }),
         None => None,
+    }
+}
+
+/// The first rule that a point breaks which isn't right.
+pub(crate) fn point_rule<P: Points>(points: &P, object: &Obj) -> ScheduleRule
+    ensures { result ≡ form.point_rule (P.rules points.now) (Some object.now) }
+{
+    match point_text(object) {
+        Some(path) => match points.kind_at(path) {
+            Some(_) => ScheduleRule::PointTwice,
+            None => ScheduleRule::NotWritable,
+        },
+        None => ScheduleRule::Point,
+    }
+}
+
+/// The first rule that a value breaks which isn't right.
+pub(crate) fn value_rule(point: Option<Point<'_>>, object: &Obj) -> ScheduleRule
+    ensures { result ≡ form.value_rule (option_map view.point_of point.entry) (Some object.now) }
+{
+    match point {
+        Some(Point { kind, .. }) if object.kind().same(kind) => ScheduleRule::ValueLimits,
+        _ => ScheduleRule::ValueKind,
     }
 }
 

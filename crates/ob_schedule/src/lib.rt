@@ -10,8 +10,10 @@ mod judged;
 mod point;
 mod points;
 mod read;
+mod rule;
 
 pub use fault::ScheduleFault;
 pub use form::check_form;
 pub use points::Points;
 pub use read::read_schedules;
+pub use rule::ScheduleRule;

@@ -172,7 +172,8 @@ fn zone_of(doc: &Obj) -> TimeZone<'static>
 
 /// The schedules that a document says, for the points of a site.
 ///
-/// `Shape` comes exactly where the document isn't of the form, with the first part that offends. `Memory` comes for want of
+/// `Shape` comes exactly where the document isn't of the form, with the first part that offends and the first rule that it
+/// breaks. `Memory` comes for want of
 /// memory alone.
 pub fn read_schedules<P: Points>(
     alloc: Global,

@@ -14,14 +14,14 @@ use Rattle.ob_site_rules.specs.declared.plan.Plan.{Plan}
 use Rattle.ob_site_rules.specs.State.{Log, rolled, rolled_logs, at}
 use Rattle.ob_site_rules.specs.Sites.{SiteState}
 use Rattle.ob_plain_state.specs.States.{entry_of}
-use Rattle.ob_site_rules.specs.Loading.{Part, path_of, capacity_of, records_of, histories_in, items_of, rule_in, subjects, bad_part, bad_history, bad_subjects, bad_records, bad_rules, overfull, least, record_in, is_bad_item, after_item, is_late, is_earlier, has_bad_source, has_bad_capacity, ms_up, last_moment, greatest, opened, kept_root}
+use Rattle.ob_site_rules.specs.Loading.{Part, path_of, capacity_of, records_of, histories_in, items_of, rule_in, subjects, bad_part, bad_history, bad_subjects, bad_records, bad_rules, overfull, record_in, is_bad_item, after_item, is_late, is_earlier, has_bad_source, has_bad_capacity, ms_up, last_moment, greatest, opened, kept_root, breaks, record_rule, setting_rule}
+use Rattle.ob_site_rules.specs.declared.site_rule.SiteRule.{SiteRule}
+use Rattle.ob_site_rules.specs.declared.site_rule.SiteRule.TheVariants as site_rule
+use Rattle.ob_parts.specs.declared.offence.Offence.{Offence}
+use Rattle.ob_parts.proofs.Earliest.{least_none}
 use Rattle.ob_site_file.specs.Opened.{whole_log, rules_at, subject_of, plan_with, state_with, site_with, site_of, Plans}
 use Rattle.ob_site_file.specs.Passes.{site_roles, site_parts}
 use Rattle.ob_site_file.specs.declared.document.Opened.{Opened}
-
-least_none : (ns : List ℕ) → least ns ≡ None → ns ≡ []
-least_none [] e = refl
-least_none (n ∷ ns) e = absurd cc
 
 second_none : {A : Type 0} (xs ys : List A) → xs ++ ys ≡ [] → ys ≡ []
 second_none [] ys e = e
@@ -55,7 +55,7 @@ one_subject ps (p ∷ []) e = append_none (rules_of ps p)
     append_none : (xs : List PointRule) → xs ++ [] ≡ xs
     append_none [] = refl
     append_none (x ∷ xs) = ap (λ l. x ∷ l) (append_none xs)
-one_subject ps (p ∷ q ∷ others) e = absurd (let f : map (λ (q : Part). q.number) (q ∷ others) ≡ [] = second_none (bad_rules ps [] (items_of (codes "rules") p)) (map (λ (q : Part). q.number) (q ∷ others)) e in cc)
+one_subject ps (p ∷ q ∷ others) e = absurd (let f : map (λ (q : Part). breaks site_rule.SecondSubject q.number) (q ∷ others) ≡ [] = second_none (bad_rules ps [] (items_of (codes "rules") p)) (map (λ (q : Part). breaks site_rule.SecondSubject q.number) (q ∷ others)) e in cc)
 
 -- the times of records
 
@@ -94,7 +94,7 @@ item_times : (before : Option Instant) (r : Option Record) → is_bad_item befor
 item_times before None h = refl
 item_times before (Some r) h = ap (λ n. n ∷ []) (in_time before r h)
 
-if_none : (b : Bool) (n : ℕ) → cond b (n ∷ []) [] ≡ [] → b ≡ false
+if_none : {A : Type 0} (b : Bool) (n : A) → cond b (n ∷ []) [] ≡ [] → b ≡ false
 if_none true n e = absurd cc
 if_none false n e = refl
 
@@ -105,9 +105,9 @@ cons_map f (Some r) rs = refl
 records_times : (before : Option Instant) (items : List (ℕ × Object)) → bad_records before items ≡ [] → map up (filter_map (λ i. record_in i.1) items) ≡ map by_last (filter_map (λ i. record_in i.1) items)
 records_times before [] e = refl
 records_times before (i ∷ items) e =
-    let here = cond (is_bad_item before (record_in i.1)) (i.0 ∷ []) [] in
+    let here = cond (is_bad_item before (record_in i.1)) (breaks (record_rule before i.1 (record_in i.1)) i.0 ∷ []) [] in
     let rest = bad_records (after_item before (record_in i.1)) items in
-    let good : is_bad_item before (record_in i.1) ≡ false = if_none (is_bad_item before (record_in i.1)) i.0 (first_none here rest e) in
+    let good : is_bad_item before (record_in i.1) ≡ false = if_none (is_bad_item before (record_in i.1)) (breaks (record_rule before i.1 (record_in i.1)) i.0) (first_none here rest e) in
     cons_map up (record_in i.1) (filter_map (λ j. record_in j.1) items)
     ∙ ap₂ (λ a b. a ++ b) (item_times before (record_in i.1) good) (records_times (after_item before (record_in i.1)) items (second_none here rest e))
     ∙ sym (cons_map by_last (record_in i.1) (filter_map (λ j. record_in j.1) items))
@@ -123,8 +123,8 @@ history_times : (ps qs : List Part) → flat_map (bad_history ps) qs ≡ [] → 
 history_times ps [] e = refl
 history_times ps (p ∷ qs) e = go p.roles.history refl (history_times ps qs (second_none (bad_history ps p) (flat_map (bad_history ps) qs) e))
   where
-    inner : List ℕ
-    inner = cond (has_bad_source ps p || has_bad_capacity p) (p.number ∷ []) []
+    inner : List (Offence SiteRule)
+    inner = cond (has_bad_source ps p || has_bad_capacity p) (breaks (setting_rule ps p) p.number ∷ []) []
 
     mine : (b : Bool) → p.roles.history ≡ b → b ≡ true → bad_records None (items_of (codes "data") p) ≡ []
     mine b is on =

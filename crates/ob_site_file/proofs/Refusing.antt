@@ -8,6 +8,8 @@ use Rattle.ob_contracts.specs.Standard.{standard}
 use Rattle.ob_contracts.specs.declared.adding.LibFault.{LibFault}
 use Rattle.ob_contracts.specs.declared.adding.LibFault.TheVariants as lib
 use Rattle.ob_hrefs.specs.Hrefs.{root_url, site_path, root_of, bad_href, made_object}
+use Rattle.ob_parts.specs.declared.offence.Offence.{Offence}
+use Rattle.ob_site_rules.specs.declared.site_rule.SiteRule.{SiteRule}
 use Rattle.ob_site_rules.specs.Shown.{shown_root}
 use Rattle.ob_site_rules.specs.Sites.{SiteState}
 use Rattle.ob_site_rules.specs.Writes.{site_contracts}
@@ -31,14 +33,14 @@ contract_refused base root lib.Memory g = tt
 abbrev by_library : Parts → ℕ → Object → Result Contracts LibFault → Result SiteState loading.LoadFault
 by_library base boot root taken = opened_by base base.path boot taken standard_words root
 
-abbrev by_rules : Parts → ℕ → Object → Contracts → Option ℕ → Result SiteState loading.LoadFault
+abbrev by_rules : Parts → ℕ → Object → Contracts → Option (Offence SiteRule) → Result SiteState loading.LoadFault
 by_rules base boot root library bad = or_bad loading.BadRule bad (within_size (opened base base.path boot library root (kept_root (site_roles root) root) (site_parts root)))
 
 twice : (base : Parts) (boot : ℕ) (root : Object) (library : Contracts) (path : List ℕ) → add_contracts (Ok standard) (site_contracts root) ≡ Ok library → taken_twice base.path [] (site_paths root) ≡ Some path
     → opened_made base boot root ≡ Err (loading.PathTwice path)
 twice base boot root library path taken h = ap (by_library base boot root) taken ∙ ap (λ t. or_twice t (by_rules base boot root library (bad_part (site_parts root)))) h
 
-once : (base : Parts) (boot : ℕ) (root : Object) (library : Contracts) (bad : Option ℕ) → add_contracts (Ok standard) (site_contracts root) ≡ Ok library → taken_twice base.path [] (site_paths root) ≡ None → bad_part (site_parts root) ≡ bad
+once : (base : Parts) (boot : ℕ) (root : Object) (library : Contracts) (bad : Option (Offence SiteRule)) → add_contracts (Ok standard) (site_contracts root) ≡ Ok library → taken_twice base.path [] (site_paths root) ≡ None → bad_part (site_parts root) ≡ bad
     → opened_made base boot root ≡ by_rules base boot root library bad
 once base boot root library bad taken h is =
     ap (by_library base boot root) taken ∙ ap (λ t. or_twice t (by_rules base boot root library (bad_part (site_parts root)))) h ∙ ap (by_rules base boot root library) is
@@ -47,7 +49,7 @@ once base boot root library bad taken h is =
 pub made_refused : (base : Parts) (boot : ℕ) (root : Object) (f : LoadFault) → RefusesMade base root f → IsRefusal (opened_made base boot root) f
 made_refused base boot root (Contract fault) r = ap (by_library base boot root) r
 made_refused base boot root (PathTwice path) r = twice base boot root r.0 path r.1.0 r.1.1
-made_refused base boot root (Rule part) r = once base boot root r.library (Some part) r.taken r.once r.bad
+made_refused base boot root (Rule offence) r = once base boot root r.library (Some offence) r.taken r.once r.bad
 made_refused base boot root Size r = absurd r
 made_refused base boot root Memory r = tt
 made_refused base boot root Read r = absurd r

@@ -11,8 +11,11 @@ use denote.Ref.{Bor}
 use Rattle.ob_values.proofs.Bools.{or_cond}
 use Rattle.ob_object.specs.declared.kind.Kind.{Kind}
 use Rattle.ob_object.specs.Object.{Object, parts}
+use Rattle.ob_parts.specs.Least.{least}
 use Rattle.ob_site_rules.specs.Build.{Path}
-use Rattle.ob_site_rules.specs.Loading.{Part, numbered, node_there, is_number_kind, rule_in, is_bad_rule, after_rule, bad_rules, least}
+use Rattle.ob_site_rules.specs.declared.site_rule.SiteRule.{SiteRule}
+use Rattle.ob_site_rules.specs.declared.site_rule.SiteRule.TheVariants as site_rule
+use Rattle.ob_site_rules.specs.Loading.{Part, numbered, node_there, is_number_kind, rule_in, is_bad_rule, after_rule, bad_rules, breaks, alarm_rule}
 use Rattle.ob_site_rules.specs.State.{is_among}
 use Rattle.ob_site_rules.specs.declared.plan.PointRule.{PointRule}
 use Rattle.ob_site_file.specs.RulesAndRecords.{Has, IsNext}
@@ -24,7 +27,7 @@ use Rattle.ob_site_file.proofs.Rests.{rest_more}
 rules_from : (ps : List Part) (before : List Path) (n : ℕ) (os : List Object) → From n (bad_rules ps before (numbered n os))
 rules_from ps before n [] = tt
 rules_from ps before n (o ∷ os) =
-    from_if (is_bad_rule before (rule_in ps o)) n _ (from_below n (n + parts o) _ (omega arith) (rules_from ps (after_rule before (rule_in ps o)) (n + parts o) os))
+    from_if (is_bad_rule before (rule_in ps o)) (alarm_rule ps o (rule_in ps o)) n _ (from_below n (n + parts o) _ (omega arith) (rules_from ps (after_rule before (rule_in ps o)) (n + parts o) os))
 
 -- whether a source is in the set
 abbrev pub has_source : BTreeSet (Bor (List ℕ)) → Path → Bool
@@ -40,30 +43,42 @@ pub rules_first : (ps : List Part) (n : ℕ) (all : List Object) (set : BTreeSet
 rules_first ps n all set none = record { before = []; has = none; same = refl }
 
 at_item : (ps : List Part) (before : List Path) (n : ℕ) (x : Object) (os : List Object) (b : Bool) → is_bad_rule before (rule_in ps x) ≡ b
-    → bad_rules ps before (numbered n (x ∷ os)) ≡ cond b (n ∷ []) [] ++ bad_rules ps (after_rule before (rule_in ps x)) (numbered (n + parts x) os)
-at_item ps before n x os b e = ap (λ (c : Bool). cond c (n ∷ []) [] ++ bad_rules ps (after_rule before (rule_in ps x)) (numbered (n + parts x) os)) e
+    → bad_rules ps before (numbered n (x ∷ os)) ≡ cond b (breaks (alarm_rule ps x (rule_in ps x)) n ∷ []) [] ++ bad_rules ps (after_rule before (rule_in ps x)) (numbered (n + parts x) os)
+at_item ps before n x os b e = ap (λ (c : Bool). cond c (breaks (alarm_rule ps x (rule_in ps x)) n ∷ []) [] ++ bad_rules ps (after_rule before (rule_in ps x)) (numbered (n + parts x) os)) e
 
-pub rules_more : (ps : List Part) (n : ℕ) (all : List Object) (i : ℕ) (set new : BTreeSet (Bor (List ℕ))) (number next : ℕ) (x : Object) (fresh : Bool) → i < length all → x ≡ get_or all i x → fresh ≡ true
-    → ((before : List Path) → Has set before → IsNext ps before x fresh new) → next ≡ number + parts x → RulesLeft ps n all i set number → RulesLeft ps n all (i + 1) new next
-rules_more ps n all i set new number next x fresh h is taken put step l =
-    let one : IsNext ps l.before x fresh new = put l.before l.has in
+-- what is broken by an item that is told to break nothing, or a rule
+none_broken : (b : Bool) (r : SiteRule) → cond b (Some r) None ≡ None → b ≡ false
+none_broken true r e = absurd (let f : Some r ≡ None = e in cc)
+none_broken false r e = refl
+
+some_broken : (b : Bool) (r rule : SiteRule) → cond b (Some r) None ≡ Some rule → (b ≡ true) × (r ≡ rule)
+some_broken true r rule e = (refl, cc)
+some_broken false r rule e = absurd (let f : None ≡ Some rule = e in cc)
+
+pub rules_more : (ps : List Part) (n : ℕ) (all : List Object) (i : ℕ) (set new : BTreeSet (Bor (List ℕ))) (number next : ℕ) (x : Object) (broken : Option SiteRule) → i < length all → x ≡ get_or all i x → broken ≡ None
+    → ((before : List Path) → Has set before → IsNext ps before x broken new) → next ≡ number + parts x → RulesLeft ps n all i set number → RulesLeft ps n all (i + 1) new next
+rules_more ps n all i set new number next x broken h is taken put step l =
+    let one : IsNext ps l.before x broken new = put l.before l.has in
+    let good = none_broken (is_bad_rule l.before (rule_in ps x)) (alarm_rule ps x (rule_in ps x)) (one.same ∙ taken) in
     record {
       before = after_rule l.before (rule_in ps x);
       has = one.has taken;
       same = ap (λ m. least (bad_rules ps (after_rule l.before (rule_in ps x)) (numbered m (drop (i + 1) all)))) step
-          ∙ sym (ap (λ os. least (bad_rules ps l.before (numbered number os))) (rest_more all i x h is) ∙ ap least (at_item ps l.before number x (drop (i + 1) all) false (one.same ∙ ap not taken)))
+          ∙ sym (ap (λ os. least (bad_rules ps l.before (numbered number os))) (rest_more all i x h is) ∙ ap least (at_item ps l.before number x (drop (i + 1) all) false good))
           ∙ l.same;
     }
 
-pub rules_bad : (ps : List Part) (n : ℕ) (all : List Object) (i : ℕ) (set new : BTreeSet (Bor (List ℕ))) (number : ℕ) (x : Object) (fresh : Bool) → i < length all → x ≡ get_or all i x → fresh ≡ false
-    → ((before : List Path) → Has set before → IsNext ps before x fresh new) → RulesLeft ps n all i set number → Some number ≡ least (bad_rules ps [] (numbered n all))
-rules_bad ps n all i set new number x fresh h is no_rule put l =
-    let one : IsNext ps l.before x fresh new = put l.before l.has in
+pub rules_bad : (ps : List Part) (n : ℕ) (all : List Object) (i : ℕ) (set new : BTreeSet (Bor (List ℕ))) (number : ℕ) (x : Object) (broken : Option SiteRule) (rule : SiteRule) → i < length all → x ≡ get_or all i x → broken ≡ Some rule
+    → ((before : List Path) → Has set before → IsNext ps before x broken new) → RulesLeft ps n all i set number → Some (breaks rule number) ≡ least (bad_rules ps [] (numbered n all))
+rules_bad ps n all i set new number x broken rule h is no_rule put l =
+    let one : IsNext ps l.before x broken new = put l.before l.has in
+    let bad = some_broken (is_bad_rule l.before (rule_in ps x)) (alarm_rule ps x (rule_in ps x)) rule (one.same ∙ no_rule) in
     let rest = bad_rules ps (after_rule l.before (rule_in ps x)) (numbered (number + parts x) (drop (i + 1) all)) in
     let behind : From number rest = from_below number (number + parts x) rest (omega arith) (rules_from ps (after_rule l.before (rule_in ps x)) (number + parts x) (drop (i + 1) all)) in
     sym (
     ap (λ os. least (bad_rules ps l.before (numbered number os))) (rest_more all i x h is)
-    ∙ ap least (at_item ps l.before number x (drop (i + 1) all) true (one.same ∙ ap not no_rule)) ∙ least_from number rest behind
+    ∙ ap least (at_item ps l.before number x (drop (i + 1) all) true bad.0) ∙ least_from (breaks (alarm_rule ps x (rule_in ps x)) number) rest behind
+    ∙ ap (λ (r : SiteRule). Some (breaks r number)) bad.1
     ) ∙ l.same
 
 pub rules_all : (ps : List Part) (n : ℕ) (all : List Object) (i : ℕ) (set : BTreeSet (Bor (List ℕ))) (number : ℕ) → length all ≤ i → RulesLeft ps n all i set number → None ≡ least (bad_rules ps [] (numbered n all))
@@ -76,18 +91,40 @@ has_more set new p before put has = λ q. put q ∙ ap (λ b. cond (bytes_eq p q
 source_put : (set new : BTreeSet (Bor (List ℕ))) (key : Bor (List ℕ)) → ((q : Bor (List ℕ)) → has_source new q.now ≡ cond (is_eq (slice_cmp nat_cmp key.now q.now)) true (has_source set q.now)) → (q : Path) → has_source new q ≡ cond (bytes_eq key.now q) true (has_source set q)
 source_put set new key put q = put (record { ref_ptr = (0, 0); now = q }) ∙ ap (λ b. cond b true (has_source set q)) (is_eq-slice_cmp key.now q)
 
-twice_not : (a b : Bool) → a ≡ not b → b ≡ not a
-twice_not true true e = e
-twice_not true false e = refl
-twice_not false true e = refl
-twice_not false false e = e
+among : (set : BTreeSet (Bor (List ℕ))) (before : List Path) (key : Bor (List ℕ)) (r : PointRule) (b fresh : Bool) → key.now ≡ r.source → fresh ≡ b → b ≡ not (has_source set key.now) → Has set before → is_among r.source before ≡ not fresh
+among set before key r b fresh same is put has = sym (has r.source) ∙ ap (has_source set) (sym same) ∙ twice_not b (has_source set key.now) put ∙ ap not (sym is)
+  where
+    twice_not : (a b : Bool) → a ≡ not b → b ≡ not a
+    twice_not true true e = e
+    twice_not true false e = refl
+    twice_not false true e = refl
+    twice_not false false e = e
 
 -- an item that is a rule, whose source is put
-pub next_is : (ps : List Part) (before : List Path) (item : Object) (set new : BTreeSet (Bor (List ℕ))) (key : Bor (List ℕ)) (r : PointRule) (fresh : Bool) → Some r ≡ rule_in ps item → key.now ≡ r.source → fresh ≡ not (has_source set key.now)
-    → ((q : Bor (List ℕ)) → has_source new q.now ≡ cond (is_eq (slice_cmp nat_cmp key.now q.now)) true (has_source set q.now)) → Has set before → IsNext ps before item fresh new
-next_is ps before item set new key r fresh rule same is put has = record {
-  same = ap (is_bad_rule before) (sym rule) ∙ sym (has r.source) ∙ ap (has_source set) (sym same) ∙ twice_not fresh (has_source set key.now) is;
-  has = λ _. subst (Has new) (ap (λ (s : Path). s ∷ before) same ∙ ap (after_rule before) rule) (has_more set new key.now before (source_put set new key put) has);
+pub next_is : (ps : List Part) (before : List Path) (item : Object) (set new : BTreeSet (Bor (List ℕ))) (key : Bor (List ℕ)) (r : PointRule) (fresh : Bool) → rule_in ps item ≡ Some r → key.now ≡ r.source → fresh ≡ not (has_source set key.now)
+    → ((q : Bor (List ℕ)) → has_source new q.now ≡ cond (is_eq (slice_cmp nat_cmp key.now q.now)) true (has_source set q.now)) → Has set before → fresh ≡ true → IsNext ps before item None new
+next_is ps before item set new key r fresh rule same is put has taken =
+    let other = among set before key r fresh true same (sym taken) is has in
+    record {
+      same = ap (λ (o : Option PointRule). cond (is_bad_rule before o) (Some (alarm_rule ps item o)) None) rule ∙ ap (λ (b : Bool). cond b (Some site_rule.SourceTwice) None) other;
+      has = λ _. subst (Has new) (ap (λ (s : Path). s ∷ before) same ∙ ap (after_rule before) (sym rule)) (has_more set new key.now before (source_put set new key put) has);
+    }
+
+-- one whose source an earlier one has
+pub next_twice : (ps : List Part) (before : List Path) (item : Object) (set new : BTreeSet (Bor (List ℕ))) (key : Bor (List ℕ)) (r : PointRule) (fresh : Bool) → rule_in ps item ≡ Some r → key.now ≡ r.source → fresh ≡ not (has_source set key.now)
+    → Has set before → fresh ≡ false → IsNext ps before item (Some site_rule.SourceTwice) new
+next_twice ps before item set new key r fresh rule same is has taken =
+    let other = among set before key r fresh false same (sym taken) is has in
+    record {
+      same = ap (λ (o : Option PointRule). cond (is_bad_rule before o) (Some (alarm_rule ps item o)) None) rule ∙ ap (λ (b : Bool). cond b (Some site_rule.SourceTwice) None) other;
+      has = λ e. absurd (let f : Some site_rule.SourceTwice ≡ None = e in cc);
+    }
+
+-- one that is no rule
+pub next_none : (ps : List Part) (before : List Path) (item : Object) (new : BTreeSet (Bor (List ℕ))) (rule : SiteRule) → rule_in ps item ≡ None → alarm_rule ps item None ≡ rule → IsNext ps before item (Some rule) new
+next_none ps before item new rule none told = record {
+  same = ap (λ (o : Option PointRule). cond (is_bad_rule before o) (Some (alarm_rule ps item o)) None) none ∙ ap Some told;
+  has = λ e. absurd (let f : Some rule ≡ None = e in cc);
 }
 
 -- what an item is on a source that is seen, or isn't

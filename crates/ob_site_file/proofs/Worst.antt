@@ -6,12 +6,16 @@ use Rattle.std.proofs.lemmas.Bool.Decides.{nat_tests}
 use Rattle.ob_object.specs.Object.{Object, Objects, none, node, count, parts}
 use Rattle.ob_site_rules.specs.declared.roles.Roles.{Roles}
 use Rattle.ob_site_rules.specs.Roles.{role_at, is_dropped, holds_contracts, no_roles}
+use Rattle.ob_parts.specs.declared.offence.Offence.{Offence}
+use Rattle.ob_parts.specs.Least.{earlier, least}
+use Rattle.ob_parts.proofs.Earliest.{earlier_assoc, earlier_none, least_append}
+use Rattle.ob_site_rules.specs.declared.site_rule.SiteRule.{SiteRule}
+use Rattle.ob_site_rules.specs.declared.site_rule.SiteRule.TheVariants as site_rule
 use Rattle.ob_site_rules.specs.Writes.{stored_in}
-use Rattle.ob_site_rules.specs.Loading.{Part, parts_of, capacity_of, records_of, has_bad_source, has_bad_capacity, bad_records, items_of, bad_history, overfull, histories_in, bad_rules, bad_subjects, subjects, least, bad_part}
+use Rattle.ob_site_rules.specs.Loading.{Part, parts_of, capacity_of, records_of, has_bad_source, has_bad_capacity, bad_records, items_of, bad_history, overfull, histories_in, bad_rules, bad_subjects, subjects, bad_part, breaks, setting_rule}
 use Rattle.ob_roles.specs.SiteParts.{part}
 use Rattle.ob_roles.specs.declared.part.Part.{Part as OwnPart}
-use Rattle.ob_site_file.specs.Numbers.{earlier, IsNumbered, AreNumbered}
-use Rattle.ob_site_file.proofs.Firsts.{earlier_assoc, earlier_none, least_cons, least_append}
+use Rattle.ob_site_file.specs.Numbers.{IsNumbered, AreNumbered}
 use Rattle.ob_values.proofs.Lists.{drop_all}
 use Rattle.ob_site_file.proofs.Rests.{rest_more}
 
@@ -55,16 +59,16 @@ parts_past : (all : List OwnPart) (i : ℕ) → length all ≤ i → map part (d
 parts_past all i h = ap (map part) (drop_all all i h)
 
 -- a history: its own children, and then its items
-pub history_is : (ps : List Part) (p : Part) (own items : Option ℕ) → own ≡ least (cond (has_bad_source ps p || has_bad_capacity p) (p.number ∷ []) []) → items ≡ least (bad_records None (items_of (codes "data") p))
-    → earlier own items ≡ least (cond (has_bad_source ps p || has_bad_capacity p) (p.number ∷ []) [] ++ bad_records None (items_of (codes "data") p))
+pub history_is : (ps : List Part) (p : Part) (own items : Option (Offence SiteRule)) → own ≡ least (cond (has_bad_source ps p || has_bad_capacity p) (breaks (setting_rule ps p) p.number ∷ []) []) → items ≡ least (bad_records None (items_of (codes "data") p))
+    → earlier own items ≡ least (cond (has_bad_source ps p || has_bad_capacity p) (breaks (setting_rule ps p) p.number ∷ []) [] ++ bad_records None (items_of (codes "data") p))
 history_is ps p own items e f =
-    ap₂ earlier e f ∙ sym (least_append (cond (has_bad_source ps p || has_bad_capacity p) (p.number ∷ []) []) (bad_records None (items_of (codes "data") p)))
+    ap₂ earlier e f ∙ sym (least_append (cond (has_bad_source ps p || has_bad_capacity p) (breaks (setting_rule ps p) p.number ∷ []) []) (bad_records None (items_of (codes "data") p)))
 
 -- the histories that are left
-abbrev pub HistoriesLeft : List Part → List OwnPart → ℕ → Option ℕ → Type 0
+abbrev pub HistoriesLeft : List Part → List OwnPart → ℕ → Option (Offence SiteRule) → Type 0
 HistoriesLeft ps all i first = earlier first (least (flat_map (bad_history ps) (map part (drop i all)))) ≡ least (flat_map (bad_history ps) (map part all))
 
-pub histories_more : (ps : List Part) (all : List OwnPart) (i : ℕ) (x : OwnPart) (first bad next : Option ℕ) → i < length all → x ≡ get_or all i x → bad ≡ least (bad_history ps (part x)) → next ≡ earlier first bad → HistoriesLeft ps all i first
+pub histories_more : (ps : List Part) (all : List OwnPart) (i : ℕ) (x : OwnPart) (first bad next : Option (Offence SiteRule)) → i < length all → x ≡ get_or all i x → bad ≡ least (bad_history ps (part x)) → next ≡ earlier first bad → HistoriesLeft ps all i first
     → HistoriesLeft ps all (i + 1) next
 histories_more ps all i x first bad next h is one step l =
     let rest = flat_map (bad_history ps) (map part (drop (i + 1) all)) in
@@ -73,21 +77,21 @@ histories_more ps all i x first bad next h is one step l =
     ∙ ap (earlier first) (sym (ap (λ qs. least (flat_map (bad_history ps) qs)) (parts_more all i x h is) ∙ least_append (bad_history ps (part x)) rest))
     ∙ l
 
-pub histories_all : (ps : List Part) (all : List OwnPart) (i : ℕ) (first : Option ℕ) → length all ≤ i → HistoriesLeft ps all i first → first ≡ least (flat_map (bad_history ps) (map part all))
+pub histories_all : (ps : List Part) (all : List OwnPart) (i : ℕ) (first : Option (Offence SiteRule)) → length all ≤ i → HistoriesLeft ps all i first → first ≡ least (flat_map (bad_history ps) (map part all))
 histories_all ps all i first h l = sym (earlier_none first) ∙ ap (λ qs. earlier first (least (flat_map (bad_history ps) qs))) (sym (parts_past all i h)) ∙ l
 
 -- what is wrong in subjects, of which one was found or wasn't
-abbrev pub subjects_from : List Part → Bool → List Part → List ℕ
-subjects_from ps true qs = map (λ q. q.number) qs
+abbrev pub subjects_from : List Part → Bool → List Part → List (Offence SiteRule)
+subjects_from ps true qs = map (λ q. breaks site_rule.SecondSubject q.number) qs
 subjects_from ps false qs = bad_subjects ps qs
 
-pub record SubjectsLeft (ps : List Part) (all : List OwnPart) (i : ℕ) (found : Bool) (first : Option ℕ) : Type 0 where
+pub record SubjectsLeft (ps : List Part) (all : List OwnPart) (i : ℕ) (found : Bool) (first : Option (Offence SiteRule)) : Type 0 where
   pub same : earlier first (least (subjects_from ps found (subjects (map part (drop i all))))) ≡ least (bad_subjects ps (subjects (map part all)))
 
-one_subject : (ps : List Part) (found : Bool) (q : Part) (qs : List Part) (bad : Option ℕ) → bad ≡ cond found (Some q.number) (least (bad_rules ps [] (items_of (codes "rules") q)))
+one_subject : (ps : List Part) (found : Bool) (q : Part) (qs : List Part) (bad : Option (Offence SiteRule)) → bad ≡ cond found (Some (breaks site_rule.SecondSubject q.number)) (least (bad_rules ps [] (items_of (codes "rules") q)))
     → least (subjects_from ps found (q ∷ qs)) ≡ earlier bad (least (subjects_from ps true qs))
-one_subject ps true q qs bad e = least_cons q.number (map (λ p. p.number) qs) ∙ ap (λ o. earlier o (least (map (λ p. p.number) qs))) (sym e)
-one_subject ps false q qs bad e = least_append (bad_rules ps [] (items_of (codes "rules") q)) (map (λ p. p.number) qs) ∙ ap (λ o. earlier o (least (map (λ p. p.number) qs))) (sym e)
+one_subject ps true q qs bad e = ap (λ o. earlier o (least (map (λ p. breaks site_rule.SecondSubject p.number) qs))) (sym e)
+one_subject ps false q qs bad e = least_append (bad_rules ps [] (items_of (codes "rules") q)) (map (λ p. breaks site_rule.SecondSubject p.number) qs) ∙ ap (λ o. earlier o (least (map (λ p. breaks site_rule.SecondSubject p.number) qs))) (sym e)
 
 subject_first : (q : Part) (qs : List Part) (b : Bool) → q.roles.subject ≡ b → subjects (q ∷ qs) ≡ cond b (q ∷ subjects qs) (subjects qs)
 subject_first q qs b e = ap (λ c. cond c (q ∷ subjects qs) (subjects qs)) e
@@ -95,8 +99,8 @@ subject_first q qs b e = ap (λ c. cond c (q ∷ subjects qs) (subjects qs)) e
 pub subjects_first : (ps : List Part) (all : List OwnPart) → SubjectsLeft ps all 0 false None
 subjects_first ps all = record { same = refl }
 
-pub subjects_more : (ps : List Part) (all : List OwnPart) (i : ℕ) (x : OwnPart) (found : Bool) (first bad next : Option ℕ) → i < length all → x ≡ get_or all i x → x.roles.subject ≡ true
-    → bad ≡ cond found (Some x.number) (least (bad_rules ps [] (items_of (codes "rules") (part x)))) → next ≡ earlier first bad → SubjectsLeft ps all i found first → SubjectsLeft ps all (i + 1) true next
+pub subjects_more : (ps : List Part) (all : List OwnPart) (i : ℕ) (x : OwnPart) (found : Bool) (first bad next : Option (Offence SiteRule)) → i < length all → x ≡ get_or all i x → x.roles.subject ≡ true
+    → bad ≡ cond found (Some (breaks site_rule.SecondSubject x.number)) (least (bad_rules ps [] (items_of (codes "rules") (part x)))) → next ≡ earlier first bad → SubjectsLeft ps all i found first → SubjectsLeft ps all (i + 1) true next
 subjects_more ps all i x found first bad next h is marked one step l =
     let qs = map part (drop (i + 1) all) in
     record {
@@ -106,7 +110,7 @@ subjects_more ps all i x found first bad next h is marked one step l =
           ∙ l.same;
     }
 
-pub subjects_past : (ps : List Part) (all : List OwnPart) (i : ℕ) (x : OwnPart) (found : Bool) (first : Option ℕ) → i < length all → x ≡ get_or all i x → x.roles.subject ≡ false → SubjectsLeft ps all i found first → SubjectsLeft ps all (i + 1) found first
+pub subjects_past : (ps : List Part) (all : List OwnPart) (i : ℕ) (x : OwnPart) (found : Bool) (first : Option (Offence SiteRule)) → i < length all → x ≡ get_or all i x → x.roles.subject ≡ false → SubjectsLeft ps all i found first → SubjectsLeft ps all (i + 1) found first
 subjects_past ps all i x found first h is other l =
     let qs = map part (drop (i + 1) all) in
     record {
@@ -118,12 +122,12 @@ none_left : (ps : List Part) (found : Bool) → least (subjects_from ps found []
 none_left ps true = refl
 none_left ps false = refl
 
-pub subjects_all : (ps : List Part) (all : List OwnPart) (i : ℕ) (found : Bool) (first : Option ℕ) → length all ≤ i → SubjectsLeft ps all i found first → first ≡ least (bad_subjects ps (subjects (map part all)))
+pub subjects_all : (ps : List Part) (all : List OwnPart) (i : ℕ) (found : Bool) (first : Option (Offence SiteRule)) → length all ≤ i → SubjectsLeft ps all i found first → first ≡ least (bad_subjects ps (subjects (map part all)))
 subjects_all ps all i found first h l =
     sym (earlier_none first) ∙ ap (earlier first) (sym (ap (λ rs. least (subjects_from ps found (subjects rs))) (parts_past all i h) ∙ none_left ps found)) ∙ l.same
 
 -- all three
-pub worst_is : (ps : List Part) (histories full subject behind bad : Option ℕ) → histories ≡ least (flat_map (bad_history ps) ps) → full ≡ least (overfull 0 (histories_in ps)) → subject ≡ least (bad_subjects ps (subjects ps))
+pub worst_is : (ps : List Part) (histories full subject behind bad : Option (Offence SiteRule)) → histories ≡ least (flat_map (bad_history ps) ps) → full ≡ least (overfull 0 (histories_in ps)) → subject ≡ least (bad_subjects ps (subjects ps))
     → behind ≡ earlier full subject → bad ≡ earlier histories behind → bad ≡ bad_part ps
 worst_is ps histories full subject behind bad e f g step last =
     last ∙ ap₂ earlier e (step ∙ ap₂ earlier f g ∙ sym (least_append (overfull 0 (histories_in ps)) (bad_subjects ps (subjects ps))))
@@ -140,9 +144,9 @@ stored_first all = record { same = refl; few = omega arith }
 history_first : (q : Part) (qs : List Part) (b : Bool) → q.roles.history ≡ b → histories_in (q ∷ qs) ≡ cond b (q ∷ histories_in qs) (histories_in qs)
 history_first q qs b e = ap (λ c. cond c (q ∷ histories_in qs) (histories_in qs)) e
 
-at_history : (sum : ℕ) (q : Part) (qs : List Part) (b : Bool) (more : ℕ) → more ≡ sum + stored_in (capacity_of q) (length (records_of q)) → nat_lt 1_000_000 more ≡ b → overfull sum (q ∷ qs) ≡ cond b (q.number ∷ []) (overfull more qs)
+at_history : (sum : ℕ) (q : Part) (qs : List Part) (b : Bool) (more : ℕ) → more ≡ sum + stored_in (capacity_of q) (length (records_of q)) → nat_lt 1_000_000 more ≡ b → overfull sum (q ∷ qs) ≡ cond b (breaks site_rule.Total q.number ∷ []) (overfull more qs)
 at_history sum q qs b more e f =
-    ap (λ m. cond (nat_lt 1_000_000 m) (q.number ∷ []) (overfull m qs)) (sym e) ∙ ap (λ c. cond c (q.number ∷ []) (overfull more qs)) f
+    ap (λ m. cond (nat_lt 1_000_000 m) (breaks site_rule.Total q.number ∷ []) (overfull m qs)) (sym e) ∙ ap (λ c. cond c (breaks site_rule.Total q.number ∷ []) (overfull more qs)) f
 
 over : (m : ℕ) → 1_000_000 < m → nat_lt 1_000_000 m ≡ true
 over m h = grind (arith, nat_tests)
@@ -161,7 +165,7 @@ stored_more all i x sum more one h is marked e step few l =
     }
 
 pub stored_over : (all : List OwnPart) (i : ℕ) (x : OwnPart) (sum more one : ℕ) → i < length all → x ≡ get_or all i x → x.roles.history ≡ true → one ≡ stored_in (capacity_of (part x)) (length (records_of (part x))) → more ≡ sum + one → 1_000_000 < more
-    → StoredLeft all i sum → Some x.number ≡ least (overfull 0 (histories_in (map part all)))
+    → StoredLeft all i sum → Some (breaks site_rule.Total x.number) ≡ least (overfull 0 (histories_in (map part all)))
 stored_over all i x sum more one h is marked e step much l =
     let qs = map part (drop (i + 1) all) in
     sym (ap (λ rs. least (overfull sum (histories_in rs))) (parts_more all i x h is) ∙ ap (λ rs. least (overfull sum rs)) (history_first (part x) qs true marked)

@@ -1,13 +1,7 @@
 -- Numbers of parts.
-use Rattle.std.specs.Prelude.{ℕ, ◌+◌, ◌<◌, ◌^◌, min, List, [], ◌∷◌, Option, Some, None}
+use Rattle.std.specs.Prelude.{◌+◌, ◌<◌, ◌^◌, List, [], ◌∷◌}
 use Rattle.ob_object.specs.Object.{parts}
 use Rattle.ob_site_rules.specs.Loading.{Part}
-
--- the lesser of two numbers, of those that are there
-abbrev pub earlier : Option ℕ → Option ℕ → Option ℕ
-earlier None b = b
-earlier (Some m) None = Some m
-earlier (Some m) (Some n) = Some (min m n)
 
 -- the number of a part, and those of what is in it, fit 64 bits
 abbrev pub IsNumbered : Part → Type 0

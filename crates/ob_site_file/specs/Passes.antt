@@ -6,10 +6,12 @@ use Rattle.ob_contracts.specs.Inherit.{Contracts}
 use Rattle.ob_contracts.specs.Standard.{standard}
 use Rattle.ob_contracts.specs.declared.adding.LibFault.{LibFault}
 use Rattle.ob_contracts.specs.declared.adding.LibFault.TheVariants as lib
+use Rattle.ob_parts.specs.declared.offence.Offence.{Offence}
 use Rattle.ob_site_rules.specs.Build.{Path}
 use Rattle.ob_site_rules.specs.Sites.{SiteState}
 use Rattle.ob_site_rules.specs.Writes.{site_contracts}
 use Rattle.ob_site_rules.specs.declared.roles.Roles.{Roles}
+use Rattle.ob_site_rules.specs.declared.site_rule.SiteRule.{SiteRule}
 use Rattle.ob_site_rules.specs.Roles.{no_roles, all_roles, worded_contracts}
 use Rattle.ob_site_rules.specs.Loading as loading
 use Rattle.ob_site_rules.specs.Loading.{Part, add_contracts, parts_of, paths_in, taken_twice, bad_part}
@@ -44,18 +46,18 @@ pub record IsApart (base : Parts) (root : Object) : Type 0 where
   pub once : taken_twice base.path [] (site_paths root) ≡ None
   pub sound : bad_part (site_parts root) ≡ None
 
--- The standard library takes them, and no path stands twice or is computed, but this part breaks a rule.
-pub record IsBadAt (base : Parts) (root : Object) (part : ℕ) : Type 0 where
+-- The standard library takes them, and no path stands twice or is computed, but this part breaks this rule.
+pub record IsBadAt (base : Parts) (root : Object) (offence : Offence SiteRule) : Type 0 where
   pub library : Contracts
   pub taken : add_contracts (Ok standard) (site_contracts root) ≡ Ok library
   pub once : taken_twice base.path [] (site_paths root) ≡ None
-  pub bad : bad_part (site_parts root) ≡ Some part
+  pub bad : bad_part (site_parts root) ≡ Some offence
 
 -- why a root with paths opens nothing, before its size is asked for
 abbrev pub RefusesMade : Parts → Object → LoadFault → Type 0
 RefusesMade base root (Contract fault) = add_contracts (Ok standard) (site_contracts root) ≡ Err fault
 RefusesMade base root (PathTwice path) = (library : Contracts) × ((add_contracts (Ok standard) (site_contracts root) ≡ Ok library) × (taken_twice base.path [] (site_paths root) ≡ Some path))
-RefusesMade base root (Rule part) = IsBadAt base root part
+RefusesMade base root (Rule offence) = IsBadAt base root offence
 RefusesMade base root Size = ⊥
 RefusesMade base root Memory = Unit {0}
 RefusesMade base root Read = ⊥
@@ -69,7 +71,7 @@ IsRefusal expected RootHref = expected ≡ Err loading.RootHref
 IsRefusal expected (Href part) = expected ≡ Err (loading.Href part)
 IsRefusal expected (Contract fault) = expected ≡ Err (loading.Contract fault)
 IsRefusal expected (PathTwice path) = expected ≡ Err (loading.PathTwice path)
-IsRefusal expected (Rule part) = expected ≡ Err (loading.BadRule part)
+IsRefusal expected (Rule offence) = expected ≡ Err (loading.BadRule offence)
 IsRefusal expected Size = expected ≡ Err loading.Size
 IsRefusal expected Memory = Unit {0}
 IsRefusal expected Read = ⊥

@@ -1,5 +1,5 @@
 -- What items tell of records and rules.
-use Rattle.std.specs.Prelude.{◌≡◌, ℕ, Bool, not, IsTrue, List}
+use Rattle.std.specs.Prelude.{◌≡◌, ℕ, cond, codes, List, Option, Some, None, option_and_then}
 use Rattle.std.specs.Ordering.{nat_cmp}
 use Rattle.std.specs.Cmp.Lexicographic.{slice_cmp}
 use Rattle.std.specs.BTreeSet.{BTreeSet, contains_by}
@@ -13,9 +13,10 @@ use Rattle.ob_history.specs.declared.records.Record.{Record}
 use Rattle.ob_alarms.specs.declared.rule.Num.{Num}
 use Rattle.ob_alarms.specs.declared.rule.Num.TheVariants as num
 use Rattle.ob_site_rules.specs.Build.{Path}
-use Rattle.ob_site_rules.specs.Loading.{Part, rule_in, is_bad_rule, after_rule}
+use Rattle.ob_site_rules.specs.Loading.{Part, truth_in, child_of, own_number, rule_from, rule_in, alarm_rule, is_bad_rule, after_rule}
 use Rattle.ob_site_rules.specs.State.{is_among}
 use Rattle.ob_site_rules.specs.declared.plan.PointRule.{PointRule}
+use Rattle.ob_site_rules.specs.declared.site_rule.SiteRule.{SiteRule}
 use Rattle.ob_site_file.specs.declared.rules.Limits.{Limits}
 
 -- the record of a time and a value
@@ -31,6 +32,12 @@ num_kind (num.Real z) = kind.Real
 abbrev pub rule_by : Path → Limits → PointRule
 rule_by p l = record { source = p; low = l.low; high = l.high; needs_ack = l.needs_ack }
 
+-- the rule that an item with a source of a kind gives by its limits
+abbrev pub limits_for : Path → Kind → Object → Option PointRule
+limits_for p k o =
+    rule_from (Some p) (own_number (codes "low") k o) (own_number (codes "high") k o)
+    (option_and_then (λ c. truth_in c.head.slot) (child_of (codes "needsAck") kind.Bool o))
+
 abbrev pub rule_at : Bor (List ℕ) × Limits → PointRule
 rule_at x = rule_by x.0.now x.1
 
@@ -38,7 +45,7 @@ rule_at x = rule_by x.0.now x.1
 abbrev pub Has : BTreeSet (Bor (List ℕ)) → List Path → Type 0
 Has set paths = (p : Path) → contains_by (λ k. slice_cmp nat_cmp p k.now) set ≡ is_among p paths
 
--- an item is a rule whose source isn't among those before it, and is then among them, or it isn't
-pub record IsNext (ps : List Part) (before : List Path) (item : Object) (fresh : Bool) (new : BTreeSet (Bor (List ℕ))) : Type 0 where
-  pub same : is_bad_rule before (rule_in ps item) ≡ not fresh
-  pub has : IsTrue fresh → Has new (after_rule before (rule_in ps item))
+-- an item is a rule whose source isn't among those before it, and is then among them; or it breaks a rule of the form
+pub record IsNext (ps : List Part) (before : List Path) (item : Object) (broken : Option SiteRule) (new : BTreeSet (Bor (List ℕ))) : Type 0 where
+  pub same : cond (is_bad_rule before (rule_in ps item)) (Some (alarm_rule ps item (rule_in ps item))) None ≡ broken
+  pub has : broken ≡ None → Has new (after_rule before (rule_in ps item))

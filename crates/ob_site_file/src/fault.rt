@@ -1,8 +1,10 @@
 //! Why a file opens no site.
 ghost use Rattle.std.specs.Prelude.{◌≡◌, ◌++◌, string_bytes, IfOk};
-ghost use Rattle.ob_site_file.specs.Words.{contract_words};
+ghost use Rattle.ob_site_file.specs.Words.{broken_words, contract_words};
 
 use ob_contracts::LibFault;
+use ob_parts::Offence;
+use ob_site_rules::SiteRule;
 use ob_values::Text;
 use ob_xml::Refused;
 use std::alloc::{AllocError, AllocFailed, Global};
@@ -31,14 +33,23 @@ pub enum LoadFault {
     #[error("PathTwice {}", .path.as_str())]
     PathTwice { path: Text },
     /// A part breaks a rule of the roles.
-    #[error("Rule {part}")]
-    Rule { part: u64 },
+    #[error("Rule {} {}", .0.part, .0.rule.word())]
+    Rule(Offence<SiteRule>),
     /// The root shows more than 200,000 parts.
     #[error("Size")]
     Size,
     /// There was no memory.
     #[error("Memory")]
     Memory,
+}
+
+/// A part that breaks a rule, and the rule.
+fn rule_words(alloc: Global, offence: &Offence<SiteRule>) -> Result<String, AllocError>
+    ensures { IfOk result (λ words. string_bytes words ≡ broken_words offence.now) }
+{
+    let part = offence.part;
+    let rule = offence.rule.word();
+    format!(in alloc; "Rule {part} {rule}")
 }
 
 /// A word with a text behind it.
@@ -66,7 +77,7 @@ impl LoadFault {
     ghost use Rattle.ob_site_file.specs.Words.{load_words};
 
     /// The words that are printed for the refusal, as `RootHref`, `Href 5`, `PathTwice /obix/n`,
-    /// `Contract Later /obix/def/A`, `Rule 5`, `Size`, and for a document `SameName at 25`. An error only for want of
+    /// `Contract Later /obix/def/A`, `Rule 5 source`, `Size`, and for a document `SameName at 25`. An error only for want of
     /// memory.
     pub fn words(&self, alloc: Global) -> Result<String, AllocError>
         ensures { IfOk result (λ words. string_bytes words ≡ load_words self.now) }
@@ -78,7 +89,7 @@ impl LoadFault {
             LoadFault::Href { part } => format!(in alloc; "Href {part}"),
             LoadFault::Contract(fault) => contract_words(alloc, fault),
             LoadFault::PathTwice { path } => word_and_text(alloc, "PathTwice ", path),
-            LoadFault::Rule { part } => format!(in alloc; "Rule {part}"),
+            LoadFault::Rule(offence) => rule_words(alloc, offence),
             LoadFault::Size => String::from_str(alloc, "Size"),
             LoadFault::Memory => String::from_str(alloc, "Memory"),
         }

@@ -6,7 +6,7 @@ ghost use Rattle.ob_object.specs.declared.kind.Kind.TheVariants as kind;
 ghost use Rattle.ob_site_rules.specs.Roles.{is_part};
 ghost use Rattle.ob_site_rules.specs.Loading.{numbered, items_of, child_of};
 ghost use Rattle.ob_roles.specs.SiteParts.{part as site_part};
-ghost use Rattle.ob_site_file.specs.Numbers.{IsNumbered, earlier};
+ghost use Rattle.ob_site_file.specs.Numbers.{IsNumbered};
 
 use ob_object::{Kind, Obj};
 use ob_roles::Part;
@@ -61,16 +61,5 @@ pub(crate) fn child_of<'a>(object: &'a Obj, name: &str, kind: Kind) -> Option<&'
             }
         }
         None => None,
-    }
-}
-
-/// The earlier of two numbers.
-pub(crate) fn earlier(first: Option<u64>, second: Option<u64>) -> Option<u64>
-    ensures { result ≡ earlier first second }
-{
-    match (first, second) {
-        (Some(one), Some(other)) => Some(one.min(other)),
-        (Some(one), None) => Some(one),
-        (None, other) => other,
     }
 }

@@ -63,7 +63,7 @@ fn check_rules(alloc: Global, roles: &[Roles], root: &Obj) -> Result<(), LoadFau
     let listed = parts.as_slice();
     let nodes = nodes_of(alloc, listed)?;
     match bad_part(alloc, &nodes, listed)? {
-        Some(part) => Err(LoadFault::Rule { part }),
+        Some(offence) => Err(LoadFault::Rule(offence)),
         None => Ok(()),
     }
 }

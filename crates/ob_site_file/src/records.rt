@@ -1,18 +1,22 @@
 //! The records that the items of a history's `data` are.
-ghost use Rattle.std.specs.Prelude.{◌≡◌, ◌+◌, ◌<◌, ◌^◌, true, false, codes, Some, None, option_map, option_and_then, IfOk, IfSome, IfNone, IsTrue};
+ghost use Rattle.std.specs.Prelude.{◌≡◌, ◌+◌, ◌<◌, ◌^◌, true, false, codes, Some, None, option_and_then, IfOk, IfErr, IfSome, IsTrue};
 ghost use Rattle.std.specs.List.{list_all, filter_map};
 ghost use Rattle.std.specs.Option.{option_copied};
 ghost use Rattle.ob_object.specs.Fits.{fits_slot};
 ghost use Rattle.ob_object.specs.Object.{in_row, count};
 ghost use Rattle.ob_object.specs.declared.kind.Kind.TheVariants as kind;
+ghost use Rattle.ob_parts.specs.Least.{least};
 ghost use Rattle.ob_contracts.specs.Inherit.{slot_or_default};
+ghost use Rattle.ob_times.specs.Times.{Instant, moment_instant};
 ghost use Rattle.ob_history.specs.declared.records.Record.{Record as Stored};
-ghost use Rattle.ob_site_rules.specs.Loading.{time_of, child_of, value_of_record, record_in, is_late, is_bad_item, after_item, bad_records, numbered, least};
+ghost use Rattle.ob_site_rules.specs.Loading.{time_of, child_of, time_of_record, value_of_record, record_in, is_earlier, last_moment, falls, record_rule, is_bad_item, after_item, bad_records, numbered};
 ghost use Rattle.ob_site_file.specs.RulesAndRecords.{record_by};
 
 use crate::items::{Items, child_of};
 use ob_history::Record;
 use ob_object::{Kind, Obj, Slot};
+use ob_parts::Offence;
+use ob_site_rules::SiteRule;
 use ob_values::{Abstime, Value};
 use std::alloc::{AllocError, Global};
 
@@ -30,7 +34,7 @@ fn time_of(slot: &Slot) -> Option<Abstime>
 
 // The time of a record, which its item gives itself.
 fn own_time(item: &Obj) -> Option<Abstime>
-    ensures { result ≡ option_and_then (λ t. time_of t.head.slot) (child_of (codes "timestamp") kind.Abstime item.now) }
+    ensures { result ≡ time_of_record item.now }
 {
     match child_of(item, "timestamp", Kind::Abstime) {
         Some(child) => time_of(child.slot()),
@@ -54,16 +58,21 @@ fn own_value(item: &Obj) -> Option<&Obj>
     }
 }
 
-/// The time and the value of the record that an item is, if it is one: by its own children alone.
-pub(crate) fn record_parts(item: &Obj) -> Option<(Abstime, &Obj)>
-    ensures { option_map record_by result ≡ record_in item.now }
+/// The time and the value of the record that an item is, by its own children alone; where it is none, the first rule that it breaks.
+pub(crate) fn record_parts(item: &Obj) -> Result<(Abstime, &Obj), SiteRule>
+    ensures ok { IfOk result (λ x. record_in item.now ≡ Some (record_by x)) }
+    ensures err { (before : Option Instant) → IfErr result (λ rule. (record_in item.now ≡ None) × (record_rule before item.now None ≡ rule)) }
 {
     if !item.kind().same(Kind::Obj) {
-        return None;
+        return Err(SiteRule::Kind);
     }
-    let time = own_time(item)?;
-    let value = own_value(item)?;
-    Some((time, value))
+    let Some(time) = own_time(item) else {
+        return Err(SiteRule::Timestamp);
+    };
+    match own_value(item) {
+        Some(value) => Ok((time, value)),
+        None => Err(SiteRule::Value),
+    }
 }
 
 // A copy of an object's slot, or the default of its kind where it is absent.
@@ -84,7 +93,7 @@ fn record_in(item: &Obj) -> Result<Option<Record>, AllocError>
     ensures fits { IfOk result (λ made. IfSome made (λ r. IsTrue (fits_slot r.kind r.slot))) }
 {
     match record_parts(item) {
-        Some((time, value)) => {
+        Ok((time, value)) => {
             let slot = slot_or_default(value)?;
             Ok(Some(Record {
                 time,
@@ -92,7 +101,7 @@ fn record_in(item: &Obj) -> Result<Option<Record>, AllocError>
                 slot,
             }))
         }
-        None => Ok(None),
+        Err(_) => Ok(None),
     }
 }
 
@@ -110,46 +119,52 @@ pub(crate) fn records_in(alloc: Global, items: &[Obj]) -> Result<Vec<Record>, Al
     Ok(records)
 }
 
-// Whether a time is before the one in front of it, or after the last moment.
-fn is_late(before: Option<Abstime>, time: Abstime) -> bool
-    ensures { (r : Stored) → r.time ≡ time → result ≡ is_late before r }
+// Whether a time is before the one in front of it.
+fn falls(before: Option<Abstime>, time: Abstime) -> bool
+    ensures { (r : Stored) → r.time ≡ time → result ≡ falls before r }
 {
-    let instant = time.instant();
     match before {
-        Some(before) => instant < before.instant() || LAST < instant,
-        None => LAST < instant,
+        Some(before) => time.instant() < before.instant(),
+        None => false,
     }
 }
 
-// The time of the record that an item is, if it is one in its order.
-fn next_time(before: Option<Abstime>, item: &Obj) -> Option<Abstime>
-    ensures none { IfNone result (is_bad_item before (record_in item.now) ≡ true) }
-    ensures some { IfSome result (λ t. (is_bad_item before (record_in item.now) ≡ false) × (after_item before (record_in item.now) ≡ Some t)) }
+// Whether a time is after the last moment.
+fn is_late(time: Abstime) -> bool
+    ensures { result ≡ is_earlier (moment_instant last_moment) time }
 {
-    match record_parts(item) {
-        Some((time, _value)) => {
-            if is_late(before, time) {
-                None
-            } else {
-                Some(time)
-            }
-        }
-        None => None,
-    }
+    LAST < time.instant()
 }
 
-/// The number of the first item that is no record, or out of order.
-pub(crate) fn bad_record(items: &Items) -> Option<u64>
+// The time of the record that an item is in its order; where it is none, the first rule that it breaks.
+fn next_time(before: Option<Abstime>, item: &Obj) -> Result<Abstime, SiteRule>
+    ensures ok { IfOk result (λ t. (is_bad_item before (record_in item.now) ≡ false) × (after_item before (record_in item.now) ≡ Some t)) }
+    ensures err { IfErr result (λ rule. (is_bad_item before (record_in item.now) ≡ true) × (record_rule before item.now (record_in item.now) ≡ rule)) }
+{
+    let (time, _value) = record_parts(item)?;
+    if falls(before, time) {
+        return Err(SiteRule::Order);
+    }
+    if is_late(time) {
+        return Err(SiteRule::Late);
+    }
+    Ok(time)
+}
+
+/// The first item that is no record, or out of order, and the rule that it breaks.
+pub(crate) fn bad_record(items: &Items) -> Option<Offence<SiteRule>>
     requires { items.now.number + count (in_row items.now.objects.now) < 2 ^ 64 }
     ensures { result ≡ least (bad_records None (numbered items.now.number items.now.objects.now)) }
 {
     let mut before = None;
     let mut number = items.number;
     for item in items.objects {
-        let Some(time) = next_time(before, item) else {
-            return Some(number);
-        };
-        before = Some(time);
+        match next_time(before, item) {
+            Ok(time) => before = Some(time),
+            Err(rule) => {
+                return Some(Offence { part: number, rule });
+            }
+        }
         number += item.parts();
     }
     None

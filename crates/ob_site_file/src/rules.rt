@@ -1,21 +1,23 @@
 //! The rules of the alarm subject.
-ghost use Rattle.std.specs.Prelude.{◌≡◌, ◌+◌, ◌<◌, ◌^◌, ◌++◌, ◌∷◌, [], not, codes, List, Some, option_map, option_and_then, IfOk, IfSome, IsTrue};
+ghost use Rattle.std.specs.Prelude.{◌≡◌, ◌+◌, ◌<◌, ◌^◌, ◌++◌, ◌∷◌, [], not, codes, List, Some, None, cond, option_map, option_and_then, IfOk, IfErr, IfSome, IsTrue};
 ghost use Rattle.std.specs.List.{filter_map};
 ghost use Rattle.std.specs.Option.{option_copied};
+ghost use Rattle.ob_parts.specs.Least.{least};
 ghost use Rattle.ob_alarms.specs.Limits.{is_below};
 ghost use Rattle.ob_object.specs.Object.{in_row, count};
 ghost use Rattle.ob_object.specs.declared.kind.Kind.TheVariants as kinds;
 ghost use Rattle.ob_site_rules.specs.Build.{Path};
 ghost use Rattle.ob_site_rules.specs.Writes.{number_in};
-ghost use Rattle.ob_site_rules.specs.Loading.{Part as SitePart, truth_in, child_of, own_number, source_ref, rule_from, rule_in, bad_rules, numbered, least};
+ghost use Rattle.ob_site_rules.specs.Loading.{Part as SitePart, truth_in, child_of, own_number, source_path, rule_from, rule_in, limits_rule, alarm_rule, bad_rules, numbered};
 ghost use Rattle.ob_site_file.specs.Sought.{Sees};
-ghost use Rattle.ob_site_file.specs.RulesAndRecords.{rule_by, rule_at, num_kind, Has, IsNext};
+ghost use Rattle.ob_site_file.specs.RulesAndRecords.{rule_by, rule_at, limits_for, num_kind, Has, IsNext};
 
 use crate::items::{Items, child_of};
 use crate::nodes::Nodes;
 use ob_alarms::Num;
 use ob_object::{Kind, Obj, Slot};
-use ob_site_rules::PointRule;
+use ob_parts::Offence;
+use ob_site_rules::{PointRule, SiteRule};
 use ob_values::{Text, Value};
 use std::alloc::{AllocError, Global};
 use std::collections::BTreeSet;
@@ -80,28 +82,34 @@ fn is_below(one: &Num, other: &Num) -> bool
     }
 }
 
-// The limits that an item gives itself, for a source of a kind.
-fn limits_in(item: &Obj, kind: Kind) -> Option<Limits>
-    ensures { (p : Path) → option_map (rule_by p) result
-        ≡ rule_from (Some p) (own_number (codes "low") kind item.now) (own_number (codes "high") kind item.now)
-        (option_and_then (λ c. truth_in c.head.slot) (child_of (codes "needsAck") kinds.Bool item.now)) }
+// The limits that an item gives itself, for a source of a kind; where they are none, the first rule that they break.
+fn limits_in(item: &Obj, kind: Kind) -> Result<Limits, SiteRule>
+    ensures ok { (p : Path) → IfOk result (λ l. limits_for p kind item.now ≡ Some (rule_by p l)) }
+    ensures err { (p : Path) → IfErr result (λ rule. (limits_for p kind item.now ≡ None)
+        × (limits_rule (own_number (codes "low") kind item.now) (own_number (codes "high") kind item.now) ≡ rule)) }
 {
-    let low = own_number(item, "low", kind)?;
-    let high = own_number(item, "high", kind)?;
-    let needs_ack = own_truth(item, "needsAck")?;
+    let Some(low) = own_number(item, "low", kind) else {
+        return Err(SiteRule::Low);
+    };
+    let Some(high) = own_number(item, "high", kind) else {
+        return Err(SiteRule::High);
+    };
     if is_below(&high, &low) {
-        return None;
+        return Err(SiteRule::Bounds);
     }
-    Some(Limits {
-        low,
-        high,
-        needs_ack,
-    })
+    match own_truth(item, "needsAck") {
+        Some(needs_ack) => Ok(Limits {
+            low,
+            high,
+            needs_ack,
+        }),
+        None => Err(SiteRule::NeedsAck),
+    }
 }
 
 /// The path that an own ref `source` leads to.
 pub(crate) fn source_of(object: &Obj) -> Option<&Text>
-    ensures { option_copied result ≡ option_and_then (λ r. r.head.href) (source_ref object.now) }
+    ensures { option_copied result ≡ source_path object.now }
 {
     match child_of(object, "source", Kind::Ref) {
         Some(source) => source.href(),
@@ -109,50 +117,62 @@ pub(crate) fn source_of(object: &Obj) -> Option<&Text>
     }
 }
 
-// The source and the limits of the rule that an item is, if it is one.
-fn rule_parts<'a>(nodes: &Nodes, item: &'a Obj) -> Option<(&'a Text, Limits)>
-    ensures { (ps : List SitePart) → Sees nodes.now ps → option_map rule_at result ≡ rule_in ps item.now }
+// The source and the limits of the rule that an item is; where it is none, the first rule of the form that it breaks.
+fn rule_parts<'a>(nodes: &Nodes, item: &'a Obj) -> Result<(&'a Text, Limits), SiteRule>
+    ensures ok { (ps : List SitePart) → Sees nodes.now ps → IfOk result (λ x. rule_in ps item.now ≡ Some (rule_at x)) }
+    ensures err { (ps : List SitePart) → Sees nodes.now ps → IfErr result (λ rule. (rule_in ps item.now ≡ None) × (alarm_rule ps item.now None ≡ rule)) }
 {
     if !item.kind().same(Kind::Obj) {
-        return None;
+        return Err(SiteRule::Kind);
     }
-    let source = source_of(item)?;
-    let kind = nodes.number_kind(source)?;
+    let Some(source) = source_of(item) else {
+        return Err(SiteRule::Source);
+    };
+    let Some(kind) = nodes.number_kind(source) else {
+        return Err(SiteRule::Source);
+    };
     let limits = limits_in(item, kind)?;
-    Some((source, limits))
+    Ok((source, limits))
 }
 
 // The sources of rules.
 type Sources<'a> = BTreeSet<&'a str>;
 
-// Whether an item is a rule whose source no earlier one has. Then its source is put among theirs.
-fn is_next<'a>(sources: &mut Sources<'a>, nodes: &Nodes, item: &'a Obj) -> Result<bool, AllocError>
-    ensures { IfOk result (λ fresh. (ps : List SitePart) (before : List Path) → Sees nodes.now ps → Has sources.old before → IsNext ps before item.now fresh sources.new) }
+// The rule of the form that an item breaks. Where it breaks none, its source is put among those of the earlier ones.
+fn broken_by<'a>(
+    sources: &mut Sources<'a>,
+    nodes: &Nodes,
+    item: &'a Obj,
+) -> Result<Option<SiteRule>, AllocError>
+    ensures { IfOk result (λ broken. (ps : List SitePart) (before : List Path) → Sees nodes.now ps → Has sources.old before → IsNext ps before item.now broken sources.new) }
 {
     match rule_parts(nodes, item) {
-        Some((source, _limits)) => {
+        Ok((source, _limits)) => {
             let fresh = sources.insert(source.as_str())?;
-            Ok(fresh)
+            if fresh {
+                Ok(None)
+            } else {
+                Ok(Some(SiteRule::SourceTwice))
+            }
         }
-        None => Ok(false),
+        Err(rule) => Ok(Some(rule)),
     }
 }
 
-/// The number of the first item of `rules` that is no rule, or has the source of an earlier one.
+/// The first item of `rules` that is no rule, or has the source of an earlier one, and the rule of the form that it breaks.
 pub(crate) fn bad_rule(
     alloc: Global,
     nodes: &Nodes,
     items: &Items,
-) -> Result<Option<u64>, AllocError>
+) -> Result<Option<Offence<SiteRule>>, AllocError>
     requires { items.now.number + count (in_row items.now.objects.now) < 2 ^ 64 }
     ensures { IfOk result (λ bad. (ps : List SitePart) → Sees nodes.now ps → bad ≡ least (bad_rules ps [] (numbered items.now.number items.now.objects.now))) }
 {
     let mut number = items.number;
     let mut sources = BTreeSet::new(alloc);
     for item in items.objects {
-        let fresh = is_next(&mut sources, nodes, item)?;
-        if !fresh {
-            return Ok(Some(number));
+        if let Some(rule) = broken_by(&mut sources, nodes, item)? {
+            return Ok(Some(Offence { part: number, rule }));
         }
         number += item.parts();
     }
@@ -163,7 +183,7 @@ pub(crate) fn bad_rule(
 fn put_rule(rules: &mut Vec<PointRule>, nodes: &Nodes, item: &Obj) -> Result<(), AllocError>
     ensures { IfOk result (λ _. (ps : List SitePart) → Sees nodes.now ps → rules.new.items ≡ rules.old.items ++ filter_map (rule_in ps) (item.now ∷ [])) }
 {
-    if let Some((source, limits)) = rule_parts(nodes, item) {
+    if let Ok((source, limits)) = rule_parts(nodes, item) {
         let source = source.copy()?;
         rules.push(PointRule {
             source,

@@ -3,18 +3,20 @@ use Rattle.std.proofs.Common.{◌≡◌, ℕ, Bool, true, false, cond, codes, Li
 use Rattle.std.specs.Prelude.{Result, Ok, Err, unwrap_or}
 use Rattle.url.specs.Parts.{Parts}
 use Rattle.ob_object.specs.Object.{Object, parts}
+use Rattle.ob_parts.proofs.Earliest.{least_none}
 use Rattle.ob_contracts.specs.Inherit.{Contracts}
 use Rattle.ob_site_rules.specs.Build.{Path}
 use Rattle.ob_site_rules.specs.Shown.{shown_root}
 use Rattle.ob_site_rules.specs.Sites.{SiteState}
 use Rattle.ob_site_rules.specs.Roles.{no_roles, all_roles}
-use Rattle.ob_site_rules.specs.Loading.{LoadFault, Size, PathTwice, BadRule, Part, row_of, kept_root, parts_of, paths_in, taken_twice, bad_part, bad_history, bad_rules, bad_subjects, overfull, least, histories_in, subjects, items_of, opened, or_twice, or_bad, within_size, opened_with}
+use Rattle.ob_site_rules.specs.Loading.{LoadFault, Size, PathTwice, BadRule, Part, row_of, kept_root, parts_of, paths_in, taken_twice, bad_part, bad_history, bad_rules, bad_subjects, overfull, histories_in, subjects, items_of, opened, or_twice, or_bad, within_size, opened_with, breaks}
+use Rattle.ob_site_rules.specs.declared.site_rule.SiteRule.TheVariants.{SecondSubject}
 use Rattle.ob_step_laws.proofs.Flags.{IsOneAtMost}
 
 err_no_ok : (f : LoadFault) (st : SiteState) → Err f ≡ Ok st → ⊥
 err_no_ok f st h = cc
 
-pub not_bad : (fault : ℕ → LoadFault) (o : Option ℕ) (next : Result SiteState LoadFault) (st : SiteState) → or_bad fault o next ≡ Ok st → (o ≡ None) × (next ≡ Ok st)
+pub not_bad : {A : Type 0} (fault : A → LoadFault) (o : Option A) (next : Result SiteState LoadFault) (st : SiteState) → or_bad fault o next ≡ Ok st → (o ≡ None) × (next ≡ Ok st)
 not_bad fault None next st h = (refl, h)
 not_bad fault (Some n) next st h = absurd (err_no_ok (fault n) st h)
 
@@ -47,10 +49,6 @@ opens base r boot lib words root st h =
     let second = not_bad BadRule (bad_part ps) (within_size made) st first.1 in
     record { once = first.0; good = second.0; is = not_large made st second.1 }
 
-least_none : (ns : List ℕ) → least ns ≡ None → ns ≡ []
-least_none [] h = refl
-least_none (n ∷ ns) h = absurd (let e : Some (unwrap_or (option_map (λ k. cond (nat_lt k n) k n) (least ns)) n) ≡ None = h in cc)
-
 pub first_none : {A : Type 0} (xs ys : List A) → xs ++ ys ≡ [] → xs ≡ []
 first_none [] ys h = refl
 first_none (x ∷ xs) ys h = absurd (let e : x ∷ (xs ++ ys) ≡ [] = h in cc)
@@ -75,11 +73,11 @@ all_good ps h =
       subjects = second_none (overfull 0 (histories_in ps)) (bad_subjects ps (subjects ps)) rest;
     }
 
-none_mapped : (ps : List Part) → map (λ (q : Part). q.number) ps ≡ [] → ps ≡ []
+none_mapped : (ps : List Part) → map (λ (q : Part). breaks SecondSubject q.number) ps ≡ [] → ps ≡ []
 none_mapped [] h = refl
-none_mapped (q ∷ ps) h = absurd (let e : q.number ∷ map (λ (q : Part). q.number) ps ≡ [] = h in cc)
+none_mapped (q ∷ ps) h = absurd (let e : breaks SecondSubject q.number ∷ map (λ (q : Part). breaks SecondSubject q.number) ps ≡ [] = h in cc)
 
 -- there is one subject at most
 pub one_subject : (ps qs : List Part) → bad_subjects ps qs ≡ [] → IsOneAtMost qs
 one_subject ps [] h = tt
-one_subject ps (q ∷ others) h = none_mapped others (second_none (bad_rules ps [] (items_of (codes "rules") q)) (map (λ (q : Part). q.number) others) h)
+one_subject ps (q ∷ others) h = none_mapped others (second_none (bad_rules ps [] (items_of (codes "rules") q)) (map (λ (q : Part). breaks SecondSubject q.number) others) h)

@@ -18,7 +18,10 @@ use Rattle.ob_site_rules.specs.Writes.{stored_in, stored_logs}
 use Rattle.ob_site_rules.specs.Sites.{SiteState}
 use Rattle.ob_site_rules.specs.declared.roles.Roles.{Roles}
 use Rattle.ob_site_rules.specs.Roles.{no_roles, all_roles}
-use Rattle.ob_site_rules.specs.Loading.{Part, row_of, kept_root, parts_of, paths_in, path_of, listed_path, is_computed, taken_twice, items_of, rule_in, bad_rules, is_bad_rule, after_rule, bad_subjects, subjects, histories_in, capacity_of, records_of, overfull, bad_part, ms_up, greatest, last_moment, opened}
+use Rattle.ob_parts.specs.declared.offence.Offence.{Offence}
+use Rattle.ob_site_rules.specs.declared.site_rule.SiteRule.{SiteRule}
+use Rattle.ob_site_rules.specs.declared.site_rule.SiteRule.TheVariants as site_rule
+use Rattle.ob_site_rules.specs.Loading.{breaks, alarm_rule, Part, row_of, kept_root, parts_of, paths_in, path_of, listed_path, is_computed, taken_twice, items_of, rule_in, bad_rules, is_bad_rule, after_rule, bad_subjects, subjects, histories_in, capacity_of, records_of, overfull, bad_part, ms_up, greatest, last_moment, opened}
 use Rattle.ob_step_laws.specs.Laws.{Apart, row_paths}
 use Rattle.ob_step_laws.specs.Ordered.{IsBy, IsOrdered, whole_log, moment_from, OpensInTime, OpensOrdered}
 use Rattle.ob_step_laws.proofs.Lists.{each_more, each_map, each_first, each_second}
@@ -95,14 +98,17 @@ rules_apart : (ps : List Part) (seen : List Path) (items : List (ℕ × Object))
 rules_apart ps seen [] h = (tt, tt)
 rules_apart ps seen (i ∷ items) h = go (rule_in ps i.1) h (λ s g. rules_apart ps s items g)
   where
-    go : (o : Option PointRule) → cond (is_bad_rule seen o) (i.0 ∷ []) [] ++ bad_rules ps (after_rule seen o) items ≡ []
+    at : Option PointRule → Offence SiteRule
+    at o = breaks (alarm_rule ps i.1 o) i.0
+
+    go : (o : Option PointRule) → cond (is_bad_rule seen o) (at o ∷ []) [] ++ bad_rules ps (after_rule seen o) items ≡ []
         → ((s : List Path) → bad_rules ps s items ≡ [] → Apart (sources (made_rules ps items)) × Free s (sources (made_rules ps items)))
         → Apart (sources (cons_option o (made_rules ps items))) × Free seen (sources (cons_option o (made_rules ps items)))
-    go None g later = absurd (let e : i.0 ∷ bad_rules ps seen items ≡ [] = g in cc)
+    go None g later = absurd (let e : at None ∷ bad_rules ps seen items ≡ [] = g in cc)
     go (Some r) g later =
-        let wrong : List ℕ = cond (is_among r.source seen) (i.0 ∷ []) [] in
+        let wrong : List (Offence SiteRule) = cond (is_among r.source seen) (at (Some r) ∷ []) [] in
         let behind = bad_rules ps (r.source ∷ seen) items in
-        let new : is_among r.source seen ≡ false = none_if (is_among r.source seen) i.0 (first_none wrong behind g) in
+        let new : is_among r.source seen ≡ false = none_if (is_among r.source seen) (at (Some r)) (first_none wrong behind g) in
         let rest = later (r.source ∷ seen) (second_none wrong behind g) in
         let less = free_less r.source seen (sources (made_rules ps items)) rest.1 in
         ((less.0, rest.0), (new, less.1))
@@ -111,7 +117,7 @@ subject_rules : (ps qs : List Part) → IsOneAtMost qs → bad_subjects ps qs �
 subject_rules ps [] one h = tt
 subject_rules ps (q ∷ rest) one h =
     let own = made_rules ps (items_of (codes "rules") q) in
-    let good : bad_rules ps [] (items_of (codes "rules") q) ≡ [] = first_none (bad_rules ps [] (items_of (codes "rules") q)) (map (λ (p : Part). p.number) rest) h in
+    let good : bad_rules ps [] (items_of (codes "rules") q) ≡ [] = first_none (bad_rules ps [] (items_of (codes "rules") q)) (map (λ (p : Part). breaks site_rule.SecondSubject p.number) rest) h in
     let same : own ++ flat_map (λ (q : Part). made_rules ps (items_of (codes "rules") q)) rest ≡ own =
     ap (λ l. own ++ flat_map (λ (q : Part). made_rules ps (items_of (codes "rules") q)) l) one ∙ append-nil own in
     subst (λ l. Apart (sources l)) (sym same) (rules_apart ps [] (items_of (codes "rules") q) good).0
@@ -130,11 +136,11 @@ stored_most (q ∷ hs) sum s h =
     go (nat_lt 1_000_000 (sum + stored_in (capacity_of q) (length (records_of q)))) refl h (λ f g. stored_most hs (sum + stored_in (capacity_of q) (length (records_of q))) f g)
   where
     go : (b : Bool) → nat_lt 1_000_000 (sum + stored_in (capacity_of q) (length (records_of q))) ≡ b
-        → cond b (q.number ∷ []) (overfull (sum + stored_in (capacity_of q) (length (records_of q))) hs) ≡ []
+        → cond b (breaks site_rule.Total q.number ∷ []) (overfull (sum + stored_in (capacity_of q) (length (records_of q))) hs) ≡ []
         → (sum + stored_in (capacity_of q) (length (records_of q)) ≤ 1_000_000 → overfull (sum + stored_in (capacity_of q) (length (records_of q))) hs ≡ []
         → sum + stored_in (capacity_of q) (length (records_of q)) + stored_logs (map (λ q. (path_of q, rolled (whole_log q))) hs) ≤ 1_000_000)
         → sum + stored_logs (map (λ q. (path_of q, rolled (whole_log q))) (q ∷ hs)) ≤ 1_000_000
-    go true e g later = absurd (let f : q.number ∷ [] ≡ [] = g in cc)
+    go true e g later = absurd (let f : breaks site_rule.Total q.number ∷ [] ≡ [] = g in cc)
     go false e g later =
         let more : sum + stored_in (capacity_of q) (length (records_of q)) ≤ 1_000_000 = no_more 1_000_000 (sum + stored_in (capacity_of q) (length (records_of q))) e in
         let all = later more g in

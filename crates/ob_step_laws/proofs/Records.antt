@@ -3,10 +3,12 @@ use Rattle.std.proofs.Common.{◌≡◌, ℕ, zero, suc, ◌-◌, ◌≤◌, ◌
 use Rattle.std.specs.List.{AllByRecursion, cons_option}
 use Rattle.ob_times.specs.Times.{Instant, instant, moment_instant}
 use Rattle.ob_object.specs.Object.{Object}
+use Rattle.ob_parts.specs.declared.offence.Offence.{Offence}
 use Rattle.ob_history.specs.declared.records.Record.{Record}
 use Rattle.ob_history.specs.Records.{InOrder, IsNotBefore}
 use Rattle.ob_site_rules.specs.State.{rolled}
-use Rattle.ob_site_rules.specs.Loading.{Part, items_of, record_in, records_of, bad_records, bad_history, bad_part, after_item, is_bad_item, is_late, is_earlier, has_bad_source, has_bad_capacity, histories_in, ms_up, last_moment}
+use Rattle.ob_site_rules.specs.Loading.{Part, items_of, record_in, records_of, bad_records, bad_history, bad_part, after_item, is_bad_item, is_late, is_earlier, has_bad_source, has_bad_capacity, histories_in, ms_up, last_moment, breaks, record_rule, setting_rule}
+use Rattle.ob_site_rules.specs.declared.site_rule.SiteRule.{SiteRule}
 use Rattle.ob_values.proofs.Bools.{neither_left, neither_right}
 use Rattle.ob_step_laws.proofs.Inverted.{all_good, first_none, second_none}
 use Rattle.ob_step_laws.proofs.Times.{ms_up_most, not_before}
@@ -41,7 +43,7 @@ first_in_order : (r : Record) (rs : List Record) → IsBehind (Some r.time) rs �
 first_in_order r [] h = tt
 first_in_order r (s ∷ rs) h = h
 
-pub none_if : (b : Bool) (n : ℕ) → cond b (n ∷ []) [] ≡ [] → b ≡ false
+pub none_if : {A : Type 0} (b : Bool) (n : A) → cond b (n ∷ []) [] ≡ [] → b ≡ false
 none_if true n h = absurd (let e : n ∷ [] ≡ [] = h in cc)
 none_if false n h = refl
 
@@ -52,12 +54,15 @@ good_items : (before : Option Instant) (items : List (ℕ × Object)) → bad_re
 good_items before [] h = record { order = tt; behind = none_behind before; timely = tt }
 good_items before (i ∷ items) h = go (record_in i.1) h (λ b g. good_items b items g)
   where
-    go : (o : Option Record) → cond (is_bad_item before o) (i.0 ∷ []) [] ++ bad_records (after_item before o) items ≡ []
+    at : Option Record → Offence SiteRule
+    at o = breaks (record_rule before i.1 o) i.0
+
+    go : (o : Option Record) → cond (is_bad_item before o) (at o ∷ []) [] ++ bad_records (after_item before o) items ≡ []
         → ((b : Option Instant) → bad_records b items ≡ [] → AreGood b (read items)) → AreGood before (cons_option o (read items))
-    go None g later = absurd (let e : i.0 ∷ bad_records before items ≡ [] = g in cc)
+    go None g later = absurd (let e : at None ∷ bad_records before items ≡ [] = g in cc)
     go (Some r) g later =
-        let late : is_late before r ≡ false = none_if (is_late before r) i.0 (first_none (cond (is_late before r) (i.0 ∷ []) []) (bad_records (Some r.time) items) g) in
-        let rest : AreGood (Some r.time) (read items) = later (Some r.time) (second_none (cond (is_late before r) (i.0 ∷ []) []) (bad_records (Some r.time) items) g) in
+        let late : is_late before r ≡ false = none_if (is_late before r) (at (Some r)) (first_none (cond (is_late before r) (at (Some r) ∷ []) []) (bad_records (Some r.time) items) g) in
+        let rest : AreGood (Some r.time) (read items) = later (Some r.time) (second_none (cond (is_late before r) (at (Some r) ∷ []) []) (bad_records (Some r.time) items) g) in
         let two = not_late before r (read items) late in
         record {
           order = (first_in_order r (read items) rest.behind, rest.order);
@@ -65,7 +70,7 @@ good_items before (i ∷ items) h = go (record_in i.1) h (λ b g. good_items b i
           timely = (ms_up_most r.time two.1, rest.timely);
         }
 
-each_none : {A : Type 0} (f : A → List ℕ) (xs : List A) → flat_map f xs ≡ [] → AllByRecursion (λ x. f x ≡ []) xs
+each_none : {A B : Type 0} (f : A → List B) (xs : List A) → flat_map f xs ≡ [] → AllByRecursion (λ x. f x ≡ []) xs
 each_none f [] h = tt
 each_none f (x ∷ xs) h = (first_none (f x) (flat_map f xs) h, each_none f xs (second_none (f x) (flat_map f xs) h))
 
@@ -74,7 +79,7 @@ HasGood q = AreGood None (records_of q)
 
 good_history : (ps : List Part) (q : Part) → bad_history ps q ≡ [] → q.roles.history ≡ true → HasGood q
 good_history ps q h is =
-    let wrong : List ℕ = cond (has_bad_source ps q || has_bad_capacity q) (q.number ∷ []) [] in
+    let wrong : List (Offence SiteRule) = cond (has_bad_source ps q || has_bad_capacity q) (breaks (setting_rule ps q) q.number ∷ []) [] in
     let items = bad_records None (items_of (codes "data") q) in
     let both : wrong ++ items ≡ [] = subst (λ (b : Bool). cond b (wrong ++ items) [] ≡ []) is h in
     good_items None (items_of (codes "data") q) (second_none wrong items both)

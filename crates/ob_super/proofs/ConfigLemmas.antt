@@ -1,28 +1,30 @@
 -- What a config tells, and the first part that offends.
 use Rattle.std.proofs.Common.{◌≡◌, ℕ, zero, suc, ◌+◌, ◌≤◌, Bool, true, false, ◌||◌, List, [], ◌∷◌, ◌++◌, map, length, take, Option, Some, None, refl, ap, ap₂, sym, subst, ◌∙◌, arith, Bor}
-use Rattle.std.specs.Prelude.{cond, is_some, option_map, option_and_then, Result, min}
+use Rattle.std.specs.Prelude.{cond, is_some, option_map, option_and_then, Result}
 use Rattle.std.specs.declared.result.Result.TheVariants.{Ok, Err}
 use Rattle.std.specs.List.{list_any}
 use Rattle.std.proofs.lemmas.List.{map-append}
 use Rattle.ob_object.specs.Object.{Object}
 use Rattle.ob_watching.specs.WatchOuts.{Text}
 use Rattle.ob_parts.specs.Numbered.{Part}
-use Rattle.ob_parts.specs.Offences.{unless}
-use Rattle.ob_parts.specs.Least.{earlier, least}
+use Rattle.ob_parts.specs.Offences.{breaks, unless}
+use Rattle.ob_parts.specs.declared.offence.Offence.{Offence}
+use Rattle.ob_parts.specs.Least.{first_of, earlier, least}
 use Rattle.ob_parts.proofs.Earliest.{least_append, least_none}
 use Rattle.ob_super.specs.declared.config_fault.ConfigFault.{ConfigFault}
 use Rattle.ob_super.specs.declared.config_fault.ConfigFault.TheVariants.{Shape, Memory}
+use Rattle.ob_super.specs.declared.config_rule.ConfigRule.{ConfigRule}
 use Rattle.ob_super.specs.declared.upstream.Upstream as code
-use Rattle.ob_super.specs.Upstreams.{Upstream, is_text, href_in, new_href, href_offences, upstream_in, upstream_offences, all_of}
+use Rattle.ob_super.specs.Upstreams.{Upstream, is_text, href_in, new_href, href_rule, href_offences, upstream_in, upstream_offences, all_of}
 use Rattle.ob_super.specs.Configs.{upstream, Judges, unless_any, both, was_seen, unseen, Sees, TakesHref, TakesIn}
 
 -- ---- results
 
-no_more : (xs ys : List ℕ) → xs ≡ [] → ys ≡ [] → xs ++ ys ≡ []
+no_more : (xs ys : List (Offence ConfigRule)) → xs ≡ [] → ys ≡ [] → xs ++ ys ≡ []
 no_more xs ys e f = ap₂ (λ a b. a ++ b) e f
 
 -- what two parts tell together
-pub both_judge : {A B : Type 0} (xs ys : List ℕ) (P : A → Type 0) (Q : B → Type 0) (a : Result A ConfigFault) (b : Result B ConfigFault)
+pub both_judge : {A B : Type 0} (xs ys : List (Offence ConfigRule)) (P : A → Type 0) (Q : B → Type 0) (a : Result A ConfigFault) (b : Result B ConfigFault)
     → Judges xs P a → Judges ys Q b → Judges (xs ++ ys) (λ r. P r.0 × Q r.1) (both a b)
 both_judge xs ys P Q (Ok a) (Ok b) h k = (no_more xs ys h.0 k.0, (h.1, k.1))
 both_judge xs ys P Q (Ok a) (Err (Shape m)) h k = least_append xs ys ∙ ap₂ earlier (ap least h.0) k
@@ -34,12 +36,12 @@ both_judge xs ys P Q (Err Memory) (Ok b) h k = tt
 both_judge xs ys P Q (Err Memory) (Err g) h k = tt
 
 -- a refusal says the same, whatever would be told
-pub judge_err : {A B : Type 0} (xs : List ℕ) (P : A → Type 0) (Q : B → Type 0) (f : ConfigFault) → Judges xs P (Err f) → Judges xs Q (Err f)
+pub judge_err : {A B : Type 0} (xs : List (Offence ConfigRule)) (P : A → Type 0) (Q : B → Type 0) (f : ConfigFault) → Judges xs P (Err f) → Judges xs Q (Err f)
 judge_err xs P Q (Shape n) h = h
 judge_err xs P Q Memory h = tt
 
 -- of three parts, the first that offends
-pub refused : {A B C D : Type 0} (xs ys zs : List ℕ) (P : A → Type 0) (Q : B → Type 0) (R : C → Type 0) (S : D → Type 0)
+pub refused : {A B C D : Type 0} (xs ys zs : List (Offence ConfigRule)) (P : A → Type 0) (Q : B → Type 0) (R : C → Type 0) (S : D → Type 0)
     (a : Result A ConfigFault) (b : Result B ConfigFault) (c : Result C ConfigFault) (bc : Result (B × C) ConfigFault) (f : ConfigFault)
     → Judges xs P a → Judges ys Q b → Judges zs R c → bc ≡ both b c → both a bc ≡ Err f → Judges (xs ++ (ys ++ zs)) S (Err f)
 refused {A = A} {B = B} {C = C} xs ys zs P Q R S a b c bc f p q r is e =
@@ -48,13 +50,13 @@ refused {A = A} {B = B} {C = C} xs ys zs P Q R S a b c bc f p q r is e =
     (both_judge xs (ys ++ zs) P (λ (u : B × C). Q u.0 × R u.1) a (both b c) p (both_judge ys zs Q R b c q r)))
 
 -- what is told where the offences are others, and told otherwise
-pub judge_as : {A : Type 0} (xs ys : List ℕ) (P Q : A → Type 0) (r : Result A ConfigFault) → ys ≡ xs → ((x : A) → P x → Q x) → Judges xs P r → Judges ys Q r
+pub judge_as : {A : Type 0} (xs ys : List (Offence ConfigRule)) (P Q : A → Type 0) (r : Result A ConfigFault) → ys ≡ xs → ((x : A) → P x → Q x) → Judges xs P r → Judges ys Q r
 judge_as xs ys P Q (Ok x) e f h = (e ∙ h.0, f x h.1)
 judge_as xs ys P Q (Err (Shape n)) e f h = ap least e ∙ h
 judge_as xs ys P Q (Err Memory) e f h = tt
 
 -- at the end of a walk
-pub judge_walk : {A : Type 0} (xs : List ℕ) (P : A → Type 0) (first : Option ℕ) (x : A) → first ≡ least xs → (first ≡ None → P x) → Judges xs P (unless_any first x)
+pub judge_walk : {A : Type 0} (xs : List (Offence ConfigRule)) (P : A → Type 0) (first : Option (Offence ConfigRule)) (x : A) → first ≡ least xs → (first ≡ None → P x) → Judges xs P (unless_any first x)
 judge_walk xs P None x e f = (least_none xs (sym e), f refl)
 judge_walk xs P (Some n) x e f = sym e
 
@@ -104,34 +106,34 @@ new_is before o t e = go (href_in o) e
     go (Some u) e = kept u t (list_any (λ other. is_text u (href_in other)) before) e
 
 -- an object offends where its href isn't taken
-pub href_judged : (old new : List Text) (number : ℕ) (before : List Object) (o : Object) (offence : Option ℕ) (h : Option Text) → h ≡ new_href before o → TakesHref old new number h offence
-    → offence ≡ least (href_offences before (record { number = number; object = o }))
-href_judged old new number before o offence (Some t) e k = k.1 ∙ ap (λ (a : Option Text). least (unless (is_some a) (record { number = number; object = o }))) e
-href_judged old new number before o offence None e k = k.1 ∙ ap (λ (a : Option Text). least (unless (is_some a) (record { number = number; object = o }))) e
+pub href_judged : (old new : List Text) (p : Part) (before : List Object) (offence : Option (Offence ConfigRule)) (h : Option Text) → h ≡ new_href before p.object → TakesHref old new p h offence
+    → offence ≡ least (href_offences before p)
+href_judged old new p before offence (Some t) e k = k.1 ∙ ap (λ (a : Option Text). least (unless (is_some a) (href_rule p.object) p)) e
+href_judged old new p before offence None e k = k.1 ∙ ap (λ (a : Option Text). least (unless (is_some a) (href_rule p.object) p)) e
 
-left_none : (a b : Option ℕ) → earlier a b ≡ None → a ≡ None
+left_none : (a b : Option (Offence ConfigRule)) → earlier a b ≡ None → a ≡ None
 left_none None b e = refl
 left_none (Some a) None e = e
-left_none (Some a) (Some b) e = absurd (let f : Some (min a b) ≡ None = e in cc)
+left_none (Some a) (Some b) e = absurd (let f : Some (first_of a b) ≡ None = e in cc)
 
-right_none : (a b : Option ℕ) → earlier a b ≡ None → b ≡ None
+right_none : (a b : Option (Offence ConfigRule)) → earlier a b ≡ None → b ≡ None
 right_none None b e = e
 right_none (Some a) None e = refl
-right_none (Some a) (Some b) e = absurd (let f : Some (min a b) ≡ None = e in cc)
+right_none (Some a) (Some b) e = absurd (let f : Some (first_of a b) ≡ None = e in cc)
 
-pub hrefs_more : (old new : List Text) (number : ℕ) (before : List Object) (o : Object) (first offence next : Option ℕ) (h : Option Text)
-    → h ≡ new_href before o → TakesHref old new number h offence → next ≡ earlier first offence → (first ≡ None → map href_in before ≡ map Some old) → next ≡ None → map href_in (before ++ o ∷ []) ≡ map Some new
-hrefs_more old new number before o first offence next (Some t) e k n told none =
+pub hrefs_more : (old new : List Text) (p : Part) (before : List Object) (first offence next : Option (Offence ConfigRule)) (h : Option Text)
+    → h ≡ new_href before p.object → TakesHref old new p h offence → next ≡ earlier first offence → (first ≡ None → map href_in before ≡ map Some old) → next ≡ None → map href_in (before ++ p.object ∷ []) ≡ map Some new
+hrefs_more old new p before first offence next (Some t) e k n told none =
     let first_none = left_none first offence (sym n ∙ none) in
-    map-append href_in before (o ∷ [])
-    ∙ (ap₂ (λ xs (a : Option Text). xs ++ a ∷ []) (told first_none) (new_is before o t (sym e))
+    map-append href_in before (p.object ∷ [])
+    ∙ (ap₂ (λ xs (a : Option Text). xs ++ a ∷ []) (told first_none) (new_is before p.object t (sym e))
     ∙ (sym (map-append Some old (t ∷ [])) ∙ ap (map Some) (sym k.0)))
-hrefs_more old new number before o first offence next None e k n told none =
-    absurd (let f : Some number ≡ None = sym k.1 ∙ right_none first offence (sym n ∙ none) in cc)
+hrefs_more old new p before first offence next None e k n told none =
+    absurd (let f : Some (breaks (href_rule p.object) p) ≡ None = sym k.1 ∙ right_none first offence (sym n ∙ none) in cc)
 
 -- ---- the walk over upstreams
 
-pub upstream_judged : (old new : List code.Upstream) (p : Part) (offence : Option ℕ) (u : Result code.Upstream ConfigFault)
+pub upstream_judged : (old new : List code.Upstream) (p : Part) (offence : Option (Offence ConfigRule)) (u : Result code.Upstream ConfigFault)
     → Judges (upstream_offences [] p) (λ v. upstream_in p.object ≡ Some (upstream v)) u → TakesIn old new u offence → offence ≡ least (upstream_offences [] p)
 upstream_judged old new p offence (Ok u) j k = k.1 ∙ sym (ap least j.0)
 upstream_judged old new p offence (Err (Shape n)) j k = k.1 ∙ sym j
@@ -140,7 +142,7 @@ upstream_judged old new p offence (Err Memory) j k = absurd k
 abbrev pub told_of : List code.Upstream → List (Option Upstream)
 told_of us = map (λ (u : code.Upstream). Some (upstream u)) us
 
-pub upstreams_more : (old new : List code.Upstream) (before : List Object) (p : Part) (first offence next : Option ℕ) (u : Result code.Upstream ConfigFault)
+pub upstreams_more : (old new : List code.Upstream) (before : List Object) (p : Part) (first offence next : Option (Offence ConfigRule)) (u : Result code.Upstream ConfigFault)
     → Judges (upstream_offences [] p) (λ v. upstream_in p.object ≡ Some (upstream v)) u → TakesIn old new u offence → next ≡ earlier first offence
     → (first ≡ None → map upstream_in before ≡ told_of old) → next ≡ None → map upstream_in (before ++ p.object ∷ []) ≡ told_of new
 upstreams_more old new before p first offence next (Ok u) j k n told none =

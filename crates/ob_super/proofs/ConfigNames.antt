@@ -9,6 +9,8 @@ use Rattle.ob_watching.specs.WatchOuts.{Text, is_of_kind}
 use Rattle.ob_client.proofs.TableLemmas.{bytes_eq_sym}
 use Rattle.ob_asking.specs.declared.place.Place.{Place}
 use Rattle.ob_parts.specs.Offences.{said}
+use Rattle.ob_parts.specs.declared.offence.Offence.{Offence}
+use Rattle.ob_super.specs.declared.config_rule.ConfigRule.{ConfigRule}
 use Rattle.std.specs.Prelude.{codes}
 use Rattle.ob_super.specs.declared.upstream.Upstream as code
 use Rattle.ob_super.specs.Upstreams.{Upstream, is_name, name_in, lobby_in, hrefs_in, upstream_in, with_hrefs}
@@ -20,7 +22,7 @@ use Rattle.ob_super.specs.Names.{are_apart}
 use Rattle.ob_super.proofs.ConfigLemmas.{told_of}
 
 -- at the end of a walk
-pub ok_walk : {A : Type 0} (Q : A → Type 0) (first : Option ℕ) (x : A) → (first ≡ None → Q x) → IfOk (unless_any first x) Q
+pub ok_walk : {A : Type 0} (Q : A → Type 0) (first : Option (Offence ConfigRule)) (x : A) → (first ≡ None → Q x) → IfOk (unless_any first x) Q
 ok_walk Q None x f = f refl
 ok_walk Q (Some n) x f = tt
 

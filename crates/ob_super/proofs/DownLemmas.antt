@@ -51,5 +51,5 @@ new_apart {L = L} us all apart e = ap are_apart (ap names e ∙ names_down L us)
 
 -- a refusal names the first part that offends
 pub new_err : {A : Type 0} (L : Type 0) (config : Object) (P : A → Type 0) (f : ConfigFault) → Judges (offences config) P (Err f) → Configures {L = L} config (Err f)
-new_err L config P (Shape n) h = let found = least_some (offences config) n h in record { offends = found.is; first = found.least }
+new_err L config P (Shape offence) h = least_some (offences config) offence h
 new_err L config P Memory h = tt

@@ -316,5 +316,5 @@ AreDown us all = all ≡ map down us
 -- was no memory
 abbrev pub Configures : {L : Type 0} → Object → Result (Super L) ConfigFault → Type 0
 Configures config (Ok s) = IsConfig config × (configured config ≡ Some (upstreams s.followed.items)) × AllByRecursion (λ f. f.live ≡ None) s.followed.items
-Configures config (Err (Shape part)) = IsFirstOffence config part
+Configures config (Err (Shape offence)) = IsFirstOffence config offence
 Configures config (Err Memory) = Unit {0}

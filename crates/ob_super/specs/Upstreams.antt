@@ -16,6 +16,9 @@ use Rattle.ob_asking.specs.declared.place.Place.{Place}
 use Rattle.ob_asking.specs.Places.{some_of, place_at}
 use Rattle.ob_parts.specs.Numbered.{Part, inside, inside_child, root}
 use Rattle.ob_parts.specs.Offences.{unless, needs, said, each, IsFirst}
+use Rattle.ob_parts.specs.declared.offence.Offence.{Offence}
+use Rattle.ob_super.specs.declared.config_rule.ConfigRule.{ConfigRule}
+use Rattle.ob_super.specs.declared.config_rule.ConfigRule.TheVariants as rule
 
 -- a server that is followed: its name, its lobby, and the hrefs that are added to the watch there
 pub record Upstream : Type 0 where
@@ -65,7 +68,15 @@ href_in o = option_and_then (λ (t : Text). cond (is_between 1 1024 (length t)) 
 abbrev pub is_list : ℕ → ℕ → Object → Bool
 is_list least most o = is_of_kind kind.List o && is_between least most (length (children o))
 
--- ---- the parts that offend
+-- ---- the parts that offend, each with the rule that it breaks
+
+-- the first rule that an upstream breaks which has no name
+abbrev pub name_rule : Object → ConfigRule
+name_rule o = cond (is_of_kind kind.Obj o) rule.Name rule.Kind
+
+-- the first rule that an href breaks which isn't one, or stands twice
+abbrev pub href_rule : Object → ConfigRule
+href_rule o = cond (is_some (href_in o)) rule.HrefTwice rule.Href
 
 abbrev pub is_text : Text → Option Text → Bool
 is_text t None = false
@@ -76,28 +87,28 @@ abbrev pub new_href : List Object → Object → Option Text
 new_href before o =
     option_and_then (λ (t : Text). cond (list_any (λ other. is_text t (href_in other)) before) None (Some t)) (href_in o)
 
-abbrev pub href_offences : List Object → Part → List ℕ
-href_offences before p = unless (is_some (new_href before p.object)) p
+abbrev pub href_offences : List Object → Part → List (Offence ConfigRule)
+href_offences before p = unless (is_some (new_href before p.object)) (href_rule p.object) p
 
 -- an obj with a name, a uri `url` and a list `hrefs` of 1 to 2,048 hrefs, of which no text stands twice
-abbrev pub upstream_offences : List Object → Part → List ℕ
+abbrev pub upstream_offences : List Object → Part → List (Offence ConfigRule)
 upstream_offences before p =
-    unless (is_some (name_in p.object)) p
-    ++ (needs (codes "url") (λ o. is_some (lobby_in o)) p
-    ++ (needs (codes "hrefs") (is_list 1 2_048) p
+    unless (is_some (name_in p.object)) (name_rule p.object) p
+    ++ (needs (codes "url") (λ _. rule.Url) (λ o. is_some (lobby_in o)) p
+    ++ (needs (codes "hrefs") (λ _. rule.Hrefs) (is_list 1 2_048) p
     ++ each href_offences [] (inside_child (codes "hrefs") p)))
 
--- the numbers of all parts of a config that offend: it is a list of 1 to 64 upstreams
-abbrev pub offences : Object → List ℕ
-offences config = unless (is_list 1 64 config) (root config) ++ each upstream_offences [] (inside (root config))
+-- all parts of a config that offend: it is a list of 1 to 64 upstreams
+abbrev pub offences : Object → List (Offence ConfigRule)
+offences config = unless (is_list 1 64 config) rule.Upstreams (root config) ++ each upstream_offences [] (inside (root config))
 
 -- a config of the form
 abbrev pub IsConfig : Object → Type 0
 IsConfig config = offences config ≡ []
 
--- this part is the first that offends
-abbrev pub IsFirstOffence : Object → ℕ → Type 0
-IsFirstOffence config part = IsFirst (offences config) part
+-- this part is the first that offends, and this the first rule that it breaks
+abbrev pub IsFirstOffence : Object → Offence ConfigRule → Type 0
+IsFirstOffence config offence = IsFirst (offences config) offence
 
 -- ---- what a config of the form tells
 

@@ -2,20 +2,22 @@
 ghost use Rattle.std.specs.Prelude.{◌≡◌, ◌++◌, ◌∷◌, [], true, Some, IfOk, OnOk, is_some, option_copied, codes, map};
 ghost use Rattle.std.specs.List.{list_all};
 ghost use Rattle.ob_parts.specs.Numbered.{inside, inside_child};
-ghost use Rattle.ob_parts.specs.Offences.{unless, needs, said, each};
+ghost use Rattle.ob_parts.specs.Offences.{breaks, unless, needs, said, each};
 ghost use Rattle.ob_parts.specs.Views.{part_of};
 ghost use Rattle.ob_super.specs.Configs as read;
 ghost use Rattle.ob_super.specs.Names.{are_apart};
 ghost use Rattle.ob_super.specs.Upstreams as form;
 ghost use Rattle.ob_super.specs.declared.config_fault.ConfigFault.TheVariants.{Shape};
+ghost use Rattle.ob_super.specs.declared.config_rule.ConfigRule.TheVariants as rules;
 
 use crate::config_fault::ConfigFault;
+use crate::config_rule::ConfigRule;
 use crate::upstream::Upstream;
 use indexmap::IndexSet;
 use ob_asking::{Place, place_at};
 use ob_href::{Base, HrefFault};
 use ob_object::{Kind, Obj, Slot};
-use ob_parts::{Part, earlier, number_behind};
+use ob_parts::{Offence, Part, earlier, number_behind};
 use ob_values::{Text, Value};
 use std::alloc::{AllocError, Global};
 
@@ -28,19 +30,19 @@ const MOST_HREF: usize = 1024;
 
 const MOST_NAME: usize = 32;
 
-// The part of this number isn't as it has to be.
-fn wrong<T>(part: u64) -> Result<T, ConfigFault>
-    ensures { result ≡ Err (Shape part) }
+// The part breaks the rule.
+fn wrong<T>(part: Part<'_>, rule: ConfigRule) -> Result<T, ConfigFault>
+    ensures { result ≡ Err (Shape (breaks rule (part_of part.entry))) }
 {
-    Err(ConfigFault::Shape { part })
+    Err(ConfigFault::Shape(part.breaks(rule)))
 }
 
 // What is told, unless a part offends.
-fn unless_any<T: Drop>(first: Option<u64>, told: T) -> Result<T, ConfigFault>
+fn unless_any<T: Drop>(first: Option<Offence<ConfigRule>>, told: T) -> Result<T, ConfigFault>
     ensures { result ≡ read.unless_any first told }
 {
     match first {
-        Some(part) => wrong(part),
+        Some(offence) => Err(ConfigFault::Shape(offence)),
         None => Ok(told),
     }
 }
@@ -127,13 +129,24 @@ fn is_list(object: &Obj, most: usize) -> bool
     object.kind().same(Kind::List) && !object.is_empty() && object.len() <= most
 }
 
+// The first rule that an upstream breaks which has no name.
+fn name_rule(object: &Obj) -> ConfigRule
+    ensures { result ≡ form.name_rule object.now }
+{
+    if object.kind().same(Kind::Obj) {
+        ConfigRule::Name
+    } else {
+        ConfigRule::Kind
+    }
+}
+
 // The name of an upstream.
 fn name(part: Part<'_>) -> Result<Text, ConfigFault>
-    ensures { read.Judges (unless (is_some (form.name_in part.entry.object.now)) (part_of part.entry)) (λ name. form.name_in part.entry.object.now ≡ Some name) result }
+    ensures { read.Judges (unless (is_some (form.name_in part.entry.object.now)) (form.name_rule part.entry.object.now) (part_of part.entry)) (λ name. form.name_in part.entry.object.now ≡ Some name) result }
 {
     match name_in(part.object) {
         Some(name) => Ok(name.copy()?),
-        None => wrong(part.number),
+        None => wrong(part, name_rule(part.object)),
     }
 }
 
@@ -149,14 +162,14 @@ fn lobby_in(alloc: Global, object: &Obj) -> Result<Option<Place>, AllocError>
 
 // The lobby of an upstream.
 fn lobby(alloc: Global, part: Part<'_>) -> Result<Place, ConfigFault>
-    ensures { read.Judges (needs (codes "url") (λ o. is_some (form.lobby_in o)) (part_of part.entry)) (λ place. said (codes "url") form.lobby_in part.entry.object.now ≡ Some place) result }
+    ensures { read.Judges (needs (codes "url") (λ _. rules.Url) (λ o. is_some (form.lobby_in o)) (part_of part.entry)) (λ place. said (codes "url") form.lobby_in part.entry.object.now ≡ Some place) result }
 {
     let Some(url) = part.child("url") else {
-        return wrong(part.number);
+        return wrong(part, ConfigRule::Url);
     };
     match lobby_in(alloc, url.object)? {
         Some(place) => Ok(place),
-        None => wrong(url.number),
+        None => wrong(url, ConfigRule::Url),
     }
 }
 
@@ -183,35 +196,45 @@ fn push_copy(texts: &mut Vec<Text>, text: &Text) -> Result<(), AllocError>
     Ok(())
 }
 
-// Takes the href of an object in, or tells its number where it says none that is new.
+// The first rule that an href breaks which isn't one, or stands twice.
+fn href_rule(object: &Obj) -> ConfigRule
+    ensures { result ≡ form.href_rule object.now }
+{
+    if href_in(object).is_some() {
+        ConfigRule::HrefTwice
+    } else {
+        ConfigRule::Href
+    }
+}
+
+// Takes the href of a part in, or tells the part where it says none that is new.
 fn take_href<'a>(
     seen: &mut IndexSet<&'a str>,
     hrefs: &mut Vec<Text>,
-    number: u64,
-    object: &'a Obj,
-) -> Result<Option<u64>, AllocError>
-    ensures seen { OnOk result (read.Sees seen.old.keys (form.href_in object.now) seen.new.keys) }
-    ensures taken { IfOk result (read.TakesHref hrefs.old.items hrefs.new.items number (read.unseen seen.old.keys (form.href_in object.now))) }
+    part: Part<'a>,
+) -> Result<Option<Offence<ConfigRule>>, AllocError>
+    ensures seen { OnOk result (read.Sees seen.old.keys (form.href_in part.entry.object.now) seen.new.keys) }
+    ensures taken { IfOk result (read.TakesHref hrefs.old.items hrefs.new.items (part_of part.entry) (read.unseen seen.old.keys (form.href_in part.entry.object.now))) }
 {
-    match new_href(seen, object)? {
+    match new_href(seen, part.object)? {
         Some(href) => {
             push_copy(hrefs, href)?;
             Ok(None)
         }
-        None => Ok(Some(number)),
+        None => Ok(Some(part.breaks(href_rule(part.object)))),
     }
 }
 
 // The hrefs that the items of a list say, no text of which stands twice.
 fn listed_hrefs(alloc: Global, list: Part<'_>) -> Result<Vec<Text>, ConfigFault>
-    ensures { read.Judges (unless (form.is_list 1 2_048 list.entry.object.now) (part_of list.entry) ++ each form.href_offences [] (inside (part_of list.entry))) (λ texts. form.hrefs_in list.entry.object.now ≡ Some texts.items) result }
+    ensures { read.Judges (unless (form.is_list 1 2_048 list.entry.object.now) rules.Hrefs (part_of list.entry) ++ each form.href_offences [] (inside (part_of list.entry))) (λ texts. form.hrefs_in list.entry.object.now ≡ Some texts.items) result }
 {
-    let mut first = list.unless(is_list(list.object, MOST_HREFS));
+    let mut first = list.unless(is_list(list.object, MOST_HREFS), ConfigRule::Hrefs);
     let mut number = list.number_inside();
     let mut seen: IndexSet<&str> = IndexSet::new(alloc);
     let mut hrefs = Vec::new(alloc);
     for object in list.object.children() {
-        let offence = take_href(&mut seen, &mut hrefs, number, object)?;
+        let offence = take_href(&mut seen, &mut hrefs, Part { number, object })?;
         first = earlier(first, offence);
         number = number_behind(number, object);
     }
@@ -220,11 +243,11 @@ fn listed_hrefs(alloc: Global, list: Part<'_>) -> Result<Vec<Text>, ConfigFault>
 
 // The hrefs of an upstream.
 fn hrefs(alloc: Global, part: Part<'_>) -> Result<Vec<Text>, ConfigFault>
-    ensures { read.Judges (needs (codes "hrefs") (form.is_list 1 2_048) (part_of part.entry) ++ each form.href_offences [] (inside_child (codes "hrefs") (part_of part.entry))) (λ texts. said (codes "hrefs") form.hrefs_in part.entry.object.now ≡ Some texts.items) result }
+    ensures { read.Judges (needs (codes "hrefs") (λ _. rules.Hrefs) (form.is_list 1 2_048) (part_of part.entry) ++ each form.href_offences [] (inside_child (codes "hrefs") (part_of part.entry))) (λ texts. said (codes "hrefs") form.hrefs_in part.entry.object.now ≡ Some texts.items) result }
 {
     match part.child("hrefs") {
         Some(list) => listed_hrefs(alloc, list),
-        None => wrong(part.number),
+        None => wrong(part, ConfigRule::Hrefs),
     }
 }
 
@@ -234,11 +257,16 @@ fn first_of(one: ConfigFault, other: ConfigFault) -> ConfigFault
 {
     match one {
         ConfigFault::Memory => ConfigFault::Memory,
-        ConfigFault::Shape { part } => match other {
+        ConfigFault::Shape(first) => match other {
             ConfigFault::Memory => ConfigFault::Memory,
-            ConfigFault::Shape { part: behind } => ConfigFault::Shape {
-                part: part.min(behind),
-            },
+            ConfigFault::Shape(behind) => {
+                let earlier = if behind.part < first.part {
+                    behind
+                } else {
+                    first
+                };
+                ConfigFault::Shape(earlier)
+            }
         },
     }
 }
@@ -284,7 +312,7 @@ fn push_upstream(all: &mut Vec<Upstream>, upstream: Upstream) -> Result<(), Allo
 fn take_in(
     all: &mut Vec<Upstream>,
     upstream: Result<Upstream, ConfigFault>,
-) -> Result<Option<u64>, AllocError>
+) -> Result<Option<Offence<ConfigRule>>, AllocError>
     ensures { IfOk result (read.TakesIn all.old.items all.new.items upstream) }
 {
     match upstream {
@@ -292,18 +320,18 @@ fn take_in(
             push_upstream(all, upstream)?;
             Ok(None)
         }
-        Err(ConfigFault::Shape { part }) => Ok(Some(part)),
+        Err(ConfigFault::Shape(offence)) => Ok(Some(offence)),
         Err(ConfigFault::Memory) => Err(AllocError),
     }
 }
 
-/// The upstreams that a config tells; Shape where a part offends against its form, with the first that does.
+/// The upstreams that a config tells; Shape where a part offends against its form, with the first that does and its rule.
 pub(crate) fn upstreams(alloc: Global, config: &Obj) -> Result<Vec<Upstream>, ConfigFault>
     ensures apart { IfOk result (λ all. are_apart (map (λ u. u.name) all.items) ≡ true) }
     ensures tells { read.Judges (form.offences config.now) (λ all. form.configured config.now ≡ Some (map read.upstream all.items)) result }
 {
     let root = Part::root(config);
-    let mut first = root.unless(is_list(config, MOST_UPSTREAMS));
+    let mut first = root.unless(is_list(config, MOST_UPSTREAMS), ConfigRule::Upstreams);
     let mut number = root.number_inside();
     let mut all = Vec::new(alloc);
     for object in config.children() {

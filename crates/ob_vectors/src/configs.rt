@@ -6,7 +6,7 @@ use ob_rows::{Row, Table, number_at, text_of};
 use ob_super::{ConfigFault, Super};
 use std::alloc::{AllocError, Global};
 
-/// Configs: `config`, or the number of the part by which one is refused. `many UPSTREAMS HREFS` is a config of so many
+/// Configs: `config`, or the part and the rule by which one is refused. `many UPSTREAMS HREFS` is a config of so many
 /// upstreams, each with so many hrefs.
 #[derive(Drop)]
 pub(crate) struct Configs;
@@ -33,7 +33,11 @@ fn tell_config(alloc: Global, config: &Obj, told: &mut String) -> Result<(), All
     let made: Result<Super<MemLink>, ConfigFault> = Super::new(alloc, config);
     match &made {
         Ok(_) => told.push_str("config"),
-        Err(ConfigFault::Shape { part }) => write!(told, "{part}"),
+        Err(ConfigFault::Shape(offence)) => {
+            let part = offence.part;
+            let rule = offence.rule.word();
+            write!(told, "{part} {rule}")
+        }
         Err(ConfigFault::Memory) => Err(AllocError),
     }
 }

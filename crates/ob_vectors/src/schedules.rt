@@ -14,7 +14,7 @@ use ob_values::{Text, Value};
 use ob_weekly::Schedules;
 use std::alloc::{AllocError, Global};
 
-/// A file of schedules for `/obix/t`, to which each real may be written: the number of the first part that offends, or what is in
+/// A file of schedules for `/obix/t`, to which each real may be written: the first part that offends and its rule, or what is in
 /// force of its first two schedules at `MOMENTS`, and behind a bar for each of `SPANS` what fires in it.
 #[derive(Drop)]
 pub(crate) struct ScheduleFiles;
