@@ -2,14 +2,17 @@
 import contextlib
 import functools
 import glob
+import http.client
 import json
 import os
 import pathlib
 import re
 import shutil
 import signal
+import socketserver
 import subprocess
 import sys
+import threading
 import time
 
 import psycopg
@@ -163,7 +166,63 @@ def ring(room):
     it.judge(values == [*range(1, 21), *range(100, 130), *range(220, 270)], "ring: all that the history still had is stored once, in order", values)
     moments, gaps = [at for at, _ in it.stored(server, "h0")], it.gaps(server)
     it.judge(gaps == [("/obix/h0", moments[49], moments[50], "rolled over")], "ring: a gap from the last record before to the first after it", gaps)
+    server.ask("POST", "batch", f"<list>{writes(300, 80)}</list>", 60)         # of one moment: 30 of them are dropped at once
+    status = it.once(server.url)
+    values = [int(value) for _, value in it.stored(server, "h0")][100:]
+    lost = it.base.rows("SELECT lost FROM gap ORDER BY noticed")
+    it.judge(status == 0 and values == [*range(330, 380)] and lost == [(20,), (30,)] and "rolled over, 20 records lost" in tool.said(),
+             "ring: each gap says how many records are lost, within one moment too", (values, lost))
     server.kill()
+
+
+def writes(first, count):
+    """Items of a batch that write rising values to p0."""
+    return "".join(f'<uri is="obix:Write" val="/obix/p0"><int name="in" val="{first + n}"/></uri>' for n in range(count))
+
+
+class Older(socketserver.ThreadingTCPServer):
+    """A server in front of another one, which takes `from` out of queries while it is `old`: as one that numbers no records."""
+    allow_reuse_address = daemon_threads = True
+
+    class Link(socketserver.StreamRequestHandler):
+        def handle(self):
+            link, asked = http.client.HTTPConnection("127.0.0.1", self.server.behind, timeout=60), 0
+            while line := self.rfile.readline():
+                verb, target, _ = line.decode().split()
+                fields = http.client.parse_headers(self.rfile)
+                body = self.rfile.read(int(fields.get("Content-Length", 0)))
+                asked = re.sub(rb'<int name="from" val="\d+"/>', b"", body) if self.server.old else body
+                link.request(verb, target, asked or None, {"Content-Type": "text/xml"} if asked else {})
+                told = link.getresponse().read()
+                self.wfile.write(b"HTTP/1.1 200 OK\r\nContent-Type: text/xml\r\nContent-Length: %d\r\n\r\n" % len(told) + told)
+
+    def __init__(self, room, behind):
+        super().__init__(("127.0.0.1", room.free_port()), self.Link)
+        self.behind, self.old, self.url = behind, True, f"http://127.0.0.1:{self.server_address[1]}/obix/"
+        threading.Thread(target=self.serve_forever, daemon=True).start()
+
+
+def older(room):
+    """A server that numbers no records is followed by moments; one that numbers them takes its place, and it takes that one's."""
+    it = Try(room, "older")
+    server = it.server("older", site(1, 50))
+    front = Older(room, server.port)
+    with psycopg.connect(it.to) as base:                   # the tables of a historian from before
+        tables = (TOP / "tools/historian.sql").read_text()
+        base.execute(re.sub(r"  (?:next|lost) bigint,\n", "", tables))
+    status, steps = [], []
+    for old, count in ((True, 10), (True, 30), (False, 5), (False, 70), (True, 20), (False, 20)):
+        front.old = old
+        server.ask("POST", "batch", f"<list>{writes(len(steps) * 100, count)}</list>", 60)
+        steps.append(count)
+        status.append(it.once(front.url))
+    values = [int(value) for _, value in it.stored(front, "h0")]
+    wanted = [n * 100 + k for n, count in enumerate(steps) for k in range(max(0, count - 50), count)]
+    gaps = it.base.rows("SELECT why, lost FROM gap ORDER BY noticed")
+    it.judge(status == [0] * 6 and values == wanted[1:], "older: by moments, by numbers, by moments and by numbers again, each record once", (status, values))
+    it.judge(gaps == [("rolled over", 20), ("perhaps rolled over within one moment", None)],
+             "older: a gap of a server that numbers them says how many are lost; else what isn't known", gaps)
+    front.shutdown(), server.kill()
 
 
 def back(room):
@@ -268,8 +327,7 @@ def moment(room):
     server = it.server("moment", site(1))
     tool = it.tool(server.url)
     for turn in range(12):
-        items = "".join(f'<uri is="obix:Write" val="/obix/p0"><int name="in" val="{turn * 1000 + n + 1}"/></uri>' for n in range(1000))
-        server.ask("POST", "batch", f"<list>{items}</list>", 60)
+        server.ask("POST", "batch", f"<list>{writes(turn * 1000 + 1, 1000)}</list>", 60)
         if turn % 3 == 2:
             tool.kill(), tool.start()
     found, moments = it.agrees(server, ["h0"]), it.base.one("SELECT count(DISTINCT at) FROM record")
@@ -455,4 +513,4 @@ def grafana(room):
 
 
 if __name__ == "__main__":
-    sys.exit(main("historian", {it.__name__: it for it in (words, kinds, months, changed, ring, back, anew, pair, moment, grafana, replica, kills, many, speed)}))
+    sys.exit(main("historian", {it.__name__: it for it in (words, kinds, months, changed, ring, older, back, anew, pair, moment, grafana, replica, kills, many, speed)}))

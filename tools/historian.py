@@ -6,11 +6,12 @@
     tools/historian.py examples/campus.xml --to postgresql:///building       # the servers of a CONFIG of `obix super`
 
 Each server has a thread, a connection that holds one of the server's workers, and a connection to the database. A watch says which
-histories have news. What is stored comes from queries that begin at the last stored record, and is stored in one transaction with
-the place that it leads to: a kill of the server, of this tool or of the database at any moment neither loses nor doubles. Where
-records may be missing, since the history dropped them or the server lost them, a row of the table `gap` says so. A second
-historian of a server waits until the first ends. It stands beside the proved program and isn't proved. It needs python3-psycopg,
-and beside it historian_tables.py, historian.sql, follow.py and link.py.
+histories have news. What is stored comes from queries that begin at the number of the next record, and is stored in one transaction
+with the place that it leads to: a kill of the server, of this tool or of the database at any moment neither loses nor doubles. Where
+records are missing, since the history dropped them or the server lost them, a row of the table `gap` says so, and how many. A server
+that numbers no records is asked by moments, and its gaps have no counts. A second historian of a server waits until the first ends.
+It stands beside the proved program and isn't proved. It needs python3-psycopg, and beside it historian_tables.py, historian.sql,
+follow.py and link.py.
 
 statuses: 0 ended by Ctrl-C or SIGTERM, or with --once all is stored; 1 with --once something didn't answer; 2 the words are no
 command, CONFIG can't be read, or python3-psycopg isn't installed
@@ -26,7 +27,7 @@ import xml.etree.ElementTree as ET
 from xml.sax.saxutils import quoteattr
 
 from follow import Follower, is_done
-from historian_tables import ANEW, BACK, PAGE, TABLES, History, Tables, database, instant, psycopg
+from historian_tables import ANEW, BACK, PAGE, TABLES, History, Page, Tables, database, instant, psycopg
 from link import LOST, VALUES, Refused, children, kind, needed, val, words
 
 TOGETHER = 20                                # histories of a batch
@@ -42,10 +43,10 @@ class Server(Follower):
     def log(self, text):
         print(time.strftime("%Y-%m-%dT%H:%M:%S"), self.url, text, flush=True)
 
-    def missing(self, path, since, until, why):
+    def missing(self, path, since, until, why, lost=None):
         until = max(since, until)                          # by an earlier clock it may be before
-        if self.tables.gap(path, since, until, why):
-            self.log(f"gap: {path} from {since} to {until}: {why}")
+        if self.tables.gap(path, since, until, why, lost):
+            self.log(f"gap: {path} from {since} to {until}: {why}" + (f", {lost} records lost" if lost is not None else ""))
 
     def begin(self):
         """Joins the database and the server, and stores what was missed."""
@@ -113,31 +114,39 @@ class Server(Follower):
         for it, answer in zip(now, found):
             if kind(answer) == "err":
                 raise Refused(f"{it.path}: {answer.get('display')}")
-        data = [list(needed(it, "data")) for it in found]
-        new = [it.new(page, self.tables.run) for it, page in zip(now, data)]
-        self.tables.months("record", {row[2] for rows, _, _ in new for row in rows})
+        pages = [Page(it) for it in found]
+        steps = [self.step(*each) for each in zip(now, pages, shown)]
+        self.tables.months("record", {row[2] for rows, *_ in steps for row in rows})
         with self.tables.transaction():
             self.tables.hold(now)
-            steps = [self.step(*each) for each in zip(now, data, shown, new)]
+            for it, (_, gap, *_) in zip(now, steps):
+                if gap:
+                    self.missing(it.path, *gap)
             stored = self.tables.records([row for it, (rows, *_) in zip(now, steps) if not it.careful for row in rows],
                                          [row for it, (rows, *_) in zip(now, steps) if it.careful for row in rows],
-                                         [(it.id, *place) for it, (_, place, _) in zip(now, steps)])
+                                         [(it.id, *place) for it, (*_, place, _) in zip(now, steps)])
         self.stored[0] += stored
-        for it, (_, place, _) in zip(now, steps):
-            it.at, it.k, it.careful = place
+        for it, (*_, place, _) in zip(now, steps):
+            it.at, it.k, it.careful, it.next = place
+            it.is_sure = True
         return [it for it, (*_, has_more) in zip(now, steps) if has_more]
 
-    def step(self, it, data, shown, new):
-        """The rows that a page of a history gives, the place that they lead to, and whether there is more."""
-        (rows, at, k), gap = new, it.gap(data, shown)
-        if gap and gap[2] != BACK:
-            self.missing(it.path, *gap)
-        oldest = self.tables.oldest(it) if gap and gap[2] == BACK else None
-        if oldest:                                         # all that the server has is asked anew, and what is stored already passed over
-            self.missing(it.path, it.at, instant(self.time), BACK)
-            return [], (oldest, 0, max(it.at, it.careful or it.at)), True
+    def step(self, it, page, shown):
+        """The rows that a page of a history gives, the gap before them, the place that they lead to, and whether there is more."""
+        by_moment = [], None, (it.at, it.k, it.careful, None), True
+        if it.next is not None and page.gone is None:      # the server numbers no records any more
+            return by_moment
+        gap = it.gap(page, shown)
+        if gap and gap[2] == BACK:
+            oldest = self.tables.oldest(it)
+            if oldest:                                     # all that the server has is asked anew, and what is stored already passed over
+                return [], (it.at, instant(self.time), BACK), (oldest, 0, max(it.at, it.careful or it.at), None), True
+            if it.next is not None:
+                return by_moment
+            gap = None
+        rows, at, k = it.new(page, self.tables.run)
         at = at or self.tables.boot                        # it is empty: what comes is later
-        return rows, (at, k, it.careful if it.careful and at <= it.careful else None), len(data) >= it.page()
+        return rows, gap, (at, k, it.careful if it.careful and at <= it.careful else None, it.following(page)), len(page.data) >= it.page()
 
     def store(self, news):
         news = set(news)

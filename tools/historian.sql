@@ -42,13 +42,15 @@ CREATE TABLE history (
 );
 
 -- Where the stored records of a history end in a run: the moment of the last, and how many records of that moment are stored.
--- Up to `careful` records may be stored already, since the server went back: each is looked for.
+-- Up to `careful` records may be stored already, since the server went back: each is looked for. `next` is the number of the record
+-- that comes after the stored ones, of a server that numbers them.
 CREATE TABLE place (
   history int NOT NULL REFERENCES history,
   run int NOT NULL,
   at timestamptz,
   k int NOT NULL DEFAULT 0,
   careful timestamptz,
+  next bigint,
   PRIMARY KEY (history, run)
 );
 
@@ -90,7 +92,7 @@ CREATE TABLE alarm (
 );
 CREATE INDEX alarm_open ON alarm (server, run) WHERE state <> 'ok';
 
--- From when to when records of a history, or events of the alarms, may be missing, and why.
+-- From when to when records of a history, or events of the alarms, are missing or may be, why, and how many where that is known.
 CREATE TABLE gap (
   server int NOT NULL REFERENCES server,
   path text NOT NULL,
@@ -99,6 +101,7 @@ CREATE TABLE gap (
   until timestamptz NOT NULL,
   why text NOT NULL,
   noticed timestamptz NOT NULL DEFAULT now(),
+  lost bigint,
   PRIMARY KEY (server, path, run, since, why)
 );
 

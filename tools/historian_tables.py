@@ -11,7 +11,7 @@ from typing import Optional
 from xml.sax.saxutils import quoteattr
 
 from follow import events, state_of
-from link import Refused, kind, needed, val
+from link import Refused, children, kind, needed, val
 
 try:
     import psycopg
@@ -54,44 +54,87 @@ def cell(value):
     return (text, None) if kind(value) in ("int", "real") and text not in ("NaN", "INF", "-INF") else (None, text)
 
 
+def moment(record):
+    return instant(needed(record, "timestamp").get("val"))
+
+
+class Page:
+    """What a query gave: the records, and in numbers, where the server knows them, how many records the history dropped, and which its
+    first one is, where there is one; the first that the history ever had is 0."""
+
+    def __init__(self, answer):
+        told = children(answer)
+        self.data = list(needed(answer, "data"))
+        self.gone, self.first = (None if text is None else int(text) for text in (val(told, "gone"), val(told, "first")))
+
+
 @dataclass(eq=False)
 class History:
-    """What is held of a history. Its stored records end at a place: the moment `at`, of which `k` records are stored."""
+    """What is held of a history. Its stored records end at a place: the moment `at`, of which `k` records are stored, and the number
+    `next` of the record that comes after them, where it is known."""
     path: str
     query: str
     id: int
     at: Optional[datetime.datetime]
     k: int
     careful: Optional[datetime.datetime]     # up to this moment records may be stored already
+    next: Optional[int]
+    is_sure: bool = False                    # since the server was joined, the last stored record was seen to be there
 
     def page(self):
-        """How many records are asked for: those of the place come again, and are among them."""
-        return self.k + max(PAGE, min(self.k, LARGEST))
+        """How many records are asked for: those that are known come again, and are among them."""
+        return PAGE + self.again() if self.next is not None else self.k + max(PAGE, min(self.k, LARGEST))
+
+    def again(self):
+        """How many known records are asked for by number: the last one, until it was seen to be there."""
+        return 0 if self.is_sure else 1
 
     def asked(self):
-        start = f'<abstime name="start" val="{self.at.isoformat()}"/>' if self.at else ""
-        return f'<uri is="obix:Invoke" val={quoteattr(self.query)}><obj name="in"><int name="limit" val="{self.page()}"/>{start}</obj></uri>'
+        """A server that numbers no records leaves `from` out of account."""
+        number = 0 if self.next is None else self.next - self.again()
+        start = f'<abstime name="start" val="{self.at.isoformat()}"/>' if self.at and self.next is None else ""
+        return (f'<uri is="obix:Invoke" val={quoteattr(self.query)}><obj name="in"><int name="limit" val="{self.page()}"/>'
+                f'<int name="from" val="{number}"/>{start}</obj></uri>')
 
-    def new(self, data, run):
-        """The rows of the records that a query gave, without those that are known, and the place that they lead to."""
-        rows, at, k, same = [], self.at, self.k, 0
+    def new(self, page, run):
+        """The rows of the records of a page, without those that are known, and the place that they lead to."""
+        rows, at, k, same, data = [], self.at, self.k, 0, page.data
+        if self.next is not None:
+            same, data = self.k, data[1:] if page.first == self.next - 1 else data
         for record in data:
-            then = instant(needed(record, "timestamp").get("val"))
+            then = moment(record)
             same = same + 1 if then == at else 1
             if then != at or same > k:
                 at, k = then, same
                 rows.append((self.id, run, at, k - 1, *cell(needed(record, "value"))))
         return rows, at, k
 
-    def gap(self, data, shown):
-        """From when to when records may be missing before those that a query gave, and why, by what the history showed in that moment;
-        else None. Records have no numbers: where the oldest that is kept is of the place's moment, nothing says whether one is missing."""
+    def following(self, page):
+        """The number of the record after those of a page, where it is known."""
+        if page.first is not None:
+            return page.first + len(page.data)
+        return self.next if self.next is None or page.gone is None else max(self.next, page.gone)
+
+    def gap(self, page, shown):
+        """From when to when records are missing, or may be, before those of a page, why, and how many where that is known, by what the
+        history showed in that moment; else None."""
+        return self.gap_by_moment(page, shown) if self.next is None else self.gap_by_number(page, shown)
+
+    def gap_by_number(self, page, shown):
+        if page.gone > self.next:
+            oldest = val(shown, "start")
+            return self.at, instant(oldest) if oldest else self.at, "rolled over", page.gone - self.next
+        is_there = self.is_sure or page.gone == self.next or page.first == self.next - 1 and moment(page.data[0]) == self.at
+        return None if is_there else (self.at, None, BACK, None)
+
+    def gap_by_moment(self, page, shown):
+        """Where the oldest record that is kept is of the place's moment, nothing says whether one is missing, unless none was dropped."""
         known = self.careful if self.careful and not self.k else self.at
         oldest, capacity = val(shown, "start"), val(shown, "capacity")
-        if known and oldest and capacity and val(shown, "count") == capacity and instant(oldest) >= known:
-            return known, instant(oldest), "rolled over" if instant(oldest) > known else "perhaps rolled over within one moment"
-        again = sum(instant(needed(record, "timestamp").get("val")) == self.at for record in data[:self.k])
-        return (self.at, None, BACK) if again < self.k else None
+        if page.gone != 0 and known and oldest and capacity and val(shown, "count") == capacity and instant(oldest) >= known:
+            return known, instant(oldest), "rolled over" if instant(oldest) > known else "perhaps rolled over within one moment", None
+        again = sum(moment(record) == self.at for record in page.data[:self.k])
+        return (self.at, None, BACK, None) if again < self.k else None
 
 
 class Tables:
@@ -106,6 +149,9 @@ class Tables:
             self.execute("SELECT pg_advisory_xact_lock(%s, 0)", (LOCK,))
             if self.one("SELECT to_regclass('gap')")[0] is None:
                 self.execute(TABLES.read_text())
+            for table, column in (("place", "next"), ("gap", "lost")):             # tables of before have none
+                if not self.one("SELECT count(*) FROM pg_attribute WHERE attrelid = %s::regclass AND attname = %s", (table, column))[0]:
+                    self.execute(f"ALTER TABLE {table} ADD COLUMN {column} bigint")
             self.execute("INSERT INTO server (url, name) VALUES (%s, %s) ON CONFLICT DO NOTHING", (self.url, self.url))
         self.server, = self.one("SELECT id FROM server WHERE url = %s", (self.url,))
         if not self.one("SELECT pg_try_advisory_lock(%s, %s)", (LOCK, self.server))[0]:
@@ -152,20 +198,20 @@ class Tables:
                   "high, writable) = (EXCLUDED.name, EXCLUDED.kind, EXCLUDED.unit, EXCLUDED.low, EXCLUDED.high, EXCLUDED.writable)",
                   [(self.server, *it) for it in points if it not in known])
 
-    def gap(self, path, since, until, why):
-        """Notes that something may be missing; True where that is news."""
-        return self.execute("INSERT INTO gap VALUES (%s, %s, %s, %s, %s, %s) ON CONFLICT DO NOTHING",
-                            (self.server, path, self.run, since, until, why)).rowcount == 1
+    def gap(self, path, since, until, why, lost):
+        """Notes that something is missing, or may be; True where that is news."""
+        return self.execute("INSERT INTO gap (server, path, run, since, until, why, lost) VALUES (%s, %s, %s, %s, %s, %s, %s) "
+                            "ON CONFLICT DO NOTHING", (self.server, path, self.run, since, until, why, lost)).rowcount == 1
 
     def history(self, path, source):
         """The id of a history, its place in this run, and the last (at, k) that it was stored up to in any run; None where there is none."""
         id, = self.one("INSERT INTO history (server, path, source) VALUES (%s, %s, %s) ON CONFLICT (server, path) "
                        "DO UPDATE SET source = EXCLUDED.source RETURNING id", (self.server, path, source))
-        return (id, self.one("SELECT at, k, careful FROM place WHERE history = %s AND run = %s", (id, self.run)),
+        return (id, self.one("SELECT at, k, careful, next FROM place WHERE history = %s AND run = %s", (id, self.run)),
                 self.one("SELECT at, k FROM place WHERE history = %s AND k > 0 ORDER BY at DESC LIMIT 1", (id,)))
 
     def new_place(self, id, at, k):
-        return self.one("INSERT INTO place VALUES (%s, %s, %s, %s) RETURNING at, k, careful", (id, self.run, at, k))
+        return self.one("INSERT INTO place VALUES (%s, %s, %s, %s) RETURNING at, k, careful, next", (id, self.run, at, k))
 
     def hold(self, histories):
         """Locks the places of histories, and looks that they are as they are held: the advisory lock ends where a connection does."""
@@ -180,13 +226,13 @@ class Tables:
                         "AND run = %s AND at = %s AND k = %s)", (it.id, self.run, it.id, self.run, it.at, it.k - 1))[0]
 
     def records(self, new, careful, places):
-        """Stores `new` records, those that may be there already, and the places (history, at, k, careful) that they lead to. How many
-        weren't there."""
+        """Stores `new` records, those that may be there already, and the places (history, at, k, careful, next) that they lead to. How
+        many weren't there."""
         with self.base.cursor().copy("COPY record FROM STDIN") as copy:
             for row in new:
                 copy.write_row(row)
         stored = len(new) + self.many("INSERT INTO record VALUES (%s, %s, %s, %s, %s, %s) ON CONFLICT DO NOTHING", careful)
-        self.many("UPDATE place SET (at, k, careful) = (%s, %s, %s) WHERE history = %s AND run = %s", [(*it[1:], it[0], self.run) for it in places])
+        self.many("UPDATE place SET (at, k, careful, next) = (%s, %s, %s, %s) WHERE history = %s AND run = %s", [(*it[1:], it[0], self.run) for it in places])
         return stored
 
     def waiting(self):

@@ -1,21 +1,16 @@
 -- What the calls of a mirror make and find.
-use Rattle.std.proofs.Common.{◌≡◌, ℕ, Bool, true, false, cond, List, [], map, length, refl, sym, ap, ◌∙◌, Bor}
-use Rattle.std.proofs.lemmas.List.{length-map}
-use Rattle.std.specs.Prelude.{Option, Some, None, codes, slice_get, option_map, option_and_then, string_bytes, String, is_some}
+use Rattle.std.proofs.Common.{◌≡◌, Bool, true, false, cond, List, [], map, refl, sym, ap, ◌∙◌, Bor}
+use Rattle.std.specs.Prelude.{Option, Some, None, codes, option_map, option_and_then, is_some}
 use Rattle.std.specs.List.{list_all}
 use Rattle.std.specs.Str.{bytes_eq}
-use Rattle.std.specs.declared.alloc.Global.{Global}
-use Rattle.std.specs.Map.{lookup}
 use Rattle.ob_object.specs.declared.kind.Kind.TheVariants as kind
 use Rattle.ob_object.specs.Object.{Object, children}
 use Rattle.ob_object.specs.WellFormed.{named}
 use Rattle.ob_watching.specs.Operations.{Add, PollChanges, PollRefresh}
 use Rattle.ob_watching.specs.Replay.{changed_by, added_by, replay_heard}
-use Rattle.ob_watching.specs.WatchOuts.{Text, Held, Heard, is_of_kind, items_of, entries_of, heard_entries, entry_read}
+use Rattle.ob_watching.specs.WatchOuts.{Held, Heard, is_of_kind, items_of, entries_of, heard_entries, entry_read}
 use Rattle.ob_client.specs.Entries.{text_of, each_once, if_once, entries_once}
-use Rattle.ob_client.specs.Mirrors.{Mirrored, Asks, found, refreshed, added, changed}
-use Rattle.ob_client.specs.Tables.{Entries, values, StandUnderOwn}
-use Rattle.ob_client.proofs.TableLemmas.{mirrored, found_values, values_at}
+use Rattle.ob_client.specs.Mirrors.{Mirrored, Asks, refreshed, added, changed}
 
 -- ---- the entries of a reply
 
@@ -72,17 +67,3 @@ added_is reply m os e = ap (λ (o : Option (List Object)). after (Add []) (heard
 
 pub changed_is : (reply : Object) (m : Mirrored) (os : List Object) → entries_of reply ≡ Some os → changed reply m ≡ record { held = changed_by bytes_eq (map (entry_read true) os) m.held; stale = m.stale }
 changed_is reply m os e = ap (λ (o : Option (List Object)). after PollChanges (heard_entries true o) m.stale m.held) e
-
--- ---- what is found
-
-held_is : {A : Type 0} (f : List Held → A) (es : Entries) (m : Mirrored) {stale : Bool} → mirrored es stale ≡ m → f (values es) ≡ f m.held
-held_is f es m view = ap (λ (n : Mirrored). f n.held) view
-
-pub get_is : (es : Entries) (m : Mirrored) (t : Text) (o : Option Held) {stale : Bool} → mirrored es stale ≡ m → StandUnderOwn es → o ≡ lookup (λ s. bytes_eq t (string_bytes s)) es → found t m.held ≡ o
-get_is es m t o view own e = sym (held_is (found t) es m view) ∙ found_values t es own ∙ sym e
-
-pub at_is : (es : Entries) (m : Mirrored) (place : ℕ) (o : Option (String Global × Held)) {stale : Bool} → mirrored es stale ≡ m → o ≡ slice_get es place → slice_get m.held place ≡ option_map (λ (e : String Global × Held). e.1) o
-at_is es m place o view e = sym (held_is (λ hs. slice_get hs place) es m view) ∙ values_at es place ∙ ap (option_map (λ (e : String Global × Held). e.1)) (sym e)
-
-pub length_is : (es : Entries) (m : Mirrored) {stale : Bool} → mirrored es stale ≡ m → length es ≡ length m.held
-length_is es m view = sym (length-map es (λ (e : String Global × Held). e.1)) ∙ held_is (λ hs. length hs) es m view

@@ -1,9 +1,11 @@
 -- Hrefs that stand once.
-use Rattle.std.proofs.Common.{◌≡◌, ℕ, zero, suc, ◌+◌, ◌<◌, ◌≤◌, Bool, true, false, not, ◌&&◌, ◌||◌, List, [], ◌∷◌, ◌++◌, map, length, drop, get_or, refl, sym, ap, ◌∙◌, arith, drop-cons, add-one, Bor}
-use Rattle.std.specs.Prelude.{if◌then◌else◌}
-use Rattle.std.specs.List.{list_any, list_all}
+use Rattle.std.proofs.Common.{◌≡◌, ℕ, zero, suc, ◌+◌, ◌<◌, ◌≤◌, Bool, true, false, cond, not, ◌&&◌, ◌||◌, List, [], ◌∷◌, ◌++◌, map, length, drop, take, get_or, refl, sym, ap, subst, ◌∙◌, arith, drop-cons, add-one, Bor}
+use Rattle.std.specs.BTreeSet.{BTreeSet, Updates, contains_by}
+use Rattle.std.specs.Cmp.Lexicographic.{slice_cmp}
+use Rattle.std.specs.List.{list_all}
+use Rattle.std.specs.Ordering.{nat_cmp}
 use Rattle.std.specs.Str.{bytes_eq}
-use Rattle.std.proofs.lemmas.List.{map-append}
+use Rattle.std.proofs.lemmas.Map.Text.{is_eq-slice_cmp}
 use Rattle.ob_object.specs.Object.{Object}
 use Rattle.ob_watching.specs.Tables.{is_among}
 use Rattle.ob_watching.specs.WatchOuts.{Text}
@@ -72,12 +74,27 @@ right_once false b h = h
 
 -- ---- the loop over the entries
 
-abbrev pub texts_in : List (Bor (List ℕ)) → List Text
-texts_in ks = map (λ k. k.now) ks
+abbrev pub Seen : Type 0
+Seen = BTreeSet (Bor (List ℕ))
 
-pub among_texts : (ks : List (Bor (List ℕ))) (t : Text) → is_among bytes_eq (texts_in ks) t ≡ list_any (λ k. bytes_eq t k.now) ks
-among_texts [] t = refl
-among_texts (k ∷ ks) t = ap (λ b. bytes_eq t k.now || b) (among_texts ks t)
+-- the set has exactly these texts
+abbrev pub HasTexts : Seen → List Text → Type 0
+HasTexts set seen = (t : Text) → contains_by (λ k. slice_cmp nat_cmp t k.now) set ≡ is_among bytes_eq seen t
+
+or_true : (b m : Bool) → cond b true m ≡ (m || b)
+or_true true true = refl
+or_true true false = refl
+or_true false true = refl
+or_true false false = refl
+
+-- an insert adds its text
+pub has_more : (old new : Seen) (key : Bor (List ℕ)) (seen : List Text) → Updates (λ x y. slice_cmp nat_cmp x.now y.now) old new key true → HasTexts old seen → HasTexts new (seen ++ key.now ∷ [])
+has_more old new key seen up has t =
+    up.0 (record { ref_ptr = (0, 0); now = t })
+    ∙ ap (λ b. cond b true (contains_by (λ k. slice_cmp nat_cmp t k.now) old)) (is_eq-slice_cmp key.now t)
+    ∙ or_true (bytes_eq key.now t) (contains_by (λ k. slice_cmp nat_cmp t k.now) old)
+    ∙ ap (λ b. b || bytes_eq key.now t) (has t)
+    ∙ sym (among_more seen key.now t)
 
 -- one entry more is looked at
 once_step : (es : List Object) (i : ℕ) (e : Object) (seen : List Text) (t : Text) → i < length es → e ≡ get_or es i e → t ≡ text_of e → stand_once seen (map text_of (drop i es)) ≡ (not (is_among bytes_eq seen t) && stand_once (seen ++ t ∷ []) (map text_of (drop (i + 1) es)))
@@ -86,19 +103,32 @@ once_step es i e seen t lt at is =
     ∙ ap (λ (u : Text). not (is_among bytes_eq seen u) && stand_once (seen ++ u ∷ []) (map text_of (drop (i + 1) es))) (sym is)
 
 -- where its href stands before
-pub once_stops : (es : List Object) (i : ℕ) (e : Object) (ks : List (Bor (List ℕ))) (v : Bor (List ℕ)) → i < length es → e ≡ get_or es i e → v.now ≡ text_of e
-    → list_any (λ k. bytes_eq v.now k.now) ks ≡ true → stand_once (texts_in ks) (map text_of (drop i es)) ≡ false
-once_stops es i e ks v lt at is there =
-    once_step es i e (texts_in ks) v.now lt at is ∙ ap (λ b. not b && stand_once (texts_in ks ++ v.now ∷ []) (map text_of (drop (i + 1) es))) (among_texts ks v.now ∙ there)
+pub once_stops : (es : List Object) (i : ℕ) (e : Object) (seen : List Text) (t : Text) → i < length es → e ≡ get_or es i e → t ≡ text_of e
+    → is_among bytes_eq seen t ≡ true → stand_once seen (map text_of (drop i es)) ≡ false
+once_stops es i e seen t lt at is there =
+    once_step es i e seen t lt at is ∙ ap (λ b. not b && stand_once (seen ++ t ∷ []) (map text_of (drop (i + 1) es))) there
+
+texts_more : (es : List Object) (i : ℕ) (e : Object) (t : Text) → i < length es → e ≡ get_or es i e → t ≡ text_of e → map text_of (take (i + 1) es) ≡ map text_of (take i es) ++ t ∷ []
+texts_more es i e t lt at is =
+    ap (λ n. map text_of (take n es)) (add-one i) ∙ go es i lt at
+  where
+    go : (xs : List Object) (n : ℕ) → n < length xs → e ≡ get_or xs n e → map text_of (take (suc n) xs) ≡ map text_of (take n xs) ++ t ∷ []
+    go [] n lt at = absurd (omega (arith, lt))
+    go (x ∷ xs) zero lt at = ap (λ (u : Text). u ∷ []) (sym (is ∙ ap text_of at))
+    go (x ∷ xs) (suc n) lt at = ap (λ (ts : List Text). text_of x ∷ ts) (go xs n (omega (arith, lt)) at)
 
 -- and where it doesn't
-pub once_goes_on : (es : List Object) (i : ℕ) (e : Object) (ks js : List (Bor (List ℕ))) (v : Bor (List ℕ)) → i < length es → e ≡ get_or es i e → v.now ≡ text_of e
-    → list_any (λ k. bytes_eq v.now k.now) ks ≡ false → js ≡ ks ++ v ∷ [] → stand_once (texts_in ks) (map text_of (drop i es)) ≡ stand_once (texts_in js) (map text_of (drop (i + 1) es))
-once_goes_on es i e ks js v lt at is there more =
-    let keys : texts_in js ≡ texts_in ks ++ v.now ∷ [] = ap texts_in more ∙ map-append (λ k. k.now) ks (v ∷ []) in
-    once_step es i e (texts_in ks) v.now lt at is
-    ∙ ap (λ b. not b && stand_once (texts_in ks ++ v.now ∷ []) (map text_of (drop (i + 1) es))) (among_texts ks v.now ∙ there)
-    ∙ sym (ap (λ (us : List Text). stand_once us (map text_of (drop (i + 1) es))) keys)
+pub once_goes_on : (es : List Object) (i : ℕ) (e : Object) (t : Text) → i < length es → e ≡ get_or es i e → t ≡ text_of e
+    → is_among bytes_eq (map text_of (take i es)) t ≡ false → stand_once (map text_of (take i es)) (map text_of (drop i es)) ≡ stand_once (map text_of (take (i + 1) es)) (map text_of (drop (i + 1) es))
+once_goes_on es i e t lt at is there =
+    once_step es i e (map text_of (take i es)) t lt at is
+    ∙ ap (λ b. not b && stand_once (map text_of (take i es) ++ t ∷ []) (map text_of (drop (i + 1) es))) there
+    ∙ sym (ap (λ (us : List Text). stand_once us (map text_of (drop (i + 1) es))) (texts_more es i e t lt at is))
+
+pub has_next : (old new : Seen) (key : Bor (List ℕ)) (es : List Object) (i : ℕ) (e : Object) → i < length es → e ≡ get_or es i e → key.now ≡ text_of e
+    → Updates (λ x y. slice_cmp nat_cmp x.now y.now) old new key true → HasTexts old (map text_of (take i es)) → HasTexts new (map text_of (take (i + 1) es))
+has_next old new key es i e lt at is up has =
+    subst (HasTexts new) (sym (texts_more es i e key.now lt at is)) (has_more old new key (map text_of (take i es)) up has)
 
 -- what an insert tells
 pub there_of : (a new : Bool) → new ≡ not a → new ≡ false → a ≡ true
@@ -108,9 +138,6 @@ there_of false new h e = absurd (let f : true ≡ false = sym h ∙ e in cc)
 pub new_of : (a new : Bool) → new ≡ not a → new ≡ true → a ≡ false
 new_of true new h e = absurd (let f : false ≡ true = sym h ∙ e in cc)
 new_of false new h e = refl
-
-pub keys_of_new : (ks js : List (Bor (List ℕ))) (v : Bor (List ℕ)) (b : Bool) → js ≡ (if b then ks else ks ++ v ∷ []) → b ≡ false → js ≡ ks ++ v ∷ []
-keys_of_new ks js v b e new = e ∙ ap (λ c. if c then ks else ks ++ v ∷ []) new
 
 abbrev no_objects : List Object
 no_objects = []

@@ -4,9 +4,9 @@ ghost use Rattle.std.specs.List.{list_all};
 ghost use Rattle.ob_watching.specs.WatchOuts.{is_of_kind, items_of, entries_of};
 ghost use Rattle.ob_client.specs.Entries.{is_feed, is_err, text_of, each_once, entries_once};
 
-use indexmap::IndexSet;
 use ob_object::{Kind, Obj};
 use std::alloc::{AllocError, Global};
+use std::collections::BTreeSet;
 
 /// Whether an object is of a kind.
 pub(crate) fn is_of_kind(kind: Kind, object: &Obj) -> bool
@@ -74,9 +74,9 @@ fn entries_of(reply: &Obj) -> Option<&[Obj]>
 fn each_once(alloc: Global, entries: &[Obj]) -> Result<bool, AllocError>
     ensures { IfOk result (λ once. once ≡ each_once (map text_of entries.now)) }
 {
-    let mut seen: IndexSet<&str> = IndexSet::new(alloc);
+    let mut seen = BTreeSet::new(alloc);
     for entry in entries {
-        let (_, is_new) = seen.insert_full(text_of(entry))?;
+        let is_new = seen.insert(text_of(entry))?;
         if !is_new {
             return Ok(false);
         }

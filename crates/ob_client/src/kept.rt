@@ -9,7 +9,7 @@ ghost use Rattle.ob_client.specs.Shown.{dropped_object, dropped_child, shown};
 ghost use Rattle.ob_client.specs.Feeds.{news_in, feed_of};
 ghost use Rattle.ob_client.specs.Mirrors.{most_missed, counts, has_count, follows, events_in, missed_in};
 
-use crate::entries::{is_feed, is_of_kind};
+use crate::entries::{is_feed, is_of_kind, text_of};
 use ob_object::{Facets, Head, Kind, Obj, Slot};
 use ob_values::{Text, Value};
 use std::alloc::{AllocError, Global};
@@ -275,6 +275,13 @@ impl Kept {
             return true;
         }
         has_count(dropped_in(&self.entry), entry.child("dropped"))
+    }
+
+    /// The text as it was asked.
+    pub(crate) fn text(&self) -> &str
+        ensures { result.now ≡ self.now.text }
+    {
+        text_of(&self.entry)
     }
 
     /// The object as it is shown.

@@ -10,9 +10,9 @@ mod entries;
 mod kept;
 mod mirror;
 mod mirror_fault;
-mod new_entry;
 mod news;
 mod session;
+mod table;
 
 pub use call_fault::CallFault;
 pub use mirror::Mirror;

@@ -1,15 +1,12 @@
 //! What a client holds that replays the replies on a watch.
-ghost use Rattle.std.specs.Prelude.{◌≡◌, not, length, option_map, option_copied, slice_get, string_bytes};
-ghost use Rattle.std.specs.Str.{bytes_eq};
-ghost use Rattle.ob_watching.specs.Tables.{is_among};
+ghost use Rattle.std.specs.Prelude.{◌≡◌, length, option_map, option_copied, slice_get};
 ghost use Rattle.ob_client.specs.Mirrors.{empty, lost, removed, found, events_under, missed_under, Adds, Changes, Refreshes};
 ghost use Rattle.ob_client.specs.Shown.{shown};
 
 use crate::entries::entries_once;
-use crate::kept::Kept;
 use crate::mirror_fault::MirrorFault;
-use crate::news::{Table, all_follow, all_whole, next_but_errs, put_all, whole_but_errs};
-use indexmap::IndexMap;
+use crate::news::{all_follow, all_whole, next_but_errs, whole_but_errs};
+use crate::table::Table;
 use ob_object::Obj;
 use ob_values::Text;
 use std::alloc::Global;
@@ -29,22 +26,12 @@ pub struct Mirror {
 impl Model for Mirror {
     ghost use Rattle.ob_object.specs.contracts.object.Obj.{the_row};
     ghost use Rattle.ob_client.specs.Mirrors.{Mirrored, mirrored_code};
-    ghost use Rattle.ob_client.specs.Tables.{StandUnderOwn, table_of};
 
     ghost Value = { Mirrored };
 
     ghost coded = { mirrored_code the_row.coded };
 
-    ghost view = { λ m. record { held = table_of m.table; stale = m.is_stale } };
-
-    ghost invariant = { λ m. StandUnderOwn m.table.entries };
-}
-
-// Whether a text is one of these.
-fn is_among(texts: &[Text], text: &str) -> bool
-    ensures { result ≡ is_among bytes_eq texts.now text.now }
-{
-    texts.iter().any(|other| other.as_str() == text)
+    ghost view = { λ m. record { held = m.table; stale = m.is_stale } };
 }
 
 impl Mirror {
@@ -54,7 +41,7 @@ impl Mirror {
     {
         Mirror {
             alloc,
-            table: IndexMap::new(alloc),
+            table: Table::new(alloc),
             is_stale: false,
         }
     }
@@ -68,8 +55,8 @@ impl Mirror {
             return Err(MirrorFault::Shape);
         };
         let news = all_whole(self.alloc, entries)?;
-        let mut table: Table = IndexMap::new(self.alloc);
-        put_all(&mut table, news)?;
+        let mut table = Table::new(self.alloc);
+        table.put_all(self.alloc, news)?;
         self.table = table;
         self.is_stale = false;
         Ok(())
@@ -87,7 +74,7 @@ impl Mirror {
             return Err(MirrorFault::Stale);
         }
         let news = whole_but_errs(self.alloc, entries)?;
-        put_all(&mut self.table, news)?;
+        self.table.put_all(self.alloc, news)?;
         Ok(())
     }
 
@@ -107,7 +94,7 @@ impl Mirror {
             return Err(MirrorFault::Stale);
         }
         let news = next_but_errs(self.alloc, &self.table, entries)?;
-        put_all(&mut self.table, news)?;
+        self.table.put_all(self.alloc, news)?;
         Ok(())
     }
 
@@ -115,11 +102,7 @@ impl Mirror {
     pub fn on_remove(&mut self, texts: &[Text])
         ensures { self.new ≡ removed texts.now self.old }
     {
-        self.table.retain(
-            |text: &String, _kept: &mut Kept| -> bool
-                ensures { (result ≡ not (is_among bytes_eq texts.entry.now (string_bytes text.now))) × (_kept.new ≡ _kept.old) }
-            { !is_among(texts, text.as_str()) },
-        );
+        self.table.remove(texts);
     }
 
     /// A reply was lost.
@@ -147,8 +130,8 @@ impl Mirror {
     pub fn at(&self, place: u64) -> Option<&Obj>
         ensures { option_copied result ≡ option_map shown (slice_get self.now.held place) }
     {
-        match self.table.get_index(place as usize) {
-            Some((_, kept)) => Some(kept.shown()),
+        match self.table.at(place as usize) {
+            Some(kept) => Some(kept.shown()),
             None => None,
         }
     }

@@ -122,5 +122,5 @@ given_rest n p time object xs times objects k g none =
       objects = g.objects ∙ ap (map object) (sym e);
     }
 
-pub same_answer : (is of : Text) (ts us : List Instant) (os ps : List Object) → ts ≡ us → os ≡ ps → query_out is of ts os ≡ query_out is of us ps
-same_answer is of ts us os ps e h = ap (λ (t : List Instant). query_out is of t os) e ∙ ap (λ (o : List Object). query_out is of us o) h
+pub same_answer : (is of : Text) (numbers : List Object) (ts us : List Instant) (os ps : List Object) → ts ≡ us → os ≡ ps → query_out is of numbers ts os ≡ query_out is of numbers us ps
+same_answer is of numbers ts us os ps e h = ap (λ (t : List Instant). query_out is of numbers t os) e ∙ ap (λ (o : List Object). query_out is of numbers us o) h

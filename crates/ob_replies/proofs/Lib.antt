@@ -4,5 +4,6 @@ pub mod New
 pub mod Ends
 pub mod Asked
 pub mod Nameless
-pub mod Passing
+pub mod Fitting
+pub mod Told
 pub mod Numbered

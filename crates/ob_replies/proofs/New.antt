@@ -7,7 +7,10 @@ use Rattle.ob_values.proofs.Bools.{and_first, and_second, not_true}
 use Rattle.ob_object.specs.Object.{Object}
 use Rattle.ob_object.specs.WellFormed.{is_taken, NamesDiffer}
 use Rattle.ob_object.proofs.Names.{NamesDiffer-more}
+use Rattle.ob_times.specs.Times.{Instant}
 use Rattle.ob_replies.specs.Names.{are_new}
+use Rattle.ob_replies.specs.Queries.{counts_of, data_of}
+use Rattle.ob_replies.specs.declared.query.Numbers.{Numbers}
 
 differ_behind : (before os : List Object) → NamesDiffer before → are_new before os ≡ true → NamesDiffer (before ++ os)
 differ_behind before [] differ e = subst NamesDiffer (sym (append-nil before)) differ
@@ -40,3 +43,12 @@ one_new o = rw (not_among o.head.name) refl
     not_among : (n : Option (List ℕ)) → is_taken n [] ≡ false
     not_among None = refl
     not_among (Some n) = refl
+
+-- the names of what an answer to a query has differ
+pub counts_new : (count : ℕ) (numbers : Option Numbers) (times : List Instant) (of : List ℕ) (os : List Object) → are_new [] (counts_of count numbers times ++ data_of of os ∷ []) ≡ true
+counts_new count None times of os = refl
+counts_new count (Some n) times of os = with_first n.gone n.first
+  where
+    with_first : (gone : ℕ) (first : Option ℕ) → are_new [] (counts_of count (Some (record { gone = gone; first = first })) times ++ data_of of os ∷ []) ≡ true
+    with_first gone None = refl
+    with_first gone (Some k) = refl

@@ -157,5 +157,5 @@ alarms_enough f b ts objects given k all g e same is =
     given_enough f.limit (λ x. is_within f (raised_at x.1)) (λ x. raised_at x.1) (λ x. alarm_object b x.0) (numbered 1 b.alarms) ts objects k g (ltb-false (length objects) f.limit few)
 
 -- the answer, once all that are asked for were given
-pub alarms_answer : (f : Filter) (b : Board) (seen ts : List Instant) (os : List Object) → IsGivenOf f b (numbered 1 b.alarms) ts os → seen ≡ ts → query_out (codes "obix:AlarmQueryOut") (codes "obix:Alarm") seen os ≡ alarms_out b f
-alarms_answer f b seen ts os all same = same_answer (codes "obix:AlarmQueryOut") (codes "obix:Alarm") seen _ os _ (same ∙ all.times) all.objects
+pub alarms_answer : (f : Filter) (b : Board) (seen ts : List Instant) (os : List Object) → IsGivenOf f b (numbered 1 b.alarms) ts os → seen ≡ ts → query_out (codes "obix:AlarmQueryOut") (codes "obix:Alarm") [] seen os ≡ alarms_out b f
+alarms_answer f b seen ts os all same = same_answer (codes "obix:AlarmQueryOut") (codes "obix:Alarm") [] seen _ os _ (same ∙ all.times) all.objects

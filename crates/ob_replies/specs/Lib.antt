@@ -3,4 +3,5 @@ pub mod Names
 pub mod Abouts
 pub mod WatchChildren
 pub mod Histories
+pub mod Numbers
 pub mod Queries

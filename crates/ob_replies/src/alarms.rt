@@ -46,8 +46,8 @@ pub fn alarms_out(alloc: Global, filter: &Filter, alarms: &Alarms) -> Result<Obj
     }
     query_out(
         alloc,
-        Contract::AlarmQueryOut,
-        Contract::Alarm,
+        (Contract::AlarmQueryOut, Contract::Alarm),
+        None,
         &times,
         objects,
     )

@@ -6,8 +6,9 @@ use Rattle.url.specs.Parts.{Parts}
 use Rattle.ob_values.specs.declared.verb.Verb.{Verb}
 use Rattle.ob_values.specs.declared.verb.Verb.TheVariants.{Get, Put, Post}
 use Rattle.ob_object.specs.Object.{Object}
-use Rattle.ob_history.specs.declared.records.Filter.{Filter}
+use Rattle.ob_history.specs.declared.records.Query.{Query}
 use Rattle.ob_history.specs.Filters.{filter_of}
+use Rattle.ob_history.specs.Queries.{query_of}
 use Rattle.ob_alarms.specs.Changes.{State as Board, alarm_of}
 use Rattle.ob_site_rules.specs.declared.request.Request.{Request}
 use Rattle.ob_site_rules.specs.Build.{Text, Path}
@@ -15,15 +16,15 @@ use Rattle.ob_site_rules.specs.declared.fault.Fault.{Fault}
 use Rattle.ob_site_rules.specs.declared.fault.Fault.TheVariants.{OtherShape, NotInBatch}
 use Rattle.ob_site_rules.specs.Faults.{err}
 use Rattle.ob_site_rules.specs.declared.plan.Plan.{Plan}
-use Rattle.ob_site_rules.specs.State.{State, board, with_board}
+use Rattle.ob_site_rules.specs.State.{Log, State, at, board, with_board}
 use Rattle.ob_site_rules.specs.Shown.{shown}
 use Rattle.ob_site_rules.specs.Computed.{ack_out}
-use Rattle.ob_site_rules.specs.Entries.{alarm_object, records_out, alarms_out}
+use Rattle.ob_site_rules.specs.Entries.{alarm_object, alarms_out}
 use Rattle.ob_site_rules.specs.Places.{object_at, place_at}
 use Rattle.ob_site_rules.specs.declared.resource.Resource.{Resource}
 use Rattle.ob_site_rules.specs.declared.resource.Resource.TheVariants.{About, AckOf, AlarmAt, AlarmFeed, AlarmQuery, Batch, FeedOf, Make, Node, QueryOf, Service, WritePointOf}
 use Rattle.ob_site_rules.specs.Writes.{target_fault, value_fault, given_by, showing, unless, written, put, write_by}
-use Rattle.ob_site_rules.specs.Posts.{ack_fault, acked, acknowledge, user_in, call, child_of_obj, or_nil, records_of, write_point}
+use Rattle.ob_site_rules.specs.Posts.{ack_fault, acked, acknowledge, user_in, call, child_of_obj, log_out, or_nil, query, write_point}
 use Rattle.ob_site_rules.specs.Actions.{act_at, act_item, is_left_out, item_at, item_on, put_at}
 use Rattle.ob_site_rules.proofs.AlarmNames.{by_alarm}
 
@@ -35,9 +36,13 @@ unless_plain : (f : Option Fault) (s : State) (done : State × Object) → IsPla
 unless_plain None s done h = h
 unless_plain (Some f) s done h = refl
 
-query_plain : (s : State) (out : Filter → Object) (f : Option Filter) → ((g : Filter) → is_none (out g).head.name ≡ true) → is_none (unwrap_or (option_map out f) (err OtherShape)).head.name ≡ true
-query_plain s out None h = refl
-query_plain s out (Some g) h = h g
+query_plain : {Asked : Type 0} (out : Asked → Object) (asked : Option Asked) → ((a : Asked) → is_none (out a).head.name ≡ true) → is_none (query out asked).head.name ≡ true
+query_plain out None h = refl
+query_plain out (Some a) h = h a
+
+log_plain : (log : Option Log) (q : Query) → is_none (log_out log q).head.name ≡ true
+log_plain None q = refl
+log_plain (Some l) q = refl
 
 write_by_plain : (plan : Plan) (s : State) (now : ℕ) (p : Path) (o : Object) (fault : Option Fault) (body : Object) → IsPlain (write_by plan s now p o fault body)
 write_by_plain plan s now p o fault body =
@@ -63,8 +68,8 @@ put_plain plan s now p o (Some body) = write_by_plain plan s now p o (target_fau
 call_plain : (plan : Plan) (s : State) (now : ℕ) (place : Resource) (input : Option Object) → IsPlain (call plan s now place input)
 call_plain plan s now (AckOf n) input = ack_plain plan s now n (or_nil input)
 call_plain plan s now (WritePointOf p) input = write_point_plain plan s now p (child_of_obj (codes "value") (or_nil input))
-call_plain plan s now (QueryOf h) input = query_plain s (λ f. records_out f (records_of s h)) (filter_of input) (λ g. refl)
-call_plain plan s now AlarmQuery input = query_plain s (alarms_out (board plan s)) (filter_of input) (λ g. refl)
+call_plain plan s now (QueryOf h) input = query_plain (log_out (at h s.logs)) (query_of input) (log_plain (at h s.logs))
+call_plain plan s now AlarmQuery input = query_plain (alarms_out (board plan s)) (filter_of input) (λ g. refl)
 call_plain plan s now About input = refl
 call_plain plan s now Batch input = refl
 call_plain plan s now Service input = refl

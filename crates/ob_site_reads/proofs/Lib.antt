@@ -8,7 +8,6 @@ pub mod Slashes
 pub mod Spans
 pub mod Stands
 pub mod Alone
-pub mod Asked
 pub mod Fronts
 pub mod Numbers
 pub mod Eventful

@@ -1,12 +1,12 @@
-//! Filters read from objects.
+//! Filters and queries read from objects.
 use crate::words::time_at;
-use ob_history::{Filter, read_filter};
+use ob_history::{Filter, Query, read_filter, read_query};
 use ob_object::{Kind, Obj, Slot};
 use ob_rows::{Row, Table, push_number, word_at};
 use ob_values::{Text, Value};
 use std::alloc::{AllocError, Global};
 
-/// Rows that tell an object, and what it is as a filter.
+/// Rows that tell an object, and what it is as a filter, or as a query.
 #[derive(Drop)]
 pub(crate) struct Filters;
 
@@ -65,17 +65,46 @@ fn read(alloc: Global, row: &str) -> Option<Filter> {
     read_filter(Some(&object(alloc, row)))
 }
 
+// The query of a row's object, or of none.
+fn read_as_query(alloc: Global, row: &str) -> Option<Query> {
+    if row == "none" {
+        return read_query(None);
+    }
+    read_query(Some(&object(alloc, row)))
+}
+
+fn tell_filter(filter: &Filter, told: &mut String) -> Result<(), AllocError> {
+    let start = if filter.start.is_some() { "start" } else { "-" };
+    let end = if filter.end.is_some() { "end" } else { "-" };
+    push_number(told, filter.limit)?;
+    told.push_str(" ")?;
+    told.push_str(start)?;
+    told.push_str(" ")?;
+    told.push_str(end)
+}
+
+fn query_row(alloc: Global, row: &str, told: &mut String) -> Result<(), AllocError> {
+    let Some(query) = read_as_query(alloc, row) else {
+        return told.push_str("no query");
+    };
+    tell_filter(&query.filter, told)?;
+    match query.from {
+        Some(from) => {
+            told.push_str(" from ")?;
+            push_number(told, from)
+        }
+        None => Ok(()),
+    }
+}
+
 impl Table for Filters {
     fn answer(&mut self, alloc: Global, asked: Row, told: &mut String) -> Result<(), AllocError> {
-        let Some(filter) = read(alloc, asked.text) else {
-            return told.push_str("no filter");
-        };
-        let start = if filter.start.is_some() { "start" } else { "-" };
-        let end = if filter.end.is_some() { "end" } else { "-" };
-        push_number(told, filter.limit)?;
-        told.push_str(" ")?;
-        told.push_str(start)?;
-        told.push_str(" ")?;
-        told.push_str(end)
+        if let Some(row) = asked.text.strip_prefix("query ") {
+            return query_row(alloc, row, told);
+        }
+        match read(alloc, asked.text) {
+            Some(filter) => tell_filter(&filter, told),
+            None => told.push_str("no filter"),
+        }
     }
 }

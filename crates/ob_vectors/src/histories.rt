@@ -1,6 +1,6 @@
 //! Histories: what a log keeps, and what a query asks of it.
 use crate::words::time_at;
-use ob_history::{Filter, Log, Record};
+use ob_history::{Filter, Log, Query, Record, Stretch};
 use ob_object::{Kind, Slot};
 use ob_rows::{Row, Table, number_at, push_number, word_at};
 use ob_values::{Abstime, Value};
@@ -72,6 +72,29 @@ fn query_row(log: &Log, row: &str, told: &mut String) -> Result<(), AllocError> 
     tell_numbers(back, told)
 }
 
+// What is asked from a number on: the number of the first record given, then the numbers of the records' ints.
+fn from_row(log: &Log, row: &str, told: &mut String) -> Result<(), AllocError> {
+    let (Some(from), Some(limit)) = (number_at(row, 1), number_at(row, 2)) else {
+        return told.push_str("no number, or no limit");
+    };
+    let filter = Filter {
+        limit,
+        start: time_at(row, 3),
+        end: time_at(row, 4),
+    };
+    let query = Query {
+        filter,
+        from: Some(from),
+    };
+    let Stretch { first, front, back } = log.query(&query);
+    if !front.is_empty() || !back.is_empty() {
+        push_number(told, first)?;
+        told.push_str(":")?;
+    }
+    tell_numbers(front, told)?;
+    tell_numbers(back, told)
+}
+
 fn since_row(log: &Log, row: &str, told: &mut String) -> Result<(), AllocError> {
     let Some(event) = number_at(row, 1) else {
         return told.push_str("no event");
@@ -109,6 +132,7 @@ impl Table for Histories {
             }
             "put" => put_row(log, asked.text, told),
             "query" => query_row(log, asked.text, told),
+            "from" => from_row(log, asked.text, told),
             "since" => since_row(log, asked.text, told),
             "cut" => cut_row(log, asked.text, told),
             "settle" => {

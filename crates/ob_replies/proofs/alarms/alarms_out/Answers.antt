@@ -26,8 +26,8 @@ loop-place-preserved c =
           alarm_passed c.args.filter.now c.args.alarms.now c.loop-place.times.items c.if-is_asked.times.items c.loop-place.objects.items c.deref-in-loop-place.result.now c.if-is_asked.objects.items c.loop-place.place c.raised_at-time.result c.is_asked.result c.loop-place.invariant (omega arith) c.raised_at-time.ensures c.is_asked.ensures c.deref-in-loop-place.ensures.value w.if-is_asked.false t o
     ]
 
-pub query_out-requires : goal.query_out-requires
-query_out-requires c = alarms_plain c.args.filter.now c.args.alarms.now _ c.loop-place.times.items c.loop-place.objects.items c.loop-place.invariant
+pub query_out-requires-clause-nameless : goal.query_out-requires-clause-nameless
+query_out-requires-clause-nameless c = alarms_plain c.args.filter.now c.args.alarms.now _ c.loop-place.times.items c.loop-place.objects.items c.loop-place.invariant
 
 pub returns : goal.returns
 returns c =

@@ -1,6 +1,6 @@
 use Rattle.std.proofs.Common.{◌-◌, ◌++◌, List, ap, ◌∙◌}
 use Rattle.ob_object.specs.Object.{Object}
-use Rattle.ob_site_reads.proofs.Asked.{records_fit, front_fit, back_fit}
+use Rattle.ob_replies.proofs.Fitting.{records_fit, front_fit, back_fit}
 use Rattle.ob_site_reads.proofs.Eventful.{some_records, in_two}
 use Rattle.ob_site_reads.proofs.events.log_events.Goals as goal
 

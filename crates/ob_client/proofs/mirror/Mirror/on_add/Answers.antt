@@ -4,7 +4,7 @@ use Rattle.ob_watching.specs.Replay.{added_by}
 use Rattle.ob_watching.specs.WatchOuts.{Held, entry_read}
 use Rattle.ob_client.specs.Entries.{entries_once}
 use Rattle.ob_client.specs.Mirrors.{Mirrored}
-use Rattle.ob_client.specs.Tables.{values, put_all}
+use Rattle.ob_client.specs.Tables.{put_all}
 use Rattle.ob_client.proofs.ChangeLemmas.{added_all}
 use Rattle.ob_client.proofs.MirrorLemmas.{known_entries, known_once, added_is}
 use Rattle.ob_client.proofs.mirror.Mirror.on_add.Goals as goal
@@ -14,7 +14,7 @@ returns c =
     let os = c.in-Some.entries.now in
     let e = known_entries c.in_ok-entries.field-0 c.in-Some.entries (entries_once c.args.reply) c.in-Some.is c.in_ok-entries.ensures in
     let k = known_once c.args.reply os e in
-    let old = values c.self.inside.table.entries in
+    let old = c.self.inside.table in
     let stale = c.self.inside.is_stale in
     let held = c.in_ok-put_all.ensures.ok ∙ ap (λ (ns : List Held). put_all ns old) c.in_ok-news.ensures ∙ added_all os old in (
       os,
