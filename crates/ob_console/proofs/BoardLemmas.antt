@@ -1,51 +1,101 @@
--- A map of alarms, as the lines of a board.
-use Rattle.std.proofs.Common.{◌≡◌, ℕ, zero, suc, ◌+◌, ◌<◌, Bool, true, false, cond, List, [], ◌∷◌, map, length, drop, get_or, refl, sym, ap, ◌∙◌, drop-cons, add-one, Bor}
-use Rattle.std.specs.Prelude.{Option, Some, None, string_bytes, string_eq, String, slice_get, option_map, option_and_then, is_none, if◌then◌else◌, option_copied}
+-- Alarms under their hrefs, all the lines of a board.
+use Rattle.std.proofs.Common.{◌≡◌, ℕ, zero, suc, ◌+◌, ◌<◌, Bool, true, false, cond, List, [], ◌∷◌, ◌++◌, map, length, drop, take, get_or, refl, sym, ap, ◌∙◌, drop-cons, add-one, Bor, arith}
+use Rattle.std.specs.Prelude.{Option, Some, None, slice_get, slice_set, option_map, option_and_then, is_none}
+use Rattle.std.specs.BTreeMap.{BTreeMap, Updates, get_by}
+use Rattle.std.specs.Cmp.Lexicographic.{slice_cmp}
+use Rattle.std.specs.Ordering.{nat_cmp}
 use Rattle.std.specs.Str.{bytes_eq}
-use Rattle.std.specs.declared.alloc.Global.{Global}
-use Rattle.std.specs.Map.{lookup}
-use Rattle.std.proofs.lemmas.Slice.Eq.{bytes_eq-Decides}
-use Rattle.indexmap.specs.IndexMap.{insert_entry}
+use Rattle.std.proofs.lemmas.Map.Text.{btree_map_updates_str}
+use Rattle.ob_client.specs.Tables.{place_of}
+use Rattle.ob_client.proofs.TableLemmas.{place_last, put_last, put_there, texts_last, texts_there, within}
 use Rattle.ob_object.specs.Object.{Object}
 use Rattle.ob_watching.specs.WatchOuts.{Text}
 use Rattle.ob_console.specs.Boards.{Line, put_line, line_at, alarm_of, board_from, first_other, Puts}
-use Rattle.ob_console.specs.InHand.{shown, line}
+use Rattle.ob_console.specs.InHand.{shown, line, lines_in, IsIndex}
 use Rattle.ob_console.specs.declared.alarm.Named.{Named}
 use Rattle.ob_console.specs.declared.alarm.Alarm.{Alarm}
 
-abbrev pub Entries : Type 0
-Entries = List (String Global × Alarm)
+abbrev pub Alarms : Type 0
+Alarms = List (Text × Alarm)
 
-abbrev pub under : String Global × Alarm → Line
-under e = record { text = string_bytes e.0; value = shown e.1 }
+abbrev pub under : Text × Alarm → Line
+under a = record { text = a.0; value = shown a.1 }
 
--- an insert puts
-pub under_insert : (es : Entries) (k : String Global) (a : Alarm) → map under (insert_entry string_eq es k a) ≡ put_line (under (k, a)) (map under es)
-under_insert [] k a = refl
-under_insert (e ∷ es) k a = go (bytes_eq (string_bytes k) (string_bytes e.0)) refl (under_insert es k a)
+abbrev pub href_of : Line → Text
+href_of l = l.text
+
+-- ---- an alarm is put
+
+pub lines_set : (all : Alarms) (n : ℕ) (a : Text × Alarm) → lines_in (slice_set all n a) ≡ slice_set (lines_in all) n (under a)
+lines_set [] n a = refl
+lines_set (b ∷ all) zero a = refl
+lines_set (b ∷ all) (suc n) a = ap (λ (ls : List Line). under b ∷ ls) (lines_set all n a)
+
+pub lines_push : (all : Alarms) (a : Text × Alarm) → lines_in (all ++ a ∷ []) ≡ lines_in all ++ under a ∷ []
+lines_push [] a = refl
+lines_push (b ∷ all) a = ap (λ (ls : List Line). under b ∷ ls) (lines_push all a)
+
+pub lines_counted : (all : Alarms) → length (lines_in all) ≡ length all
+lines_counted [] = refl
+lines_counted (a ∷ all) = ap suc (lines_counted all)
+
+hrefs_counted : (all : Alarms) → length (map href_of (lines_in all)) ≡ length all
+hrefs_counted [] = refl
+hrefs_counted (a ∷ all) = ap suc (hrefs_counted all)
+
+pub place_within : (all : Alarms) (n : ℕ) (t : Text) → place_of t (map href_of (lines_in all)) ≡ Some n → n < length all
+place_within all n t e = let w = within t (map href_of (lines_in all)) n e in omega (arith, w, hrefs_counted all)
+
+pub put_over : (all : Alarms) (n : ℕ) (a : Text × Alarm) → place_of a.0 (map href_of (lines_in all)) ≡ Some n → lines_in (slice_set all n a) ≡ put_line (under a) (lines_in all)
+put_over all n a e = lines_set all n a ∙ sym (put_there href_of (under a) (λ (l : Line). bytes_eq a.0 l.text) (λ l. refl) (lines_in all) n e)
+
+pub index_over : (index : BTreeMap (Bor (List ℕ)) ℕ) (all : Alarms) (n : ℕ) (a : Text × Alarm) → IsIndex index (lines_in all) → place_of a.0 (map href_of (lines_in all)) ≡ Some n → IsIndex index (lines_in (slice_set all n a))
+index_over index all n a is e t =
+    is t ∙ ap (place_of t) (sym (ap (map href_of) (lines_set all n a) ∙ texts_there href_of (under a) (lines_in all) n e))
+
+pub put_behind : (all : Alarms) (a : Text × Alarm) → place_of a.0 (map href_of (lines_in all)) ≡ None → lines_in (all ++ a ∷ []) ≡ put_line (under a) (lines_in all)
+put_behind all a e = lines_push all a ∙ sym (put_last href_of (under a) (λ (l : Line). bytes_eq a.0 l.text) (λ l. refl) (lines_in all) e)
+
+pub index_behind : (old new : BTreeMap (Bor (List ℕ)) ℕ) (key : Bor (List ℕ)) (all : Alarms) (a : Text × Alarm) → IsIndex old (lines_in all) → place_of a.0 (map href_of (lines_in all)) ≡ None → key.now ≡ a.0
+    → Updates (λ x y. slice_cmp nat_cmp x.now y.now) old new key (Some (length all)) → IsIndex new (lines_in (all ++ a ∷ []))
+index_behind old new key all a is none same up t =
+    btree_map_updates_str key.now old new (Some (length all)) up t
+    ∙ ap (λ (u : Text). cond (bytes_eq u t) (Some (length all)) (get_by (λ k. slice_cmp nat_cmp t k.now) old)) same
+    ∙ ap (λ (n : ℕ). cond (bytes_eq a.0 t) (Some n) (get_by (λ k. slice_cmp nat_cmp t k.now) old)) (sym (hrefs_counted all))
+    ∙ ap (cond (bytes_eq a.0 t) (Some (length (map href_of (lines_in all))))) (is t)
+    ∙ sym (place_last a.0 (map href_of (lines_in all)) none t)
+    ∙ ap (place_of t) (sym (ap (map href_of) (lines_push all a) ∙ texts_last href_of (under a) (lines_in all)))
+
+-- ---- an alarm is looked for
+
+pub line_more : (all : Alarms) (n : ℕ) (a : Text × Alarm) (t : Text) → n < length all → a ≡ get_or all n a → line_at t (lines_in (take n all)) ≡ None → bytes_eq t a.0 ≡ false → line_at t (lines_in (take (n + 1) all)) ≡ None
+line_more all n a t lt at before off = ap (λ k. line_at t (lines_in (take k all))) (add-one n) ∙ go all n lt at before
   where
-    go : (b : Bool) → bytes_eq (string_bytes k) (string_bytes e.0) ≡ b → map under (insert_entry string_eq es k a) ≡ put_line (under (k, a)) (map under es)
-        → map under (if b then (e.0, a) ∷ es else e ∷ insert_entry string_eq es k a) ≡ cond b (under (k, a) ∷ map under es) (under e ∷ put_line (under (k, a)) (map under es))
-    go true same rest =
-        let one : string_bytes k ≡ string_bytes e.0 = (bytes_eq-Decides (string_bytes k) (string_bytes e.0)).0 same in
-        ap (λ (t : Text). let l : Line = record { text = t; value = shown a } in l ∷ map under es) (sym one)
-    go false same rest = ap (λ (us : List Line). under e ∷ us) rest
+    go : (xs : Alarms) (n : ℕ) → n < length xs → a ≡ get_or xs n a → line_at t (lines_in (take n xs)) ≡ None → line_at t (lines_in (take (suc n) xs)) ≡ None
+    go [] n lt at before = refl
+    go (x ∷ xs) zero lt at before = ap (λ b. cond b (Some (under x)) None) (ap (λ (y : Text × Alarm). bytes_eq t y.0) (sym at) ∙ off)
+    go (x ∷ xs) (suc n) lt at before = on (bytes_eq t x.0) before (go xs n (omega (arith, lt)) at)
+      where
+        on : (b : Bool) → cond b (Some (under x)) (line_at t (lines_in (take n xs))) ≡ None → (line_at t (lines_in (take n xs)) ≡ None → line_at t (lines_in (take (suc n) xs)) ≡ None)
+            → cond b (Some (under x)) (line_at t (lines_in (take (suc n) xs))) ≡ None
+        on true h rest = absurd (let f : Some (under x) ≡ None = h in cc)
+        on false h rest = rest h
 
--- what is found is what is looked up
-pub found_alarm : (t : Text) (es : Entries) (o : Option Alarm) → lookup (λ k. bytes_eq t (string_bytes k)) es ≡ o → option_map shown o ≡ option_map (λ (l : Line). l.value) (line_at t (map under es))
-found_alarm t [] o h = ap (option_map shown) (sym h)
-found_alarm t (e ∷ es) o h = go (bytes_eq t (string_bytes e.0)) h (found_alarm t es o)
+pub line_here : (all : Alarms) (n : ℕ) (a : Text × Alarm) (t : Text) → n < length all → a ≡ get_or all n a → line_at t (lines_in (take n all)) ≡ None → bytes_eq t a.0 ≡ true → line_at t (lines_in all) ≡ Some (under a)
+line_here [] n a t lt at before on = absurd (omega (arith, lt))
+line_here (x ∷ xs) zero a t lt at before on =
+    ap (λ b. cond b (Some (under x)) (line_at t (lines_in xs))) (ap (λ (y : Text × Alarm). bytes_eq t y.0) (sym at) ∙ on) ∙ ap (λ (y : Text × Alarm). Some (under y)) (sym at)
+line_here (x ∷ xs) (suc n) a t lt at before on = go (bytes_eq t x.0) before (λ h. line_here xs n a t (omega (arith, lt)) at h on)
   where
-    go : (b : Bool) → cond b (Some e.1) (lookup (λ k. bytes_eq t (string_bytes k)) es) ≡ o
-        → (lookup (λ k. bytes_eq t (string_bytes k)) es ≡ o → option_map shown o ≡ option_map (λ (l : Line). l.value) (line_at t (map under es)))
-        → option_map shown o ≡ option_map (λ (l : Line). l.value) (cond b (Some (under e)) (line_at t (map under es)))
-    go true h rest = ap (option_map shown) (sym h)
+    go : (b : Bool) → cond b (Some (under x)) (line_at t (lines_in (take n xs))) ≡ None → (line_at t (lines_in (take n xs)) ≡ None → line_at t (lines_in xs) ≡ Some (under a))
+        → cond b (Some (under x)) (line_at t (lines_in xs)) ≡ Some (under a)
+    go true h rest = absurd (let f : Some (under x) ≡ None = h in cc)
     go false h rest = rest h
 
-pub placed_alarm : (es : Entries) (n : ℕ) (o : Option (String Global × Alarm)) → slice_get es n ≡ o → option_map (λ (e : String Global × Alarm). shown e.1) o ≡ option_map (λ (l : Line). l.value) (slice_get (map under es) n)
-placed_alarm [] n o h = ap (option_map (λ (e : String Global × Alarm). shown e.1)) (sym h)
-placed_alarm (e ∷ es) zero o h = ap (option_map (λ (e : String Global × Alarm). shown e.1)) (sym h)
-placed_alarm (e ∷ es) (suc n) o h = placed_alarm es n o h
+pub placed_alarm : (all : Alarms) (n : ℕ) (o : Option (Text × Alarm)) → slice_get all n ≡ o → option_map (λ (a : Text × Alarm). shown a.1) o ≡ option_map (λ (l : Line). l.value) (slice_get (lines_in all) n)
+placed_alarm [] n o h = ap (option_map (λ (a : Text × Alarm). shown a.1)) (sym h)
+placed_alarm (a ∷ all) zero o h = ap (option_map (λ (a : Text × Alarm). shown a.1)) (sym h)
+placed_alarm (a ∷ all) (suc n) o h = placed_alarm all n o h
 
 -- an event that is an alarm goes on, one that is none ends the board
 pub board_more : (es : List Object) (i : ℕ) (e : Object) (old new : List Line) → i < length es → e ≡ get_or es i e → Puts old new e true → board_from old (drop i es) ≡ board_from new (drop (i + 1) es)
@@ -66,16 +116,6 @@ pub first_here : (es : List Object) (i : ℕ) (e : Object) → i < length es →
 first_here es i e lt at none =
     ap (first_other i) (drop-cons es i e lt ∙ ap (λ (n : ℕ). get_or es i e ∷ drop n es) (sym (add-one i)) ∙ ap (λ (x : Object). x ∷ drop (i + 1) es) (sym at))
     ∙ first_cons i e (drop (i + 1) es) true (ap is_none none)
-
--- what a look-up lends
-pub alarm_got : (r : Option (Bor Alarm)) (t : Text) (es : Entries) → option_copied r ≡ lookup (λ k. bytes_eq t (string_bytes k)) es → option_map (λ (a : Bor Alarm). shown a.now) r ≡ option_map (λ (l : Line). l.value) (line_at t (map under es))
-alarm_got None t es h = found_alarm t es None (sym h)
-alarm_got (Some b) t es h = found_alarm t es (Some b.now) (sym h)
-
--- an event puts its alarm
-pub event_put : (es fs : Entries) (k : String Global) (a : Alarm) (t : Text) → fs ≡ insert_entry string_eq es k a → string_bytes k ≡ t → map under fs ≡ put_line (record { text = t; value = shown a }) (map under es)
-event_put es fs k a t e same =
-    ap (map under) e ∙ under_insert es k a ∙ ap (λ (u : Text). put_line (let l : Line = record { text = u; value = shown a } in l) (map under es)) same
 
 pub known_alarm : (o : Option Named) (n : Named) (e : Option Line) → o ≡ Some n → option_map line o ≡ e → e ≡ Some (line n)
 known_alarm o n e is told = sym told ∙ ap (option_map line) is

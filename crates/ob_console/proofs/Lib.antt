@@ -1,3 +1,4 @@
 pub mod BoardLemmas
 pub mod LineLemmas
 pub mod AckLemmas
+pub mod ScreenLemmas
