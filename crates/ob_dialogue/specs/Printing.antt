@@ -9,13 +9,14 @@ use Rattle.ob_client.specs.Mirrors.{events_under}
 use Rattle.ob_client.specs.Shown.{shown}
 use Rattle.ob_console.specs.Boards.{Line, board_of}
 use Rattle.ob_console.specs.Lines.{board_text}
+use Rattle.ob_console.specs.Screen.{screened}
 use Rattle.ob_dialogue.specs.Plans.{Topic}
 use Rattle.ob_dialogue.specs.declared.plan.Topic.TheVariants as topics
 use Rattle.ob_dialogue.specs.Stages.{Watching}
 
--- an object on a line
+-- an object on a line: its canonical text, each character that a terminal obeys as a reference, which reads the same
 abbrev pub line : Object → List ℕ
-line o = canonical_text None o ++ codes "\n"
+line o = screened (canonical_text None o) ++ codes "\n"
 
 abbrev pub lines_of : List Object → List ℕ
 lines_of [] = []

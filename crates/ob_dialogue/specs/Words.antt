@@ -1,5 +1,6 @@
 -- How it is told why the other side ended a dialogue.
 use Rattle.std.specs.Prelude.{ℕ, List, ◌++◌, codes, decimal, None}
+use Rattle.ob_console.specs.Screen.{screened}
 use Rattle.ob_encoding.specs.Canonical.{canonical_text}
 use Rattle.ob_http.specs.declared.fault.FrameFault.{FrameFault}
 use Rattle.ob_http.specs.declared.fault.FrameFault.TheVariants as frames
@@ -20,5 +21,5 @@ peer_words (peer.Status n) = codes "status " ++ decimal n
 peer_words (peer.Document refused) = codes "document " ++ refusal_words refused
 peer_words (peer.Frame fault) = codes "frame " ++ frame_word fault
 peer_words peer.Ended = codes "ended"
-peer_words (peer.Err o) = codes "err " ++ canonical_text None o
+peer_words (peer.Err o) = codes "err " ++ screened (canonical_text None o)
 peer_words peer.Shape = codes "shape"

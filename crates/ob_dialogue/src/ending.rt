@@ -3,6 +3,7 @@ ghost use Rattle.std.specs.Prelude.{◌≡◌, ◌++◌, IfOk, codes, decimal};
 ghost use Rattle.ob_xml.specs.Words.{refusal_words};
 ghost use Rattle.ob_dialogue.specs.Words.{frame_word, peer_words};
 
+use ob_console::put_screened;
 use ob_encoding::write;
 use ob_http::FrameFault;
 use ob_object::Obj;
@@ -82,8 +83,8 @@ fn document_words(alloc: Global, refused: Refused) -> Result<Vec<u8>, AllocError
 }
 
 impl Peer {
-    /// The words that tell it: `status 404`, `document Markup at 0`, `frame Head`, `ended`, `err` and its canonical text,
-    /// or `shape`. An error only for want of memory.
+    /// The words that tell it: `status 404`, `document Markup at 0`, `frame Head`, `ended`, `err` and its canonical text as
+    /// `put_screened` puts it, or `shape`. An error only for want of memory.
     pub fn words(&self, alloc: Global) -> Result<Vec<u8>, AllocError>
         ensures { IfOk result (λ bytes. bytes.items ≡ peer_words self.now) }
     {
@@ -97,8 +98,10 @@ impl Peer {
             }
             Peer::Ended => text_of(alloc, "ended"),
             Peer::Err(err) => {
+                let mut text = Vec::new(alloc);
+                write(None, err, &mut text)?;
                 let mut bytes = text_of(alloc, "err ")?;
-                write(None, err, &mut bytes)?;
+                put_screened(text.as_slice(), &mut bytes)?;
                 Ok(bytes)
             }
             Peer::Shape => text_of(alloc, "shape"),

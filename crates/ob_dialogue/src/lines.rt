@@ -8,7 +8,7 @@ ghost use Rattle.ob_dialogue.specs.InHand as in_hand;
 use crate::plan::Topic;
 use crate::stage::Watching;
 use ob_client::Mirror;
-use ob_console::{Board, BoardFault, print_board};
+use ob_console::{Board, BoardFault, print_board, put_screened};
 use ob_encoding::write;
 use ob_object::{Kind, Obj};
 use std::alloc::{AllocError, Global};
@@ -33,10 +33,12 @@ pub(crate) fn poll_heading(alloc: Global, poll: u64) -> Result<Vec<u8>, AllocErr
 }
 
 // An object on a line.
-fn line(out: &mut Vec<u8>, object: &Obj) -> Result<(), AllocError>
+fn line(alloc: Global, out: &mut Vec<u8>, object: &Obj) -> Result<(), AllocError>
     ensures { OnOk result (out.new.items ≡ out.old.items ++ line object.now) }
 {
-    write(None, object, out)?;
+    let mut text = Vec::new(alloc);
+    write(None, object, &mut text)?;
+    put_screened(text.as_slice(), out)?;
     out.push(b'\n')?;
     Ok(())
 }
@@ -48,7 +50,7 @@ fn items(alloc: Global, mirror: &Mirror) -> Result<Vec<u8>, AllocError>
     let mut out = Vec::new(alloc);
     for place in 0..mirror.len() {
         match mirror.at(place) {
-            Some(object) => line(&mut out, object)?,
+            Some(object) => line(alloc, &mut out, object)?,
             None => unreachable!(),
         }
     }
@@ -72,7 +74,7 @@ fn err_lines(alloc: Global, entries: &[Obj]) -> Result<Vec<u8>, AllocError>
     let mut out = Vec::new(alloc);
     for entry in entries {
         if entry.kind().same(Kind::Err) {
-            line(&mut out, entry)?;
+            line(alloc, &mut out, entry)?;
         }
     }
     Ok(out)
