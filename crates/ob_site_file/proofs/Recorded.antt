@@ -58,19 +58,19 @@ late_is None r = refl
 late_is (Some b) r = refl
 
 pub falls_late : (before : Option Instant) (r : Record) (b : Bool) → b ≡ falls before r → b ≡ true → (is_late before r ≡ true) × (cond (falls before r) site_rule.Order site_rule.Late ≡ site_rule.Order)
-falls_late before r b is yes =
-    let first : falls before r ≡ true = sym is ∙ yes in
+falls_late before r b is on =
+    let first : falls before r ≡ true = sym is ∙ on in
     (late_is before r ∙ ap (λ c. c || is_earlier (moment_instant last_moment) r.time) first, ap (λ c. cond c site_rule.Order site_rule.Late) first)
 
 pub after_late : (before : Option Instant) (r : Record) (b l : Bool) → b ≡ falls before r → b ≡ false → l ≡ is_earlier (moment_instant last_moment) r.time → l ≡ true
     → (is_late before r ≡ true) × (cond (falls before r) site_rule.Order site_rule.Late ≡ site_rule.Late)
-after_late before r b l is no then yes =
-    let first : falls before r ≡ false = sym is ∙ no in
-    (late_is before r ∙ (ap (λ c. c || is_earlier (moment_instant last_moment) r.time) first ∙ (sym then ∙ yes)), ap (λ c. cond c site_rule.Order site_rule.Late) first)
+after_late before r b l is off then on =
+    let first : falls before r ≡ false = sym is ∙ off in
+    (late_is before r ∙ (ap (λ c. c || is_earlier (moment_instant last_moment) r.time) first ∙ (sym then ∙ on)), ap (λ c. cond c site_rule.Order site_rule.Late) first)
 
 pub not_late : (before : Option Instant) (r : Record) (b l : Bool) → b ≡ falls before r → b ≡ false → l ≡ is_earlier (moment_instant last_moment) r.time → l ≡ false → is_late before r ≡ false
-not_late before r b l is no then late =
-    late_is before r ∙ (ap (λ c. c || is_earlier (moment_instant last_moment) r.time) (sym is ∙ no) ∙ (sym then ∙ late))
+not_late before r b l is off then late =
+    late_is before r ∙ (ap (λ c. c || is_earlier (moment_instant last_moment) r.time) (sym is ∙ off) ∙ (sym then ∙ late))
 
 -- and what they say of an item
 pub next_ok : (before : Option Instant) (o : Object) (r : Record) (result : Result Instant SiteRule) → record_in o ≡ Some r

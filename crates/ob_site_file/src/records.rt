@@ -168,7 +168,7 @@ fn next_time(before: Option<Abstime>, item: &Obj) -> Result<Abstime, SiteRule>
     ensures err { IfErr result (λ rule. (is_bad_item before (record_in item.now) ≡ true) × (record_rule before item.now (record_in item.now) ≡ rule)) }
 {
     match record_parts(item) {
-        Ok((time, _value)) => in_order(before, time),
+        Ok(parts) => in_order(before, parts.0),
         Err(rule) => Err(rule),
     }
 }

@@ -172,10 +172,10 @@ pub(crate) fn bad_rule(
     let mut sources = BTreeSet::new(alloc);
     for item in items.objects {
         let broken = broken_by(&mut sources, nodes, item)?;
-        if let Some(rule) = broken {
-            return Ok(Some(Offence { part: number, rule }));
+        match broken {
+            Some(rule) => return Ok(Some(Offence { part: number, rule })),
+            None => number += item.parts(),
         }
-        number += item.parts();
     }
     Ok(None)
 }
