@@ -36,8 +36,8 @@ pub data Command : Type 0 where
   console : (url : Parts) → (subject : List ℕ) → (polls : ℕ) → (ack : Option (List ℕ)) → (user : List ℕ) → Command
   -- the seed, the clients and the requests
   storm : Storm → Command
-  -- the file that names the servers, how many rounds over them come first, and how many milliseconds a round waits for one
-  supervise : (config : List ℕ) → (rounds wait_ms : ℕ) → Command
+  -- the file that names the servers, and how many rounds over them come first
+  supervise : (config : List ℕ) → (rounds : ℕ) → Command
 
 -- ---- the values of an option, which is given at most once
 
@@ -144,15 +144,15 @@ check_with _ = None
 abbrev pub check_of : List Argument → Option Command
 check_of given = if has_only [] given then check_with (operands given) else None
 
-abbrev pub supervise_with : (operands : List (List ℕ)) → (rounds wait : Option ℕ) → Option Command
-supervise_with (config ∷ []) (Some rounds) (Some wait) = Some (supervise config rounds wait)
-supervise_with _ _ _ = None
+abbrev pub supervise_with : (operands : List (List ℕ)) → (rounds : Option ℕ) → Option Command
+supervise_with (config ∷ []) (Some rounds) = Some (supervise config rounds)
+supervise_with _ _ = None
 
--- `CONFIG [--rounds N] [--wait MS]`
+-- `CONFIG [--rounds N]`
 abbrev pub supervise_of : List Argument → Option Command
 supervise_of given =
-    if has_only (codes "--rounds" ∷ codes "--wait" ∷ []) given
-    then supervise_with (operands given) (number_or 0 1_000_000 1 (values (codes "--rounds") given)) (number_or 1 300_000 10_000 (values (codes "--wait") given))
+    if has_only (codes "--rounds" ∷ []) given
+    then supervise_with (operands given) (number_or 0 1_000_000 1 (values (codes "--rounds") given))
     else None
 
 abbrev http_only : Result Parts HrefFault → Option Parts

@@ -25,7 +25,7 @@ command_of (variants.Check file) = commands.check file.now
 command_of (variants.Watch client) = commands.watch client.url client.hrefs.items client.polls client.retries
 command_of (variants.Console client) = commands.console client.url client.subject client.polls client.ack client.user
 command_of (variants.Storm asked) = commands.storm (storm_values asked)
-command_of (variants.Super asked) = commands.supervise asked.config.now asked.rounds asked.wait_ms
+command_of (variants.Super asked) = commands.supervise asked.config.now asked.rounds
 
 -- what the words of a client's command come to, once its URL is read
 abbrev pub watch_from : WatchWords → Option commands.Command

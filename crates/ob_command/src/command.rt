@@ -79,7 +79,7 @@ fn storm_of(given: Arguments<'_>) -> Option<Command<'_>>
 /// - `watch URL HREF.. [--polls N] [--retry R]`
 /// - `console URL SUBJECT [--polls N] [--ack HREF] [--user NAME]`
 /// - `storm SEED CLIENTS REQUESTS`
-/// - `super CONFIG [--rounds N] [--wait MS]`
+/// - `super CONFIG [--rounds N]`
 ///
 /// An option stands anywhere behind the command, at most once, as `--x V` or `--x=V`; `--` ends the options. Numbers
 /// have 1 to 18 digits, and each word is text that XML can carry. URL is an http URL without a fragment, and SUBJECT names
