@@ -17,11 +17,11 @@ returns-in-Some-clause-err c = λ base lib same taken once.
     let root = c.args.root.now in
     let whole : map site_part c.as_slice-listed.result.now ≡ site_parts root =
     ap (map site_part) c.as_slice-listed.ensures.value ∙ c.in_ok-parts.ensures ∙ ap (λ (rs : List Roles). parts_of rs 0 false no_roles (node root.head root.inner none)) same in
-    record { library = lib; taken = taken; once = once; bad = ap bad_part (sym whole) ∙ sym (c.in_ok-part.ensures c.in_ok-nodes.ensures) ∙ c.in-Some.is }
+    record { library = lib; taken = taken; once = once; bad = ap bad_part (sym whole) ∙ sym (c.in_ok-offence.ensures c.in_ok-nodes.ensures) ∙ c.in-Some.is }
 
 pub returns-clause-ok : goal.returns-clause-ok
 returns-clause-ok c = λ same.
     let root = c.args.root.now in
     let whole : map site_part c.as_slice-listed.result.now ≡ site_parts root =
     ap (map site_part) c.as_slice-listed.ensures.value ∙ c.in_ok-parts.ensures ∙ ap (λ (rs : List Roles). parts_of rs 0 false no_roles (node root.head root.inner none)) same in
-    ap bad_part (sym whole) ∙ sym (c.in_ok-part.ensures c.in_ok-nodes.ensures) ∙ c.in-None.is
+    ap bad_part (sym whole) ∙ sym (c.in_ok-offence.ensures c.in_ok-nodes.ensures) ∙ c.in-None.is
