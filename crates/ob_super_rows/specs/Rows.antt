@@ -1,5 +1,5 @@
 -- Rows worked by computing: what is on the right was typed from the rules.
-use Rattle.std.specs.Prelude.{◌≡◌, true, codes, List, [], ◌∷◌, Option, Some, None}
+use Rattle.std.specs.Prelude.{◌≡◌, ℕ, true, codes, List, [], ◌∷◌, Option, Some, None}
 use Rattle.ob_io.specs.Dials.{Dial}
 use Rattle.ob_object.specs.declared.kind.Kind.TheVariants as kind
 use Rattle.ob_object.specs.declared.status.Status.TheVariants as status
@@ -7,6 +7,9 @@ use Rattle.ob_object.specs.Facets.{no_facets}
 use Rattle.ob_object.specs.Object.{Object, empty_head, in_row}
 use Rattle.ob_watching.specs.WatchOuts.{Text}
 use Rattle.ob_asking.specs.declared.place.Place.{Place}
+use Rattle.ob_parts.specs.declared.offence.Offence.{Offence}
+use Rattle.ob_super.specs.declared.config_rule.ConfigRule.{ConfigRule}
+use Rattle.ob_super.specs.declared.config_rule.ConfigRule.TheVariants as rule
 use Rattle.ob_super.specs.Upstreams.{lobby_at, offences, configured}
 use Rattle.ob_super.specs.Calls.{Lobby, Adding, Polling, next}
 use Rattle.ob_super.specs.Turns.{Reply, Down, Up, after}
@@ -16,23 +19,27 @@ use Rattle.ob_super_rows.specs.Worked.{holding, uri, str, hrefs, url, config, na
 
 -- ---- configs: the root has the number 0
 
+-- the part of a number breaks a rule
+abbrev pub breaks : ℕ → ConfigRule → Offence ConfigRule
+breaks part broken = record { part = part; rule = broken }
+
 -- a list without upstreams
 abbrev pub Empty : Type 0
-Empty = offences (config []) ≡ 0 ∷ []
+Empty = offences (config []) ≡ breaks 0 rule.Upstreams ∷ []
 
 -- an obj with nothing in it lacks its name, its url and its hrefs
 abbrev pub Bare : Type 0
-Bare = offences (config (holding kind.Obj None [] ∷ [])) ≡ 1 ∷ 1 ∷ 1 ∷ []
+Bare = offences (config (holding kind.Obj None [] ∷ [])) ≡ breaks 1 rule.Name ∷ breaks 1 rule.Url ∷ breaks 1 rule.Hrefs ∷ []
 
 -- hrefs 2, `/x` 3, `/x` again 4, a str in place of the url 5: rule by rule the url is told first, and 4 is the least
 abbrev pub Twice : Type 0
-Twice = offences (config (named_obj (codes "a") (hrefs (codes "/x" ∷ codes "/x" ∷ []) ∷ str (codes "url") (codes "http://h/") ∷ []) ∷ [])) ≡ 5 ∷ 4 ∷ []
+Twice = offences (config (named_obj (codes "a") (hrefs (codes "/x" ∷ codes "/x" ∷ []) ∷ str (codes "url") (codes "http://h/") ∷ []) ∷ [])) ≡ breaks 5 rule.Url ∷ breaks 4 rule.HrefTwice ∷ []
 
 -- a capital letter in the name, a str in place of the url, a list without hrefs; and an href of no byte
 abbrev pub Bounds : Type 0
 Bounds =
-    (offences (config (named_obj (codes "aB") (str (codes "url") [] ∷ hrefs [] ∷ []) ∷ [])) ≡ 1 ∷ 2 ∷ 3 ∷ [])
-    × (offences (config (named_obj (codes "a") (str (codes "url") [] ∷ hrefs ([] ∷ []) ∷ []) ∷ [])) ≡ 2 ∷ 4 ∷ [])
+    (offences (config (named_obj (codes "aB") (str (codes "url") [] ∷ hrefs [] ∷ []) ∷ [])) ≡ breaks 1 rule.Name ∷ breaks 2 rule.Url ∷ breaks 3 rule.Hrefs ∷ [])
+    × (offences (config (named_obj (codes "a") (str (codes "url") [] ∷ hrefs ([] ∷ []) ∷ []) ∷ [])) ≡ breaks 2 rule.Url ∷ breaks 4 rule.Href ∷ [])
 
 -- two upstreams in either order of their children, with a child that no rule names
 abbrev pub TwoConfigured : Type 0
