@@ -3,7 +3,7 @@
 //! No other crate stands on this one.
 #![tactic(auto)]
 
-ghost use Rattle.ob_site_rows.specs.Openings.{PlantOpens, RollingOpens, NoRoot, OnePathTwice, PathComputed, OtherOrigin, LaterContract, ContractTwice, FallingRecord, NoCapacity, FarSource, FullTogether, ContractsHaveNoRole, SecondSubject, LimitsTurned};
+ghost use Rattle.ob_site_rows.specs.Openings.{PlantOpens, RollingOpens, NoRoot, OnePathTwice, PathComputed, OtherOrigin, LaterContract, ContractTwice, FallingRecord, NoCapacity, FarSource, FullTogether, ContractsHaveNoRole, SecondSubject, LimitsTurned, FirstOfThree, NoRecord, SourceBeforeLimits};
 ghost use Rattle.ob_site_rows.specs.RestartRows.{AfterAReplay, AfterARestart, AlarmsStay};
 ghost use Rattle.ob_site_rows.specs.Rows.{Plain, Lapses, LobbyEnds, Inherits, Overrides, Batches, Puts, Queries, Records, Alarms, Makes, Polls, Adds, Abouts, Feeds, Refuses, Ops, LeftOut, Watchables, SetBack, AckMarks, Rolls, RollsAtTheEnd, Defaults, DefaultSetBack, EqualDefault, MarksRound, AckMarksRoot, CountMarks};
 
@@ -57,6 +57,9 @@ pub fn worked_openings()
     ensures contracts_have_no_role { ContractsHaveNoRole }
     ensures second_subject { SecondSubject }
     ensures limits_turned { LimitsTurned }
+    ensures first_of_three { FirstOfThree }
+    ensures no_record { NoRecord }
+    ensures source_before_limits { SourceBeforeLimits }
 {}
 
 /// What requests are answered on a plant before a restart and behind it, computed from the definitions.
