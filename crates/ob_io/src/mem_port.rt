@@ -1,13 +1,13 @@
 //! A port in memory.
-ghost use Rattle.std.specs.Prelude.{◌≡◌, [], true, Some, None, option_map, if◌then◌else◌};
+ghost use Rattle.std.specs.Prelude.{◌≡◌, [], true, false, Some, None, option_map, if◌then◌else◌};
 
-use crate::Failed;
 use crate::fresh::Fresh;
 use crate::kept::{Kept, Place};
 use crate::link::Link;
 use crate::mem_door::MemDoor;
 use crate::memory::Calls;
 use crate::port::Port;
+use crate::{Cause, Failed};
 use std::alloc::Global;
 use std::collections::VecDeque;
 
@@ -30,6 +30,9 @@ pub struct MemPort<L: Link> {
     listens: Kept<Place>,
     back: Kept<MemDoor<L>>,
     calls: Calls,
+    // the cause that a refused call tells
+    tells: Cause,
+    refusal: Cause,
 }
 
 impl<L: Link + Drop> MemPort<L> {
@@ -42,6 +45,7 @@ impl<L: Link + Drop> MemPort<L> {
         ensures listens { (result.listens.things.items ≡ []) × (result.listens.is_told ≡ true) }
         ensures back { (result.back.things.items ≡ []) × (result.back.is_told ≡ true) }
         ensures calls { AtFirst failing result.calls }
+        ensures untold { (result.tells ≡ Cause.Untold) × (result.refusal ≡ Cause.Untold) }
     {
         MemPort {
             alloc,
@@ -51,7 +55,18 @@ impl<L: Link + Drop> MemPort<L> {
             listens: Kept::new(alloc),
             back: Kept::new(alloc),
             calls: Calls::new(failing),
+            tells: Cause::Untold,
+            refusal: Cause::Untold,
         }
+    }
+
+    /// The port whose calls tell this cause where they fail.
+    pub fn telling(self, cause: Cause) -> MemPort<L>
+        ensures { result ≡ record self { tells = cause } }
+    {
+        let mut port = self;
+        port.tells = cause;
+        port
     }
 
     /// The doors that came back, where they are still told.
@@ -63,8 +78,16 @@ impl<L: Link + Drop> MemPort<L> {
     }
 }
 
+/// What is told once a door is back, of which nothing is told where it had failed.
+fn told_after(failed: bool, before: Cause) -> Cause
+    ensures whole { failed ≡ false → result ≡ before }
+    ensures untold { failed ≡ true → result ≡ Cause.Untold }
+{
+    if failed { Cause::Untold } else { before }
+}
+
 impl<L: Link + Drop + Send> Port for MemPort<L> {
-    ghost use Rattle.std.specs.Prelude.{◌==◌, ◌||◌, ◌∷◌, length, is_err, IfOk, MatchResult};
+    ghost use Rattle.std.specs.Prelude.{◌==◌, ◌||◌, ◌∷◌, length, is_err, IfOk, OnOk, IfErr, MatchResult};
     ghost use Rattle.ob_io.specs.Faults.{HasCause};
     ghost use Rattle.ob_io.specs.Told.{Gains};
     ghost use Rattle.ob_io.specs.Visits.{raised};
@@ -75,6 +98,8 @@ impl<L: Link + Drop + Send> Port for MemPort<L> {
     type D = MemDoor<L>;
 
     ghost faults = { λ s. s.calls.faults };
+
+    ghost refusal = { λ s. s.refusal };
 
     ghost opened = { λ s. s.opened };
 
@@ -97,7 +122,9 @@ impl<L: Link + Drop + Send> Port for MemPort<L> {
             ≡ doorways_of (λ d. d.calls.faults) (λ d. d.handed) (λ d. d.returned)
             (λ d. length d.waiting.items == 0) (λ d. visits_of L.left L.taken L.held L.read_faults L.write_faults d.back.is_told d.back.things.items)
             self.old.back.is_told self.old.back.things.items) }
+        ensures told { OnOk result (self.new.refusal ≡ self.old.refusal) }
         ensures cause { HasCause self.old.calls.faults self.new.calls.faults result }
+        ensures why { IfErr result (λ _. self.new.refusal ≡ self.old.tells) }
         ensures same { self.new.unopened.items ≡ self.old.unopened.items }
         ensures planned { is_err result ≡ next_fails self.old.calls }
         ensures counted { CountsCall self.old.calls self.new.calls }
@@ -105,9 +132,14 @@ impl<L: Link + Drop + Send> Port for MemPort<L> {
         let fails = self.calls.next();
         self.listens.note(host, port, fails);
         if fails {
+            self.refusal = self.tells;
             return Err(self.calls.fail());
         }
         Ok(())
+    }
+
+    fn last_cause(&self) -> Cause {
+        self.refusal
     }
 
     fn door(&mut self) -> Result<MemDoor<L>, Failed>
@@ -124,7 +156,9 @@ impl<L: Link + Drop + Send> Port for MemPort<L> {
             ≡ doorways_of (λ d. d.calls.faults) (λ d. d.handed) (λ d. d.returned)
             (λ d. length d.waiting.items == 0) (λ d. visits_of L.left L.taken L.held L.read_faults L.write_faults d.back.is_told d.back.things.items)
             self.old.back.is_told self.old.back.things.items) }
+        ensures told { IfOk result (λ _. self.new.refusal ≡ self.old.refusal) }
         ensures cause { HasCause self.old.calls.faults self.new.calls.faults result }
+        ensures why { IfErr result (λ _. self.new.refusal ≡ self.old.tells) }
         ensures next { MatchResult result
             (λ d. (waiting : _) × (self.old.unopened.items ≡ waiting ∷ self.new.unopened.items)
             × (d.waiting.items ≡ waiting.links.items) × AtFirst waiting.failing d.calls)
@@ -138,12 +172,15 @@ impl<L: Link + Drop + Send> Port for MemPort<L> {
             self.opened = self.opened.saturating_add(1);
             return Ok(MemDoor::new(self.alloc, waiting.links, waiting.failing));
         }
+        self.refusal = self.tells;
         Err(self.calls.fail())
     }
 
     fn back(&mut self, door: MemDoor<L>) {
         self.returned = self.returned.saturating_add(1);
-        self.calls.fail_if(door.has_failed());
+        let failed = door.has_failed();
+        self.calls.fail_if(failed);
+        self.refusal = told_after(failed, self.refusal);
         self.back.keep(door);
     }
 }

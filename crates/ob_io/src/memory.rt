@@ -1,14 +1,15 @@
 // Objects in memory. Each holds its content, counts its calls, and fails at the calls of a list of numbers and at no
 // other, the first call being 0.
-ghost use Rattle.std.specs.Prelude.{◌≡◌, ℕ, List, IfSome, ◌<◌, ◌≤◌, ◌+◌, ◌-◌, ◌^◌, min, [], true, false, length, drop, take, is_err, IfOk, Some, option_map, string_bytes, option_copied};
+ghost use Rattle.std.specs.Prelude.{◌≡◌, ℕ, List, IfSome, ◌<◌, ◌≤◌, ◌+◌, ◌-◌, ◌^◌, min, [], true, false, length, drop, take, is_err, IfOk, IsErrOf, Some, None, option_map, string_bytes, option_copied};
 ghost use Rattle.std.specs.List.{find};
 ghost use Rattle.std.specs.Str.{bytes_eq};
 ghost use Rattle.std.specs.Io.{ReadsAtMost, WritesAtMost};
 ghost use Rattle.std.specs.Io.KnownBytes.{ReadConsumes};
+ghost use Rattle.ob_io.specs.Causes.{TellsFile};
 ghost use Rattle.ob_io.specs.Faults.{Rose, HasCause, HasFileCause, FailsAsPlanned};
 ghost use Rattle.ob_io.specs.Told.{WriteGains};
 
-use crate::{Failed, FileFault, Files, Sink, Source};
+use crate::{Cause, Failed, FileFault, Files, RefusedFile, Sink, Source};
 use std::alloc::{AllocError, Global};
 
 /// Calls so far, the calls that are to fail, and how many have failed.
@@ -206,6 +207,9 @@ pub struct NamedFile {
 pub struct MemFiles {
     files: Vec<NamedFile>,
     calls: Calls,
+    // the cause that a refused call tells
+    tells: Cause,
+    refused: Option<RefusedFile>,
 }
 
 impl MemFiles {
@@ -215,11 +219,23 @@ impl MemFiles {
     pub fn new(files: Vec<NamedFile>, failing: Vec<u64>) -> MemFiles
         ensures files { files_of result ≡ files.items }
         ensures calls { AtFirst failing result.calls }
+        ensures untold { (result.tells ≡ Cause.Untold) × (result.refused ≡ None) }
     {
         MemFiles {
             files,
             calls: Calls::new(failing),
+            tells: Cause::Untold,
+            refused: None,
         }
+    }
+
+    /// The files that tell this cause where a call of a number fails.
+    pub fn telling(self, cause: Cause) -> MemFiles
+        ensures { result ≡ record self { tells = cause } }
+    {
+        let mut files = self;
+        files.tells = cause;
+        files
     }
 }
 
@@ -238,11 +254,13 @@ fn front_of(alloc: Global, bytes: &[u8], limit: usize) -> Result<Vec<u8>, AllocE
 }
 
 impl Files for MemFiles {
-    ghost use Rattle.ob_io.specs.Memory.{content_of, file_fails, CountsCall};
+    ghost use Rattle.ob_io.specs.Memory.{content_of, file_cause, file_fails, CountsCall};
 
     ghost content = { λ s name. content_of s.files.items name };
 
     ghost faults = { λ s. s.calls.faults };
+
+    ghost refused = { λ s. s.refused };
 
     fn read_file(&mut self, alloc: Global, name: &str, limit: u64) -> Result<Vec<u8>, FileFault>
         ensures within { IfOk result (λ bytes. length bytes.items ≤ limit) }
@@ -250,7 +268,9 @@ impl Files for MemFiles {
             (λ whole. bytes.items ≡ take limit whole)) }
         ensures same { (name : List ℕ)
             → content_of self.new.files.items name ≡ content_of self.old.files.items name }
+        ensures told { TellsFile self.old.refused self.new.refused name.now result }
         ensures cause { HasFileCause self.old.calls.faults self.new.calls.faults result }
+        ensures why { IsErrOf result FileFault.Failed → IfSome self.new.refused (λ file. file.cause ≡ file_cause self.old) }
         ensures planned { FailsAsPlanned (file_fails self.old name.now) result }
         ensures counted { CountsCall self.old.calls self.new.calls }
     {
@@ -262,8 +282,14 @@ impl Files for MemFiles {
             },
             _ => {
                 let _ = self.calls.fail();
+                let cause = if fails { self.tells } else { Cause::NoFile };
+                self.refused = RefusedFile::new(alloc, name, cause);
                 Err(FileFault::Failed)
             }
         }
+    }
+
+    fn last_refused(&self) -> Option<&RefusedFile> {
+        self.refused.as_ref()
     }
 }

@@ -1,6 +1,7 @@
 -- What the calls of a device do to its file, and what a crash may leave of it between two syncs.
 use Rattle.std.specs.Prelude.{◌≡◌, ◌⊎◌, ℕ, ◌+◌, ◌≤◌, max, List, ◌++◌, length, take, drop, Result, IsErrOf}
 use Rattle.ob_io.specs.Faults.{Rose}
+use Rattle.ob_io.specs.declared.cause.Cause.{Cause}
 use Rattle.ob_journal.specs.declared.device.DeviceFault.{DeviceFault}
 use Rattle.ob_journal.specs.declared.device.DeviceFault.TheVariants.{Failed}
 
@@ -46,3 +47,7 @@ pub record LeavesOnly {D : Type 0} (moment : D → ℕ) (left_since : D → ℕ 
 pub record HasDeviceCause {T : Type 0} (before after : ℕ) (result : Result T DeviceFault) : Type 0 where
   pub later : before ≤ after
   pub failed : IsErrOf result Failed → Rose before after
+
+-- a call that wasn't refused leaves what was told of the last one that was
+abbrev pub KeepsRefusal : {T : Type 0} → (before after : Cause) → Result T DeviceFault → Type 0
+KeepsRefusal before after result = ¬ (IsErrOf result Failed) → after ≡ before

@@ -1,8 +1,10 @@
 //! A file as a journal has it: what a read gives, and what a crash may leave.
 ghost use Rattle.std.specs.Prelude.{◌≡◌, ◌≤◌, List, ℕ, length, take, IfOk, OnOk};
+ghost use Rattle.ob_io.specs.declared.cause.Cause.{Cause};
 ghost use Rattle.ob_journal.specs.declared.device.DeviceFault.TheVariants.{Memory};
-ghost use Rattle.ob_journal.specs.Device.{Only, Follows, Torn, Cut, Holds, Elapses, HasDeviceCause};
+ghost use Rattle.ob_journal.specs.Device.{Only, Follows, Torn, Cut, Holds, Elapses, HasDeviceCause, KeepsRefusal};
 
+use ob_io::Cause;
 use std::alloc::{AllocError, AllocFailed, Global};
 use thiserror::Error;
 
@@ -54,6 +56,9 @@ pub trait Device {
     /// How often a call has failed.
     ghost faults: { Self → ℕ };
 
+    /// Why the last call that failed was refused, as far as the system told it.
+    ghost refusal: { Self → Cause };
+
     /// All the bytes.
     fn read(&mut self, alloc: Global) -> Result<Vec<u8>, DeviceFault>
         ensures bytes { is_told → IfOk result (λ bytes. bytes.items ≡ seen self.old) }
@@ -61,6 +66,7 @@ pub trait Device {
         ensures crash { is_told → (c : List ℕ) → may_leave self.new c → may_leave self.old c }
         ensures time { is_told → Elapses (moment self.old) (moment self.new)
             (left_since self.old) (left_since self.new) (may_leave self.new) }
+        ensures told { KeepsRefusal (refusal self.old) (refusal self.new) result }
         ensures cause { HasDeviceCause (faults self.old) (faults self.new) result };
 
     /// Writes over what is there, and past the end. Until a sync, a crash may leave any bytes in the range.
@@ -70,6 +76,7 @@ pub trait Device {
         ensures crash { is_told → Follows (Torn at (length bytes.now)) (may_leave self.old) (may_leave self.new) }
         ensures time { is_told → Elapses (moment self.old) (moment self.new)
             (left_since self.old) (left_since self.new) (may_leave self.new) }
+        ensures told { KeepsRefusal (refusal self.old) (refusal self.new) result }
         ensures cause { HasDeviceCause (faults self.old) (faults self.new) result };
 
     /// Cuts the file to a length in bytes. Until a sync, a crash may leave any longer front.
@@ -79,6 +86,7 @@ pub trait Device {
         ensures crash { is_told → Follows (Cut len) (may_leave self.old) (may_leave self.new) }
         ensures time { is_told → Elapses (moment self.old) (moment self.new)
             (left_since self.old) (left_since self.new) (may_leave self.new) }
+        ensures told { KeepsRefusal (refusal self.old) (refusal self.new) result }
         ensures cause { HasDeviceCause (faults self.old) (faults self.new) result };
 
     /// After it, a crash leaves what a read gives.
@@ -88,6 +96,7 @@ pub trait Device {
         ensures crash { is_told → (c : List ℕ) → may_leave self.new c → may_leave self.old c }
         ensures time { is_told → Elapses (moment self.old) (moment self.new)
             (left_since self.old) (left_since self.new) (may_leave self.new) }
+        ensures told { KeepsRefusal (refusal self.old) (refusal self.new) result }
         ensures cause { HasDeviceCause (faults self.old) (faults self.new) result };
 
     /// This moment is one of those since an earlier one.

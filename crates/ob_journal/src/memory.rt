@@ -7,6 +7,7 @@ ghost use Rattle.ob_journal.specs.Device.{Holds};
 ghost use Rattle.ob_journal.specs.Past.{HadBeen, only_bytes};
 
 use crate::{Device, DeviceFault};
+use ob_io::Cause;
 use std::alloc::{AllocError, Global};
 
 /// A file in memory, all of it on the disk at each moment.
@@ -20,6 +21,8 @@ pub struct MemDevice {
     // what stands in the rest of a torn range
     filler: u8,
     faults: u64,
+    // what its refused calls tell
+    cause: Cause,
 }
 
 impl MemDevice {
@@ -30,6 +33,7 @@ impl MemDevice {
     pub fn new(alloc: Global, bytes: Vec<u8>, left: u64, filler: u8) -> MemDevice
         ensures bytes { device_bytes result ≡ bytes.items }
         ensures faults { result.faults ≡ 0 }
+        ensures cause { result.cause ≡ Cause.Untold }
     {
         MemDevice {
             alloc,
@@ -38,7 +42,24 @@ impl MemDevice {
             left,
             filler,
             faults: 0,
+            cause: Cause::Untold,
         }
+    }
+
+    /// The file whose refused calls tell this cause.
+    pub fn telling(self, cause: Cause) -> MemDevice
+        ensures { result ≡ record self { cause = cause } }
+    {
+        let mut device = self;
+        device.cause = cause;
+        device
+    }
+
+    /// What its refused calls tell.
+    pub fn cause(&self) -> Cause
+        ensures { result ≡ self.now.cause }
+    {
+        self.cause
     }
 
     /// Its bytes.
@@ -140,6 +161,8 @@ impl Device for MemDevice {
     ghost left_since = { λ m t c. (c ≡ m.bytes.items) ⊎ HadBeen (drop t m.past.items) c };
 
     ghost faults = { λ m. m.faults };
+
+    ghost refusal = { λ m. m.cause };
 
     ghost counts_now = { λ m t c le now. inl now };
 
