@@ -1,8 +1,10 @@
 //! Files of the disk, over std. They count each error and tell nothing.
 ghost use Rattle.std.specs.Prelude.{◌≡◌, ◌≤◌, [], None, IfOk};
 ghost use Rattle.ob_io.specs.Faults.{Rose};
-ghost use Rattle.ob_journal.specs.Device.{HasDeviceCause};
+ghost use Rattle.ob_journal.specs.Device.{HasDeviceCause, KeepsRefusal};
 
+use crate::cause::cause_of;
+use ob_io::Cause;
 use ob_journal::{Device, DeviceFault, Devices};
 use std::alloc::Global;
 use std::fs::{File, TryLockError};
@@ -17,6 +19,7 @@ use std::rt::Files as Disk;
 pub struct DiskFile {
     file: File,
     faults: u64,
+    refusal: Cause,
 }
 
 impl DiskFile {
@@ -24,7 +27,11 @@ impl DiskFile {
     pub fn new(file: File) -> DiskFile
         ensures { result.faults ≡ 0 }
     {
-        DiskFile { file, faults: 0 }
+        DiskFile {
+            file,
+            faults: 0,
+            refusal: Cause::Untold,
+        }
     }
 
     /// How many calls have failed so far, as `faults` of its trait counts them.
@@ -35,15 +42,35 @@ impl DiskFile {
     }
 }
 
-/// What a call of std gave, with its error counted; want of memory is none.
-fn counted<T: Drop>(faults: &mut u64, given: io::Result<T>) -> Result<T, DeviceFault>
-    ensures { HasDeviceCause faults.old faults.new result }
+/// The causes that are told where a name leads nowhere, and where a call would have to wait.
+#[derive(Clone, Copy)]
+struct Told {
+    missing: Cause,
+    held: Cause,
+}
+
+/// Neither is told of a file that is open.
+const OF_OPEN_FILE: Told = Told {
+    missing: Cause::Untold,
+    held: Cause::Untold,
+};
+
+/// What a call of std gave, with its error counted and its cause kept; want of memory is none.
+fn counted<T: Drop>(
+    faults: &mut u64,
+    refusal: &mut Cause,
+    given: io::Result<T>,
+    told: Told,
+) -> Result<T, DeviceFault>
+    ensures cause { HasDeviceCause faults.old faults.new result }
+    ensures told { KeepsRefusal refusal.old refusal.new result }
 {
     match given {
         Ok(value) => Ok(value),
         Err(error) if error.kind() == ErrorKind::OutOfMemory => Err(DeviceFault::Memory),
-        Err(_) => {
+        Err(error) => {
             *faults = faults.saturating_add(1);
+            *refusal = cause_of(error.kind(), told.missing, told.held);
             Err(DeviceFault::Failed)
         }
     }
@@ -71,24 +98,30 @@ impl Device for DiskFile {
 
     ghost faults = { λ f. f.faults };
 
+    ghost refusal = { λ f. f.refusal };
+
     ghost counts_now = { λ f t c le left. left };
 
     ghost only_now = { λ f c left. left };
 
     fn read(&mut self, alloc: Global) -> Result<Vec<u8>, DeviceFault> {
-        counted(&mut self.faults, read_all(alloc, &mut self.file))
+        let read = read_all(alloc, &mut self.file);
+        counted(&mut self.faults, &mut self.refusal, read, OF_OPEN_FILE)
     }
 
     fn write_at(&mut self, at: usize, bytes: &[u8]) -> Result<(), DeviceFault> {
-        counted(&mut self.faults, self.file.write_all_at(bytes, at as u64))
+        let written = self.file.write_all_at(bytes, at as u64);
+        counted(&mut self.faults, &mut self.refusal, written, OF_OPEN_FILE)
     }
 
     fn cut(&mut self, len: usize) -> Result<(), DeviceFault> {
-        counted(&mut self.faults, self.file.set_len(len as u64))
+        let cut = self.file.set_len(len as u64);
+        counted(&mut self.faults, &mut self.refusal, cut, OF_OPEN_FILE)
     }
 
     fn sync(&mut self) -> Result<(), DeviceFault> {
-        counted(&mut self.faults, self.file.sync_data())
+        let synced = self.file.sync_data();
+        counted(&mut self.faults, &mut self.refusal, synced, OF_OPEN_FILE)
     }
 }
 
@@ -98,6 +131,7 @@ impl Device for DiskFile {
 pub struct DiskDevices<'a, R> {
     disk: &'a R,
     faults: u64,
+    refusal: Cause,
 }
 
 impl<'a, R: Disk<File = File>> DiskDevices<'a, R> {
@@ -106,7 +140,11 @@ impl<'a, R: Disk<File = File>> DiskDevices<'a, R> {
         ensures disk { result.disk ≡ disk.entry }
         ensures faults { result.faults ≡ 0 }
     {
-        DiskDevices { disk, faults: 0 }
+        DiskDevices {
+            disk,
+            faults: 0,
+            refusal: Cause::Untold,
+        }
     }
 
     /// How many calls have failed so far, as `faults` of its trait counts them.
@@ -161,27 +199,51 @@ fn settle<R: Disk<File = File>>(
     File::open(disk, folder.as_str())?.sync_all()
 }
 
-/// Opens a file, locked and settled.
-fn open_settled<R: Disk<File = File>>(alloc: Global, disk: &R, name: &str) -> io::Result<File> {
-    let file = open_or_make(disk, name)?;
-    lock(disk, name, &file)?;
-    settle(alloc, disk, name, &file)?;
-    Ok(file)
+/// Locks a file, and settles it.
+fn take<R: Disk<File = File>>(alloc: Global, disk: &R, name: &str, file: &File) -> io::Result<()> {
+    lock(disk, name, file)?;
+    settle(alloc, disk, name, file)
 }
+
+/// Where no file could be made, its folder isn't there.
+const OF_MAKING: Told = Told {
+    missing: Cause::NoFolder,
+    held: Cause::Untold,
+};
+
+/// Where a lock would have to be waited for, somebody else has it.
+const OF_TAKING: Told = Told {
+    missing: Cause::Untold,
+    held: Cause::Locked,
+};
 
 impl<'a, R: Disk<File = File>> Devices for DiskDevices<'a, R> {
     type D = DiskFile;
 
     ghost faults = { λ s. s.faults };
 
+    ghost refusal = { λ s. s.refusal };
+
     ghost given = { λ s. None };
 
     ghost returned = { λ s. None };
 
     fn open(&mut self, alloc: Global, name: &str) -> Result<DiskFile, DeviceFault> {
-        let opened = open_settled(alloc, self.disk, name);
-        let file = counted(&mut self.faults, opened)?;
+        // Of no name no folder is wanting.
+        let told = if name.is_empty() {
+            OF_OPEN_FILE
+        } else {
+            OF_MAKING
+        };
+        let made = open_or_make(self.disk, name);
+        let file = counted(&mut self.faults, &mut self.refusal, made, told)?;
+        let taken = take(alloc, self.disk, name, &file);
+        counted(&mut self.faults, &mut self.refusal, taken, OF_TAKING)?;
         Ok(DiskFile::new(file))
+    }
+
+    fn last_cause(&self) -> Cause {
+        self.refusal
     }
 
     fn back(&mut self, device: DiskFile) -> bool {
@@ -189,6 +251,7 @@ impl<'a, R: Disk<File = File>> Devices for DiskDevices<'a, R> {
             return false;
         }
         self.faults = self.faults.saturating_add(1);
+        self.refusal = device.refusal;
         true
     }
 }

@@ -6,6 +6,7 @@
 //! fault of its link.
 #![tactic(auto)]
 
+mod cause;
 mod crowd;
 mod dialer;
 mod disk;

@@ -1,10 +1,11 @@
 //! Ports over TCP.
 ghost use Rattle.std.specs.Prelude.{◌≡◌, IfSome, None};
 
+use crate::cause::cause_of;
 use crate::crowd::Crowd;
 use crate::door::TcpDoor;
 use crate::host::without_brackets;
-use ob_io::{Failed, Port};
+use ob_io::{Cause, Failed, Port};
 use std::net::{Net, TcpListener, TcpStream};
 use std::os::fd::AsRawFd;
 use std::rt::Clock as Timer;
@@ -18,6 +19,7 @@ pub struct TcpPort<'a, R> {
     opened: u64,
     returned: u64,
     faults: u64,
+    refusal: Cause,
 }
 
 impl<'a, R: Net<Listener = TcpListener, Stream = TcpStream> + Timer> TcpPort<'a, R> {
@@ -33,6 +35,7 @@ impl<'a, R: Net<Listener = TcpListener, Stream = TcpStream> + Timer> TcpPort<'a,
             opened: 0,
             returned: 0,
             faults: 0,
+            refusal: Cause::Untold,
         }
     }
 
@@ -63,6 +66,8 @@ impl<'a, R: Net<Listener = TcpListener, Stream = TcpStream> + Timer + Sync> Port
 
     ghost faults = { λ s. s.faults };
 
+    ghost refusal = { λ s. s.refusal };
+
     ghost opened = { λ s. s.opened };
 
     ghost returned = { λ s. s.returned };
@@ -78,11 +83,16 @@ impl<'a, R: Net<Listener = TcpListener, Stream = TcpStream> + Timer + Sync> Port
                 self.listener = Some(listener);
                 Ok(())
             }
-            Err(_) => {
+            Err(fault) => {
                 self.faults = self.faults.saturating_add(1);
+                self.refusal = cause_of(fault.kind(), Cause::Untold, Cause::Untold);
                 Err(Failed)
             }
         }
+    }
+
+    fn last_cause(&self) -> Cause {
+        self.refusal
     }
 
     fn door(&mut self) -> Result<TcpDoor<'a, R>, Failed> {
@@ -93,6 +103,7 @@ impl<'a, R: Net<Listener = TcpListener, Stream = TcpStream> + Timer + Sync> Port
             }
             None => {
                 self.faults = self.faults.saturating_add(1);
+                self.refusal = Cause::Untold;
                 Err(Failed)
             }
         }
@@ -102,6 +113,7 @@ impl<'a, R: Net<Listener = TcpListener, Stream = TcpStream> + Timer + Sync> Port
         self.returned = self.returned.saturating_add(1);
         if door.faults > 0 {
             self.faults = self.faults.saturating_add(1);
+            self.refusal = Cause::Untold;
         }
     }
 }

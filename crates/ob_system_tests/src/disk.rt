@@ -1,4 +1,5 @@
 //! Journals' files on a real disk: made, appended to, locked, refused, full.
+use ob_io::Cause;
 use ob_journal::{Device, DeviceFault, Devices, Extent, Journal, Sized, find, repair};
 use ob_system::{DiskDevices, DiskFile};
 use std::alloc::Global;
@@ -120,6 +121,7 @@ fn a_file_has_one_owner(rt: HostRuntime) -> Result<(), Fail> {
     assert!(rt; is_locked(rt.alloc(), &mut devices));
     assert!(rt; devices.open(rt.alloc(), NAME).is_ok());
     assert!(rt; devices.fault_count() == 1);
+    assert!(rt; devices.last_cause() == Cause::Locked);
     Ok(())
 }
 
@@ -128,22 +130,29 @@ fn a_file_has_one_owner(rt: HostRuntime) -> Result<(), Fail> {
 fn what_cannot_be_opened_is_counted(rt: HostRuntime) -> Result<(), Fail> {
     emptied(&rt)?;
     let mut devices = DiskDevices::new(&rt);
-    for (name, faults) in [
-        (FOLDER, 1),
-        ("/nowhere/at/all", 2),
-        ("/dev/null/record", 3),
-        ("/dev/full", 4),
-        ("/dev/zero", 5),
-        ("", 6),
+    for (name, faults, cause) in [
+        (FOLDER, 1, Cause::IsFolder),
+        ("/nowhere/at/all", 2, Cause::NoFolder),
+        ("/dev/null/record", 3, Cause::NoFolder),
+        ("/dev/full", 4, Cause::Untold),
+        ("/dev/zero", 5, Cause::Untold),
+        ("", 6, Cause::Untold),
     ] {
         assert!(rt; fails(rt.alloc(), &mut devices, name), "{name}");
         assert!(rt; devices.fault_count() == faults, "{name}");
+        assert!(rt; devices.last_cause() == cause, "{name}");
     }
     fs::write(&rt, NAME, b"obix-record 1\0".as_slice())?;
     fs::set_permissions(&rt, NAME, fs::Permissions::from_mode(0o444))?;
     let is_refused = OpenOptions::new().write(true).open(&rt, NAME).is_err();
     assert!(rt; devices.open(rt.alloc(), NAME).is_err() == is_refused);
     assert!(rt; devices.fault_count() == 6 + u64::from(is_refused));
+    let cause = if is_refused {
+        Cause::NotAllowed
+    } else {
+        Cause::Untold
+    };
+    assert!(rt; devices.last_cause() == cause);
     Ok(())
 }
 
@@ -183,5 +192,6 @@ fn calls_that_fail_are_counted(rt: HostRuntime) -> Result<(), Fail> {
     let mut devices = DiskDevices::new(&rt);
     assert!(rt; is_full(rt.alloc(), &mut devices, full));
     assert!(rt; devices.fault_count() == 1);
+    assert!(rt; devices.last_cause() == Cause::Full);
     Ok(())
 }

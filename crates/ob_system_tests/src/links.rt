@@ -1,5 +1,5 @@
 //! Both ends of a link over loopback, in one thread; when a wait ends; what an error of `accept` is about; brackets.
-use ob_io::{Dialer, Door, Link, Port, send};
+use ob_io::{Cause, Dialer, Door, Link, Port, send};
 use ob_system::{Crowd, Refusal, TcpDialer, TcpDoor, TcpLink, TcpPort, WaitTime, without_brackets};
 use std::io;
 use std::rt::Clock as Timer;
@@ -145,8 +145,12 @@ fn is_taken(rt: &HostRuntime, number: u16) -> bool {
     let crowd = Crowd::new();
     let mut second = TcpPort::new(rt, &crowd);
     second.listen("127.0.0.1", number).is_err()
+        && second.last_cause() == Cause::InUse
         && second.door().is_err()
-        && second.fault_count() == 2
+        && second.last_cause() == Cause::Untold
+        && second.listen("192.0.2.1", number).is_err()
+        && second.last_cause() == Cause::NotHere
+        && second.fault_count() == 3
 }
 
 /// Whether links to a door are counted that are reset, and the port is another one's.

@@ -1,5 +1,5 @@
 //! Streams, files and the clock over std, by readers and writers that fail.
-use ob_io::{Clock, FileFault, Files, Sink, Source};
+use ob_io::{Cause, Clock, FileFault, Files, Sink, Source};
 use ob_system::{DiskFiles, StdSink, StdSource, SystemClock};
 use std::fs::{File, OpenOptions};
 use std::io;
@@ -89,17 +89,31 @@ fn fails_to_read(rt: &HostRuntime, files: &mut DiskFiles<'_, HostRuntime>, name:
     )
 }
 
+/// Whether this is the last file that couldn't be read, for this cause.
+fn is_last(files: &DiskFiles<'_, HostRuntime>, name: &str, cause: Cause) -> bool {
+    match files.last_refused() {
+        Some(file) => file.name.as_str() == name && file.cause == cause,
+        None => false,
+    }
+}
+
 #[test]
 fn files_that_cannot_be_read_are_counted(rt: HostRuntime) {
     let mut files = DiskFiles::new(&rt);
-    for (name, faults) in [("/nowhere/at/all", 1), ("/", 2)] {
+    for (name, faults, cause) in [
+        ("/nowhere/at/all", 1, Cause::NoFile),
+        ("/dev/null/file", 2, Cause::NoFolder),
+        ("/", 3, Cause::IsFolder),
+    ] {
         assert!(rt; fails_to_read(&rt, &mut files, name), "{name}");
         assert!(rt; files.fault_count() == faults, "{name}");
+        assert!(rt; is_last(&files, name, cause), "{name}");
     }
     for (name, length) in [("/dev/null", 0), ("/dev/zero", 8)] {
         assert!(rt; reads_so_many(&rt, &mut files, name, length), "{name}");
     }
-    assert!(rt; files.fault_count() == 2);
+    assert!(rt; files.fault_count() == 3);
+    assert!(rt; is_last(&files, "/", Cause::IsFolder));
 }
 
 /// Whether a write to a file is a fault.
