@@ -7,8 +7,11 @@ use Rattle.url.specs.Parser.{parse_url}
 use Rattle.ob_href.specs.Href.{as_base, resolved_path}
 use Rattle.ob_href.specs.declared.fault.HrefFault.{HrefFault}
 use Rattle.ob_command.specs.Arguments.{Argument, arguments, operands, values, has_only}
+use Rattle.ob_command.specs.Forms.{verb_of}
 use Rattle.ob_command.specs.Number.{number_between}
 use Rattle.ob_command.specs.Storm.{Storm, storm_of}
+use Rattle.ob_command.specs.declared.form.Verb.{Verb}
+use Rattle.ob_command.specs.declared.form.Verb.TheVariants as verbs
 use Rattle.ob_command.specs.declared.server.Output.{Output}
 use Rattle.ob_command.specs.declared.server.Output.TheVariants.{Answers, Record}
 use Rattle.ob_command.specs.Texts.{is_text, text_if, texts_if, optional_text}
@@ -36,8 +39,13 @@ pub data Command : Type 0 where
   console : (url : Parts) → (subject : List ℕ) → (polls : ℕ) → (ack : Option (List ℕ)) → (user : List ℕ) → Command
   -- the seed, the clients and the requests
   storm : Storm → Command
-  -- the file that names the servers, and how many rounds over them come first
-  supervise : (config : List ℕ) → (rounds : ℕ) → Command
+  -- the file that names the servers, how many rounds over them come first, and how many milliseconds one may take for a poll, a dial
+  -- or a write that is sent on
+  supervise : (config : List ℕ) → (rounds wait_ms : ℕ) → Command
+  -- the page on a command, or that on all of them
+  help : Option Verb → Command
+  -- the program's version
+  version : Command
 
 -- ---- the values of an option, which is given at most once
 
@@ -144,15 +152,15 @@ check_with _ = None
 abbrev pub check_of : List Argument → Option Command
 check_of given = if has_only [] given then check_with (operands given) else None
 
-abbrev pub supervise_with : (operands : List (List ℕ)) → (rounds : Option ℕ) → Option Command
-supervise_with (config ∷ []) (Some rounds) = Some (supervise config rounds)
-supervise_with _ _ = None
+abbrev pub supervise_with : (operands : List (List ℕ)) → (rounds wait : Option ℕ) → Option Command
+supervise_with (config ∷ []) (Some rounds) (Some wait) = Some (supervise config rounds wait)
+supervise_with _ _ _ = None
 
--- `CONFIG [--rounds N]`
+-- `CONFIG [--rounds N] [--wait MS]`
 abbrev pub supervise_of : List Argument → Option Command
 supervise_of given =
-    if has_only (codes "--rounds" ∷ []) given
-    then supervise_with (operands given) (number_or 0 1_000_000 1 (values (codes "--rounds") given))
+    if has_only (codes "--rounds" ∷ codes "--wait" ∷ []) given
+    then supervise_with (operands given) (number_or 0 1_000_000 1 (values (codes "--rounds") given)) (number_or 1 300_000 10_000 (values (codes "--wait") given))
     else None
 
 abbrev http_only : Result Parts HrefFault → Option Parts
@@ -201,28 +209,72 @@ console_of given =
     then console_with (operands given) (number_or 0 1_000_000 1 (values (codes "--polls") given)) (word_given (values (codes "--ack") given)) (word_given (values (codes "--user") given))
     else None
 
-abbrev pub named : List ℕ → List Argument → Option Command
-named word given =
-    if bytes_eq word (codes "stdio") then stdio_of Answers given
-    else (if bytes_eq word (codes "record") then stdio_of Record given
-    else (if bytes_eq word (codes "schedule") then schedule_of given
-    else (if bytes_eq word (codes "audit") then auditing_of given
-    else (if bytes_eq word (codes "serve") then serve_of given
-    else (if bytes_eq word (codes "keep") then keep_of given
-    else (if bytes_eq word (codes "compact") then compact_of given
-    else (if bytes_eq word (codes "check") then check_of given
-    else (if bytes_eq word (codes "watch") then watch_of given
-    else (if bytes_eq word (codes "console") then console_of given
-    else (if bytes_eq word (codes "storm") then option_map storm (storm_of given)
-    else (if bytes_eq word (codes "super") then supervise_of given
-    else None)))))))))))
+-- the command of a name with its arguments
+abbrev pub named : Verb → List Argument → Option Command
+named verbs.Serve given = serve_of given
+named verbs.Keep given = keep_of given
+named verbs.Compact given = compact_of given
+named verbs.Stdio given = stdio_of Answers given
+named verbs.Schedule given = schedule_of given
+named verbs.Watch given = watch_of given
+named verbs.Console given = console_of given
+named verbs.Check given = check_of given
+named verbs.Record given = stdio_of Record given
+named verbs.Audit given = auditing_of given
+named verbs.Super given = supervise_of given
+named verbs.Storm given = option_map storm (storm_of given)
+
+-- ---- help and version
+
+abbrev pub is_help : List ℕ → Bool
+is_help word = bytes_eq word (codes "help") || bytes_eq word (codes "--help")
+
+abbrev pub is_version : List ℕ → Bool
+is_version word = bytes_eq word (codes "--version")
+
+-- `--help` stands among the words, before any `--`
+abbrev pub asks_help : List (List ℕ) → Bool
+asks_help [] = false
+asks_help (word ∷ words) = if bytes_eq word (codes "--") then false else (bytes_eq word (codes "--help") || asks_help words)
+
+-- the page that a word after `help` asks for
+abbrev pub topic : List ℕ → Option Command
+topic word = if is_help word || is_version word then Some (help None) else option_map (λ verb. help (Some verb)) (verb_of word)
+
+-- `help [COMMAND]`
+abbrev pub help_of : List (List ℕ) → Option Command
+help_of [] = Some (help None)
+help_of (word ∷ []) = topic word
+help_of (word ∷ (other ∷ words)) = None
+
+-- `--version`
+abbrev pub version_of : List (List ℕ) → Option Command
+version_of [] = Some version
+version_of (word ∷ words) = None
+
+-- a command's name with the words after it
+abbrev pub verb_command : (words : List (List ℕ)) → Option Verb → Option Command
+verb_command words None = None
+verb_command words (Some verb) = if asks_help words then Some (help (Some verb)) else named verb (arguments words)
+
+abbrev pub worded : (word : List ℕ) → (words : List (List ℕ)) → Option Command
+worded word words =
+    if is_help word then help_of words
+    else (if is_version word then version_of words
+    else verb_command words (verb_of word))
 
 -- one of the commands above with its arguments; all other words are no command
 abbrev pub command : List (List ℕ) → Option Command
 command [] = None
-command (word ∷ words) = if list_all is_text (word ∷ words) then named word (arguments words) else None
+command (word ∷ words) = if list_all is_text (word ∷ words) then worded word words else None
 
--- The words begin with the name of a client's command: their URL is read into memory.
+-- a client's command: its URL is read into memory
+abbrev pub reads_url : Option Verb → Bool
+reads_url (Some verbs.Watch) = true
+reads_url (Some verbs.Console) = true
+reads_url _ = false
+
+-- the words begin with the name of a client's command
 abbrev pub is_client : List (List ℕ) → Bool
 is_client [] = false
-is_client (word ∷ words) = bytes_eq word (codes "watch") || bytes_eq word (codes "console")
+is_client (word ∷ words) = reads_url (verb_of word)

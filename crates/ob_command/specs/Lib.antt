@@ -2,6 +2,10 @@ pub mod Number
 pub mod Arguments
 pub mod Texts
 pub mod Storm
+pub mod Forms
 pub mod Command
+pub mod Slips
+pub mod Lines
 pub mod Words
+pub mod Pages
 pub mod Named

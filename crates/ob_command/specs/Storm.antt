@@ -1,5 +1,5 @@
 -- The arguments of a storm.
-use Rattle.std.specs.Prelude.{ℕ, codes, List, [], ◌∷◌, Option, Some, None, if◌then◌else◌}
+use Rattle.std.specs.Prelude.{ℕ, List, [], ◌∷◌, Option, Some, None, if◌then◌else◌}
 use Rattle.ob_command.specs.Arguments.{Argument, operands, has_only}
 use Rattle.ob_command.specs.Number.{number_between}
 

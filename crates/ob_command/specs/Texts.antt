@@ -1,5 +1,5 @@
 -- Words as texts.
-use Rattle.std.specs.Prelude.{ℕ, Bool, List, Option, Some, None, if◌then◌else◌}
+use Rattle.std.specs.Prelude.{ℕ, Bool, List, [], ◌∷◌, Option, Some, None, if◌then◌else◌}
 use Rattle.std.specs.List.{list_all}
 use Rattle.std.specs.Str.{chars}
 use Rattle.ob_scan.specs.Constructs.{is_char}
@@ -20,3 +20,8 @@ texts_if words = if list_all is_text words then Some words else None
 abbrev pub optional_text : Option (List ℕ) → Option (Option (List ℕ))
 optional_text None = Some None
 optional_text (Some word) = if is_text word then Some (Some word) else None
+
+-- the first word that XML can't carry, or nothing
+abbrev pub first_other : List (List ℕ) → List ℕ
+first_other [] = []
+first_other (word ∷ words) = if is_text word then first_other words else word

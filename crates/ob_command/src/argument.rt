@@ -1,5 +1,5 @@
 //! The words behind the command: operands, and options with their values.
-ghost use Rattle.std.specs.Prelude.{◌≡◌, ◌≤◌, ◌<◌, ◌^◌, ◌∷◌, [], true, false, length, map, option_map, option_copied, string_bytes, codes, bytes_eq, None, IfSome, MatchOption};
+ghost use Rattle.std.specs.Prelude.{◌≡◌, ◌≤◌, ◌<◌, ◌∷◌, [], true, false, length, map, option_map, option_copied, string_bytes, codes, bytes_eq, None, IfSome, MatchOption};
 ghost use Rattle.std.specs.List.{list_any};
 ghost use Rattle.ob_command.specs.Arguments.{is_option, arguments, operands, values, has_only};
 ghost use Rattle.ob_command.specs.Command.{number_given, number_or, word_given};
@@ -82,7 +82,7 @@ impl<'a> Arguments<'a> {
     }
 
     /// The first argument, and those behind it; `None` where there is none.
-    fn split_first(self) -> Option<(Argument<'a>, Arguments<'a>)>
+    pub(crate) fn split_first(self) -> Option<(Argument<'a>, Arguments<'a>)>
         ensures { MatchOption result (arguments_of self.entry ≡ [])
             (λ next. (arguments_of self.entry ≡ argument_of next.0 ∷ arguments_of next.1) × (length next.1.words.now < length self.entry.words.now)) }
     {
@@ -149,7 +149,7 @@ impl<'a> Arguments<'a> {
     }
 
     /// The first value of the option of a name, and the arguments behind it.
-    fn next_value(self, name: &str) -> Option<(&'a str, Arguments<'a>)>
+    pub(crate) fn next_value(self, name: &str) -> Option<(&'a str, Arguments<'a>)>
         ensures { MatchOption result (values name.now (arguments_of self.entry) ≡ [])
             (λ next. values name.now (arguments_of self.entry) ≡ next.0.now ∷ values name.now (arguments_of next.1)) }
     {
@@ -180,7 +180,6 @@ impl<'a> Arguments<'a> {
 
     /// The number that an option is given, if it is given; `None` where it is given twice, or no number in this range.
     pub(crate) fn number_given(self, name: &str, least: u64, most: u64) -> Option<Option<u64>>
-        requires { most < 10 ^ 18 }
         ensures value { result ≡ number_given least most (values name.now (arguments_of self.entry)) }
         ensures fits { IfSome result (λ given. IfSome given (λ number. number ≤ most)) }
     {
@@ -199,8 +198,7 @@ impl<'a> Arguments<'a> {
     /// The number that an option is given, or `default` where it isn't given; `None` where it is given twice, or no number
     /// in this range.
     pub(crate) fn number_or(self, name: &str, least: u64, most: u64, default: u64) -> Option<u64>
-        requires small { most < 10 ^ 18 }
-        requires default { default ≤ most }
+        requires { default ≤ most }
         ensures value { result ≡ number_or least most default (values name.now (arguments_of self.entry)) }
         ensures fits { IfSome result (λ number. number ≤ most) }
     {

@@ -1,15 +1,14 @@
 //! The commands of clients.
 ghost use Rattle.std.specs.Prelude.{◌≡◌, None, MatchOption, IfOk, option_map, option_copied};
-ghost use Rattle.std.specs.Option.{option_and_then};
-ghost use Rattle.ob_command.specs.Command.{watch_of, console_of, server_url, leads_from};
+ghost use Rattle.ob_command.specs.Command.{watch_of, console_of};
 ghost use Rattle.ob_command.specs.Words.{arguments_of};
 ghost use Rattle.ob_command.specs.Named.{command_of, watch_from, console_from};
 ghost use Rattle.ob_command.specs.Texts.{optional_text};
 
 use crate::argument::Arguments;
 use crate::command::Command;
-use crate::text::{read_text, read_texts, read_url};
-use ob_href::{Base, HrefFault, resolve};
+use crate::text::{read_text, read_texts, read_url, read_url_of};
+use ob_href::Base;
 use ob_values::Text;
 use std::alloc::{AllocError, Global};
 
@@ -133,20 +132,6 @@ fn console_words(given: Arguments<'_>) -> Option<ConsoleWords<'_>>
         ack,
         user: user.unwrap_or("console"),
     })
-}
-
-/// The URL of a word, from which a text names something on its server. An error only for want of memory.
-fn read_url_of(alloc: Global, word: &str, text: &str) -> Result<Option<Base>, AllocError>
-    ensures { IfOk result (λ url. url ≡ option_and_then (leads_from text.now) (server_url word.now)) }
-{
-    let Some(url) = read_url(alloc, word)? else {
-        return Ok(None);
-    };
-    match resolve(alloc, &url, text) {
-        Ok(_) => Ok(Some(url)),
-        Err(HrefFault::Memory) => Err(AllocError),
-        Err(_) => Ok(None),
-    }
 }
 
 /// The word as a text, where there is one: nothing where XML can't carry it. An error only for want of memory.

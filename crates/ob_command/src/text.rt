@@ -1,14 +1,15 @@
 //! Words that XML can carry, and URLs.
-ghost use Rattle.std.specs.Prelude.{◌≡◌, ◌+◌, ◌∷◌, ◌++◌, if◌then◌else◌, map, string_bytes, option_map, true, Some, None, IfOk};
+ghost use Rattle.std.specs.Prelude.{◌≡◌, ◌+◌, ◌∷◌, ◌++◌, if◌then◌else◌, map, string_bytes, option_map, option_copied, true, Some, None, IfOk};
 ghost use Rattle.std.specs.List.{list_all};
 ghost use Rattle.ob_scan.specs.Constructs.{is_char};
 ghost use Rattle.ob_command.specs.Arguments.{operands};
-ghost use Rattle.ob_command.specs.Command.{server_url};
-ghost use Rattle.ob_command.specs.Texts.{is_text, text_if, texts_if};
+ghost use Rattle.std.specs.Option.{option_and_then};
+ghost use Rattle.ob_command.specs.Command.{server_url, leads_from};
+ghost use Rattle.ob_command.specs.Texts.{is_text, first_other, text_if, texts_if};
 ghost use Rattle.ob_command.specs.Words.{arguments_of};
 
 use crate::argument::Arguments;
-use ob_href::{Base, HrefFault};
+use ob_href::{Base, HrefFault, resolve};
 use ob_values::Text;
 use std::alloc::{AllocError, Global};
 
@@ -25,7 +26,8 @@ fn is_xml_char(character: char) -> bool
     )
 }
 
-fn is_text(word: &str) -> bool
+/// Whether XML can carry each character of the word.
+pub(crate) fn is_text(word: &str) -> bool
     ensures { result ≡ is_text word.now }
 {
     word.chars().all(is_xml_char)
@@ -41,6 +43,18 @@ pub(crate) fn are_texts(words: &[String]) -> bool
         }
     }
     true
+}
+
+/// The first word that XML can't carry; nothing where there is none.
+pub(crate) fn first_other(words: &[String]) -> &str
+    ensures { result.now ≡ first_other (map string_bytes words.now) }
+{
+    for word in words {
+        if !is_text(word.as_str()) {
+            return word.as_str();
+        }
+    }
+    ""
 }
 
 /// The word as a text, if XML can carry it. An error only for want of memory.
@@ -89,6 +103,20 @@ pub(crate) fn read_url(alloc: Global, word: &str) -> Result<Option<Base>, AllocE
     match Base::new(alloc, word) {
         Ok(url) if url.is_https() => Ok(None),
         Ok(url) => Ok(Some(url)),
+        Err(HrefFault::Memory) => Err(AllocError),
+        Err(_) => Ok(None),
+    }
+}
+
+/// The URL of a word, from which a text names something on its server. An error only for want of memory.
+pub(crate) fn read_url_of(alloc: Global, word: &str, text: &str) -> Result<Option<Base>, AllocError>
+    ensures { IfOk result (λ url. url ≡ option_and_then (leads_from text.now) (server_url word.now)) }
+{
+    let Some(url) = read_url(alloc, word)? else {
+        return Ok(None);
+    };
+    match resolve(alloc, &url, text) {
+        Ok(_) => Ok(Some(url)),
         Err(HrefFault::Memory) => Err(AllocError),
         Err(_) => Ok(None),
     }

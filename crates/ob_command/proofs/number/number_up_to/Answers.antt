@@ -9,13 +9,13 @@ returns-in_default-empty c =
     let text = c.args.text.now in
     let none : after_digits text ≡ [] = sym c.split_number-number.ensures.rest ∙ empty c.split_number-number.result.1.now c.in_default-empty.len_below in
     let some : 0 < length text = grind (arith, nat_tests) in
-    numbered c.args.most text c.split_number-number.result.0 c.requires c.split_number-number.ensures.number some (omega arith) none c.if-number-most.true
+    numbered c.args.most text c.split_number-number.result.0 c.split_number-number.ensures.number some (omega arith) none c.if-number-most.true
 
 pub returns-in_default : goal.returns-in_default
 returns-in_default c =
     let text = c.args.text.now in
     let none : after_digits text ≡ [] = sym c.split_number-number.ensures.rest ∙ empty c.split_number-number.result.1.now c.in_default-empty.len_below in
-    too_large c.args.most text c.split_number-number.result.0 c.requires c.split_number-number.ensures.number none c.if-number-most.false
+    too_large c.args.most text c.split_number-number.result.0 c.split_number-number.ensures.number (omega arith) none c.if-number-most.false
 
 pub returns-in_default-2 : goal.returns-in_default-2
 returns-in_default-2 c =
