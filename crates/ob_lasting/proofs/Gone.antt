@@ -8,7 +8,7 @@ use Rattle.ob_machine.proofs.HistoryLemmas.{after-append, legal_front, legal_bac
 use Rattle.ob_watching.specs.Operations.{Target, Itself, Nowhere, NewWatch, OneWatch, Told, Refused}
 use Rattle.ob_watching.specs.Sites.{Site, IsLawful}
 use Rattle.ob_watching.specs.Tables.{lookup}
-use Rattle.ob_watching.specs.Watches.{World, Reply, first_lease, act, acted, begun, is_full, on_watch, made, Rises, Distinct, IsSound}
+use Rattle.ob_watching.specs.Watches.{World, Reply, first_lease, act, acted, begun, is_full, on_watch, made, yielded, Rises, Distinct, IsSound}
 use Rattle.ob_watching.specs.Clients.{Replied, Asking}
 use Rattle.ob_watching.specs.Laws.{step, after, Legal, IsMake, WasMade}
 use Rattle.ob_watching.proofs.Laws.{sound_after, watch_stays_gone, watch_replays}
@@ -21,7 +21,7 @@ module _ (m : Site) where
   acted_next : (w : World m) (r : m.Request) (t : Target m.Text m.Input m.Part m.Fault) → w.next ≤ (acted m w r t).0.next
   acted_next w r Itself = le_refl w.next
   acted_next w r Nowhere = le_refl w.next
-  acted_next w r NewWatch = elim (is_full m w) as (λ b. let done : World m × Reply m = cond b (w, Refused m.too_many_watches) (made m w, Told w.next first_lease m.whole) in w.next ≤ done.0.next) [ true ↦ le_refl w.next | false ↦ omega arith ]
+  acted_next w r NewWatch = elim (is_full m (yielded m w)) as (λ b. let done : World m × Reply m = cond b (w, Refused m.too_many_watches) (made m (yielded m w), Told w.next first_lease m.whole) in w.next ≤ done.0.next) [ true ↦ le_refl w.next | false ↦ omega arith ]
   acted_next w r (OneWatch n op) = elim (lookup n w.watches) as (λ found. w.next ≤ (on_watch m w n op found).0.next) [ None ↦ le_refl w.next | Some v ↦ le_refl w.next ]
 
   pub act_next : (w : World m) (r : m.Request) (moment : ℕ) → w.next ≤ (act m w r moment).0.next
@@ -67,9 +67,9 @@ module _ (m : Site) where
     module _ (n : ℕ) (small : n < 2 ^ 64) where
       -- a make that answers with this number leaves a later one as the next
       pub made_next : (w : World m) (r : m.Request) (moment lease : ℕ) → IsSound m w → m.target r ≡ NewWatch → m.sent (Told n lease m.whole) ≡ (act m w r moment).1 → n < (act m w r moment).0.next
-      made_next w r moment lease sound is told = subst (λ t. n < (acted m (begun m w moment) r t).0.next) (sym is) (go (is_full m (begun m w moment)) (told ∙ ap (λ t. m.sent (acted m (begun m w moment) r t).1) is))
+      made_next w r moment lease sound is told = subst (λ t. n < (acted m (begun m w moment) r t).0.next) (sym is) (go (is_full m (yielded m (begun m w moment))) (told ∙ ap (λ t. m.sent (acted m (begun m w moment) r t).1) is))
         where
-          go : (b : Bool) → let done : World m × Reply m = cond b (begun m w moment, Refused m.too_many_watches) (made m (begun m w moment), Told w.next first_lease m.whole) in m.sent (Told n lease m.whole) ≡ m.sent done.1 → n < done.0.next
+          go : (b : Bool) → let done : World m × Reply m = cond b (begun m w moment, Refused m.too_many_watches) (made m (yielded m (begun m w moment)), Told w.next first_lease m.whole) in m.sent (Told n lease m.whole) ≡ m.sent done.1 → n < done.0.next
           go true e = absurd (law.told_refused n lease m.too_many_watches e)
           go false e = (let same : n ≡ w.next = law.told n w.next lease first_lease small (omega (arith, sound.next)) e in omega (arith, same))
 

@@ -5,7 +5,7 @@ use Rattle.ob_machine.specs.declared.call.Answer.TheVariants.{Done, NoMemory}
 use Rattle.ob_watching.specs.Operations.{Target, Itself, Nowhere, NewWatch, OneWatch, Told, Refused}
 use Rattle.ob_watching.specs.Sites.{Site}
 use Rattle.ob_watching.specs.Tables.{lookup, numbers_of}
-use Rattle.ob_watching.specs.Watches.{World, Reply, act, acted, begun, is_full, on_watch, made, first_lease}
+use Rattle.ob_watching.specs.Watches.{World, Reply, act, acted, begun, is_full, on_watch, made, first_lease, yielded}
 use Rattle.ob_watching.specs.Clients.{Replied, Asking}
 use Rattle.ob_watching.specs.Laws.{step, after}
 use Rattle.ob_lasting.specs.Lasting.{IsRestartOf, IsApart}
@@ -18,7 +18,7 @@ module _ (m : Site) where
   pub acted_time : (w : World m) (r : m.Request) (t : Target m.Text m.Input m.Part m.Fault) → (acted m w r t).0.time ≡ w.time
   acted_time w r Itself = refl
   acted_time w r Nowhere = refl
-  acted_time w r NewWatch = elim (is_full m w) as (λ b. let done : World m × Reply m = cond b (w, Refused m.too_many_watches) (made m w, Told w.next first_lease m.whole) in done.0.time ≡ w.time) [ true ↦ refl | false ↦ refl ]
+  acted_time w r NewWatch = elim (is_full m (yielded m w)) as (λ b. let done : World m × Reply m = cond b (w, Refused m.too_many_watches) (made m (yielded m w), Told w.next first_lease m.whole) in done.0.time ≡ w.time) [ true ↦ refl | false ↦ refl ]
   acted_time w r (OneWatch n op) = elim (lookup n w.watches) as (λ found. (on_watch m w n op found).0.time ≡ w.time) [ None ↦ refl | Some v ↦ refl ]
 
   -- time doesn't go back
@@ -33,7 +33,7 @@ module _ (m : Site) where
   acted_site : (w : World m) → m.roll w.site ≡ w.site → (r : m.Request) (t : Target m.Text m.Input m.Part m.Fault) → (t ≡ Itself → (m.act w.site (numbers_of w.watches) r w.time).0 ≡ w.site) → m.roll (acted m w r t).0.site ≡ w.site
   acted_site w rolled r Itself own = ap m.roll (own refl) ∙ rolled
   acted_site w rolled r Nowhere own = rolled
-  acted_site w rolled r NewWatch own = elim (is_full m w) as (λ b. let done : World m × Reply m = cond b (w, Refused m.too_many_watches) (made m w, Told w.next first_lease m.whole) in m.roll done.0.site ≡ w.site) [ true ↦ rolled | false ↦ rolled ]
+  acted_site w rolled r NewWatch own = elim (is_full m (yielded m w)) as (λ b. let done : World m × Reply m = cond b (w, Refused m.too_many_watches) (made m (yielded m w), Told w.next first_lease m.whole) in m.roll done.0.site ≡ w.site) [ true ↦ rolled | false ↦ rolled ]
   acted_site w rolled r (OneWatch n op) own = elim (lookup n w.watches) as (λ found. m.roll (on_watch m w n op found).0.site ≡ w.site) [ None ↦ rolled | Some v ↦ rolled ]
 
   pub leaves_site : LeavesSite m

@@ -2,7 +2,7 @@
 use Rattle.std.specs.Prelude.{◌≡◌, ℕ, ◌+◌, ◌≤◌, max, false, List, []}
 use Rattle.ob_watching.specs.Operations.{NewWatch}
 use Rattle.ob_watching.specs.Sites.{Site}
-use Rattle.ob_watching.specs.Watches.{World, last_number, act, begun, is_full}
+use Rattle.ob_watching.specs.Watches.{World, last_number, act, begun, is_full, yielded}
 
 module _ (m : Site) where
   -- What lasts of two states is the same: the site, and the number of the next watch. The watches and the time don't last.
@@ -32,7 +32,7 @@ module _ (m : Site) where
   -- unless it was a make that was refused.
   abbrev pub DoneAgain : Type 0
   DoneAgain = (w : World m) (r : m.Request) (moment time : ℕ) → time ≤ max w.time moment →
-      (m.target r ≡ NewWatch → is_full m (begun m w moment) ≡ false) →
+      (m.target r ≡ NewWatch → is_full m (yielded m (begun m w moment)) ≡ false) →
       let left : World m = (act m w r moment).0 in
       let again : World m = (act m (restarted w time) r (max w.time moment)).0 in
       Lasts left again × (left.time ≡ again.time)

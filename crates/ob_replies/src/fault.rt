@@ -45,6 +45,8 @@ fn display_of(alloc: Global, fault: Fault) -> Result<Text, AllocError>
         Fault::HrefTooLong => "href longer than 1024 bytes",
         Fault::TooManyBatchItems => "limit of 1000 batch items",
         Fault::TooManyEntries => "limit of 1000000 stored entries",
+        Fault::TooManyItemsInAll => "limit of 200000 items in all",
+        Fault::TooManyHrefBytes => "limit of 16777216 bytes of hrefs in all",
     };
     Text::from_ascii(alloc, words)
 }

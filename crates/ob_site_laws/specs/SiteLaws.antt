@@ -63,7 +63,7 @@ ClientsHold n = n < 2 ^ 64 → (start : SiteState) → IsSoundSite start →
     Begins (of_plan start.plan) n part → Ends (of_plan start.plan) n part →
     Holds (of_plan start.plan) n (after acts start before).world part
 
--- A watch that was made and is gone, deleted or lapsed, never comes back; no make answers with its number again, and
+-- A watch that was made and is gone, deleted, lapsed or given way, never comes back; no make answers with its number again, and
 -- each request for it is answered with BadUriErr or for want of memory.
 abbrev pub GoneForGood : ℕ → Type 0
 GoneForGood n = n < 2 ^ 64 → (start : SiteState) → IsSoundSite start →

@@ -46,7 +46,7 @@ pub fn since_rows()
     ensures passes_none { PassesNone }
 {}
 
-/// A watch that was deleted or has lapsed never comes back, its number isn't given again, and each later
+/// A watch that was deleted, lapsed or gave way never comes back, its number isn't given again, and each later
 /// request for it is answered with BadUriErr or for want of memory.
 ///
 /// Source: oBIX 1.1, chapter Watches (Watch.lease, Watch.delete).

@@ -6,7 +6,7 @@ use Rattle.ob_object.specs.Facets.{no_facets}
 use Rattle.ob_object.specs.Object.{Object, empty_head}
 use Rattle.ob_site_rules.specs.Build.{Text, word, leaf}
 use Rattle.ob_site_rules.specs.declared.fault.Fault.{Fault}
-use Rattle.ob_site_rules.specs.declared.fault.Fault.TheVariants.{NoSuchObject, NotSupported, OtherShape, NotWatchable, NotInBatch, NotWritable, OtherKind, BelowMin, AboveMax, NotInRange, TextTooLong, LeaseOutOfRange, TooManyWatches, TooManyItems, HrefTooLong, TooManyBatchItems, TooManyEntries}
+use Rattle.ob_site_rules.specs.declared.fault.Fault.TheVariants.{NoSuchObject, NotSupported, OtherShape, NotWatchable, NotInBatch, NotWritable, OtherKind, BelowMin, AboveMax, NotInRange, TextTooLong, LeaseOutOfRange, TooManyWatches, TooManyItems, HrefTooLong, TooManyBatchItems, TooManyEntries, TooManyItemsInAll, TooManyHrefBytes}
 
 -- the contract of a refusal
 abbrev pub fault_is : Fault → Option (List Text)
@@ -37,6 +37,8 @@ fault_display TooManyItems = codes "limit of 2048 items"
 fault_display HrefTooLong = codes "href longer than 1024 bytes"
 fault_display TooManyBatchItems = codes "limit of 1000 batch items"
 fault_display TooManyEntries = codes "limit of 1000000 stored entries"
+fault_display TooManyItemsInAll = codes "limit of 200000 items in all"
+fault_display TooManyHrefBytes = codes "limit of 16777216 bytes of hrefs in all"
 
 -- a refusal as an object
 abbrev pub err : Fault → Object

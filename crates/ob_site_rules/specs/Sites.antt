@@ -11,7 +11,7 @@ use Rattle.ob_watching.specs.Watches.{WorldOf, act}
 use Rattle.ob_site_rules.specs.declared.request.Request.{Request}
 use Rattle.ob_site_rules.specs.Build.{Text, Path, nameless, under_href}
 use Rattle.ob_site_rules.specs.declared.fault.Fault.{Fault}
-use Rattle.ob_site_rules.specs.declared.fault.Fault.TheVariants.{NoSuchObject, TooManyWatches, TooManyItems, HrefTooLong}
+use Rattle.ob_site_rules.specs.declared.fault.Fault.TheVariants.{NoSuchObject, TooManyWatches, TooManyItems, TooManyItemsInAll, TooManyHrefBytes, HrefTooLong}
 use Rattle.ob_site_rules.specs.Faults.{err}
 use Rattle.ob_site_rules.specs.declared.plan.Plan.{Plan}
 use Rattle.ob_site_rules.specs.State.{State, at, roll}
@@ -78,10 +78,13 @@ module _ (locate : Parts → Text → Option Path) where
     sent = sent plan;
     heard = heard;
     same_text = bytes_eq;
+    size = length;
     same = same_object;
     not_found = NoSuchObject;
     too_many_watches = TooManyWatches;
     too_many_items = TooManyItems;
+    too_many_in_all = TooManyItemsInAll;
+    too_many_bytes = TooManyHrefBytes;
   }
 
   -- what a request at a moment leaves, and the reply

@@ -40,4 +40,8 @@ pub enum Fault {
     TooManyBatchItems,
     /// Records and alarm events would be more than 1,000,000.
     TooManyEntries,
+    /// All watches together have 200,000 items.
+    TooManyItemsInAll,
+    /// The hrefs of all watches together would have more than 16,777,216 bytes.
+    TooManyHrefBytes,
 }

@@ -1,5 +1,5 @@
 -- What a client holds agrees with the items of its watch, through each operation and each step of the site.
-use Rattle.std.proofs.Common.{ℕ, zero, suc, ◌≡◌, ◌≤◌, ◌+◌, ◌-◌, Bool, true, false, cond, not, ◌&&◌, ◌||◌, List, [], ◌∷◌, ◌++◌, map, length, take, drop, nat_le, refl, sym, ap, ◌∙◌, ap₂, subst, arith, append-nil, append_assoc, length-append, length-drop, take-append-drop, add-zero}
+use Rattle.std.proofs.Common.{ℕ, zero, suc, ◌≡◌, ◌≤◌, ◌+◌, ◌-◌, Bool, true, false, cond, not, ◌&&◌, ◌||◌, List, [], ◌∷◌, ◌++◌, map, length, take, drop, Option, Some, None, refl, sym, ap, ◌∙◌, ap₂, subst, arith, append-nil, append_assoc, length-append, length-drop, take-append-drop, add-zero}
 use Rattle.std.specs.List.{filter, AllByRecursion}
 use Rattle.std.specs.Bool.{Decides}
 use Rattle.std.proofs.lemmas.List.Elements.{filter-append}
@@ -9,7 +9,7 @@ use Rattle.ob_values.proofs.Lists.{all_both}
 use Rattle.ob_watching.specs.Operations.{Shows, Lists, Refuses, Found, ObjectAt, FeedAt, NotFound}
 use Rattle.ob_watching.specs.Sites.{Site, IsLawful, HasRolled}
 use Rattle.ob_watching.specs.Tables.{put, IsSuffix}
-use Rattle.ob_watching.specs.Watches.{max_items, Tracked, Object, Feed, Item, Content, Reading, count, since, content_now, reading, reported_now, reported, lists_some, changes_of, changes, settled_at, settled, put_item, has_text, add_found, items_added, readings_added, among, Distinct}
+use Rattle.ob_watching.specs.Watches.{Room, Tracked, Object, Feed, Item, Content, Reading, count, since, content_now, reading, reported_now, reported, lists_some, changes_of, changes, settled_at, settled, put_item, refusal, added_unless, add_found, items_added, readings_added, among, Distinct}
 use Rattle.ob_watching.specs.Replay.{continued, change, take_added, changed_by, added_by, is_content, has_content}
 use Rattle.ob_watching.proofs.Texts.{distinct_found}
 
@@ -209,24 +209,17 @@ module _ (m : Site) (had : m.Path → m.Event → Type 0) where
   abbrev pub entry_at : m.State → Reading m → (m.Text → m.State) → m.Text → m.State
   entry_at s r when t = cond (is_content r.content && m.same_text t r.text) s (when t)
 
-  agree_add : IsLawful m → (s : m.State) → HasSuch s → (when : m.Text → m.State) (text : m.Text) (found : Found m.Path m.Filter m.Fault) (items : List (Item m)) (held : List (Reading m)) → Distinct m items → AllAgree s when items held → let one = add_found m s items text found in AllAgree s (entry_at s one.1 when) one.0 (take_added m.same_text one.1 one.1.content held)
-  agree_add law s such when text (NotFound fault) items held d h = h
-  agree_add law s such when text (ObjectAt path) items held d h = go (nat_le max_items (length items) && not (has_text m items text))
-    where
-      new : Item m
-      new = record { text = text; path = path; tracked = Object false }
+  agree_unless : IsLawful m → (s : m.State) (when : m.Text → m.State) (items : List (Item m)) (held : List (Reading m)) (text : m.Text) (path : m.Path) (t : Tracked m) → HoldsSo s s path t (content_now m s path t) → Distinct m items → AllAgree s when items held → (refused : Option m.Fault) → let one = added_unless m refused s items (record { text = text; path = path; tracked = t }) in AllAgree s (entry_at s one.1 when) one.0 (take_added m.same_text one.1 one.1.content held)
+  agree_unless law s when items held text path t holds d h (Some fault) = h
+  agree_unless law s when items held text path (Object changed) holds d h None = agree_put law s when _ _ items held d refl holds h
+  agree_unless law s when items held text path (Feed bounds given) holds d h None = agree_put law s when _ _ items held d refl holds h
 
-      go : (b : Bool) → let one : List (Item m) × Reading m = cond b (items, record { text = text; content = Refuses (m.err m.too_many_items) }) (put_item m new items, reading m s new) in AllAgree s (entry_at s one.1 when) one.0 (take_added m.same_text one.1 one.1.content held)
-      go true = h
-      go false = agree_put law s when new (reading m s new) items held d refl refl h
-  agree_add law s such when text (FeedAt path bounds) items held d h = go (nat_le max_items (length items) && not (has_text m items text))
-    where
-      new : Item m
-      new = record { text = text; path = path; tracked = Feed bounds (count m s path) }
-
-      go : (b : Bool) → let one : List (Item m) × Reading m = cond b (items, record { text = text; content = Refuses (m.err m.too_many_items) }) (put_item m new items, reading m s new) in AllAgree s (entry_at s one.1 when) one.0 (take_added m.same_text one.1 one.1.content held)
-      go true = h
-      go false = agree_put law s when new (reading m s new) items held d refl (holds_now s such path (Feed bounds 0)) h
+  agree_add : IsLawful m → (s : m.State) → HasSuch s → (room : Room) (when : m.Text → m.State) (text : m.Text) (found : Found m.Path m.Filter m.Fault) (items : List (Item m)) (held : List (Reading m)) → Distinct m items → AllAgree s when items held → let one = add_found m s room items text found in AllAgree s (entry_at s one.1 when) one.0 (take_added m.same_text one.1 one.1.content held)
+  agree_add law s such room when text (NotFound fault) items held d h = h
+  agree_add law s such room when text (ObjectAt path) items held d h =
+      agree_unless law s when items held text path (Object false) refl d h (refusal m room items text)
+  agree_add law s such room when text (FeedAt path bounds) items held d h =
+      agree_unless law s when items held text path (Feed bounds (count m s path)) (holds_now s such path (Feed bounds 0)) d h (refusal m room items text)
 
   either : (s w : m.State) (a b : Bool) → cond b s (cond a s w) ≡ cond (a || b) s w
   either s w true true = refl
@@ -237,14 +230,14 @@ module _ (m : Site) (had : m.Path → m.Event → Type 0) where
   abbrev pub entries_at : m.State → List (Reading m) → (m.Text → m.State) → m.Text → m.State
   entries_at s rs when t = cond (has_content m.same_text rs t) s (when t)
 
-  pub agree_added : IsLawful m → (s : m.State) → HasSuch s → (ns : List ℕ) (when : m.Text → m.State) (asked : List (m.Text × m.Input)) (items : List (Item m)) (held : List (Reading m)) → Distinct m items → AllAgree s when items held → AllAgree s (entries_at s (readings_added m s ns items asked) when) (items_added m s ns items asked) (added_by m.same_text (readings_added m s ns items asked) held)
-  agree_added law s such ns when [] items held d h = h
-  agree_added law s such ns when (a ∷ asked) items held d h =
+  pub agree_added : IsLawful m → (s : m.State) → HasSuch s → (ns : List ℕ) (room : Room) (when : m.Text → m.State) (asked : List (m.Text × m.Input)) (items : List (Item m)) (held : List (Reading m)) → Distinct m items → AllAgree s when items held → AllAgree s (entries_at s (readings_added m s ns room items asked) when) (items_added m s ns room items asked) (added_by m.same_text (readings_added m s ns room items asked) held)
+  agree_added law s such ns room when [] items held d h = h
+  agree_added law s such ns room when (a ∷ asked) items held d h =
       let found = m.find s ns a.0 a.1 in
-      let one = add_found m s items a.0 found in
-      subst (λ at. AllAgree s at (items_added m s ns one.0 asked) (added_by m.same_text (readings_added m s ns one.0 asked) (take_added m.same_text one.1 one.1.content held)))
-      (λ i t. either s (when t) (is_content one.1.content && m.same_text t one.1.text) (has_content m.same_text (readings_added m s ns one.0 asked) t) i)
-      (agree_added law s such ns (entry_at s one.1 when) asked one.0 _ (distinct_found m law s a.0 found items d) (agree_add law s such when a.0 found items held d h))
+      let one = add_found m s room items a.0 found in
+      subst (λ at. AllAgree s at (items_added m s ns room one.0 asked) (added_by m.same_text (readings_added m s ns room one.0 asked) (take_added m.same_text one.1 one.1.content held)))
+      (λ i t. either s (when t) (is_content one.1.content && m.same_text t one.1.text) (has_content m.same_text (readings_added m s ns room one.0 asked) t) i)
+      (agree_added law s such ns room (entry_at s one.1 when) asked one.0 _ (distinct_found m law s room a.0 found items d) (agree_add law s such room when a.0 found items held d h))
 
   -- a pollRefresh gives each item whole
   more_given : (r : Reading m) (rs : List (Reading m)) (items : List (Item m)) → AllByRecursion (λ item. has_content m.same_text rs item.text ≡ true) items → AllByRecursion (λ item. has_content m.same_text (r ∷ rs) item.text ≡ true) items

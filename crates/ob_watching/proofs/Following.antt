@@ -1,6 +1,6 @@
 -- A client that replays the replies on a watch follows it, over every legal history.
 use Rattle.std.proofs.Common.{◌≡◌, ◌≢◌, ℕ, ◌+◌, ◌^◌, ◌<◌, ◌≤◌, Bool, true, false, cond, ◌||◌, List, [], ◌∷◌, ◌++◌, map, ◌==◌, Option, Some, None, Ok, Err, refl, sym, ap, ◌∙◌, subst, ap₂, subst₂, eq-eqb, arith, ◌⊎◌, inl, inr}
-use Rattle.std.specs.Prelude.{suc, Contains}
+use Rattle.std.specs.Prelude.{suc, length, Contains}
 use Rattle.std.specs.List.{list_any, AllByRecursion}
 use Rattle.std.proofs.lemmas.Bool.Decides.{eqb_tells}
 use Rattle.ob_machine.specs.History.{left_by, IsAnswer, IsCall}
@@ -8,14 +8,14 @@ use Rattle.ob_machine.specs.declared.call.Answer.TheVariants.{Done, NoMemory}
 use Rattle.ob_watching.specs.Operations.{Operation, Look, Renew, Add, Remove, PollChanges, PollRefresh, Delete, Refuse, Target, Itself, Nowhere, NewWatch, OneWatch, Told, Refused, Values, Nothing, Other}
 use Rattle.ob_watching.specs.Sites.{Site, IsLawful, HasRolled}
 use Rattle.ob_watching.specs.Tables.{lookup, replace, numbers_of}
-use Rattle.ob_watching.specs.Watches.{last_number, first_lease, Item, Watch, World, Reading, Reply, Asks, settled, reading, reported, firsts, with_items, with_lease, watch_after, reply_to, begun, touched, made, is_full, on_watch, acted, act, Distinct, IsSound}
+use Rattle.ob_watching.specs.Watches.{last_number, first_lease, Room, room_beside, yielded, Item, Watch, World, Reading, Reply, Asks, settled, reading, reported, firsts, with_items, with_lease, watch_after, reply_to, begun, touched, made, is_full, on_watch, acted, act, Distinct, IsSound}
 use Rattle.ob_watching.specs.Replay.{gives_whole, replay_heard, has_content}
 use Rattle.ob_watching.specs.Clients.{Heard, Replied, Asking, Call, call_of, calls, call_gives, replay_call, replayed}
 use Rattle.ob_watching.specs.Laws.{step, after, Legal, IsMake, IsRead, Ends, whole_by, whole_at, HadEvent}
 use Rattle.ob_watching.proofs.Tables.{map_option, lookup-map_values, lookup-replaced, lookup-taken, lookup-replace_other, lookup-append_other, lookup-append, lookup_all}
 use Rattle.ob_watching.proofs.Readable.{readable_added, readable_changes, readable_items}
 use Rattle.ob_watching.proofs.Agreement.{GoesOn, HasSuch, AllAgree, agree_on, agree_without, agree_added, agree_refreshed, agree_polled, entries_at}
-use Rattle.ob_watching.proofs.Soundness.{OfSome, number_below, lookup_next, lookup-filter, sound_begun, sound_step, left, step_left}
+use Rattle.ob_watching.proofs.Soundness.{OfSome, number_below, lookup_next, lookup_yielding, lookup-filter, sound_begun, sound_yielded, sound_step, left, step_left}
 
 later : {A : Type 0} (x y : A) (xs : List A) → Contains xs y → Contains (x ∷ xs) y
 later x y xs h = (suc h.0, omega (arith, h.1), h.2)
@@ -45,15 +45,15 @@ module _ (m : Site) where
       go NoMemory h = tt
 
   -- a make that was answered gave the next number
-  pub made_next : IsLawful m → (n : ℕ) → n < 2 ^ 64 → (w : World m) (e : Asking m) → IsSound m w → IsCall (act m) w e → IsMake m n e → (n ≡ w.next) × (step m w e ≡ made m (begun m w e.moment))
+  pub made_next : IsLawful m → (n : ℕ) → n < 2 ^ 64 → (w : World m) (e : Asking m) → IsSound m w → IsCall (act m) w e → IsMake m n e → (n ≡ w.next) × (step m w e ≡ made m (yielded m (begun m w e.moment)))
   made_next law n small w e sound is h =
-      (let done = go (is_full m v) (reply_done w e NewWatch (m.sent (Told n h.lease m.whole)) is h.target h.answer) in
+      (let done = go (is_full m (yielded m v)) (reply_done w e NewWatch (m.sent (Told n h.lease m.whole)) is h.target h.answer) in
       (done.0, left_done law w e NewWatch _ sound h.target h.answer ∙ done.1))
     where
       v : World m
       v = begun m w e.moment
 
-      go : (b : Bool) → let done : World m × Reply m = cond b (v, Refused m.too_many_watches) (made m v, Told v.next first_lease m.whole) in m.sent (Told n h.lease m.whole) ≡ m.sent done.1 → (n ≡ w.next) × (done.0 ≡ made m v)
+      go : (b : Bool) → let done : World m × Reply m = cond b (v, Refused m.too_many_watches) (made m (yielded m v), Told v.next first_lease m.whole) in m.sent (Told n h.lease m.whole) ≡ m.sent done.1 → (n ≡ w.next) × (done.0 ≡ made m (yielded m v))
       go true g = absurd (law.told_refused n h.lease m.too_many_watches g)
       go false g = (law.told n v.next h.lease first_lease small (next_small v.next sound.next) g, refl)
 
@@ -63,13 +63,13 @@ module _ (m : Site) where
     pub stands : lookup n w.watches ≡ Some (with_items m watch (map (reported m w.site) watch.items))
 
   abbrev pub IsPoll : Asks m → Type 0
-  IsPoll op = (s : m.State) (ns : List ℕ) (v : Watch m) → watch_after m s ns v op ≡ Some (with_items m v (map (reported m s) v.items))
+  IsPoll op = (s : m.State) (ns : List ℕ) (room : Room) (v : Watch m) → watch_after m s ns room v op ≡ Some (with_items m v (map (reported m s) v.items))
 
   polled_on : IsLawful m → (n : ℕ) (w : World m) (op : Asks m) → IsPoll op → (found : Option (Watch m)) (given : List (Reading m)) → lookup n w.watches ≡ found → m.heard op (m.sent (on_watch m w n op found).1) ≡ Values given → Polled n (on_watch m w n op found).0
   polled_on law n w op poll None given e is = absurd (cc (law.heard_refused op m.not_found))
   polled_on law n w op poll (Some v) given e is = record {
     watch = touched m w.time v;
-    stands = ap (λ new. lookup n (replace n new w.watches)) (poll w.site (numbers_of w.watches) (touched m w.time v)) ∙ lookup-replaced n _ w.watches v e;
+    stands = ap (λ new. lookup n (replace n new w.watches)) (poll w.site (numbers_of w.watches) (room_beside m n w.watches) (touched m w.time v)) ∙ lookup-replaced n _ w.watches v e;
   }
 
   polled_step : IsLawful m → (n : ℕ) (op : Asks m) → IsPoll op → (w : World m) (e : Asking m) → IsSound m w → IsCall (act m) w e → IsRead m n op e → Polled n (step m w e)
@@ -79,8 +79,8 @@ module _ (m : Site) where
 
   pub polled_after : IsLawful m → (n : ℕ) (es : List (Asking m)) (w : World m) → IsSound m w → Legal m w es → Ends m n es → Polled n (after m w es)
   polled_after law n [] w sound legal ends = absurd ends
-  polled_after law n (e ∷ []) w sound legal (inl h) = polled_step law n PollChanges (λ s ns v. refl) w e sound legal.0 h
-  polled_after law n (e ∷ []) w sound legal (inr h) = polled_step law n PollRefresh (λ s ns v. refl) w e sound legal.0 h
+  polled_after law n (e ∷ []) w sound legal (inl h) = polled_step law n PollChanges (λ s ns room v. refl) w e sound legal.0 h
+  polled_after law n (e ∷ []) w sound legal (inr h) = polled_step law n PollRefresh (λ s ns room v. refl) w e sound legal.0 h
   polled_after law n (e ∷ f ∷ es) w sound legal ends = polled_after law n (f ∷ es) (step m w e) (sound_step m law w e sound) legal.1 ends
 
   -- where each href was given whole, after an answer to a request
@@ -111,6 +111,12 @@ module _ (m : Site) (had : m.Path → m.Event → Type 0) where
   follows_made n w when held h = record {
     made = omega (arith, h.made);
     agree = λ v e. h.agree v (sym (lookup-append_other n w.next _ w.watches (omega (arith, h.made))) ∙ e);
+  }
+
+  follows_yielded : (n : ℕ) (w : World m) (when : m.Text → m.State) (held : List (Reading m)) → Follows n w when held → Follows n (yielded m w) when held
+  follows_yielded n w when held h = record {
+    made = h.made;
+    agree = λ v e. h.agree v (lookup_yielding m n (length w.watches) w.time w.watches v e);
   }
 
   -- the site's own request: events come, and then the oldest roll off
@@ -167,42 +173,42 @@ module _ (m : Site) (had : m.Path → m.Event → Type 0) where
   agree_quiet s Delete quiet items when held all heard = absurd quiet
 
   -- what is read in the reply
-  abbrev heard_in : m.State → List ℕ → ℕ → Watch m → Asks m → Heard m
-  heard_in s ns n v op = m.heard op (m.sent (reply_to m s ns n v op))
+  abbrev heard_in : m.State → List ℕ → Room → ℕ → Watch m → Asks m → Heard m
+  heard_in s ns room n v op = m.heard op (m.sent (reply_to m s ns room n v op))
 
-  abbrev AgreesOwn : m.State → List ℕ → Watch m → Asks m → (m.Text → m.State) → List (Reading m) → Heard m → Type 0
-  AgreesOwn s ns v op when held heard = OfSome (λ u. AllAgree m had s (heard_at s op heard when) u.items (replay_heard m.same_text op heard held)) (watch_after m s ns v op)
+  abbrev AgreesOwn : m.State → List ℕ → Room → Watch m → Asks m → (m.Text → m.State) → List (Reading m) → Heard m → Type 0
+  AgreesOwn s ns room v op when held heard = OfSome (λ u. AllAgree m had s (heard_at s op heard when) u.items (replay_heard m.same_text op heard held)) (watch_after m s ns room v op)
 
-  agree_own : (law : IsLawful m) → (s : m.State) → HasSuch m had s → (ns : List ℕ) (n : ℕ) (v : Watch m) (op : Asks m) (when : m.Text → m.State) (held : List (Reading m)) → Distinct m v.items → AllAgree m had s when v.items held → AgreesOwn s ns v op when held (heard_in s ns n v op)
-  agree_own law s such ns n v (Look part) when held distinct all = agree_quiet s (Look part) tt v.items when held all _
-  agree_own law s such ns n v (Renew input) when held distinct all =
-      elim (m.lease_asked s input) as (λ asked. AllAgree m had s (heard_at s (Renew input) (heard_in s ns n v (Renew input)) when) (with_lease m v asked).items (replay_heard {Input = m.Input} {Part = m.Part} {Fault = m.Fault} m.same_text (Renew input) (heard_in s ns n v (Renew input)) held)) [
+  agree_own : (law : IsLawful m) → (s : m.State) → HasSuch m had s → (ns : List ℕ) (room : Room) (n : ℕ) (v : Watch m) (op : Asks m) (when : m.Text → m.State) (held : List (Reading m)) → Distinct m v.items → AllAgree m had s when v.items held → AgreesOwn s ns room v op when held (heard_in s ns room n v op)
+  agree_own law s such ns room n v (Look part) when held distinct all = agree_quiet s (Look part) tt v.items when held all _
+  agree_own law s such ns room n v (Renew input) when held distinct all =
+      elim (m.lease_asked s input) as (λ asked. AllAgree m had s (heard_at s (Renew input) (heard_in s ns room n v (Renew input)) when) (with_lease m v asked).items (replay_heard {Input = m.Input} {Part = m.Part} {Fault = m.Fault} m.same_text (Renew input) (heard_in s ns room n v (Renew input)) held)) [
         | Ok lease ↦ agree_quiet s (Renew input) tt v.items when held all _
         | Err fault ↦ agree_quiet s (Renew input) tt v.items when held all _
       ]
-  agree_own law s such ns n v (Add asked) when held distinct all =
-      subst (AgreesOwn s ns v (Add asked) when held) (sym (law.heard_out (Add asked) tt _ (readable_added m law (Add asked) s ns v.items (firsts m [] asked))))
-      (agree_added m had law s such ns when (firsts m [] asked) v.items held distinct all)
-  agree_own law s such ns n v (Remove texts) when held distinct all =
-      subst (AgreesOwn s ns v (Remove texts) when held) (sym (law.heard_nil texts)) (agree_without m had s when texts v.items held all)
-  agree_own law s such ns n v PollChanges when held distinct all =
-      subst (AgreesOwn s ns v PollChanges when held) (sym (law.heard_out PollChanges tt _ (readable_changes m law s v.items))) (agree_polled m had law s such when v.items held distinct all)
-  agree_own law s such ns n v PollRefresh when held distinct all =
-      subst (AgreesOwn s ns v PollRefresh when held) (sym (law.heard_out PollRefresh tt _ (readable_items m law PollRefresh s v.items))) (agree_refreshed m had law s such when v.items)
-  agree_own law s such ns n v Delete when held distinct all = tt
-  agree_own law s such ns n v (Refuse fault) when held distinct all = agree_quiet s (Refuse fault) tt v.items when held all _
+  agree_own law s such ns room n v (Add asked) when held distinct all =
+      subst (AgreesOwn s ns room v (Add asked) when held) (sym (law.heard_out (Add asked) tt _ (readable_added m law (Add asked) s ns room v.items (firsts m [] asked))))
+      (agree_added m had law s such ns room when (firsts m [] asked) v.items held distinct all)
+  agree_own law s such ns room n v (Remove texts) when held distinct all =
+      subst (AgreesOwn s ns room v (Remove texts) when held) (sym (law.heard_nil texts)) (agree_without m had s when texts v.items held all)
+  agree_own law s such ns room n v PollChanges when held distinct all =
+      subst (AgreesOwn s ns room v PollChanges when held) (sym (law.heard_out PollChanges tt _ (readable_changes m law s v.items))) (agree_polled m had law s such when v.items held distinct all)
+  agree_own law s such ns room n v PollRefresh when held distinct all =
+      subst (AgreesOwn s ns room v PollRefresh when held) (sym (law.heard_out PollRefresh tt _ (readable_items m law PollRefresh s v.items))) (agree_refreshed m had law s such when v.items)
+  agree_own law s such ns room n v Delete when held distinct all = tt
+  agree_own law s such ns room n v (Refuse fault) when held distinct all = agree_quiet s (Refuse fault) tt v.items when held all _
 
   follows_own : IsLawful m → (n : ℕ) (w : World m) → HasSuch m had w.site → (op : Asks m) (v : Watch m) (when : m.Text → m.State) (held : List (Reading m)) → IsSound m w → lookup n w.watches ≡ Some v → Follows n w when held → let done = on_watch m w n op (Some v) in Follows n done.0 (heard_at w.site op (m.heard op (m.sent done.1)) when) (replay_heard m.same_text op (m.heard op (m.sent done.1)) held)
   follows_own law n w such op v when held sound found h = record {
     made = h.made;
-    agree = go (watch_after m w.site (numbers_of w.watches) (touched m w.time v) op) (agree_own law w.site such (numbers_of w.watches) n (touched m w.time v) op when held (lookup_all (λ u. Distinct m u.items) n w.watches v sound.texts found) (h.agree v found));
+    agree = go (watch_after m w.site (numbers_of w.watches) (room_beside m n w.watches) (touched m w.time v) op) (agree_own law w.site such (numbers_of w.watches) (room_beside m n w.watches) n (touched m w.time v) op when held (lookup_all (λ u. Distinct m u.items) n w.watches v sound.texts found) (h.agree v found));
   }
     where
       now_at : m.Text → m.State
-      now_at = heard_at w.site op (heard_in w.site (numbers_of w.watches) n (touched m w.time v) op) when
+      now_at = heard_at w.site op (heard_in w.site (numbers_of w.watches) (room_beside m n w.watches) n (touched m w.time v) op) when
 
       now_held : List (Reading m)
-      now_held = replay_heard m.same_text op (heard_in w.site (numbers_of w.watches) n (touched m w.time v) op) held
+      now_held = replay_heard m.same_text op (heard_in w.site (numbers_of w.watches) (room_beside m n w.watches) n (touched m w.time v) op) held
 
       go : (new : Option (Watch m)) → OfSome (λ u. AllAgree m had w.site now_at u.items now_held) new → (u : Watch m) → lookup n (replace n new w.watches) ≡ Some u → AllAgree m had w.site now_at u.items now_held
       go None a u e = absurd (cc (lookup-taken n w.watches))
@@ -222,11 +228,11 @@ module _ (m : Site) (had : m.Path → m.Event → Type 0) where
   follows_left : IsLawful m → (n : ℕ) (w : World m) → HasSuch m had w.site → (r : m.Request) (t : Target m.Text m.Input m.Part m.Fault) (when : m.Text → m.State) (held : List (Reading m)) → IsSound m w → Follows n w when held → let reply = m.sent (acted m w r t).1 in Follows n (left m w r t) (given_by m n w.site (Done reply) t when) (replayed m (call_of m n (Done reply) t) held)
   follows_left law n w such r Itself when held sound h = follows_site law n w r when held h
   follows_left law n w such r Nowhere when held sound h = h
-  follows_left law n w such r NewWatch when held sound h = go (is_full m w)
+  follows_left law n w such r NewWatch when held sound h = go (is_full m (yielded m w))
     where
-      go : (b : Bool) → let done : World m × Reply m = cond b (w, Refused m.too_many_watches) (made m w, Told w.next first_lease m.whole) in Follows n done.0 when held
+      go : (b : Bool) → let done : World m × Reply m = cond b (w, Refused m.too_many_watches) (made m (yielded m w), Told w.next first_lease m.whole) in Follows n done.0 when held
       go true = h
-      go false = follows_made n w when held h
+      go false = follows_made n (yielded m w) when held (follows_yielded n w when held h)
   follows_left law n w such r (OneWatch k op) when held sound h = go (lookup k w.watches) refl (k == n) (eqb_tells k n)
     where
       go : (found : Option (Watch m)) → lookup k w.watches ≡ found → (b : Bool) → ((b ≡ true) × (k ≡ n)) ⊎ ((b ≡ false) × (k ≢ n)) →
@@ -279,7 +285,7 @@ module _ (m : Site) (had : m.Path → m.Event → Type 0) where
       subst₂ (λ k u. Follows k u when []) (sym new.0) (sym new.1) begins)
     where
       v : World m
-      v = begun m w e.moment
+      v = yielded m (begun m w e.moment)
 
       empty : Watch m
       empty = record { lease = first_lease; touched = v.time; items = [] }
@@ -288,7 +294,7 @@ module _ (m : Site) (had : m.Path → m.Event → Type 0) where
       begins = record {
         made = omega arith;
         agree = λ u found.
-            (let none = lookup_next m 0 v.next v.watches (sound_begun m w e.moment sound).numbers in
+            (let none = lookup_next m 0 v.next v.watches (sound_yielded m (begun m w e.moment) (sound_begun m w e.moment sound)).numbers in
             let same : empty ≡ u = cc (lookup-append v.next empty v.watches none) in
             subst (λ u. AllAgree m had v.site when u.items []) same tt);
       }

@@ -10,12 +10,12 @@ use Rattle.ob_machine.proofs.HistoryLemmas.{after-append, legal_front, legal_bac
 use Rattle.ob_watching.specs.Operations.{Target, Itself, Nowhere, NewWatch, OneWatch, Told, Refused, Lists}
 use Rattle.ob_watching.specs.Sites.{Site, IsLawful}
 use Rattle.ob_watching.specs.Tables.{lookup, numbers_of}
-use Rattle.ob_watching.specs.Watches.{first_lease, Tracked, Object, Feed, Item, Watch, World, Content, Reading, Reply, count, content_now, reading, reported_now, reported, with_items, begun, made, is_full, on_watch, acted, act, IsSound}
+use Rattle.ob_watching.specs.Watches.{first_lease, Tracked, Object, Feed, Item, Watch, World, Content, Reading, Reply, count, content_now, reading, reported_now, reported, with_items, begun, made, is_full, yielded, on_watch, acted, act, IsSound}
 use Rattle.ob_watching.specs.Clients.{Replied, Asking, Call, call_of, call_gives, calls, replay_call, replayed, replay, readings}
 use Rattle.ob_watching.specs.Laws.{step, after, Legal, IsMake, Begins, Ends, whole_by, whole_at, HoldsFeed, HoldsItem, HoldsAll, KeepsItem, EachExact, HadEvent, Holds, WatchReplays, IsOn, IsNotFound, WasMade, WatchStaysGone, unless_lapsed, standing_after, LeavesOthers}
 use Rattle.ob_watching.proofs.Tables.{map_option, lookup-map_values, lookup-replace_other, lookup-append_other, lookup-filter_none}
 use Rattle.ob_watching.proofs.Agreement.{HoldsSo, HoldsGiven, AllAgree}
-use Rattle.ob_watching.proofs.Soundness.{sound_step, lookup-standing, left, step_left}
+use Rattle.ob_watching.proofs.Soundness.{sound_step, gone_yielding, lookup-standing, left, step_left}
 use Rattle.ob_watching.proofs.Following.{Follows, has_such, follows_after, follows_first, made_next, Polled, polled_after}
 
 -- a filter that passes all passes as many
@@ -140,7 +140,7 @@ module _ (m : Site) where
     keeps_left : (w : World m) (r : m.Request) (t : Target m.Text m.Input m.Part m.Fault) → Keeps w.site → Keeps (left m w r t).site
     keeps_left w r Itself h = keep w.site (numbers_of w.watches) r w.time h
     keeps_left w r Nowhere h = h
-    keeps_left w r NewWatch h = elim (is_full m w) as (λ b. let done : World m × Reply m = cond b (w, Refused m.too_many_watches) (made m w, Told w.next first_lease m.whole) in Keeps done.0.site) [ true ↦ h | false ↦ h ]
+    keeps_left w r NewWatch h = elim (is_full m (yielded m w)) as (λ b. let done : World m × Reply m = cond b (w, Refused m.too_many_watches) (made m (yielded m w), Told w.next first_lease m.whole) in Keeps done.0.site) [ true ↦ h | false ↦ h ]
     keeps_left w r (OneWatch k op) h = elim (lookup k w.watches) as (λ found. Keeps (on_watch m w k op found).0.site) [ None ↦ h | Some v ↦ h ]
 
     keeps_step : (w : World m) (e : Asking m) → IsSound m w → Keeps w.site → Keeps (step m w e).site
@@ -172,11 +172,11 @@ module _ (m : Site) where
   gone_left : (n : ℕ) (w : World m) (r : m.Request) (t : Target m.Text m.Input m.Part m.Fault) → n < w.next → lookup n w.watches ≡ None → (n < (left m w r t).next) × (lookup n (left m w r t).watches ≡ None)
   gone_left n w r Itself made gone = (made, lookup-map_values _ n w.watches ∙ ap (map_option _) gone)
   gone_left n w r Nowhere made gone = (made, gone)
-  gone_left n w r NewWatch is gone = go (is_full m w)
+  gone_left n w r NewWatch is gone = go (is_full m (yielded m w))
     where
-      go : (b : Bool) → let done : World m × Reply m = cond b (w, Refused m.too_many_watches) (made m w, Told w.next first_lease m.whole) in (n < done.0.next) × (lookup n done.0.watches ≡ None)
+      go : (b : Bool) → let done : World m × Reply m = cond b (w, Refused m.too_many_watches) (made m (yielded m w), Told w.next first_lease m.whole) in (n < done.0.next) × (lookup n done.0.watches ≡ None)
       go true = (is, gone)
-      go false = (omega arith, lookup-append_other n w.next _ w.watches (omega arith) ∙ gone)
+      go false = (omega arith, lookup-append_other n w.next _ (yielded m w).watches (omega arith) ∙ gone_yielding m n (length w.watches) w.time w.watches gone)
   gone_left n w r (OneWatch k op) made gone = go (lookup k w.watches) refl
     where
       go : (found : Option (Watch m)) → lookup k w.watches ≡ found → (n < (on_watch m w k op found).0.next) × (lookup n (on_watch m w k op found).0.watches ≡ None)
@@ -217,7 +217,7 @@ module _ (m : Site) where
   next_left : (w : World m) (r : m.Request) (t : Target m.Text m.Input m.Part m.Fault) → w.next ≤ (left m w r t).next
   next_left w r Itself = omega arith
   next_left w r Nowhere = omega arith
-  next_left w r NewWatch = elim (is_full m w) as (λ b. let done : World m × Reply m = cond b (w, Refused m.too_many_watches) (made m w, Told w.next first_lease m.whole) in w.next ≤ done.0.next) [ true ↦ omega arith | false ↦ omega arith ]
+  next_left w r NewWatch = elim (is_full m (yielded m w)) as (λ b. let done : World m × Reply m = cond b (w, Refused m.too_many_watches) (made m (yielded m w), Told w.next first_lease m.whole) in w.next ≤ done.0.next) [ true ↦ omega arith | false ↦ omega arith ]
   next_left w r (OneWatch k op) = elim (lookup k w.watches) as (λ found. w.next ≤ (on_watch m w k op found).0.next) [ None ↦ omega arith | Some v ↦ omega arith ]
 
   next_step : IsLawful m → (w : World m) (e : Asking m) → IsSound m w → w.next ≤ (step m w e).next

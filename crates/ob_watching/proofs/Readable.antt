@@ -1,9 +1,9 @@
 -- All that a watch answers can be read back by a client.
-use Rattle.std.proofs.Common.{ℕ, zero, suc, ◌-◌, Bool, true, false, cond, not, ◌&&◌, List, [], ◌∷◌, ◌++◌, map, length, nat_le}
+use Rattle.std.proofs.Common.{ℕ, zero, suc, ◌-◌, true, false, List, [], ◌∷◌, ◌++◌, map, Option, Some, None}
 use Rattle.std.specs.List.{filter, AllByRecursion}
-use Rattle.ob_watching.specs.Operations.{PollChanges, Found, ObjectAt, FeedAt, NotFound, Refuses}
+use Rattle.ob_watching.specs.Operations.{PollChanges, Found, ObjectAt, FeedAt, NotFound}
 use Rattle.ob_watching.specs.Sites.{Site, IsLawful}
-use Rattle.ob_watching.specs.Watches.{max_items, Tracked, Object, Feed, Item, Reading, Asks, since, content_now, reading, lists_some, changes_of, changes, put_item, has_text, added, add_found, readings_added}
+use Rattle.ob_watching.specs.Watches.{Room, Tracked, Object, Feed, Item, Reading, Asks, since, content_now, reading, lists_some, changes_of, changes, refusal, added_unless, add_found, readings_added}
 use Rattle.ob_watching.proofs.Soundness.{all_filter}
 use Rattle.ob_watching.proofs.Agreement.{all_dropped}
 
@@ -37,18 +37,15 @@ module _ (m : Site) (law : IsLawful m) where
   readable_changes s [] = tt
   readable_changes s (item ∷ items) = readable_both PollChanges _ _ (readable_changes_of s item.text item.path item.tracked) (readable_changes s items)
 
-  readable_one : (op : Asks m) (s : m.State) (items : List (Item m)) (new : Item m) → law.Readable op (added m s items new).1
-  readable_one op s items new = go (nat_le max_items (length items) && not (has_text m items new.text))
-    where
-      go : (b : Bool) → let one : List (Item m) × Reading m = cond b (items, record { text = new.text; content = Refuses (m.err m.too_many_items) }) (put_item m new items, reading m s new) in law.Readable op one.1
-      go true = law.readable_fault op m.too_many_items new.text
-      go false = readable_content op s new.text new.path new.tracked
+  readable_one : (op : Asks m) (s : m.State) (items : List (Item m)) (new : Item m) (refused : Option m.Fault) → law.Readable op (added_unless m refused s items new).1
+  readable_one op s items new (Some fault) = law.readable_fault op fault new.text
+  readable_one op s items new None = readable_content op s new.text new.path new.tracked
 
-  readable_found : (op : Asks m) (s : m.State) (items : List (Item m)) (text : m.Text) (found : Found m.Path m.Filter m.Fault) → law.Readable op (add_found m s items text found).1
-  readable_found op s items text (NotFound fault) = law.readable_fault op fault text
-  readable_found op s items text (ObjectAt path) = readable_one op s items _
-  readable_found op s items text (FeedAt path bounds) = readable_one op s items _
+  readable_found : (op : Asks m) (s : m.State) (room : Room) (items : List (Item m)) (text : m.Text) (found : Found m.Path m.Filter m.Fault) → law.Readable op (add_found m s room items text found).1
+  readable_found op s room items text (NotFound fault) = law.readable_fault op fault text
+  readable_found op s room items text (ObjectAt path) = readable_one op s items _ (refusal m room items text)
+  readable_found op s room items text (FeedAt path bounds) = readable_one op s items _ (refusal m room items text)
 
-  pub readable_added : (op : Asks m) (s : m.State) (ns : List ℕ) (items : List (Item m)) (asked : List (m.Text × m.Input)) → AllReadable op (readings_added m s ns items asked)
-  readable_added op s ns items [] = tt
-  readable_added op s ns items (a ∷ asked) = (readable_found op s items a.0 (m.find s ns a.0 a.1), readable_added op s ns (add_found m s items a.0 (m.find s ns a.0 a.1)).0 asked)
+  pub readable_added : (op : Asks m) (s : m.State) (ns : List ℕ) (room : Room) (items : List (Item m)) (asked : List (m.Text × m.Input)) → AllReadable op (readings_added m s ns room items asked)
+  readable_added op s ns room items [] = tt
+  readable_added op s ns room items (a ∷ asked) = (readable_found op s room items a.0 (m.find s ns a.0 a.1), readable_added op s ns room (add_found m s room items a.0 (m.find s ns a.0 a.1)).0 asked)

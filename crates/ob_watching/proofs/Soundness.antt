@@ -1,6 +1,6 @@
 -- Every state that a step leaves is sound; and what a step leaves, target by target.
 use Rattle.std.proofs.Common.{Ok, Err, ◌≡◌, ◌≢◌, ℕ, ◌+◌, ◌<◌, ◌≤◌, max, Bool, true, false, cond, not, List, [], ◌∷◌, ◌++◌, map, ◌==◌, Option, Some, None, refl, sym, ap, ap₂, ◌∙◌, subst, arith, le_trans, ◌⊎◌, inl, inr}
-use Rattle.std.specs.Prelude.{nat_lt, nat_le, ◌||◌, length}
+use Rattle.std.specs.Prelude.{zero, suc, nat_lt, nat_le, ◌||◌, length, option_map, unwrap_or}
 use Rattle.std.specs.List.{filter, AllByRecursion}
 use Rattle.std.proofs.lemmas.Bool.Decides.{nat_tests, eqb_tells}
 use Rattle.ob_machine.specs.History.{left_by}
@@ -8,10 +8,10 @@ use Rattle.ob_machine.specs.declared.call.Answer.TheVariants.{Done, NoMemory}
 use Rattle.ob_watching.specs.Operations.{Look, Renew, Add, Remove, PollChanges, PollRefresh, Delete, Refuse, Target, Itself, Nowhere, NewWatch, OneWatch, Told, Refused}
 use Rattle.ob_watching.specs.Sites.{Site, IsLawful}
 use Rattle.ob_watching.specs.Tables.{lookup, map_values, replace, numbers_of}
-use Rattle.ob_watching.specs.Watches.{last_number, max_watches, first_lease, Tracked, Object, Feed, Item, Watch, World, Reply, Asks, with_lease, settled_at, settled, reported, firsts, with_items, watch_after, has_lapsed, begun, touched, made, is_full, on_watch, with_site, acted, ended, act, Distinct, Rises, IsSound}
+use Rattle.ob_watching.specs.Watches.{last_number, max_watches, first_lease, Room, room_beside, lacks_room, idlest, yielding, yielded, Tracked, Object, Feed, Item, Watch, World, Reply, Asks, with_lease, settled_at, settled, reported, firsts, with_items, watch_after, has_lapsed, begun, touched, made, is_full, on_watch, with_site, acted, ended, act, Distinct, Rises, IsSound}
 use Rattle.ob_watching.specs.Clients.{Replied, Asking}
 use Rattle.ob_watching.specs.Laws.{unless_lapsed, step}
-use Rattle.ob_watching.proofs.Tables.{lookup_all}
+use Rattle.ob_watching.proofs.Tables.{lookup_all, lookup-taken, lookup-replace_other}
 use Rattle.ob_watching.proofs.Texts.{distinct_map, distinct_filter, distinct_items_added}
 
 pub all_filter : {A : Type 0} (P : A → Type 0) (keep : A → Bool) (xs : List A) → AllByRecursion P xs → AllByRecursion P (filter keep xs)
@@ -38,6 +38,14 @@ all_replace : {A : Type 0} (P : A → Type 0) (n : ℕ) (new : Option A) (es : L
 all_replace P n new [] g h = tt
 all_replace P n None (e ∷ es) g h = elim (e.0 == n) as (λ b. AllByRecursion (λ e. P e.1) (cond b (replace n None es) (e ∷ replace n None es))) [ true ↦ all_replace P n None es g h.1 | false ↦ (h.0, all_replace P n None es g h.1) ]
 all_replace P n (Some a) (e ∷ es) g h = (elim (e.0 == n) as (λ b. P (cond b a e.1)) [ true ↦ g | false ↦ h.0 ], all_replace P n (Some a) es g h.1)
+
+-- what is found where a number is taken away was there before
+found_before : {A : Type 0} (k n : ℕ) (es : List (ℕ × A)) (a : A) → lookup n (replace k None es) ≡ Some a → lookup n es ≡ Some a
+found_before k n es a h = go (eqb_tells n k)
+  where
+    go : ((n == k ≡ true) × (n ≡ k)) ⊎ ((n == k ≡ false) × (n ≢ k)) → lookup n es ≡ Some a
+    go (inl w) = absurd (let f : None ≡ Some a = sym (lookup-taken k es) ∙ subst (λ j. lookup j (replace k None es) ≡ Some a) w.1 h in cc)
+    go (inr w) = sym (lookup-replace_other n k None es w.1) ∙ h
 
 module _ (m : Site) where
   rises_le : (low next : ℕ) (es : List (ℕ × Watch m)) → Rises m low next es → low ≤ next
@@ -131,15 +139,15 @@ module _ (m : Site) where
     texts = all_filter (λ e. Distinct m e.1.items) (λ e. not (has_lapsed m (max w.time moment) e.1)) w.watches h.texts;
   }
 
-  distinct_after : IsLawful m → (s : m.State) (ns : List ℕ) (v : Watch m) (op : Asks m) → Distinct m v.items → OfSome (λ u. Distinct m u.items) (watch_after m s ns v op)
-  distinct_after law s ns v (Look part) h = h
-  distinct_after law s ns v (Renew input) h = elim (m.lease_asked s input) as (λ asked. Distinct m (with_lease m v asked).items) [ Ok lease ↦ h | Err fault ↦ h ]
-  distinct_after law s ns v (Add asked) h = distinct_items_added m law s ns (firsts m [] asked) v.items h
-  distinct_after law s ns v (Remove texts) h = distinct_filter m _ v.items h
-  distinct_after law s ns v PollChanges h = distinct_map m (reported m s) (λ _. refl) v.items h
-  distinct_after law s ns v PollRefresh h = distinct_map m (reported m s) (λ _. refl) v.items h
-  distinct_after law s ns v Delete h = tt
-  distinct_after law s ns v (Refuse fault) h = h
+  distinct_after : IsLawful m → (s : m.State) (ns : List ℕ) (room : Room) (v : Watch m) (op : Asks m) → Distinct m v.items → OfSome (λ u. Distinct m u.items) (watch_after m s ns room v op)
+  distinct_after law s ns room v (Look part) h = h
+  distinct_after law s ns room v (Renew input) h = elim (m.lease_asked s input) as (λ asked. Distinct m (with_lease m v asked).items) [ Ok lease ↦ h | Err fault ↦ h ]
+  distinct_after law s ns room v (Add asked) h = distinct_items_added m law s ns room (firsts m [] asked) v.items h
+  distinct_after law s ns room v (Remove texts) h = distinct_filter m _ v.items h
+  distinct_after law s ns room v PollChanges h = distinct_map m (reported m s) (λ _. refl) v.items h
+  distinct_after law s ns room v PollRefresh h = distinct_map m (reported m s) (λ _. refl) v.items h
+  distinct_after law s ns room v Delete h = tt
+  distinct_after law s ns room v (Refuse fault) h = h
 
   sound_on_watch : IsLawful m → (w : World m) (n : ℕ) (op : Asks m) (found : Option (Watch m)) → lookup n w.watches ≡ found → IsSound m w → IsSound m (on_watch m w n op found).0
   sound_on_watch law w n op None e h = h
@@ -147,12 +155,49 @@ module _ (m : Site) where
     numbers = rises_replace n _ 0 w.next w.watches h.numbers;
     next = h.next;
     rolled = h.rolled;
-    texts = all_replace (λ u. Distinct m u.items) n _ w.watches (distinct_after law w.site (numbers_of w.watches) (touched m w.time v) op (lookup_all (λ u. Distinct m u.items) n w.watches v h.texts e)) h.texts;
+    texts = all_replace (λ u. Distinct m u.items) n _ w.watches (distinct_after law w.site (numbers_of w.watches) (room_beside m n w.watches) (touched m w.time v) op (lookup_all (λ u. Distinct m u.items) n w.watches v h.texts e)) h.texts;
   }
 
   is_last : (full : Bool) (next : ℕ) → (full || nat_lt last_number next) ≡ false → next ≤ last_number
   is_last true next h = absurd cc
   is_last false next h = grind (arith, nat_tests, h)
+
+  -- those that give way: the others stay as they are
+  over_idlest : (P : List (ℕ × Watch m) → Type 0) (keep : ℕ → List (ℕ × Watch m)) (ws : List (ℕ × Watch m)) → P ws → ((n : ℕ) → P (keep n)) → (lacks : Bool) (who : Option ℕ) → P (cond lacks (unwrap_or (option_map keep who) ws) ws)
+  over_idlest P keep ws h each false who = h
+  over_idlest P keep ws h each true None = h
+  over_idlest P keep ws h each true (Some n) = each n
+
+  rises_yielding : (most now low next : ℕ) (ws : List (ℕ × Watch m)) → Rises m low next ws → Rises m low next (yielding m most now ws)
+  rises_yielding zero now low next ws h = h
+  rises_yielding (suc most) now low next ws h =
+      over_idlest (Rises m low next) (λ n. yielding m most now (replace n None ws)) ws h (λ n. rises_yielding most now low next (replace n None ws) (rises_replace n None low next ws h)) (lacks_room m ws) (idlest m now ws)
+
+  texts_yielding : (most now : ℕ) (ws : List (ℕ × Watch m)) → AllByRecursion (λ e. Distinct m e.1.items) ws → AllByRecursion (λ e. Distinct m e.1.items) (yielding m most now ws)
+  texts_yielding zero now ws h = h
+  texts_yielding (suc most) now ws h =
+      over_idlest (AllByRecursion (λ e. Distinct m e.1.items)) (λ n. yielding m most now (replace n None ws)) ws h (λ n. texts_yielding most now (replace n None ws) (all_replace (λ u. Distinct m u.items) n None ws tt h)) (lacks_room m ws) (idlest m now ws)
+
+  pub sound_yielded : (w : World m) → IsSound m w → IsSound m (yielded m w)
+  sound_yielded w h = record {
+    numbers = rises_yielding (length w.watches) w.time 0 w.next w.watches h.numbers;
+    next = h.next;
+    rolled = h.rolled;
+    texts = texts_yielding (length w.watches) w.time w.watches h.texts;
+  }
+
+  -- and none is found anew
+  pub lookup_yielding : (n most now : ℕ) (ws : List (ℕ × Watch m)) (v : Watch m) → lookup n (yielding m most now ws) ≡ Some v → lookup n ws ≡ Some v
+  lookup_yielding n zero now ws v h = h
+  lookup_yielding n (suc most) now ws v h =
+      over_idlest (λ us. lookup n us ≡ Some v → lookup n ws ≡ Some v) (λ k. yielding m most now (replace k None ws)) ws (λ e. e) (λ k e. found_before k n ws v (lookup_yielding n most now (replace k None ws) v e)) (lacks_room m ws) (idlest m now ws) h
+
+  pub gone_yielding : (n most now : ℕ) (ws : List (ℕ × Watch m)) → lookup n ws ≡ None → lookup n (yielding m most now ws) ≡ None
+  gone_yielding n most now ws none = go (lookup n (yielding m most now ws)) refl
+    where
+      go : (found : Option (Watch m)) → lookup n (yielding m most now ws) ≡ found → lookup n (yielding m most now ws) ≡ None
+      go None e = e
+      go (Some v) e = absurd (let f : Some v ≡ None = sym (lookup_yielding n most now ws v e) ∙ none in cc)
 
   sound_made : (w : World m) → is_full m w ≡ false → IsSound m w → IsSound m (made m w)
   sound_made w room h = record {
@@ -200,11 +245,11 @@ module _ (m : Site) where
   ended_left : IsLawful m → (w : World m) → m.roll w.site ≡ w.site → (r : m.Request) (t : Target m.Text m.Input m.Part m.Fault) → ended m w.site (acted m w r t).0 ≡ left w r t
   ended_left law w rolled r Itself = refl
   ended_left law w rolled r Nowhere = quiet law w.site rolled w refl
-  ended_left law w rolled r NewWatch = go (is_full m w)
+  ended_left law w rolled r NewWatch = go (is_full m (yielded m w))
     where
-      go : (b : Bool) → let done : World m × Reply m = cond b (w, Refused m.too_many_watches) (made m w, Told w.next first_lease m.whole) in ended m w.site done.0 ≡ done.0
+      go : (b : Bool) → let done : World m × Reply m = cond b (w, Refused m.too_many_watches) (made m (yielded m w), Told w.next first_lease m.whole) in ended m w.site done.0 ≡ done.0
       go true = quiet law w.site rolled w refl
-      go false = quiet law w.site rolled (made m w) refl
+      go false = quiet law w.site rolled (made m (yielded m w)) refl
   ended_left law w rolled r (OneWatch n op) = go (lookup n w.watches)
     where
       go : (found : Option (Watch m)) → ended m w.site (on_watch m w n op found).0 ≡ (on_watch m w n op found).0
@@ -234,11 +279,11 @@ module _ (m : Site) where
         texts = all_values (λ u. Distinct m u.items) (λ u. Distinct m u.items) (λ v. with_items m v (map (settled m w.site (m.roll (m.act w.site (numbers_of w.watches) r w.time).0)) v.items)) (λ v d. distinct_map m (settled m w.site (m.roll (m.act w.site (numbers_of w.watches) r w.time).0)) (λ _. refl) v.items d) w.watches h.texts;
       }
   sound_left law w r Nowhere h = h
-  sound_left law w r NewWatch h = go (is_full m w) refl
+  sound_left law w r NewWatch h = go (is_full m (yielded m w)) refl
     where
-      go : (b : Bool) → is_full m w ≡ b → let done : World m × Reply m = cond b (w, Refused m.too_many_watches) (made m w, Told w.next first_lease m.whole) in IsSound m done.0
+      go : (b : Bool) → is_full m (yielded m w) ≡ b → let done : World m × Reply m = cond b (w, Refused m.too_many_watches) (made m (yielded m w), Told w.next first_lease m.whole) in IsSound m done.0
       go true full = h
-      go false room = sound_made w room h
+      go false room = sound_made (yielded m w) room (sound_yielded w h)
   sound_left law w r (OneWatch n op) h = sound_on_watch law w n op (lookup n w.watches) refl h
 
   -- each step keeps it

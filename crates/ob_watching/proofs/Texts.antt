@@ -1,9 +1,9 @@
 -- No two items of a watch have one text, through each operation.
-use Rattle.std.proofs.Common.{ℕ, ◌≡◌, Bool, true, false, cond, not, ◌&&◌, List, [], ◌∷◌, map, length, nat_le, refl, sym, ap, ◌∙◌, subst}
+use Rattle.std.proofs.Common.{ℕ, ◌≡◌, Bool, true, false, cond, List, [], ◌∷◌, map, Option, Some, None, refl, sym, ap, ◌∙◌, subst}
 use Rattle.std.specs.List.{filter, AllByRecursion}
-use Rattle.ob_watching.specs.Operations.{Found, ObjectAt, FeedAt, NotFound, Refuses}
+use Rattle.ob_watching.specs.Operations.{Found, ObjectAt, FeedAt, NotFound}
 use Rattle.ob_watching.specs.Sites.{Site, IsLawful}
-use Rattle.ob_watching.specs.Watches.{Item, Reading, reading, put_item, has_text, added, add_found, items_added, Distinct, max_items}
+use Rattle.ob_watching.specs.Watches.{Room, Item, put_item, refusal, added_unless, add_found, items_added, Distinct}
 
 module _ (m : Site) where
   abbrev Differs : m.Text → List (Item m) → Type 0
@@ -38,18 +38,15 @@ module _ (m : Site) where
       go true e rest = (subst (λ t. Differs t items) ((law.same_text _ _).0 e) h.0, h.1)
       go false e rest = (differs_put new item.text items h.0 e, rest)
 
-  distinct_added : IsLawful m → (s : m.State) (new : Item m) (items : List (Item m)) → Distinct m items → Distinct m (added m s items new).0
-  distinct_added law s new items h = go (nat_le max_items (length items) && not (has_text m items new.text))
-    where
-      go : (b : Bool) → let one : List (Item m) × Reading m = cond b (items, record { text = new.text; content = Refuses (m.err m.too_many_items) }) (put_item m new items, reading m s new) in Distinct m one.0
-      go true = h
-      go false = distinct_put law new items h
+  distinct_unless : IsLawful m → (s : m.State) (new : Item m) (items : List (Item m)) → Distinct m items → (refused : Option m.Fault) → Distinct m (added_unless m refused s items new).0
+  distinct_unless law s new items h (Some fault) = h
+  distinct_unless law s new items h None = distinct_put law new items h
 
-  pub distinct_found : IsLawful m → (s : m.State) (text : m.Text) (found : Found m.Path m.Filter m.Fault) (items : List (Item m)) → Distinct m items → Distinct m (add_found m s items text found).0
-  distinct_found law s text (NotFound fault) items h = h
-  distinct_found law s text (ObjectAt path) items h = distinct_added law s _ items h
-  distinct_found law s text (FeedAt path bounds) items h = distinct_added law s _ items h
+  pub distinct_found : IsLawful m → (s : m.State) (room : Room) (text : m.Text) (found : Found m.Path m.Filter m.Fault) (items : List (Item m)) → Distinct m items → Distinct m (add_found m s room items text found).0
+  distinct_found law s room text (NotFound fault) items h = h
+  distinct_found law s room text (ObjectAt path) items h = distinct_unless law s _ items h (refusal m room items text)
+  distinct_found law s room text (FeedAt path bounds) items h = distinct_unless law s _ items h (refusal m room items text)
 
-  pub distinct_items_added : IsLawful m → (s : m.State) (ns : List ℕ) (asked : List (m.Text × m.Input)) (items : List (Item m)) → Distinct m items → Distinct m (items_added m s ns items asked)
-  distinct_items_added law s ns [] items h = h
-  distinct_items_added law s ns (a ∷ asked) items h = distinct_items_added law s ns asked _ (distinct_found law s a.0 (m.find s ns a.0 a.1) items h)
+  pub distinct_items_added : IsLawful m → (s : m.State) (ns : List ℕ) (room : Room) (asked : List (m.Text × m.Input)) (items : List (Item m)) → Distinct m items → Distinct m (items_added m s ns room items asked)
+  distinct_items_added law s ns room [] items h = h
+  distinct_items_added law s ns room (a ∷ asked) items h = distinct_items_added law s ns room asked _ (distinct_found law s room a.0 (m.find s ns a.0 a.1) items h)

@@ -1,12 +1,13 @@
 -- Worked rows on the small site, each a reply that is computed.
-use Rattle.std.specs.Prelude.{◌≡◌, ◌⊎◌, ℕ, zero, suc, false, ◌+◌, ◌-◌, ◌^◌, List, [], ◌∷◌, ◌++◌}
+use Rattle.std.specs.Prelude.{◌≡◌, ◌⊎◌, ℕ, zero, suc, false, ◌+◌, ◌-◌, ◌^◌, List, [], ◌∷◌, ◌++◌, length, replicate}
 use Rattle.ob_machine.specs.History.{entry}
 use Rattle.ob_machine.specs.declared.call.Answer.TheVariants.{Done, NoMemory}
 use Rattle.ob_watching.specs.Operations.{Add, Remove, PollChanges, PollRefresh, Delete, Renew, Look, Shows, Lists, Refuses, Told, Out, Refused, Answered}
+use Rattle.ob_watching.specs.Tables.{numbers_of}
 use Rattle.ob_watching.specs.Watches.{World, Watch, Item, Reading, Reply, Object, first_lease, act}
 use Rattle.ob_watching.specs.Clients.{Asking, calls, replay}
 use Rattle.ob_watching.specs.Laws.{after, HoldsFeed}
-use Rattle.ob_watching.specs.Small.{small, Whole, NoSuch, TooManyWatches, TooManyItems, NotInBatch, Request, Do, Batch, Make, Ask, Get, Put, AskWatch, Failed, Each, Event, Nodes, root, feed_path}
+use Rattle.ob_watching.specs.Small.{small, Whole, NoSuch, TooManyWatches, TooManyItems, TooManyInAll, TooManyBytes, NotInBatch, Request, Do, Batch, Make, Ask, Get, Put, AskWatch, Failed, Each, Event, Nodes, root, feed_path}
 
 -- nodes 1 and 2 with the value 0; the history of node 1 keeps this many records
 abbrev pub opening : ℕ → World small
@@ -204,6 +205,68 @@ crowded = record { time = 0; next = 2; watches = (1, record { lease = first_leas
 -- a new item is refused where there are the most, and one that is there is taken anew
 abbrev pub NotOneItemMore : Type 0
 NotOneItemMore = reply_to_last crowded [] (Ask 1 (Add ((1, 0) ∷ (2, 0) ∷ []))) 1 ≡ Out (record { text = 1; content = Refuses TooManyItems } ∷ record { text = 2; content = Refuses TooManyItems } ∷ [])
+
+-- a watch asked of last at a moment, with these items and a lease of an hour
+abbrev pub hourly : ℕ → List (Item small) → Watch small
+hourly touched own = record { lease = 3_600_000_000_000; touched = touched; items = own }
+
+-- these watches stand, under the numbers from 1 on
+abbrev pub numbered_from : ℕ → List (Watch small) → List (ℕ × Watch small)
+numbered_from n [] = []
+numbered_from n (v ∷ vs) = (n, v) ∷ numbered_from (n + 1) vs
+
+abbrev pub standing : List (Watch small) → World small
+standing vs = record { time = 0; next = length vs + 1; watches = numbered_from 1 vs; site = (opening 10).site }
+
+-- the numbers of the watches that stand once a make was asked for at a moment
+abbrev pub left_by_make : List (Watch small) → ℕ → List ℕ
+left_by_make vs moment = numbers_of (act small (standing vs) Make moment).0.watches
+
+-- one item whose href has so many bytes
+abbrev pub of_bytes : ℕ → List (Item small)
+of_bytes n = record { text = n; path = 1; tracked = Object false } ∷ []
+
+-- all watches together have their most items with this one, of no bytes
+abbrev pub items_but : ℕ → List (Item small)
+items_but k = replicate (200_000 - k) (record { text = 0; path = 1; tracked = Object false })
+
+-- beside 199,999 items one more is added, and of the next ones the new one is refused and that which is there is put anew
+abbrev pub NotOneInAll : Type 0
+NotOneInAll = reply_to_last (standing (hourly 0 (items_but 1) ∷ hourly 0 [] ∷ [])) ((Ask 2 (Add ((1, 0) ∷ [])), 1) ∷ []) (Ask 2 (Add ((2, 0) ∷ (1, 0) ∷ []))) 2
+    ≡ Out (record { text = 2; content = Refuses TooManyInAll } ∷ shows 1 (0 ∷ []) ∷ [])
+
+-- an item that another watch removed leaves its room
+abbrev pub RoomAfterRemove : Type 0
+RoomAfterRemove = reply_to_last (standing (hourly 0 (items_but 0) ∷ hourly 0 [] ∷ [])) ((Ask 1 (Remove (0 ∷ [])), 1) ∷ []) (Ask 2 (Add ((2, 0) ∷ []))) 2 ≡ Out (shows 2 (0 ∷ []) ∷ [])
+
+-- hrefs of 16,777,216 bytes in all are there, one of which is put anew; the next byte is too many
+abbrev pub NotOneByteMore : Type 0
+NotOneByteMore = reply_to_last (standing (hourly 0 (of_bytes 16_777_214) ∷ hourly 0 [] ∷ [])) ((Ask 2 (Add ((2, 0) ∷ [])), 1) ∷ []) (Ask 2 (Add ((1, 0) ∷ (2, 0) ∷ []))) 2
+    ≡ Out (record { text = 1; content = Refuses TooManyBytes } ∷ shows 2 (0 ∷ []) ∷ [])
+
+-- A watch of the most items lacks room for its make: of three idle ones the one goes whose last request lies farthest back.
+abbrev pub IdlestGives : Type 0
+IdlestGives = left_by_make (hourly 9 (items_but 4_000) ∷ hourly 7 (items 2_048) ∷ hourly 8 (items 100) ∷ []) 60_010 ≡ 1 ∷ 3 ∷ 4 ∷ []
+
+-- of several such the one with the least number
+abbrev pub FirstGives : Type 0
+FirstGives = left_by_make (hourly 7 (items 2_048) ∷ hourly 7 (items_but 4_000) ∷ hourly 8 (items 100) ∷ []) 60_010 ≡ 2 ∷ 3 ∷ 4 ∷ []
+
+-- as long as there is no room, and no longer: one without items makes none
+abbrev pub MoreGive : Type 0
+MoreGive = left_by_make (hourly 7 [] ∷ hourly 8 (items 2_048) ∷ hourly 9 (items_but 4_000) ∷ []) 60_010 ≡ 3 ∷ 4 ∷ []
+
+-- one asked of a minute ago gives way to none, even where there is no room; a make is refused at a thousand alone
+abbrev pub NoneGives : Type 0
+NoneGives = left_by_make (hourly 10 (items_but 0) ∷ []) 60_010 ≡ 1 ∷ 2 ∷ []
+
+-- where there is room no idle one gives way
+abbrev pub RoomForAll : Type 0
+RoomForAll = left_by_make (hourly 0 (items_but 2_048) ∷ []) 3_000_000 ≡ 1 ∷ 2 ∷ []
+
+-- room for all bytes that one may have is looked at, too
+abbrev pub BytesGive : Type 0
+BytesGive = left_by_make (hourly 0 (of_bytes 14_680_065) ∷ []) 60_001 ≡ 2 ∷ []
 
 -- the history alone: how many rolled off, and the kept ones
 abbrev pub with_history : ℕ → List Event → Nodes

@@ -48,11 +48,17 @@ pub record Site : Type 1 where
   pub sent : ReplyOf Reply Part Text Object Event Err Fault → Sent
   pub heard : Operation Text Input Part Fault → Sent → HeardOf Text Object Event Err
   pub same_text : Text → Text → Bool
+  -- how many bytes an asked href has
+  pub size : Text → ℕ
   pub same : Object → Object → Bool
   -- BadUriErr: there is no such object
   pub not_found : Fault
   pub too_many_watches : Fault
+  -- of one watch
   pub too_many_items : Fault
+  -- of all watches together: their items, and the bytes of the hrefs of these
+  pub too_many_in_all : Fault
+  pub too_many_bytes : Fault
 
 -- The feed at a path lost so many events, its oldest, and counts them.
 pub record HasRolled (Event : Type 0) (gone left : ℕ) (before after : List Event) : Type 0 where

@@ -24,6 +24,8 @@ pub data Fault : Type 0 where
   NotWatchable : Fault
   TooManyWatches : Fault
   TooManyItems : Fault
+  TooManyInAll : Fault
+  TooManyBytes : Fault
   NotInBatch : Fault
   LeaseOutOfRange : Fault
 
@@ -197,8 +199,11 @@ small = record {
   sent = λ reply. reply;
   heard = heard;
   same_text = λ a b. a == b;
+  size = λ text. text;
   same = same_values;
   not_found = NoSuch;
   too_many_watches = TooManyWatches;
   too_many_items = TooManyItems;
+  too_many_in_all = TooManyInAll;
+  too_many_bytes = TooManyBytes;
 }

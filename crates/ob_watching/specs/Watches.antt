@@ -1,17 +1,33 @@
 -- The watches of a site: their state, and what a request at a moment leaves and replies.
-use Rattle.std.specs.Prelude.{◌≡◌, ℕ, zero, ◌+◌, ◌-◌, ◌*◌, ◌^◌, ◌≤◌, max, Bool, true, false, cond, not, ◌&&◌, ◌||◌, List, [], ◌∷◌, ◌++◌, map, length, drop, nat_lt, nat_le, Option, Some, None, Result, Ok, Err}
+use Rattle.std.specs.Prelude.{◌≡◌, ℕ, zero, suc, ◌+◌, ◌-◌, ◌*◌, ◌^◌, ◌≤◌, max, Bool, true, false, cond, not, ◌||◌, List, [], ◌∷◌, ◌++◌, map, length, drop, nat_lt, nat_le, Option, Some, None, option_map, unwrap_or, Result, Ok, Err}
 use Rattle.std.specs.List.{filter, list_any, AllByRecursion}
 use Rattle.ob_watching.specs.Operations.{Operation, Look, Renew, Add, Remove, PollChanges, PollRefresh, Delete, Refuse, Target, Itself, Nowhere, NewWatch, OneWatch, Found, ObjectAt, FeedAt, NotFound, ContentOf, Shows, Lists, Refuses, ReadingOf, ReplyOf, Answered, Told, Out, Nil, Refused}
 use Rattle.ob_watching.specs.Sites.{Site}
-use Rattle.ob_watching.specs.Tables.{put, is_among, lookup, map_values, replace, numbers_of}
+use Rattle.ob_watching.specs.Tables.{put, is_among, lookup, map_values, replace, numbers_of, least}
 
--- limits of this server: watches at a time, items of a watch, and the last number that a watch is given
+-- limits of this server: watches at a time
 abbrev pub max_watches : ℕ
 max_watches = 1000
 
 -- items of a watch
 abbrev pub max_items : ℕ
 max_items = 2048
+
+-- items of all watches together
+abbrev pub max_items_in_all : ℕ
+max_items_in_all = 200_000
+
+-- bytes of the hrefs of all items of all watches
+abbrev pub max_bytes_in_all : ℕ
+max_bytes_in_all = 16_777_216
+
+-- as many bytes as the hrefs of one watch can have: 2,048 of 1,024 bytes each
+abbrev pub max_bytes : ℕ
+max_bytes = 2_097_152
+
+-- for so many milliseconds since the last request to it a watch gives way to none
+abbrev pub max_idle : ℕ
+max_idle = 60_000
 
 -- the last number that a watch is given
 abbrev pub last_number : ℕ
@@ -47,6 +63,11 @@ pub record WorldOf (State Text Path Filter : Type 0) : Type 0 where
   pub site : State
   pub watches : List (ℕ × WatchOf Text Path Filter)
   pub next : ℕ
+
+-- How many more items, and bytes of their hrefs, there may be.
+pub record Room : Type 0 where
+  pub items : ℕ
+  pub bytes : ℕ
 
 module _ (m : Site) where
   -- what is kept of an item of this site
@@ -131,29 +152,62 @@ module _ (m : Site) where
   abbrev pub put_item : Item → List Item → List Item
   put_item new items = put (λ old. m.same_text old.text new.text) (λ _. new) new items
 
-  -- Watch.add of one href that can be watched: a new one is refused where the watch has its most items
-  abbrev pub added : m.State → List Item → Item → List Item × Reading
-  added s items item =
-      cond (nat_le max_items (length items) && not (has_text items item.text))
-      (items, record { text = item.text; content = Refuses (m.err m.too_many_items) })
-      (put_item item items, reading s item)
+  -- the bytes of the hrefs of items
+  abbrev pub bytes_of : List Item → ℕ
+  bytes_of [] = 0
+  bytes_of (item ∷ items) = m.size item.text + bytes_of items
+
+  -- the items of watches, and the bytes of their hrefs
+  abbrev pub items_in_all : List (ℕ × Watch) → ℕ
+  items_in_all [] = 0
+  items_in_all (e ∷ es) = length e.1.items + items_in_all es
+
+  abbrev pub bytes_in_all : List (ℕ × Watch) → ℕ
+  bytes_in_all [] = 0
+  bytes_in_all (e ∷ es) = bytes_of e.1.items + bytes_in_all es
+
+  -- what watches leave of what all may have
+  abbrev pub room_left : List (ℕ × Watch) → Room
+  room_left ws = record { items = max_items_in_all - items_in_all ws; bytes = max_bytes_in_all - bytes_in_all ws }
+
+  -- what the other watches leave for the one of a number
+  abbrev pub room_beside : ℕ → List (ℕ × Watch) → Room
+  room_beside n ws = room_left (replace n None ws)
+
+  -- Why an href can't be added to items where the other watches leave so much room, if it can't: it is new, and the watch
+  -- has its most items, or all watches have theirs, or its bytes are too many in all.
+  abbrev pub refusal : Room → List Item → m.Text → Option m.Fault
+  refusal room items text =
+      cond (has_text items text) None
+      (cond (nat_le max_items (length items)) (Some m.too_many_items)
+      (cond (nat_le room.items (length items)) (Some m.too_many_in_all)
+      (cond (nat_lt room.bytes (bytes_of items + m.size text)) (Some m.too_many_bytes) None)))
+
+  -- an item is put, and read as it is, unless it is refused
+  abbrev pub added_unless : Option m.Fault → m.State → List Item → Item → List Item × Reading
+  added_unless None s items item = (put_item item items, reading s item)
+  added_unless (Some fault) s items item = (items, record { text = item.text; content = Refuses (m.err fault) })
+
+  -- Watch.add of one href that can be watched
+  abbrev pub added : m.State → Room → List Item → Item → List Item × Reading
+  added s room items item = added_unless (refusal room items item.text) s items item
 
   -- Watch.add of one href, by what it names
-  abbrev pub add_found : m.State → List Item → m.Text → Found m.Path m.Filter m.Fault → List Item × Reading
-  add_found s items text (NotFound fault) = (items, record { text = text; content = Refuses (m.err fault) })
-  add_found s items text (ObjectAt path) = added s items (record { text = text; path = path; tracked = Object false })
-  add_found s items text (FeedAt path bounds) = added s items (record { text = text; path = path; tracked = Feed bounds (count s path) })
+  abbrev pub add_found : m.State → Room → List Item → m.Text → Found m.Path m.Filter m.Fault → List Item × Reading
+  add_found s room items text (NotFound fault) = (items, record { text = text; content = Refuses (m.err fault) })
+  add_found s room items text (ObjectAt path) = added s room items (record { text = text; path = path; tracked = Object false })
+  add_found s room items text (FeedAt path bounds) = added s room items (record { text = text; path = path; tracked = Feed bounds (count s path) })
 
   -- Watch.add: one href after the other, each with its entry of WatchOut
-  abbrev pub items_added : m.State → List ℕ → List Item → List (m.Text × m.Input) → List Item
-  items_added s ns items [] = items
-  items_added s ns items (a ∷ asked) = items_added s ns (add_found s items a.0 (m.find s ns a.0 a.1)).0 asked
+  abbrev pub items_added : m.State → List ℕ → Room → List Item → List (m.Text × m.Input) → List Item
+  items_added s ns room items [] = items
+  items_added s ns room items (a ∷ asked) = items_added s ns room (add_found s room items a.0 (m.find s ns a.0 a.1)).0 asked
 
   -- the entries of WatchOut that an add gives
-  abbrev pub readings_added : m.State → List ℕ → List Item → List (m.Text × m.Input) → List Reading
-  readings_added s ns items [] = []
-  readings_added s ns items (a ∷ asked) =
-      (add_found s items a.0 (m.find s ns a.0 a.1)).1 ∷ readings_added s ns (add_found s items a.0 (m.find s ns a.0 a.1)).0 asked
+  abbrev pub readings_added : m.State → List ℕ → Room → List Item → List (m.Text × m.Input) → List Reading
+  readings_added s ns room items [] = []
+  readings_added s ns room items (a ∷ asked) =
+      (add_found s room items a.0 (m.find s ns a.0 a.1)).1 ∷ readings_added s ns room (add_found s room items a.0 (m.find s ns a.0 a.1)).0 asked
 
   -- whether a text is one of these
   abbrev pub among : List m.Text → m.Text → Bool
@@ -178,27 +232,27 @@ module _ (m : Site) where
   told_lease n (Ok lease) = Told n lease m.lease
   told_lease n (Err fault) = Refused fault
 
-  -- what an operation leaves of its Watch; Watch.delete leaves none
-  abbrev pub watch_after : m.State → List ℕ → Watch → Asks → Option Watch
-  watch_after s ns v (Look part) = Some v
-  watch_after s ns v (Renew input) = Some (with_lease v (m.lease_asked s input))
-  watch_after s ns v (Add asked) = Some (with_items v (items_added s ns v.items (firsts [] asked)))
-  watch_after s ns v (Remove texts) = Some (with_items v (filter (λ item. not (among texts item.text)) v.items))
-  watch_after s ns v PollChanges = Some (with_items v (map (reported s) v.items))
-  watch_after s ns v PollRefresh = Some (with_items v (map (reported s) v.items))
-  watch_after s ns v Delete = None
-  watch_after s ns v (Refuse fault) = Some v
+  -- what an operation leaves of its Watch, beside which there is so much room; Watch.delete leaves none
+  abbrev pub watch_after : m.State → List ℕ → Room → Watch → Asks → Option Watch
+  watch_after s ns room v (Look part) = Some v
+  watch_after s ns room v (Renew input) = Some (with_lease v (m.lease_asked s input))
+  watch_after s ns room v (Add asked) = Some (with_items v (items_added s ns room v.items (firsts [] asked)))
+  watch_after s ns room v (Remove texts) = Some (with_items v (filter (λ item. not (among texts item.text)) v.items))
+  watch_after s ns room v PollChanges = Some (with_items v (map (reported s) v.items))
+  watch_after s ns room v PollRefresh = Some (with_items v (map (reported s) v.items))
+  watch_after s ns room v Delete = None
+  watch_after s ns room v (Refuse fault) = Some v
 
   -- and its reply
-  abbrev pub reply_to : m.State → List ℕ → ℕ → Watch → Asks → Reply
-  reply_to s ns n v (Look part) = Told n v.lease part
-  reply_to s ns n v (Renew input) = told_lease n (m.lease_asked s input)
-  reply_to s ns n v (Add asked) = Out (readings_added s ns v.items (firsts [] asked))
-  reply_to s ns n v (Remove texts) = Nil
-  reply_to s ns n v PollChanges = Out (changes s v.items)
-  reply_to s ns n v PollRefresh = Out (map (reading s) v.items)
-  reply_to s ns n v Delete = Nil
-  reply_to s ns n v (Refuse fault) = Refused fault
+  abbrev pub reply_to : m.State → List ℕ → Room → ℕ → Watch → Asks → Reply
+  reply_to s ns room n v (Look part) = Told n v.lease part
+  reply_to s ns room n v (Renew input) = told_lease n (m.lease_asked s input)
+  reply_to s ns room n v (Add asked) = Out (readings_added s ns room v.items (firsts [] asked))
+  reply_to s ns room n v (Remove texts) = Nil
+  reply_to s ns room n v PollChanges = Out (changes s v.items)
+  reply_to s ns room n v PollRefresh = Out (map (reading s) v.items)
+  reply_to s ns room n v Delete = Nil
+  reply_to s ns room n v (Refuse fault) = Refused fault
 
   -- a Watch.lease has run out, compared in nanoseconds
   abbrev pub has_lapsed : ℕ → Watch → Bool
@@ -217,7 +271,7 @@ module _ (m : Site) where
   abbrev pub touched : ℕ → Watch → Watch
   touched now v = record { lease = v.lease; touched = now; items = v.items }
 
-  -- WatchService.make
+  -- one more watch, with a lease of a minute and no items
   abbrev pub made : World → World
   made w = record {
     time = w.time;
@@ -230,12 +284,37 @@ module _ (m : Site) where
   abbrev pub is_full : World → Bool
   is_full w = nat_le max_watches (length w.watches) || nat_lt last_number w.next
 
+  -- there is no room for one more watch with its most items
+  abbrev pub lacks_room : List (ℕ × Watch) → Bool
+  lacks_room ws = nat_le max_watches (length ws) || (nat_lt (room_left ws).items max_items || nat_lt (room_left ws).bytes max_bytes)
+
+  -- the last request to a watch lies more than a minute back
+  abbrev pub is_idle : ℕ → Watch → Bool
+  is_idle now v = nat_lt max_idle (now - v.touched)
+
+  -- the idle watch whose last request lies farthest back, of several the one with the least number
+  abbrev pub idlest : ℕ → List (ℕ × Watch) → Option ℕ
+  idlest now ws = option_map (λ e. e.0) (least (λ v. v.touched) (filter (λ e. is_idle now e.1) ws))
+
+  -- So many idle watches at most give way, one after the other, while there is no room.
+  abbrev pub yielding : ℕ → ℕ → List (ℕ × Watch) → List (ℕ × Watch)
+  yielding zero now ws = ws
+  yielding (suc more) now ws = cond (lacks_room ws) (unwrap_or (option_map (λ n. yielding more now (replace n None ws)) (idlest now ws)) ws) ws
+
+  -- idle watches have given way while there was no room for one more
+  abbrev pub yielded : World → World
+  yielded w = record { time = w.time; site = w.site; next = w.next; watches = yielding (length w.watches) w.time w.watches }
+
+  -- WatchService.make, before which idle watches give way; a refused one leaves all as it was
+  abbrev pub on_service : World → World → World × Reply
+  on_service w v = cond (is_full v) (w, Refused m.too_many_watches) (made v, Told v.next first_lease m.whole)
+
   -- a request to the watch of a number, if it stands
   abbrev pub on_watch : World → ℕ → Asks → Option Watch → World × Reply
   on_watch w n op None = (w, Refused m.not_found)
   on_watch w n op (Some v) = (
-    record { time = w.time; site = w.site; next = w.next; watches = replace n (watch_after w.site (numbers_of w.watches) (touched w.time v) op) w.watches },
-    reply_to w.site (numbers_of w.watches) n (touched w.time v) op,
+    record { time = w.time; site = w.site; next = w.next; watches = replace n (watch_after w.site (numbers_of w.watches) (room_beside n w.watches) (touched w.time v) op) w.watches },
+    reply_to w.site (numbers_of w.watches) (room_beside n w.watches) n (touched w.time v) op,
   )
 
   -- the state with another site
@@ -246,7 +325,7 @@ module _ (m : Site) where
   abbrev pub acted : World → m.Request → Target m.Text m.Input m.Part m.Fault → World × Reply
   acted w r Itself = (let done : m.State × m.Reply = m.act w.site (numbers_of w.watches) r w.time in (with_site w done.0, Answered done.1))
   acted w r Nowhere = (w, Refused m.not_found)
-  acted w r NewWatch = cond (is_full w) (w, Refused m.too_many_watches) (made w, Told w.next first_lease m.whole)
+  acted w r NewWatch = on_service w (yielded w)
   acted w r (OneWatch n op) = on_watch w n op (lookup n w.watches)
 
   -- a watched object has changed where it had before, or where it is shown otherwise before and after the step

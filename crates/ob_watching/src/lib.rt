@@ -9,7 +9,7 @@
 
 ghost use Rattle.ob_watching.specs.HeardRows.{ByItsShape, DroppedInAdd, DroppedInChanges, DroppedInRefresh, ErrHeld, ErrInAdd, ErrInChanges, GoesOn, NoHref, NotAnotherKind, NotByItsContract, NotRemoved, RemovedByAny, WithoutNames};
 ghost use Rattle.ob_watching.specs.Laws.{LeavesOthers, WatchReplays, WatchStaysGone};
-ghost use Rattle.ob_watching.specs.Rows.{AddedAnew, AfterNoMemory, BackInOneBatch, DeletedIsGone, DroppedAlone, DroppedIsTold, EventOnce, FirstOfEqual, FromThen, HeldAfterRolling, LapsesThen, LastMoment, LastNumber, LastOfBatch, NextNumber, NoNumber, NotByOthers, NotInABatch, NotOneItemMore, NotOneMore, NothingNew, OnceTheyLapsed, OthersStand, RenewedByOwn, RolledAfterTold, StillMarked, ThenNothing, ThereAndBack, TimeStays, TouchedAtLatest, UntoldIsNotHeld};
+ghost use Rattle.ob_watching.specs.Rows.{AddedAnew, AfterNoMemory, BackInOneBatch, BytesGive, DeletedIsGone, DroppedAlone, DroppedIsTold, EventOnce, FirstGives, FirstOfEqual, FromThen, HeldAfterRolling, IdlestGives, LapsesThen, LastMoment, LastNumber, LastOfBatch, MoreGive, NextNumber, NoNumber, NoneGives, NotByOthers, NotInABatch, NotOneByteMore, NotOneInAll, NotOneItemMore, NotOneMore, NothingNew, OnceTheyLapsed, OthersStand, RenewedByOwn, RolledAfterTold, RoomAfterRemove, RoomForAll, StillMarked, ThenNothing, ThereAndBack, TimeStays, TouchedAtLatest, UntoldIsNotHeld};
 ghost use Rattle.ob_watching.specs.Small.{small};
 
 /// After each answered poll a client that has replayed the replies on the watch, from its make on or from
@@ -68,6 +68,19 @@ pub fn worked_rows()
     ensures not_one_more { NotOneMore }
     ensures once_they_lapsed { OnceTheyLapsed }
     ensures not_one_item_more { NotOneItemMore }
+{}
+
+/// Worked rows of the bounds over all watches, and of those that give way to a new one.
+pub fn bound_rows()
+    ensures not_one_in_all { NotOneInAll }
+    ensures room_after_remove { RoomAfterRemove }
+    ensures not_one_byte_more { NotOneByteMore }
+    ensures idlest_gives { IdlestGives }
+    ensures first_gives { FirstGives }
+    ensures more_give { MoreGive }
+    ensures none_gives { NoneGives }
+    ensures room_for_all { RoomForAll }
+    ensures bytes_give { BytesGive }
 {}
 
 /// An event that rolled off and was told to nobody can't be made up for by one that the filter holds back.
