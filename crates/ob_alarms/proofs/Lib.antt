@@ -10,3 +10,4 @@ pub mod Ordered
 pub mod Early
 pub mod EventsShown
 pub mod Would
+pub mod EventsSince

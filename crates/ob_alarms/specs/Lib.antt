@@ -7,3 +7,4 @@ pub mod AlarmObjects
 pub mod Soundness
 pub mod AsOf
 pub mod Shown
+pub mod Since

@@ -12,6 +12,7 @@ mod copying;
 mod objects;
 mod rule;
 mod shown;
+mod since;
 mod tracking;
 mod within;
 
