@@ -1,5 +1,5 @@
 -- A map from the texts of hrefs to items, as the list of the items.
-use Rattle.std.proofs.Common.{◌≡◌, ℕ, zero, suc, ◌+◌, ◌<◌, Bool, true, false, cond, not, ◌||◌, List, [], ◌∷◌, ◌++◌, map, length, take, get_or, refl, sym, ap, subst, ◌∙◌, add-one, arith}
+use Rattle.std.proofs.Common.{◌≡◌, ℕ, zero, suc, Bool, true, false, cond, not, ◌||◌, List, [], ◌∷◌, ◌++◌, map, length, take, refl, sym, ap, subst, ◌∙◌}
 use Rattle.std.specs.Prelude.{Option, Some, None, is_some, string_bytes, string_eq, String, if◌then◌else◌}
 use Rattle.std.specs.List.{AllByRecursion, IsDistinct, filter}
 use Rattle.std.specs.Str.{bytes_eq}
@@ -145,7 +145,7 @@ module _ {F : Type 0} (T : F → String Global → Item → Bool → Item → F 
 
 -- ---- a change of each item leaves its text
 
-pub own_changed : (f : Text → Tracked → Tracked) (es : Entries) → StandUnderOwn es → StandUnderOwn (map (λ e. (e.0, changed_by f e.1)) es)
+pub own_changed : (f : Tracked → Tracked) (es : Entries) → StandUnderOwn es → StandUnderOwn (map (λ e. (e.0, changed_by f e.1)) es)
 own_changed f [] own = tt
 own_changed f (e ∷ es) own = (own.0, own_changed f es own.1)
 
@@ -170,23 +170,3 @@ put_differs x (y ∷ ys) none = go (bytes_eq y.text x.text) none (put_differs x 
     go : (b : Bool) → (b || has_text ys x.text) ≡ false → (has_text ys x.text ≡ false → put_item x ys ≡ ys ++ x ∷ []) → cond b (x ∷ ys) (y ∷ put_item x ys) ≡ y ∷ (ys ++ x ∷ [])
     go true none rest = absurd (let e : true ≡ false = none in cc)
     go false none rest = ap (λ (zs : List Item). y ∷ zs) (rest none)
-
-taken_differ : (items : List Item) (n : ℕ) (x : Item) → Differ items → n < length items → x ≡ get_or items n x → has_text (take n items) x.text ≡ false
-taken_differ [] n x differ lt at = absurd (omega arith)
-taken_differ (y ∷ ys) zero x differ lt at = refl
-taken_differ (y ∷ ys) (suc n) x differ lt at =
-    ap (λ b. b || has_text (take n ys) x.text) (first ys n differ.0 (omega arith) at) ∙ taken_differ ys n x differ.1 (omega arith) at
-  where
-    first : (zs : List Item) (k : ℕ) → AllByRecursion (λ (other : Item). bytes_eq y.text other.text ≡ false) zs → k < length zs → x ≡ get_or zs k x → bytes_eq y.text x.text ≡ false
-    first [] k all lt at = absurd (omega arith)
-    first (z ∷ zs) zero all lt at = ap (λ (i : Item). bytes_eq y.text i.text) at ∙ all.0
-    first (z ∷ zs) (suc k) all lt at = first zs k all.1 (omega arith) at
-
-take_more : (items : List Item) (n : ℕ) (x : Item) → n < length items → x ≡ get_or items n x → take n items ++ x ∷ [] ≡ take (suc n) items
-take_more [] n x lt at = absurd (omega arith)
-take_more (y ∷ ys) zero x lt at = ap (λ (i : Item). i ∷ []) at
-take_more (y ∷ ys) (suc n) x lt at = ap (λ (zs : List Item). y ∷ zs) (take_more ys n x (omega arith) at)
-
-pub copied_more : (items copies : List Item) (n : ℕ) (x : Item) → Differ items → n < length items → x ≡ get_or items n x → copies ≡ take n items → put_item x copies ≡ take (n + 1) items
-copied_more items copies n x differ lt at e =
-    ap (put_item x) e ∙ put_differs x (take n items) (taken_differ items n x differ lt at) ∙ take_more items n x lt at ∙ ap (λ k. take k items) (sym (add-one n))

@@ -1,11 +1,10 @@
 pub mod Lists
 pub mod ItemLemmas
-pub mod PlaceLemmas
-pub mod FeedLemmas
 pub mod MarkLemmas
 pub mod UndoLemmas
 pub mod TableLemmas
 pub mod LapseLemmas
 pub mod Unmaking
+pub mod GivingLemmas
 pub mod NewsLemmas
 pub mod LawLemmas

@@ -1,87 +1,50 @@
 -- What is to be reported of a feed.
-use Rattle.std.proofs.Common.{◌≡◌, ℕ, zero, suc, ◌+◌, ◌-◌, ◌≤◌, Bool, true, false, cond, ◌||◌, List, [], ◌∷◌, ◌++◌, length, drop, filter, refl, sym, ap, ◌∙◌, arith}
-use Rattle.std.specs.Prelude.{nat_lt}
+use Rattle.std.proofs.Common.{◌≡◌, ℕ, zero, suc, ◌+◌, ◌-◌, ◌<◌, ◌≤◌, Bool, true, false, cond, not, ◌&&◌, ◌||◌, List, [], ◌∷◌, map, length, drop, filter, refl, sym, ap, ap₂, ◌∙◌, arith}
+use Rattle.std.specs.Prelude.{nat_lt, Option, None}
 use Rattle.std.specs.List.{list_any}
 use Rattle.std.proofs.lemmas.Bool.Decides.{nat_tests}
+use Rattle.ob_times.specs.Times.{Instant}
 use Rattle.ob_object.specs.Object as object
-use Rattle.ob_watch.specs.Counted.{has_news}
+use Rattle.ob_object.specs.declared.kind.Kind.TheVariants as kind
+use Rattle.ob_object.specs.declared.head.Slot.TheVariants.{Null}
+use Rattle.ob_history.specs.Records.{is_after, is_before}
+use Rattle.ob_history.specs.declared.records.Filter.{Filter}
+use Rattle.ob_history.specs.declared.records.Record.{Record}
+use Rattle.ob_site_rules.specs.Entries.{is_within}
+use Rattle.ob_watch.specs.Feeds.{FeedLog, ever, has_news, passes_since}
 
+abbrev Events : Type 0
+Events = List object.Object
+
+-- events that pass as their timestamps do
+module _ (p : object.Object → Bool) (w : Instant → Bool) where
+  pub as_many : (es : Events) (ts : List Instant) → map p es ≡ map w ts → length es ≡ length ts
+  as_many [] [] same = refl
+  as_many [] (t ∷ ts) same = absurd (let e : [] ≡ w t ∷ map w ts = same in cc)
+  as_many (x ∷ es) [] same = absurd (let e : p x ∷ map p es ≡ [] = same in cc)
+  as_many (x ∷ es) (t ∷ ts) same =
+      let both : p x ∷ map p es ≡ w t ∷ map w ts = same in
+      let rest : map p es ≡ map w ts = cc in
+      ap suc (as_many es ts rest)
+
+  pub any_same : (n : ℕ) (es : Events) (ts : List Instant) → map p es ≡ map w ts → list_any p (drop n es) ≡ list_any w (drop n ts)
+  any_same zero [] [] same = refl
+  any_same (suc n) [] [] same = refl
+  any_same n [] (t ∷ ts) same = absurd (let e : [] ≡ w t ∷ map w ts = same in cc)
+  any_same n (x ∷ es) [] same = absurd (let e : p x ∷ map p es ≡ [] = same in cc)
+  any_same zero (x ∷ es) (t ∷ ts) same =
+      let both : p x ∷ map p es ≡ w t ∷ map w ts = same in
+      let first : p x ≡ w t = cc in
+      let rest : map p es ≡ map w ts = cc in
+      ap (λ b. b || list_any p es) first ∙ ap (λ b. w t || b) (any_same zero es ts rest)
+  any_same (suc n) (x ∷ es) (t ∷ ts) same =
+      let both : p x ∷ map p es ≡ w t ∷ map w ts = same in
+      let rest : map p es ≡ map w ts = cc in
+      any_same n es ts rest
+
+-- what passes
 module _ (p : object.Object → Bool) where
-  abbrev Events : Type 0
-  Events = List object.Object
-
-  any_push : (es : Events) (e : object.Object) → list_any p (es ++ e ∷ []) ≡ (list_any p es || p e)
-  any_push [] e = last (p e)
-    where
-      last : (b : Bool) → (b || false) ≡ b
-      last true = refl
-      last false = refl
-  any_push (x ∷ xs) e = go (p x) (any_push xs e)
-    where
-      go : (b : Bool) → list_any p (xs ++ e ∷ []) ≡ (list_any p xs || p e) → (b || list_any p (xs ++ e ∷ [])) ≡ ((b || list_any p xs) || p e)
-      go true rest = refl
-      go false rest = rest
-
-  drop_push : (n : ℕ) (es : Events) (e : object.Object) → n ≤ length es → drop n (es ++ e ∷ []) ≡ drop n es ++ e ∷ []
-  drop_push zero es e le = refl
-  drop_push (suc n) [] e le = absurd (omega arith)
-  drop_push (suc n) (x ∷ xs) e le = drop_push n xs e (omega arith)
-
-  or_swap : (a b c : Bool) → (a || (b || c)) ≡ ((a || b) || c)
-  or_swap true b c = refl
-  or_swap false b c = refl
-
-  -- one more event is news where it passes
-  pub news_more : (gone given : ℕ) (es : Events) (e : object.Object) → given ≤ gone + length es → has_news p gone (es ++ e ∷ []) given ≡ (has_news p gone es given || p e)
-  news_more gone given es e le =
-      ap (λ (xs : Events). nat_lt given gone || list_any p xs) (drop_push (given - gone) es e (omega (arith, le)))
-      ∙ ap (λ b. nat_lt given gone || b) (any_push (drop (given - gone) es) e)
-      ∙ or_swap (nat_lt given gone) (list_any p (drop (given - gone) es)) (p e)
-
-  drop_none : (n : ℕ) → drop {A = object.Object} n [] ≡ []
-  drop_none zero = refl
-  drop_none (suc n) = refl
-
-  drop_drop : (m n : ℕ) (es : Events) → drop m (drop n es) ≡ drop (m + n) es
-  drop_drop m zero es = ap (λ k. drop k es) (let e : m ≡ m + 0 = omega arith in e)
-  drop_drop m (suc n) [] = drop_none m ∙ sym (drop_none (m + suc n))
-  drop_drop m (suc n) (x ∷ xs) = drop_drop m n xs ∙ ap (λ k. drop k (x ∷ xs)) (let e : suc (m + n) ≡ m + suc n = omega arith in e)
-
-  -- events that rolled off unreported are news, and what is left is as it was
-  pub news_rolled : (gone lost given : ℕ) (es : Events) → has_news p (gone + lost) (drop lost es) given ≡ (has_news p gone es given || nat_lt given (gone + lost))
-  news_rolled gone lost given es = go (nat_lt given (gone + lost)) refl
-    where
-      or_true : (b : Bool) → (b || true) ≡ true
-      or_true true = refl
-      or_true false = refl
-
-      or_false : (b : Bool) → (b || false) ≡ b
-      or_false true = refl
-      or_false false = refl
-
-      go : (b : Bool) → nat_lt given (gone + lost) ≡ b → (b || list_any p (drop (given - (gone + lost)) (drop lost es))) ≡ ((nat_lt given gone || list_any p (drop (given - gone) es)) || b)
-      go true is = sym (or_true (nat_lt given gone || list_any p (drop (given - gone) es)))
-      go false is =
-          let le : gone + lost ≤ given = grind (arith, nat_tests) in
-          let before : nat_lt given gone ≡ false = grind (arith, nat_tests) in
-          let far : given - (gone + lost) + lost ≡ given - gone = omega (arith, le) in
-          ap (list_any p) (drop_drop (given - (gone + lost)) lost es ∙ ap (λ k. drop k es) far)
-          ∙ sym (ap (λ b. b || list_any p (drop (given - gone) es)) before)
-          ∙ sym (or_false (nat_lt given gone || list_any p (drop (given - gone) es)))
-
-  drop_all : (es : Events) (n : ℕ) → length es ≤ n → drop n es ≡ []
-  drop_all [] zero le = refl
-  drop_all [] (suc n) le = refl
-  drop_all (x ∷ xs) zero le = absurd (omega arith)
-  drop_all (x ∷ xs) (suc n) le = drop_all xs n (omega arith)
-
-  -- where all was reported there is no news
-  pub news_none : (gone given : ℕ) (es : Events) → given ≡ gone + length es → has_news p gone es given ≡ false
-  news_none gone given es all =
-      let before : nat_lt given gone ≡ false = grind (arith, nat_tests) in
-      ap (λ b. b || list_any p (drop (given - gone) es)) before ∙ ap (list_any p) (drop_all es (given - gone) (omega (arith, all)))
-
-  none_pass : (es : Events) → list_any p es ≡ false → filter p es ≡ []
+  pub none_pass : (es : Events) → list_any p es ≡ false → filter p es ≡ []
   none_pass [] none = refl
   none_pass (x ∷ xs) none = go (p x) none (none_pass xs)
     where
@@ -98,10 +61,40 @@ module _ (p : object.Object → Bool) where
       go true is some rest = (x, (filter p xs, refl))
       go false is some rest = rest some
 
-  -- no news: nothing rolled off unreported, and no kept event passes
-  pub no_news : (gone given : ℕ) (es : Events) → has_news p gone es given ≡ false → (gone - given ≡ 0) × (filter p (drop (given - gone) es) ≡ [])
-  no_news gone given es none = go (nat_lt given gone) refl none
-    where
-      go : (b : Bool) → nat_lt given gone ≡ b → (b || list_any p (drop (given - gone) es)) ≡ false → (gone - given ≡ 0) × (filter p (drop (given - gone) es) ≡ [])
-      go true is none = absurd (let f : true ≡ false = none in cc)
-      go false is none = (let le : gone ≤ given = grind (arith, nat_tests) in omega (arith, le), none_pass (drop (given - gone) es) none)
+-- ---- how it is told
+
+drop_all : {A : Type 0} (es : List A) (n : ℕ) → length es ≤ n → drop n es ≡ []
+drop_all [] zero le = refl
+drop_all [] (suc n) le = refl
+drop_all (x ∷ xs) zero le = absurd (omega arith)
+drop_all (x ∷ xs) (suc n) le = drop_all xs n (omega arith)
+
+-- where so many were reported as there were ever, there is none
+pub news_none : (l : FeedLog) (given : ℕ) (f : Filter) → ever l ≤ given → has_news l given f ≡ false
+news_none l given f le =
+    let before : nat_lt given l.gone ≡ false = grind (arith, nat_tests) in
+    ap (λ b. b || list_any (is_within f) (drop (given - l.gone) l.times)) before
+    ∙ ap (list_any (is_within f)) (drop_all l.times (given - l.gone) (omega (arith, le)))
+
+-- a filter without bounds passes each time
+pub open_passes : (f : Filter) → f.start ≡ None → f.end ≡ None → (t : Instant) → is_within f t ≡ true
+open_passes f start end t =
+    let r : Record = record { time = t; kind = kind.Abstime; slot = Null } in
+    ap₂ (λ (a b : Option Instant). not (is_before a r) && not (is_after b r)) start end
+
+-- so whatever is left
+all_within : (f : Filter) → ((t : Instant) → is_within f t ≡ true) → (ts : List Instant) (n : ℕ) → nat_lt n (length ts) ≡ true → list_any (is_within f) (drop n ts) ≡ true
+all_within f each [] n lt = absurd (let no : nat_lt n 0 ≡ false = grind (arith, nat_tests) in let e : false ≡ true = sym no ∙ lt in cc)
+all_within f each (t ∷ ts) zero lt = ap (λ b. b || list_any (is_within f) ts) (each t)
+all_within f each (t ∷ ts) (suc n) lt = all_within f each ts n (let less : nat_lt n (length ts) ≡ true = grind (arith, nat_tests) in less)
+
+or_true : (b : Bool) → (b || true) ≡ true
+or_true true = refl
+or_true false = refl
+
+pub news_open : (l : FeedLog) (given all : ℕ) (f : Filter) → ((t : Instant) → is_within f t ≡ true) → all ≡ ever l → given < all → has_news l given f ≡ true
+news_open l given all f each is less = go (nat_lt given l.gone) refl
+  where
+    go : (b : Bool) → nat_lt given l.gone ≡ b → (b || passes_since l given f) ≡ true
+    go true before = refl
+    go false before = all_within f each l.times (given - l.gone) (let some : nat_lt (given - l.gone) (length l.times) ≡ true = grind (arith, nat_tests) in some)

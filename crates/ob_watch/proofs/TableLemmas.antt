@@ -8,6 +8,7 @@ use Rattle.std.specs.Map.{set_value, keys_of, values_of, remove_entry}
 use Rattle.std.specs.Map as map
 use Rattle.std.proofs.lemmas.Map.Keys.{IsDistinct-head, IsDistinct-tail}
 use Rattle.ob_watching.specs.Tables.{lookup, replace, numbers_of}
+use Rattle.ob_watching.specs.Watches.{Room}
 use Rattle.std.proofs.lemmas.Map.Made.{IsDistinct-keys_filter}
 use Rattle.ob_values.proofs.Bools.{bool_same}
 use Rattle.ob_watch.specs.Held.{AreBelow, AreNumbered}
@@ -16,6 +17,7 @@ use Rattle.ob_watch.specs.declared.fault.WatchFault.{WatchFault}
 use Rattle.ob_watch.specs.declared.watch.Due.{Due}
 use Rattle.ob_tree.specs.Trees.{Stamped}
 use Rattle.ob_watch.specs.Adding.{AddsAt, AddsNothing, AddsTo}
+use Rattle.ob_watch.specs.Feeds.{FeedLog}
 use Rattle.ob_watch.specs.Reported.{IsDue}
 use Rattle.ob_watch.specs.Tables.{Leased, Table, at_number, holding, is_over, live, new_watch, next_due, with_all_items, with_new}
 use Rattle.ob_watch.specs.Undo.{Undo}
@@ -323,14 +325,14 @@ made_in now es fs next t view left = ap (λ (xs : Numbered). table xs (next + 1)
 
 -- ---- cases of a look-up
 
-module _ (n : ℕ) (item : Item) (old new : Table) (undo undone : Undo) (result : Result (Unit {0}) WatchFault) where
-  pub adds_nothing : lookup n old.watches ≡ None → AddsNothing old new undo undone result → AddsAt n item old new undo undone result
+module _ (n : ℕ) (item : Item) (room : Room) (old new : Table) (undo undone : Undo) (result : Result (Unit {0}) WatchFault) where
+  pub adds_nothing : lookup n old.watches ≡ None → AddsNothing old new undo undone result → AddsAt n item room old new undo undone result
   adds_nothing none adds =
-      subst (λ (o : Option Leased). MatchOption o (AddsNothing old new undo undone result) (AddsTo n item old new undo undone result)) (sym none) adds
+      subst (λ (o : Option Leased). MatchOption o (AddsNothing old new undo undone result) (AddsTo n item room old new undo undone result)) (sym none) adds
 
-  pub adds_to : (w : Leased) → lookup n old.watches ≡ Some w → AddsTo n item old new undo undone result w → AddsAt n item old new undo undone result
+  pub adds_to : (w : Leased) → lookup n old.watches ≡ Some w → AddsTo n item room old new undo undone result w → AddsAt n item room old new undo undone result
   adds_to w there adds =
-      subst (λ (o : Option Leased). MatchOption o (AddsNothing old new undo undone result) (AddsTo n item old new undo undone result)) (sym there) adds
+      subst (λ (o : Option Leased). MatchOption o (AddsNothing old new undo undone result) (AddsTo n item room old new undo undone result)) (sym there) adds
 
 pub if_none : {A : Type 0} (o : Option A) (P : A → Type 0) → o ≡ None → IfSome o P
 if_none {A} o P none = subst (λ (p : Option A). IfSome p P) (sym none) tt
@@ -338,6 +340,6 @@ if_none {A} o P none = subst (λ (p : Option A). IfSome p P) (sym none) tt
 pub if_some : {A : Type 0} (o : Option A) (P : A → Type 0) (a : A) → o ≡ Some a → P a → IfSome o P
 if_some {A} o P a some holds = subst (λ (p : Option A). IfSome p P) (sym some) holds
 
-pub due_in : (t : Stamped) (place : ℕ) (w : Leased) (r : Option Due) → option_map (λ d. d.place) r ≡ next_due t place w.items → IfSome r (λ d. slice_get w.items d.place ≡ Some d.item.now) → IsDue t place (Some w) r
-due_in t place w None found item = sym found
-due_in t place w (Some d) found item = (sym found, item)
+pub due_in : (t : Stamped) (feeds : List FeedLog) (place : ℕ) (w : Leased) (r : Option Due) → option_map (λ d. d.place) r ≡ next_due t feeds place w.items → IfSome r (λ d. slice_get w.items d.place ≡ Some d.item.now) → IsDue t feeds place (Some w) r
+due_in t feeds place w None found item = sym found
+due_in t feeds place w (Some d) found item = (sym found, item)

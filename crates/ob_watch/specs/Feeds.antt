@@ -1,49 +1,49 @@
--- Where the items on feeds stand among the items of a watch.
-use Rattle.std.specs.Prelude.{◌≡◌, ℕ, zero, suc, Bool, true, false, cond, List, [], ◌∷◌, map, Option, IfSome}
-use Rattle.std.specs.Global.{Vec}
-use Rattle.std.specs.List.{AllByRecursion}
-use Rattle.ob_watch.specs.declared.item.Tracked.{Tracked}
-use Rattle.ob_watch.specs.declared.item.Tracked.TheVariants.{Object, Feed}
-use Rattle.ob_watch.specs.declared.item.Item.{Item}
-use Rattle.ob_watch.specs.Held.{Entries, items_of, StandUnderOwn}
-use Rattle.ob_watch.specs.Items.{Text, changed_by}
-use Rattle.ob_watch.specs.Marked.{AreMarked}
+-- The feeds of a site, by their numbers from 0: those of the histories in the plan's order, and that of the alarm subject after
+-- them. Source: oBIX 1.1, chapters 14 (Histories) and 15 (Alarming).
+use Rattle.std.specs.Prelude.{◌≡◌, ℕ, ◌+◌, ◌-◌, Bool, ◌||◌, List, [], length, drop, nat_lt, Option, Some, None, unwrap_or, option_and_then, slice_get, position}
+use Rattle.std.specs.List.{list_any}
+use Rattle.std.specs.Str.{bytes_eq}
+use Rattle.ob_times.specs.Times.{Instant}
+use Rattle.ob_history.specs.declared.records.Filter.{Filter}
+use Rattle.ob_site_rules.specs.Entries.{is_within}
+use Rattle.ob_site_rules.specs.Build.{Path}
+use Rattle.ob_site_rules.specs.Places.{event_places}
+use Rattle.ob_site_rules.specs.State.{at}
+use Rattle.ob_site_rules.specs.declared.plan.Plan.{Plan}
+use Rattle.ob_site_rules.specs.declared.resource.Resource.{Resource}
+use Rattle.ob_site_rules.specs.declared.resource.Resource.TheVariants.{FeedOf, AlarmFeed}
 
--- what is watched is a feed
-abbrev pub is_feed : Tracked → Bool
-is_feed (Object node mark) = false
-is_feed (Feed filter given total due) = true
+-- A feed as watches look at it: how many events rolled off, and the timestamps of the kept ones, the oldest first.
+pub record FeedLog : Type 0 where
+  pub gone : ℕ
+  pub times : List Instant
 
-abbrev pub is_on_feed : Item → Bool
-is_on_feed i = is_feed i.tracked
+-- how many events it has had ever
+abbrev pub ever : FeedLog → ℕ
+ever l = l.gone + length l.times
 
--- the places of those that pass a test, counted from 0
-abbrev pub places_of : {X : Type 0} → (X → Bool) → List X → List ℕ
-places_of test [] = []
-places_of test (x ∷ xs) = cond (test x) (zero ∷ map suc (places_of test xs)) (map suc (places_of test xs))
+-- a kept event from a number on passes, counted from the first event ever
+abbrev pub passes_since : FeedLog → ℕ → Filter → Bool
+passes_since l given filter = list_any (is_within filter) (drop (given - l.gone) l.times)
 
--- the places of the items on feeds, in their order
-abbrev pub feed_places : List Item → List ℕ
-feed_places items = places_of is_on_feed items
+-- Something of it is to be reported after so many events were: some of the others rolled off, or a kept one passes.
+abbrev pub has_news : FeedLog → ℕ → Filter → Bool
+has_news l given filter = nat_lt given l.gone || passes_since l given filter
 
--- these are the places of the items on feeds, where the places are known
-abbrev pub AreFeedPlaces : Option (Vec ℕ) → List Item → Type 0
-AreFeedPlaces known items = IfSome known (λ places. places.items ≡ feed_places items)
+-- a feed without events
+abbrev pub no_events : FeedLog
+no_events = record { gone = 0; times = [] }
 
--- Each item stands under its own href, the items on feeds stand at their places, and those on objects have this mark.
-pub record AreInPlace (es : Entries) (known : Option (Vec ℕ)) (mark : Option ℕ) : Type 0 where
-  pub own : StandUnderOwn es
-  pub feeds : AreFeedPlaces known (items_of es)
-  pub marked : AreMarked mark (items_of es)
+-- the feed of a number; without events where there is none
+abbrev pub feed_at : List FeedLog → ℕ → FeedLog
+feed_at logs n = unwrap_or (slice_get logs n) no_events
 
--- what is kept of objects stays as it is
-abbrev pub SparesObjects : (Text → Tracked → Tracked) → Type 0
-SparesObjects f = (path : Text) (kept : Tracked) → is_feed kept ≡ false → f path kept ≡ kept
+-- the number of the feed that stands at a place, if one does
+abbrev pub feed_of : Plan → Resource → Option ℕ
+feed_of plan (FeedOf history) = position (λ h. bytes_eq h.0 history) plan.histories
+feed_of plan AlarmFeed = Some (length plan.histories)
+feed_of plan _ = None
 
--- what is kept of an object stays that of an object, and of a feed that of a feed
-abbrev pub KeepsKinds : (Text → Tracked → Tracked) → Type 0
-KeepsKinds f = (path : Text) (kept : Tracked) → is_feed (f path kept) ≡ is_feed kept
-
--- the items on objects stay as they are
-abbrev pub ObjectsStay : (Text → Tracked → Tracked) → List Item → Type 0
-ObjectsStay f items = AllByRecursion (λ i. is_on_feed i ≡ false → changed_by f i ≡ i) items
+-- the number of the feed at a path, if one stands there
+abbrev pub feed_place : Plan → Path → Option ℕ
+feed_place plan path = option_and_then (feed_of plan) (at path (event_places plan))

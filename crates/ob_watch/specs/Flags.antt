@@ -15,7 +15,7 @@ use Rattle.ob_watch.specs.Tables.{Leased}
 -- an object has changed where its stamp is above its mark
 abbrev pub flag_of : Stamped → Tracked → TrackedOf Filter
 flag_of t (Object node mark) = rules.Object (nat_lt mark (stamp_of t node.number))
-flag_of t (Feed filter given total due) = rules.Feed filter given
+flag_of t (Feed feed filter given) = rules.Feed filter given
 
 abbrev pub flags : Stamped → Item → ItemOf Text Text Filter
 flags t i = record { text = i.text; path = i.path; tracked = flag_of t i.tracked }

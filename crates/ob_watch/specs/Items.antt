@@ -1,17 +1,16 @@
 -- Items of a watch, with a mark in place of a flag (oBIX 1.1, chapter 12).
-use Rattle.std.specs.Prelude.{◌≡◌, ℕ, ◌+◌, ◌-◌, ◌^◌, min, Bool, false, cond, ◌||◌, List, [], ◌∷◌, nat_lt, Option, unwrap_or, slice_get, find}
+use Rattle.std.specs.Prelude.{◌≡◌, ℕ, ◌+◌, Bool, false, cond, List, [], ◌∷◌, length, nat_lt, Option, unwrap_or, slice_get, find}
 use Rattle.std.specs.List.{AllByRecursion, list_any}
 use Rattle.std.specs.Str.{bytes_eq}
-use Rattle.ob_times.specs.Times.{Instant}
 use Rattle.ob_object.specs.Object.{parts}
 use Rattle.ob_history.specs.declared.records.Filter.{Filter}
 use Rattle.ob_tree.specs.declared.node.NodeId.{NodeId}
 use Rattle.ob_tree.specs.Trees.{Stamped}
 use Rattle.ob_watching.specs.Tables.{put, is_among}
-use Rattle.ob_site_rules.specs.Entries.{is_within}
 use Rattle.ob_watch.specs.declared.item.Tracked.{Tracked}
 use Rattle.ob_watch.specs.declared.item.Tracked.TheVariants.{Object, Feed}
 use Rattle.ob_watch.specs.declared.item.Item.{Item}
+use Rattle.ob_watch.specs.Feeds.{FeedLog, ever, feed_at, has_news}
 
 abbrev pub Text : Type 0
 Text = List ℕ
@@ -20,66 +19,46 @@ Text = List ℕ
 abbrev pub object_item : Text → Text → NodeId → ℕ → Item
 object_item text path node mark = record { text = text; path = path; tracked = Object node mark }
 
--- an item on a feed whose events, so many ever, are reported
-abbrev pub feed_item : Text → Text → Filter → ℕ → Item
-feed_item text path filter total = record { text = text; path = path; tracked = Feed filter total total false }
+-- an item on the feed of a number, of whose events so many are reported
+abbrev pub feed_item : Text → Text → ℕ → Filter → ℕ → Item
+feed_item text path feed filter given = record { text = text; path = path; tracked = Feed feed filter given }
 
 -- the number of the last step that changed what is shown at an object of a tree; 0 where the tree has no such object
 abbrev pub stamp_of : Stamped → ℕ → ℕ
 stamp_of t n = cond (nat_lt n (parts t.root)) (unwrap_or (slice_get t.stamps n) 0) 0
 
 -- something of what is watched is to be reported: of an object, where its stamp is above its mark
-abbrev pub is_due_by : Stamped → Tracked → Bool
-is_due_by t (Object node mark) = nat_lt mark (stamp_of t node.number)
-is_due_by t (Feed filter given total due) = due
+abbrev pub is_due_by : Stamped → List FeedLog → Tracked → Bool
+is_due_by t feeds (Object node mark) = nat_lt mark (stamp_of t node.number)
+is_due_by t feeds (Feed feed filter given) = has_news (feed_at feeds feed) given filter
 
-abbrev pub is_due : Stamped → Item → Bool
-is_due t i = is_due_by t i.tracked
+abbrev pub is_due : Stamped → List FeedLog → Item → Bool
+is_due t feeds i = is_due_by t feeds i.tracked
 
-abbrev pub tracking : Tracked → Item → Item
-tracking kept i = record { text = i.text; path = i.path; tracked = kept }
+-- what is kept of an item another
+abbrev pub changed_by : (Tracked → Tracked) → Item → Item
+changed_by f i = record { text = i.text; path = i.path; tracked = f i.tracked }
 
 -- everything of it is reported after this step
-abbrev pub reported_by : ℕ → Tracked → Tracked
-reported_by steps (Object node mark) = Object node steps
-reported_by steps (Feed filter given total due) = Feed filter total total false
+abbrev pub reported_by : ℕ → List FeedLog → Tracked → Tracked
+reported_by steps feeds (Object node mark) = Object node steps
+reported_by steps feeds (Feed feed filter given) = Feed feed filter (ever (feed_at feeds feed))
 
-abbrev pub reported_at : ℕ → Item → Item
-reported_at steps i = tracking (reported_by steps i.tracked) i
-
--- one more event, counted to 2^64 - 1, is to be reported where the filter passes its time
-abbrev pub one_more_by : Instant → Tracked → Tracked
-one_more_by time (Object node mark) = Object node mark
-one_more_by time (Feed filter given total due) = Feed filter given (min (total + 1) (2 ^ 64 - 1)) (due || is_within filter time)
-
--- what is kept of a path another
-abbrev pub at_path : Text → (Tracked → Tracked) → Text → Tracked → Tracked
-at_path path f own kept = cond (bytes_eq own path) (f kept) kept
-
--- what is kept of an item another, by the path that it names
-abbrev pub changed_by : (Text → Tracked → Tracked) → Item → Item
-changed_by f i = tracking (f i.path i.tracked) i
-
--- one more event of the feed at a path
-abbrev pub one_more : Text → Instant → Item → Item
-one_more path time i = changed_by (at_path path (one_more_by time)) i
-
--- so many events rolled off: those that were not reported are to be told
-abbrev pub rolled_by : ℕ → Tracked → Tracked
-rolled_by gone (Object node mark) = Object node mark
-rolled_by gone (Feed filter given total due) = Feed filter given total (due || nat_lt given gone)
-
--- so many events of the feed at a path rolled off
-abbrev pub rolled_to : Text → ℕ → Item → Item
-rolled_to path gone i = changed_by (at_path path (rolled_by gone)) i
+abbrev pub reported_at : ℕ → List FeedLog → Item → Item
+reported_at steps feeds i = changed_by (reported_by steps feeds) i
 
 -- Steps are counted anew from 1: an object that is due has the mark 0, every other 1.
 abbrev pub anew_by : Stamped → Tracked → Tracked
 anew_by t (Object node mark) = Object node (cond (nat_lt mark (stamp_of t node.number)) 0 1)
-anew_by t (Feed filter given total due) = Feed filter given total due
+anew_by t (Feed feed filter given) = Feed feed filter given
 
 abbrev pub marked_anew : Stamped → Item → Item
-marked_anew t i = tracking (anew_by t i.tracked) i
+marked_anew t i = changed_by (anew_by t) i
+
+-- the bytes of the hrefs of items
+abbrev pub bytes_of : List Item → ℕ
+bytes_of [] = 0
+bytes_of (i ∷ items) = length i.text + bytes_of items
 
 -- an item is of this href
 abbrev pub has_text : List Item → Text → Bool

@@ -1,13 +1,15 @@
+pub mod Feeds
 pub mod Items
 pub mod Held
 pub mod Marked
-pub mod Feeds
 pub mod Tables
+pub mod Giving
 pub mod Restoring
 pub mod Undo
 pub mod Adding
 pub mod Reported
 pub mod Marks
 pub mod Flags
-pub mod Counted
+pub mod OfPlan
+pub mod Fed
 pub mod AsRules

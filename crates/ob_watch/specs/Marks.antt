@@ -13,7 +13,7 @@ AreStampsPast t = (n : ℕ) → stamp_of t n ≤ t.steps
 -- no mark is of a step to come
 abbrev pub IsMarkPastBy : ℕ → Tracked → Type 0
 IsMarkPastBy steps (Object node mark) = mark ≤ steps
-IsMarkPastBy steps (Feed filter given total due) = Unit {0}
+IsMarkPastBy steps (Feed feed filter given) = Unit {0}
 
 abbrev pub IsMarkPast : ℕ → Item → Type 0
 IsMarkPast steps i = IsMarkPastBy steps i.tracked
@@ -21,7 +21,7 @@ IsMarkPast steps i = IsMarkPastBy steps i.tracked
 -- an object that has changed has the stamp of the next step; else its stamp is as it was
 abbrev pub IsStampedNextBy : Stamped → Stamped → Tracked → Bool → Type 0
 IsStampedNextBy t u (Object node mark) changed = stamp_of u node.number ≡ cond changed (t.steps + 1) (stamp_of t node.number)
-IsStampedNextBy t u (Feed filter given total due) changed = Unit {0}
+IsStampedNextBy t u (Feed feed filter given) changed = Unit {0}
 
 abbrev pub IsStampedNext : Stamped → Stamped → Item → Bool → Type 0
 IsStampedNext t u i changed = IsStampedNextBy t u i.tracked changed

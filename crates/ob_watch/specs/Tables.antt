@@ -1,11 +1,12 @@
 -- Watches with marked items, and their table by number: what each call makes of them.
-use Rattle.std.specs.Prelude.{◌≡◌, ℕ, ◌+◌, ◌*◌, ◌<◌, ◌≤◌, Bool, false, not, ◌||◌, List, [], ◌∷◌, ◌++◌, map, length, drop, nat_le, nat_lt, Option, option_map, position}
+use Rattle.std.specs.Prelude.{◌≡◌, ℕ, zero, suc, ◌+◌, ◌-◌, ◌*◌, ◌<◌, ◌≤◌, Bool, false, cond, not, ◌||◌, List, [], ◌∷◌, ◌++◌, map, length, drop, nat_le, nat_lt, Option, None, option_map, unwrap_or, position}
 use Rattle.std.specs.List.{AllByRecursion, filter}
 use Rattle.ob_tree.specs.Trees.{Stamped}
-use Rattle.ob_watching.specs.Tables.{lookup, replace}
-use Rattle.ob_watching.specs.Watches.{max_watches, max_items, last_number, first_lease}
+use Rattle.ob_watching.specs.Tables.{least, lookup, replace}
+use Rattle.ob_watching.specs.Watches.{Room, max_watches, max_items, max_items_in_all, max_bytes, max_bytes_in_all, max_idle, last_number, first_lease}
 use Rattle.ob_watch.specs.declared.item.Item.{Item}
-use Rattle.ob_watch.specs.Items.{Text, is_due, among}
+use Rattle.ob_watch.specs.Feeds.{FeedLog}
+use Rattle.ob_watch.specs.Items.{Text, among, bytes_of, is_due}
 
 -- A Watch: its lease in nanoseconds, the moment of the last request to it in milliseconds, and its items in the order in
 -- which their hrefs were first added.
@@ -62,8 +63,8 @@ abbrev pub AllStandUntil : ℕ → List (ℕ × Leased) → Type 0
 AllStandUntil moment ws = AllByRecursion (λ e. StandsUntil moment e.1) ws
 
 -- the first place from one on whose item is to be reported
-abbrev pub next_due : Stamped → ℕ → List Item → Option ℕ
-next_due t place items = option_map (λ n. place + n) (position (is_due t) (drop place items))
+abbrev pub next_due : Stamped → List FeedLog → ℕ → List Item → Option ℕ
+next_due t feeds place items = option_map (λ n. place + n) (position (is_due t feeds) (drop place items))
 
 abbrev pub no_watches : Table
 no_watches = record { watches = []; next = 1 }
@@ -87,6 +88,44 @@ lapsed_at now t = record { watches = live now t.watches; next = t.next }
 -- the most watches stand, or the last number was given
 abbrev pub has_no_place : Table → Bool
 has_no_place t = nat_le max_watches (length t.watches) || nat_lt last_number t.next
+
+-- the items of watches, and the bytes of their hrefs
+abbrev pub items_in_all : List (ℕ × Leased) → ℕ
+items_in_all [] = 0
+items_in_all (e ∷ es) = length e.1.items + items_in_all es
+
+abbrev pub bytes_in_all : List (ℕ × Leased) → ℕ
+bytes_in_all [] = 0
+bytes_in_all (e ∷ es) = bytes_of e.1.items + bytes_in_all es
+
+-- what watches leave of what all may have
+abbrev pub room_left : List (ℕ × Leased) → Room
+room_left ws = record { items = max_items_in_all - items_in_all ws; bytes = max_bytes_in_all - bytes_in_all ws }
+
+-- what the other watches leave for the one of a number
+abbrev pub room_beside : ℕ → List (ℕ × Leased) → Room
+room_beside n ws = room_left (replace n None ws)
+
+-- there is no room for one more watch with its most items
+abbrev pub lacks_room : List (ℕ × Leased) → Bool
+lacks_room ws = nat_le max_watches (length ws) || (nat_lt (room_left ws).items max_items || nat_lt (room_left ws).bytes max_bytes)
+
+-- the last request to a watch lies more than a minute back
+abbrev pub is_idle : ℕ → Leased → Bool
+is_idle now w = nat_lt max_idle (now - w.touched)
+
+-- the idle watch whose last request lies farthest back, of several the first
+abbrev pub idlest : ℕ → List (ℕ × Leased) → Option ℕ
+idlest now ws = option_map (λ e. e.0) (least (λ w. w.touched) (filter (λ e. is_idle now e.1) ws))
+
+-- so many idle watches at most give way, one after the other, while there is no room
+abbrev pub yielding : ℕ → ℕ → List (ℕ × Leased) → List (ℕ × Leased)
+yielding zero now ws = ws
+yielding (suc more) now ws = cond (lacks_room ws) (unwrap_or (option_map (λ n. yielding more now (replace n None ws)) (idlest now ws)) ws) ws
+
+-- idle watches have given way while there was no room for one more
+abbrev pub yielded_at : ℕ → Table → Table
+yielded_at now t = record { watches = yielding (length t.watches) now t.watches; next = t.next }
 
 abbrev pub new_watch : ℕ → Leased
 new_watch now = record { lease = first_lease; touched = now; items = [] }

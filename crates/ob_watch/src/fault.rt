@@ -13,6 +13,12 @@ pub enum WatchFault {
     /// The watch has its most items, and none of that href.
     #[error("too many items")]
     ItemsFull,
+    /// All watches together have their most items, and this one none of that href.
+    #[error("too many items in all")]
+    AllItemsFull,
+    /// The hrefs of all watches would have too many bytes with that one, and this watch has no item of it.
+    #[error("too many bytes of hrefs in all")]
+    AllBytesFull,
     /// There was no memory.
     #[error("no memory")]
     Memory,

@@ -1,95 +1,27 @@
-//! Where the items on feeds stand among the items of a watch.
-ghost use Rattle.std.specs.Prelude.{◌≡◌, ◌++◌, [], ◌∷◌, List, cond, nat_lt, take, IfSome, OnOk};
-ghost use Rattle.ob_watch.specs.declared.item.Item.{Item as KeptItem};
-ghost use Rattle.ob_watch.specs.Feeds.{AreFeedPlaces, feed_places, is_on_feed};
-ghost use Rattle.ob_watch.specs.Items.{found_item, put_item};
+//! The feeds of a site, as watches look at them.
+ghost use Rattle.std.specs.Prelude.{◌≡◌};
 
-use crate::item::Item;
-use std::alloc::{AllocError, Global};
+use ob_history::Filter;
 
-/// The places of the items on feeds, in their order; None where there was no memory to keep them.
-pub(crate) type Feeds = Option<Vec<usize>>;
+/// The feeds of a site by their numbers from 0: those of the histories in the plan's order, and that of the alarm subject after
+/// them. A feed keeps its youngest events, and counts each from its first event ever.
+///
+/// Source: oBIX 1.1, chapters 14 (Histories) and 15 (Alarming).
+pub trait Feeds {
+    ghost use Rattle.std.specs.Prelude.{List};
+    ghost use Rattle.ob_watch.specs.Feeds.{FeedLog, ever, feed_at, passes_since};
 
-// Puts a place last where its item is on a feed.
-fn push_feed(places: &mut Vec<usize>, place: usize, item: &Item) -> Result<(), AllocError>
-    ensures { OnOk result (places.new.items ≡ places.old.items ++ cond (is_on_feed item.now) (place ∷ []) []) }
-{
-    if item.is_on_feed() {
-        places.push(place)?;
-    }
-    Ok(())
-}
+    ghost logs: { Self → List FeedLog };
 
-// Puts the places of the items on feeds in the place of others.
-fn refill(places: &mut Vec<usize>, items: &[Item]) -> Result<(), AllocError>
-    ensures { OnOk result (places.new.items ≡ feed_places items.now) }
-{
-    places.clear();
-    for place in 0..items.len() {
-        push_feed(places, place, &items[place])?;
-    }
-    Ok(())
-}
+    /// How many events a feed has had ever; 0 where there is no such feed.
+    fn ever(&self, feed: usize) -> u64
+        ensures { result ≡ ever (feed_at (logs self.now) feed) };
 
-// The places and one more.
-fn grown(mut places: Vec<usize>, last: usize) -> Feeds
-    ensures { IfSome result (λ grown. grown.items ≡ places.items ++ last ∷ []) }
-{
-    places.push(last).ok()?;
-    Some(places)
-}
+    /// How many events of a feed rolled off; 0 where there is no such feed.
+    fn gone(&self, feed: usize) -> u64
+        ensures { result ≡ (feed_at (logs self.now) feed).gone };
 
-/// The places of the items on feeds anew, in the memory of the places so far.
-pub(crate) fn found(feeds: Feeds, items: &[Item]) -> Feeds
-    ensures { AreFeedPlaces result items.now }
-{
-    let mut places = feeds?;
-    refill(&mut places, items).ok()?;
-    Some(places)
-}
-
-/// The places after all but the first so many items were dropped.
-pub(crate) fn cut(feeds: Feeds, count: usize) -> Feeds
-    ensures { (items : List KeptItem) → AreFeedPlaces feeds items → AreFeedPlaces result (take count items) }
-{
-    let mut places = feeds?;
-    places.retain(
-        |place: &usize| -> bool
-            ensures { result ≡ nat_lt place.now count }
-        { *place < count },
-    );
-    Some(places)
-}
-
-/// The places after an item, on a feed or not, was put in the place of the old one of its href, or last.
-pub(crate) fn after_put(
-    alloc: Global,
-    feeds: Feeds,
-    items: &[Item],
-    on_feed: bool,
-    old: &Option<Item>,
-) -> Feeds
-    ensures { (before : List KeptItem) (item : KeptItem) → AreFeedPlaces feeds before → is_on_feed item ≡ on_feed
-        → old.now ≡ found_item item.text before → items.now ≡ put_item item before → AreFeedPlaces result items.now }
-{
-    let Some(places) = feeds else {
-        return found(Some(Vec::new(alloc)), items);
-    };
-    match old {
-        Some(old) => {
-            let same = old.is_on_feed() == on_feed;
-            if same {
-                Some(places)
-            } else {
-                found(Some(places), items)
-            }
-        }
-        None => {
-            if on_feed {
-                grown(places, items.len().saturating_sub(1))
-            } else {
-                Some(places)
-            }
-        }
-    }
+    /// Whether a kept event from a number on passes a filter, by its timestamp.
+    fn passes_since(&self, feed: usize, given: u64, filter: &Filter) -> bool
+        ensures { result ≡ passes_since (feed_at (logs self.now) feed) given filter.now };
 }

@@ -1,13 +1,16 @@
 //! One item of a watch.
-ghost use Rattle.std.specs.Prelude.{◌≡◌, IfOk};
-ghost use Rattle.ob_watch.specs.Feeds.{is_on_feed};
+ghost use Rattle.std.specs.Prelude.{◌≡◌, true};
+ghost use Rattle.ob_site_rules.specs.Entries.{is_within};
+ghost use Rattle.ob_times.specs.Times.{Instant};
+ghost use Rattle.ob_watch.specs.Feeds.{feed_at, has_news};
 ghost use Rattle.ob_watch.specs.Items.{changed_by, feed_item, is_due, object_item, stamp_of};
+ghost use Rattle.ob_watch.specs.Marked.{is_feed};
 
 use crate::change::Change;
+use crate::feeds::Feeds;
 use ob_history::Filter;
 use ob_tree::{NodeId, Tree};
 use ob_values::Text;
-use std::alloc::AllocError;
 
 /// What is kept of what is watched.
 #[derive(Clone, Copy)]
@@ -17,13 +20,12 @@ pub enum Tracked {
         node: NodeId,
         mark: u64,
     },
-    /// A feed: its filter; how many of its events were reported or passed over, and how many it has had, both
-    /// counted from the first event ever; and whether something of it is to be reported.
+    /// A feed: its number among the feeds of the site; its filter; and how many of its events were reported or passed
+    /// over, counted from the first event ever.
     Feed {
+        feed: usize,
         filter: Filter,
         given: u64,
-        total: u64,
-        due: bool,
     },
 }
 
@@ -60,6 +62,27 @@ pub(crate) fn stamp_of(tree: &Tree, node: NodeId) -> u64
     }
 }
 
+/// Whether a filter has no bounds.
+#[tactic(auto, using(crate::proofs::NewsLemmas::open_passes))]
+fn is_open(filter: &Filter) -> bool
+    ensures { result ≡ true → (t : Instant) → is_within filter.now t ≡ true }
+{
+    filter.start.is_none() && filter.end.is_none()
+}
+
+/// Whether something of a feed is to be reported after so many of its events were.
+fn has_news<F: Feeds>(feeds: &F, feed: usize, given: u64, filter: &Filter) -> bool
+    ensures { result ≡ has_news (feed_at (F.logs feeds.now) feed) given filter.now }
+{
+    if given >= feeds.ever(feed) {
+        return false;
+    }
+    if is_open(filter) {
+        return true;
+    }
+    given < feeds.gone(feed) || feeds.passes_since(feed, given, filter)
+}
+
 impl Item {
     /// An item on an object that is reported after a step.
     pub fn object(text: Text, path: Text, node: NodeId, mark: u64) -> Item
@@ -72,18 +95,17 @@ impl Item {
         }
     }
 
-    /// An item on a feed whose events, so many ever, are reported.
-    pub fn feed(text: Text, path: Text, filter: Filter, total: u64) -> Item
-        ensures { result ≡ feed_item text path filter total }
+    /// An item on the feed of a number, of whose events so many are reported.
+    pub fn feed(text: Text, path: Text, feed: usize, filter: Filter, given: u64) -> Item
+        ensures { result ≡ feed_item text path feed filter given }
     {
         Item {
             text,
             path,
             tracked: Tracked::Feed {
+                feed,
                 filter,
-                given: total,
-                total,
-                due: false,
+                given,
             },
         }
     }
@@ -109,53 +131,39 @@ impl Item {
         &self.tracked
     }
 
-    /// Whether something of it is to be reported: of an object, whether its stamp in the tree is above its mark.
-    pub fn is_due(&self, tree: &Tree) -> bool
-        ensures { result ≡ is_due tree.now self.now }
+    /// Whether something of it is to be reported: of an object, whether its stamp in the tree is above its mark; of a feed,
+    /// whether events rolled off before they were reported, or a kept one passes.
+    pub fn is_due<F: Feeds>(&self, tree: &Tree, feeds: &F) -> bool
+        ensures { result ≡ is_due tree.now (F.logs feeds.now) self.now }
     {
         match &self.tracked {
             Tracked::Object { node, mark } => *mark < stamp_of(tree, *node),
             Tracked::Feed {
-                filter: _,
-                given: _,
-                total: _,
-                due,
-            } => *due,
+                feed,
+                filter,
+                given,
+            } => has_news(feeds, *feed, *given, filter),
         }
     }
 
     /// Whether it is on a feed.
     pub(crate) fn is_on_feed(&self) -> bool
-        ensures { result ≡ is_on_feed self.now }
+        ensures { result ≡ is_feed self.now.tracked }
     {
         match &self.tracked {
             Tracked::Object { node: _, mark: _ } => false,
             Tracked::Feed {
+                feed: _,
                 filter: _,
                 given: _,
-                total: _,
-                due: _,
             } => true,
         }
-    }
-
-    /// A copy of the item. An error only for want of memory.
-    pub fn copy(&self) -> Result<Item, AllocError>
-        ensures { IfOk result (λ copy. copy ≡ self.now) }
-    {
-        let text = self.text.copy()?;
-        let path = self.path.copy()?;
-        Ok(Item {
-            text,
-            path,
-            tracked: self.tracked,
-        })
     }
 
     /// Changes what is kept of it.
     pub(crate) fn change<C: Change>(&mut self, change: &C)
         ensures { self.new ≡ changed_by (C.made change.now) self.old }
     {
-        change.make(&self.path, &mut self.tracked);
+        change.make(&mut self.tracked);
     }
 }

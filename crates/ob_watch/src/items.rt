@@ -1,16 +1,13 @@
 //! The items of a watch by their hrefs, in the order in which these were first added.
-ghost use Rattle.std.specs.Prelude.{◌≡◌, [], List, map, take, not, IfOk, OnErr, string_bytes, true};
+ghost use Rattle.std.specs.Prelude.{◌≡◌, ◌-◌, ◌^◌, [], min, List, map, take, not, IfOk, OnErr, string_bytes, false, true};
 ghost use Rattle.std.specs.List.{filter, list_any};
-ghost use Rattle.ob_watch.specs.declared.item.Item.{Item as KeptItem};
-ghost use Rattle.ob_watch.specs.Feeds.{AreFeedPlaces, KeepsKinds, ObjectsStay, feed_places, is_on_feed};
 ghost use Rattle.ob_watch.specs.Held.{StandUnderOwn, items_of};
-ghost use Rattle.ob_watch.specs.Items.{Differ, among, changed_by, found_item, has_text, is_due, put_item, put_over};
-ghost use Rattle.ob_watch.specs.Marked.{AreMarked};
+ghost use Rattle.ob_watch.specs.Items.{Differ, among, bytes_of, changed_by, found_item, has_text, is_due, put_item, put_over};
+ghost use Rattle.ob_watch.specs.Marked.{IsReached};
 ghost use Rattle.ob_watch.specs.Marks.{AreStampsPast};
 
 use crate::change::Change;
-use crate::due::has_due;
-use crate::feeds::{Feeds, after_put, cut, found};
+use crate::feeds::Feeds;
 use crate::item::Item;
 use crate::marks::{self, Mark};
 use indexmap::IndexMap;
@@ -25,10 +22,13 @@ type Map = IndexMap<String, Item>;
 /// The items of a watch by their hrefs, in the order in which these were first added. No two have one href.
 ///
 /// Source: oBIX 1.1, chapter 12 (Watches).
-pub struct Items {
+pub(crate) struct Items {
     map: Map,
-    feeds: Feeds,
+    // The mark that each item on an object has, where it is known; and whether some items may be on feeds.
     mark: Mark,
+    may_be_feeds: bool,
+    // The bytes of the hrefs, counted to 2^64 - 1.
+    bytes: u64,
 }
 
 impl Drop for Items {
@@ -36,25 +36,25 @@ impl Drop for Items {
     fn drop(self) {
         let Items {
             map,
-            feeds,
             mark: _,
+            may_be_feeds: _,
+            bytes: _,
         } = self;
         drop(map);
-        drop(feeds);
     }
 }
 
 impl Model for Items {
     ghost use Rattle.std.specs.Prelude.{List};
     ghost use Rattle.ob_watch.specs.declared.item.Item.{Item};
-    ghost use Rattle.ob_watch.specs.Feeds.{AreInPlace};
     ghost use Rattle.ob_watch.specs.Held.{items_of};
+    ghost use Rattle.ob_watch.specs.Marked.{AreKnown};
 
     ghost Value = { List Item };
 
     ghost view = { λ m. items_of m.map.entries };
 
-    ghost invariant = { λ m. AreInPlace m.map.entries m.feeds m.mark };
+    ghost invariant = { λ m. AreKnown m.map.entries m.mark m.may_be_feeds m.bytes };
 }
 
 // Whether a text is one of these.
@@ -81,53 +81,31 @@ fn change_each<C: Change>(held: &mut Map, change: &C)
     }
 }
 
-// Makes a change of the items on feeds, which stand at these places.
-fn change_at<C: Change>(held: &mut Map, places: &[usize], change: &C)
-    requires places { places.now ≡ feed_places (items_of held.old.entries) }
-    requires stay { ObjectsStay (C.made change.now) (items_of held.old.entries) }
-    ensures { held.new.entries ≡ map (λ e. (e.0, changed_by (C.made change.now) e.1)) held.old.entries }
+// The bytes of the hrefs of items, counted to 2^64 - 1.
+fn count_bytes(items: &[Item]) -> u64
+    ensures { result ≡ min (bytes_of items.now) (2 ^ 64 - 1) }
 {
-    for place in places {
-        let item = &mut held[*place];
-        item.change(change);
+    let mut bytes = 0u64;
+    for item in items {
+        bytes = bytes.saturating_add(item.text().as_str().len() as u64);
     }
+    bytes
 }
 
-// Whether a change leaves items on objects, which have this mark, as they are.
-fn spares_items<C: Change>(mark: Mark, change: &C) -> bool
-    ensures stay { result ≡ true → (items : List KeptItem) → AreMarked mark items → ObjectsStay (C.made change.now) items }
-    ensures kinds { KeepsKinds (C.made change.now) }
+// Whether one of these items is to be reported.
+fn any_due<F: Feeds>(items: &[Item], tree: &Tree, feeds: &F) -> bool
+    ensures { result ≡ list_any (is_due tree.now (F.logs feeds.now)) items.now }
 {
-    if !change.spares_objects() {
-        return marks::is_given_again(mark, change);
-    }
-    true
+    items.iter().any(|item| item.is_due(tree, feeds))
 }
 
-// Makes a change of each item: where it spares those on objects, and the places are known, of those on feeds alone.
-fn change_items<C: Change>(held: &mut Map, feeds: &Feeds, mark: Mark, change: &C)
-    requires places { AreFeedPlaces feeds.now (items_of held.old.entries) }
-    requires marked { AreMarked mark (items_of held.old.entries) }
-    ensures changed { held.new.entries ≡ map (λ e. (e.0, changed_by (C.made change.now) e.1)) held.old.entries }
-    ensures kinds { KeepsKinds (C.made change.now) }
+// Whether items on objects are known to be reported after the last of so many steps.
+fn is_reported(mark: Mark, steps: u64) -> bool
+    ensures { result ≡ true → IsReached steps mark }
 {
-    if !spares_items(mark, change) {
-        return change_each(held, change);
-    }
-    match feeds {
-        Some(places) => change_at(held, places.as_slice(), change),
-        None => change_each(held, change),
-    }
-}
-
-// Whether an item and the one of its href are both on feeds, or both on objects; true where there is none.
-fn has_same_kind(held: &Map, item: &Item) -> bool
-    requires { StandUnderOwn held.now.entries }
-    ensures { result ≡ true → map is_on_feed (put_over item.now (items_of held.now.entries)) ≡ map is_on_feed (items_of held.now.entries) }
-{
-    match held.get(item.text().as_str()) {
-        Some(old) => old.is_on_feed() == item.is_on_feed(),
-        None => true,
+    match mark {
+        Some(mark) => mark >= steps,
+        None => false,
     }
 }
 
@@ -150,8 +128,9 @@ impl Items {
     {
         Items {
             map: IndexMap::new(alloc),
-            feeds: Some(Vec::new(alloc)),
             mark: None,
+            may_be_feeds: false,
+            bytes: 0,
         }
     }
 
@@ -170,28 +149,40 @@ impl Items {
         self.map.contains_key(text.as_str())
     }
 
-    /// Whether an item is to be reported, where no stamp of the tree is of a step to come.
-    pub(crate) fn has_due(&self, tree: &Tree) -> bool
-        requires { AreStampsPast tree.now }
-        ensures { result ≡ list_any (is_due tree.now) self.now }
+    /// The bytes of the hrefs, counted to 2^64 - 1.
+    pub(crate) fn bytes(&self) -> u64
+        ensures { result ≡ min (bytes_of self.now) (2 ^ 64 - 1) }
     {
-        has_due(as_items(&self.map), &self.feeds, self.mark, tree)
+        self.bytes
     }
 
-    /// Puts an item in the place of the one of its href, which comes back, or last. Want of memory leaves all as
-    /// it was.
+    /// Whether an item is to be reported, where no stamp of the tree is of a step to come.
+    pub(crate) fn has_due<F: Feeds>(&self, tree: &Tree, feeds: &F) -> bool
+        requires { AreStampsPast tree.now }
+        ensures { result ≡ list_any (is_due tree.now (F.logs feeds.now)) self.now }
+    {
+        if !self.may_be_feeds && is_reported(self.mark, tree.steps()) {
+            return false;
+        }
+        any_due(as_items(&self.map), tree, feeds)
+    }
+
+    /// Puts an item in the place of the one of its href, which comes back, or last. Out of memory leaves all as it was.
     pub(crate) fn put(&mut self, alloc: Global, item: Item) -> Result<Option<Item>, AllocError>
         ensures put { IfOk result (λ old. self.new ≡ put_item item self.old) }
         ensures old { IfOk result (λ old. old ≡ found_item item.text self.old) }
         ensures err { OnErr result (self.new ≡ self.old) }
     {
         let text = String::from_str(alloc, item.text().as_str())?;
+        let size = item.text().as_str().len() as u64;
         let on_feed = item.is_on_feed();
         let mark = marks::after_put(self.mark, &item);
         let old = self.map.insert(text, item)?;
         self.mark = mark;
-        let feeds = self.feeds.take();
-        self.feeds = after_put(alloc, feeds, as_items(&self.map), on_feed, &old);
+        self.may_be_feeds = self.may_be_feeds || on_feed;
+        if old.is_none() {
+            self.bytes = self.bytes.saturating_add(size);
+        }
         Ok(old)
     }
 
@@ -199,14 +190,10 @@ impl Items {
     pub(crate) fn put_over(&mut self, item: Item)
         ensures { self.new ≡ put_over item self.old }
     {
-        let same = has_same_kind(&self.map, &item);
+        let on_feed = item.is_on_feed();
+        self.may_be_feeds = self.may_be_feeds || on_feed;
         self.mark = marks::after_put(self.mark, &item);
         put_over(&mut self.map, item);
-        if same {
-            return;
-        }
-        let feeds = self.feeds.take();
-        self.feeds = found(feeds, as_items(&self.map));
     }
 
     /// Keeps the first so many items.
@@ -214,8 +201,7 @@ impl Items {
         ensures { self.new ≡ take count self.old }
     {
         self.map.truncate(count);
-        let feeds = self.feeds.take();
-        self.feeds = cut(feeds, count);
+        self.bytes = count_bytes(as_items(&self.map));
     }
 
     /// Drops the items of these hrefs.
@@ -227,26 +213,18 @@ impl Items {
                 ensures { (result ≡ not (among texts.entry.now (string_bytes text.now))) × (_item.new ≡ _item.old) }
             { !is_among(texts, text.as_str()) },
         );
-        let feeds = self.feeds.take();
-        self.feeds = found(feeds, as_items(&self.map));
+        self.bytes = count_bytes(as_items(&self.map));
     }
 
-    /// Makes a change of each item.
+    /// Makes a change of each item. It has nothing to do where no item is on a feed and each has the mark that it gives.
     pub(crate) fn change<C: Change>(&mut self, change: &C)
         ensures { self.new ≡ map (changed_by (C.made change.now)) self.old }
     {
-        change_items(&mut self.map, &self.feeds, self.mark, change);
-        self.mark = marks::after_change(self.mark, change);
-    }
-
-    /// A copy of the items. An error only for want of memory.
-    pub(crate) fn copy(&self, alloc: Global) -> Result<Items, AllocError>
-        ensures { IfOk result (λ copy. copy ≡ self.now) }
-    {
-        let mut copies = Items::new(alloc);
-        for item in self.as_slice() {
-            copies.put(alloc, item.copy()?)?;
+        if !self.may_be_feeds && marks::is_given_again(self.mark, change) {
+            return;
         }
-        Ok(copies)
+        let mark = change.mark();
+        change_each(&mut self.map, change);
+        self.mark = mark;
     }
 }

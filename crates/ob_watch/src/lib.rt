@@ -8,20 +8,21 @@
 
 mod additions;
 mod change;
-mod due;
 mod fault;
 mod feeds;
 mod item;
 mod items;
 mod laws;
 mod marks;
+mod room;
 mod watch;
 mod watches;
 
 pub use additions::Additions;
 pub use fault::WatchFault;
+pub use feeds::Feeds;
 pub use item::{Item, Tracked};
-pub use items::Items;
 pub use laws::as_the_site_says;
+pub use room::Room;
 pub use watch::{Due, FIRST_LEASE, LONGEST_LEASE, SHORTEST_LEASE, Watch};
 pub use watches::{Watches, crosses_threads};

@@ -1,9 +1,9 @@
 //! The mark that all items of a watch on objects have.
-ghost use Rattle.std.specs.Prelude.{◌≡◌, List, map, true};
+ghost use Rattle.std.specs.Prelude.{◌≡◌, List, IfSome, false, true};
 ghost use Rattle.ob_watch.specs.declared.item.Item.{Item as KeptItem};
-ghost use Rattle.ob_watch.specs.Feeds.{ObjectsStay};
-ghost use Rattle.ob_watch.specs.Items.{changed_by, put_item, put_over};
-ghost use Rattle.ob_watch.specs.Marked.{AreMarked};
+ghost use Rattle.ob_watch.specs.declared.item.Tracked.{Tracked as KeptTracked};
+ghost use Rattle.ob_watch.specs.Items.{put_item, put_over};
+ghost use Rattle.ob_watch.specs.Marked.{AreMarked, IsMarkedBy, is_feed};
 
 use crate::change::Change;
 use crate::item::{Item, Tracked};
@@ -20,28 +20,16 @@ pub(crate) fn after_put(mark: Mark, item: &Item) -> Mark
     match item.tracked() {
         Tracked::Object { node: _, mark } => { if *mark == known { Some(known) } else { None } }
         Tracked::Feed {
+            feed: _,
             filter: _,
             given: _,
-            total: _,
-            due: _,
         } => Some(known),
-    }
-}
-
-/// The mark after a change of each item.
-pub(crate) fn after_change<C: Change>(mark: Mark, change: &C) -> Mark
-    ensures { (before : List KeptItem) → AreMarked mark before → AreMarked result (map (changed_by (C.made change.now)) before) }
-{
-    if change.spares_objects() {
-        mark
-    } else {
-        change.mark()
     }
 }
 
 /// Whether a change gives each object the mark that it has.
 pub(crate) fn is_given_again<C: Change>(mark: Mark, change: &C) -> bool
-    ensures { result ≡ true → (items : List KeptItem) → AreMarked mark items → ObjectsStay (C.made change.now) items }
+    ensures { result ≡ true → (kept : KeptTracked) → is_feed kept ≡ false → IfSome mark (λ m. IsMarkedBy m kept) → C.made change.now kept ≡ kept }
 {
     let Some(known) = mark else {
         return false;

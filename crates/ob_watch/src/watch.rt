@@ -1,22 +1,24 @@
 //! One watch.
-ghost use Rattle.std.specs.Prelude.{◌≡◌, List, map, IfOk, IfSome, option_map, position, slice_get};
+ghost use Rattle.std.specs.Prelude.{◌≡◌, ◌-◌, List, map, length, IfSome, option_map, position, slice_get};
 ghost use Rattle.std.specs.List.{list_any};
 ghost use Rattle.ob_watch.specs.declared.item.Item.{Item as KeptItem};
-ghost use Rattle.ob_watch.specs.Adding.{Adds};
-ghost use Rattle.ob_watch.specs.Items.{Differ, changed_by, has_text, is_due};
+ghost use Rattle.ob_watch.specs.Adding.{Adds, refusal};
+ghost use Rattle.ob_watch.specs.Items.{Differ, bytes_of, changed_by, has_text, is_due};
 ghost use Rattle.ob_watch.specs.Marks.{AreStampsPast};
-ghost use Rattle.ob_watch.specs.Tables.{IsLease, StandsUntil, is_full_watch, is_over, leased_for, new_watch, next_due, touched_at, watching, without};
+ghost use Rattle.ob_watch.specs.Tables.{IsLease, StandsUntil, is_idle, is_over, leased_for, new_watch, next_due, touched_at, watching, without};
 ghost use Rattle.ob_watch.specs.Undo.{StillUndoes, Undoes};
 
 use crate::additions::Additions;
 use crate::change::Change;
 use crate::fault::WatchFault;
+use crate::feeds::Feeds;
 use crate::item::Item;
 use crate::items::Items;
+use crate::room::Room;
 use ob_times::Moment;
 use ob_tree::Tree;
 use ob_values::Text;
-use std::alloc::{AllocError, Global};
+use std::alloc::Global;
 use std::marker::Model;
 
 /// The lease of a new watch, a minute, in nanoseconds.
@@ -67,18 +69,18 @@ impl Model for Watch {
 }
 
 // The first place whose item is to be reported.
-fn first_due(items: &[Item], tree: &Tree) -> Option<usize>
-    ensures { result ≡ position (is_due tree.now) items.now }
+fn first_due<F: Feeds>(items: &[Item], tree: &Tree, feeds: &F) -> Option<usize>
+    ensures { result ≡ position (is_due tree.now (F.logs feeds.now)) items.now }
 {
-    items.iter().position(|item| item.is_due(tree))
+    items.iter().position(|item| item.is_due(tree, feeds))
 }
 
 // The first place from one on whose item is to be reported.
-fn next_due(items: &[Item], tree: &Tree, place: usize) -> Option<usize>
-    ensures { result ≡ next_due tree.now place items.now }
+fn next_due<F: Feeds>(items: &[Item], tree: &Tree, feeds: &F, place: usize) -> Option<usize>
+    ensures { result ≡ next_due tree.now (F.logs feeds.now) place items.now }
 {
     let from = place.min(items.len());
-    let further = first_due(&items[from..], tree)?;
+    let further = first_due(&items[from..], tree, feeds)?;
     Some(from + further)
 }
 
@@ -127,11 +129,48 @@ impl Watch {
         self.touched.saturating_add(self.lease / 1_000_000)
     }
 
-    /// Whether no new href can be added: the watch has 2,048 items.
-    pub fn is_full(&self) -> bool
-        ensures { result ≡ is_full_watch self.now }
+    /// Why an href can't be added where the other watches leave so much room, if it can't: it is new, and this watch has
+    /// 2,048 items, or all have theirs, or its bytes are too many in all.
+    ///
+    /// Source: limits of this server.
+    pub fn refusal(&self, room: Room, text: &Text) -> Option<WatchFault>
+        ensures { result ≡ refusal room self.now text.now }
     {
-        self.items.as_slice().len() >= 2048
+        if self.has(text) {
+            return None;
+        }
+        let count = self.items.as_slice().len();
+        if count >= 2048 {
+            return Some(WatchFault::ItemsFull);
+        }
+        if room.lacks_item(count) {
+            return Some(WatchFault::AllItemsFull);
+        }
+        if room.lacks_bytes(self.items.bytes(), text.as_str().len()) {
+            return Some(WatchFault::AllBytesFull);
+        }
+        None
+    }
+
+    /// What is left beside the items of this watch.
+    pub(crate) fn leaves(&self, room: Room) -> Room
+        ensures { result ≡ record { items = room.items - length self.now.items; bytes = room.bytes - bytes_of self.now.items } }
+    {
+        room.beside(self.items.as_slice().len(), self.items.bytes())
+    }
+
+    /// Whether the last request to the watch lies more than a minute back.
+    pub(crate) fn is_idle(&self, now: Moment) -> bool
+        ensures { result ≡ is_idle now self.now }
+    {
+        now.ms().saturating_sub(self.touched) > 60_000
+    }
+
+    /// The moment of the last request to the watch, in milliseconds since 1970.
+    pub(crate) fn touched(&self) -> u64
+        ensures { result ≡ self.now.touched }
+    {
+        self.touched
     }
 
     /// Whether an item is of this href.
@@ -145,22 +184,22 @@ impl Watch {
     /// tree may be of a step to come.
     ///
     /// Source: oBIX 1.1, chapter 12 (Watch.pollChanges).
-    pub fn has_due(&self, tree: &Tree) -> bool
+    pub fn has_due<F: Feeds>(&self, tree: &Tree, feeds: &F) -> bool
         requires { AreStampsPast tree.now }
-        ensures { result ≡ list_any (is_due tree.now) self.now.items }
+        ensures { result ≡ list_any (is_due tree.now (F.logs feeds.now)) self.now.items }
     {
-        self.items.has_due(tree)
+        self.items.has_due(tree, feeds)
     }
 
     /// The first item from a place on that is to be reported.
     ///
     /// Source: oBIX 1.1, chapter 12 (Watch.pollChanges).
-    pub fn next_due(&self, tree: &Tree, place: usize) -> Option<Due<'_>>
-        ensures place { option_map (λ d. d.place) result ≡ next_due tree.now place self.now.items }
+    pub fn next_due<F: Feeds>(&self, tree: &Tree, feeds: &F, place: usize) -> Option<Due<'_>>
+        ensures place { option_map (λ d. d.place) result ≡ next_due tree.now (F.logs feeds.now) place self.now.items }
         ensures item { IfSome result (λ d. slice_get self.now.items d.place ≡ Some d.item.now) }
     {
         let items = self.items.as_slice();
-        let place = next_due(items, tree, place)?;
+        let place = next_due(items, tree, feeds, place)?;
         let item = items.get(place)?;
         Some(Due { place, item })
     }
@@ -180,19 +219,20 @@ impl Watch {
         self.lease = lease;
     }
 
-    /// Puts an item in the place of the one of its href, or last; ItemsFull where the watch has its most items
-    /// and none of that href. An error leaves the watch as it was.
+    /// Puts an item in the place of the one of its href, or last, where the other watches leave so much room; an error where it is
+    /// refused. An error leaves the watch as it was.
     pub(crate) fn add(
         &mut self,
         alloc: Global,
         item: Item,
+        room: Room,
         undo: &mut Additions,
     ) -> Result<(), WatchFault>
-        ensures adds { Adds self.old self.new item result }
+        ensures adds { Adds room self.old self.new item result }
         ensures back { StillUndoes undo.old undo.new self.old.items self.new.items }
     {
-        if self.is_full() && !self.has(item.text()) {
-            return Err(WatchFault::ItemsFull);
+        if let Some(fault) = self.refusal(room, item.text()) {
+            return Err(fault);
         }
         match undo.put(alloc, &mut self.items, item) {
             Ok(()) => Ok(()),
@@ -213,20 +253,6 @@ impl Watch {
         ensures { self.new ≡ without texts.now self.old }
     {
         self.items.remove(texts);
-    }
-
-    /// Watches these items instead.
-    pub(crate) fn put_items(&mut self, items: Items)
-        ensures { self.new ≡ watching items self.old }
-    {
-        self.items = items;
-    }
-
-    /// A copy of the items. An error only for want of memory.
-    pub(crate) fn copy_items(&self, alloc: Global) -> Result<Items, AllocError>
-        ensures { IfOk result (λ copy. copy ≡ self.now.items) }
-    {
-        self.items.copy(alloc)
     }
 
     /// Makes a change of each item.

@@ -1,25 +1,27 @@
 //! The watches of a site.
-ghost use Rattle.std.specs.Prelude.{◌≡◌, ℕ, ◌++◌, [], ◌∷◌, cond, count_by, OnOk, is_some, not, None, IfOk, nat_eq, nat_le, length, max, option_map};
-ghost use Rattle.std.specs.List.{AllByRecursion, IsDistinct};
+ghost use Rattle.std.specs.Prelude.{◌≡◌, ℕ, ◌-◌, ◌||◌, ◌++◌, List, [], ◌∷◌, cond, count_by, OnOk, is_some, map, not, None, IfOk, nat_eq, nat_le, length, max};
+ghost use Rattle.std.specs.List.{AllByRecursion, IsDistinct, filter};
 ghost use Rattle.std.specs.Option.{option_copied};
 ghost use Rattle.indexmap.specs.IndexMap.{IsUnique};
 ghost use Rattle.ob_watching.specs.Tables.{lookup, numbers_of, replace};
 ghost use Rattle.ob_watching.specs.Watches.{max_watches};
-ghost use Rattle.ob_watch.specs.Adding.{AddsAt, Makes, TakesBack};
-ghost use Rattle.ob_watch.specs.Items.{changed_by, marked_anew, one_more, rolled_to};
-ghost use Rattle.ob_watch.specs.Tables.{AllStandUntil, IsLease, StandsUntil, at_number, has_no_place, holding, is_over, lapsed_at, leased_for, live, no_watches, touched_at, watching, with_all_items, with_new, without, Table};
+ghost use Rattle.ob_watch.specs.Adding.{AddsAt, GivesWay, Makes, TakesBack, is_full_at};
+ghost use Rattle.ob_watch.specs.Giving.{IsPart, is_busy, least_idle};
+ghost use Rattle.ob_watch.specs.Items.{bytes_of, changed_by, marked_anew};
+ghost use Rattle.ob_watch.specs.Tables.{AllStandUntil, IsLease, StandsUntil, at_number, holding, idlest, is_idle, is_over, lacks_room, lapsed_at, leased_for, live, new_watch, no_watches, room_beside, room_left, touched_at, with_all_items, with_new, without, yielding, Leased, Table};
 ghost use Rattle.ob_watch.specs.Reported.{IsDue, all_reported};
 
 use crate::additions::Additions;
-use crate::change::{Change, Event, Renumber, Report, Roll};
+use crate::change::{Change, Renumber, Report};
 use crate::fault::WatchFault;
+use crate::feeds::Feeds;
 use crate::item::Item;
-use crate::items::Items;
+use crate::room::Room;
 use crate::watch::{Due, Watch};
 use indexmap::IndexMap;
 use ob_times::Moment;
 use ob_tree::Tree;
-use ob_values::{Abstime, Text};
+use ob_values::Text;
 use std::alloc::{AllocError, Global};
 use std::marker::Model;
 
@@ -80,29 +82,21 @@ fn soonest_held(held: &Map) -> u64
     soonest_of(watches)
 }
 
-// How many there are whose lease has not run out.
-fn count_live(watches: &[Watch], now: Moment) -> usize
-    ensures { result ≡ count_by (λ w. not (is_over now w)) watches.now }
+// How many there are whose lease has not run out and that give way to none.
+fn count_busy(watches: &[Watch], now: Moment) -> usize
+    ensures { result ≡ count_by (is_busy now) watches.now }
 {
     watches
         .iter()
-        .filter(|watch| !watch.has_lapsed(now))
+        .filter(|watch| !watch.has_lapsed(now) && !watch.is_idle(now))
         .count()
 }
 
-// The same of the watches under their numbers.
-fn live_count(held: &Map, now: Moment) -> usize
-    ensures { result ≡ length (live now held.now.entries) }
-{
-    let watches = held.values().as_slice();
-    count_live(watches, now)
-}
-
-// Whether a thousand or more are live; they are counted only where as many are held.
+// Whether a thousand or more are live and give way to none; they are counted only where as many are held.
 fn are_thousand(held: &Map, now: Moment) -> bool
-    ensures { result ≡ nat_le max_watches (length (live now held.now.entries)) }
+    ensures { result ≡ nat_le max_watches (length (filter (λ e. is_busy now e.1) held.now.entries)) }
 {
-    held.len() >= 1000 && live_count(held, now) >= 1000
+    held.len() >= 1000 && count_busy(held.values().as_slice(), now) >= 1000
 }
 
 // Makes a change of each item of each watch.
@@ -154,6 +148,92 @@ fn live_numbers(alloc: Global, held: &Map, now: Moment) -> Result<Vec<u64>, Allo
     Ok(numbers)
 }
 
+// What watches leave of what all may have.
+fn room_left(watches: &[Watch]) -> Room
+    ensures { (es : List (ℕ × Leased)) → map (λ e. e.1) es ≡ watches.now → result ≡ room_left es }
+{
+    let mut room = Room::new();
+    for watch in watches {
+        room = watch.leaves(room);
+    }
+    room
+}
+
+// What is left beside a watch, unless it is the one of this number or its lease has run out.
+fn beside_other(room: Room, watch: &Watch, is_own: bool, now: Moment) -> Room
+    ensures { result ≡ cond (is_own || is_over now watch.now) room (record { items = room.items - length watch.now.items; bytes = room.bytes - bytes_of watch.now.items }) }
+{
+    if is_own || watch.has_lapsed(now) {
+        return room;
+    }
+    watch.leaves(room)
+}
+
+// What the others leave for the watch of a number.
+fn room_beside(held: &Map, number: u64, now: Moment) -> Room
+    ensures { result ≡ room_beside number (live now held.now.entries) }
+{
+    let all = held.keys().as_slice();
+    let watches = held.values().as_slice();
+    let mut room = Room::new();
+    for place in 0..watches.len() {
+        room = beside_other(room, &watches[place], all[place] == number, now);
+    }
+    room
+}
+
+// There is no room for one more watch with its most items, beside all but the last.
+fn lacks_room(held: &Map) -> bool
+    ensures { (ws : List (ℕ × Leased)) (number now : ℕ) → held.now.entries ≡ ws ++ (number, new_watch now) ∷ [] → result ≡ lacks_room ws }
+{
+    held.len() > 1000 || room_left(held.values().as_slice()).lacks_watch()
+}
+
+// Of an idle watch and another, by number and moment of the last request, the one whose request lies farther back.
+fn idler(other: Option<(u64, u64)>, number: u64, watch: &Watch, now: Moment) -> Option<(u64, u64)>
+    ensures { result ≡ least_idle now other (number, watch.now) }
+{
+    if !watch.is_idle(now) {
+        return other;
+    }
+    match other {
+        Some((first, touched)) if touched <= watch.touched() => Some((first, touched)),
+        _ => Some((number, watch.touched())),
+    }
+}
+
+// The number of the idle watch whose last request lies farthest back, of several the first.
+fn idlest(held: &Map, now: Moment) -> Option<u64>
+    ensures { result ≡ idlest now held.now.entries }
+{
+    let all = held.keys().as_slice();
+    let watches = held.values().as_slice();
+    let mut found = None;
+    for place in 0..watches.len() {
+        found = idler(found, all[place], &watches[place], now);
+    }
+    let (number, _touched) = found?;
+    Some(number)
+}
+
+// Idle watches give way to the last, one after the other, while the others leave no room for one more.
+fn give_way(held: &mut Map, now: Moment)
+    requires { IsUnique nat_eq held.old }
+    ensures gone { (ws : List (ℕ × Leased)) (number : ℕ) → held.old.entries ≡ ws ++ (number, new_watch now) ∷ []
+        → held.new.entries ≡ yielding (length ws) now ws ++ (number, new_watch now) ∷ [] }
+    ensures part { IsPart held.old.entries held.new.entries }
+{
+    for _round in 1..held.len() {
+        if !lacks_room(held) {
+            return;
+        }
+        let Some(number) = idlest(held, now) else {
+            return;
+        };
+        held.shift_remove(&number);
+    }
+}
+
 impl Watches {
     /// No watch; the first will have number 1.
     pub fn new(alloc: Global) -> Watches
@@ -188,9 +268,10 @@ impl Watches {
         self.get(number, now).is_some()
     }
 
-    /// Whether no more can be made at this moment: 1,000 are live, or the last number was given.
+    /// Whether no more can be made at this moment: 1,000 are live of which the last request lies at most a minute back, or the
+    /// last number was given.
     pub fn is_full(&self, now: Moment) -> bool
-        ensures { result ≡ has_no_place (lapsed_at now self.now) }
+        ensures { result ≡ is_full_at now self.now }
     {
         are_thousand(&self.map, now) || self.next > 9_223_372_036_854_775_807
     }
@@ -210,8 +291,16 @@ impl Watches {
         live_numbers(self.alloc, &self.map, now)
     }
 
+    /// What the other watches, as far as their lease hasn't run out at this moment, leave for the one of a number of the 200,000
+    /// items and 16,777,216 bytes of hrefs that all may have.
+    pub fn room_beside(&self, number: u64, now: Moment) -> Room
+        ensures { result ≡ room_beside number (lapsed_at now self.now).watches }
+    {
+        room_beside(&self.map, number, now)
+    }
+
     /// Makes a watch at this moment and gives its number. Full where no more can be made; an error leaves all
-    /// as it was.
+    /// as it was. Those that are to give way to it are held until `give_way`.
     ///
     /// Source: oBIX 1.1, chapter 12 (WatchService.make).
     pub fn make(&mut self, now: Moment) -> Result<u64, WatchFault>
@@ -231,6 +320,16 @@ impl Watches {
             }
             Err(_) => Err(WatchFault::Memory),
         }
+    }
+
+    /// Drops the watches whose lease has run out, and then idle ones, whose last request lies more than a minute back: while there
+    /// is no room for one more watch with its most items, beside the last that was made at this moment, the one goes whose request
+    /// lies farthest back, of several the one with the least number. It takes no memory.
+    pub fn give_way(&mut self, now: Moment)
+        ensures { GivesWay now self.old self.new }
+    {
+        self.sweep(now);
+        give_way(&mut self.map, now);
     }
 
     /// Takes back the last make, where nothing was asked of the watches since: its watch is gone, and the next make gives its
@@ -303,17 +402,23 @@ impl Watches {
         self.soonest = soonest_held(&self.map);
     }
 
-    /// Puts an item in the place of the one of its href, or last. NoWatch where no watch of that number is held;
-    /// ItemsFull where it has its most items and none of that href. An error leaves all as it was, and `undo`
-    /// takes back what was added with it before.
+    /// Puts an item in the place of the one of its href, or last, where the other watches leave so much room. NoWatch where no
+    /// watch of that number is held; the three others where the href is new and there is no room for it. An error leaves all as it
+    /// was, and `undo` takes back what was added with it before.
     ///
     /// Source: oBIX 1.1, chapter 12 (Watch.add).
-    pub fn add(&mut self, number: u64, item: Item, undo: &mut Additions) -> Result<(), WatchFault>
-        ensures { AddsAt number item self.old self.new undo.old undo.new result }
+    pub fn add(
+        &mut self,
+        number: u64,
+        item: Item,
+        room: Room,
+        undo: &mut Additions,
+    ) -> Result<(), WatchFault>
+        ensures { AddsAt number item room self.old self.new undo.old undo.new result }
     {
         let alloc = self.alloc;
         match self.map.get_mut(&number) {
-            Some(watch) => watch.add(alloc, item, undo),
+            Some(watch) => watch.add(alloc, item, room, undo),
             None => return Err(WatchFault::NoWatch),
         }
     }
@@ -345,41 +450,21 @@ impl Watches {
         true
     }
 
-    /// A copy of the items of a watch; None where no watch of that number is held. An error only for want of
-    /// memory.
-    pub fn copy_items(&self, number: u64) -> Result<Option<Items>, AllocError>
-        ensures { IfOk result (λ items. items ≡ option_map (λ w. w.items) (lookup number self.now.watches)) }
-    {
-        match self.map.get(&number) {
-            Some(watch) => {
-                let items = watch.copy_items(self.alloc)?;
-                Ok(Some(items))
-            }
-            None => Ok(None),
-        }
-    }
-
-    /// Lets a watch have these items instead; false where no watch of that number is held.
-    pub fn put_items(&mut self, number: u64, items: Items) -> bool
-        ensures held { result ≡ is_some (lookup number self.old.watches) }
-        ensures put { self.new ≡ holding (at_number number (watching items) self.old.watches) self.old }
-    {
-        match self.map.get_mut(&number) {
-            Some(watch) => watch.put_items(items),
-            None => return false,
-        }
-        true
-    }
-
     /// The first item of a watch from a place on that is to be reported; None also where no watch of that number
     /// is held.
     ///
     /// Source: oBIX 1.1, chapter 12 (Watch.pollChanges).
-    pub fn due(&self, tree: &Tree, number: u64, place: usize) -> Option<Due<'_>>
-        ensures { IsDue tree.now place (lookup number self.now.watches) result }
+    pub fn due<F: Feeds>(
+        &self,
+        tree: &Tree,
+        feeds: &F,
+        number: u64,
+        place: usize,
+    ) -> Option<Due<'_>>
+        ensures { IsDue tree.now (F.logs feeds.now) place (lookup number self.now.watches) result }
     {
         match self.map.get(&number) {
-            Some(watch) => watch.next_due(tree, place),
+            Some(watch) => watch.next_due(tree, feeds, place),
             None => None,
         }
     }
@@ -388,30 +473,16 @@ impl Watches {
     /// number is held.
     ///
     /// Source: oBIX 1.1, chapter 12 (Watch.pollChanges, Watch.pollRefresh).
-    pub fn reported(&mut self, tree: &Tree, number: u64) -> bool
+    pub fn reported<F: Feeds>(&mut self, tree: &Tree, feeds: &F, number: u64) -> bool
         ensures held { result ≡ is_some (lookup number self.old.watches) }
-        ensures reported { self.new ≡ holding (at_number number (all_reported tree.now.steps) self.old.watches) self.old }
+        ensures reported { self.new ≡ holding (at_number number (all_reported tree.now.steps (F.logs feeds.now)) self.old.watches) self.old }
     {
         let steps = tree.steps();
         match self.map.get_mut(&number) {
-            Some(watch) => watch.change(&Report { steps }),
+            Some(watch) => watch.change(&Report { steps, feeds }),
             None => return false,
         }
         true
-    }
-
-    /// Counts one more event of the feed at a path, of this time, in each watch.
-    pub fn event(&mut self, path: &Text, time: Abstime)
-        ensures { self.new ≡ holding (with_all_items (one_more path.now time) self.old.watches) self.old }
-    {
-        change_each(&mut self.map, &Event { path, time });
-    }
-
-    /// Takes note, in each watch, that so many events of the feed at a path rolled off.
-    pub fn rolled(&mut self, path: &Text, gone: u64)
-        ensures { self.new ≡ holding (with_all_items (rolled_to path.now gone) self.old.watches) self.old }
-    {
-        change_each(&mut self.map, &Roll { path, gone });
     }
 
     /// Marks the objects anew, as the steps of the tree are to be counted from 1 again: to be called before

@@ -1,4 +1,5 @@
-use Rattle.ob_watch.proofs.LawLemmas.{as_rules, lapses_commute}
+use Rattle.ob_watch.proofs.LawLemmas.{as_rules}
+use Rattle.ob_watch.proofs.LapseLemmas.{lapses_commute}
 use Rattle.ob_watch.proofs.laws.as_the_site_says.Goals as goal
 
 pub returns-clause-rules : goal.returns-clause-rules

@@ -15,9 +15,9 @@ returns-then-mark-known-clause-over c = λ before are.
 pub returns-in-Feed-clause-put : goal.returns-in-Feed-clause-put
 returns-in-Feed-clause-put c = λ before are.
     put_marked c.args.mark c.in_ok-known.known c.args.item.now before c.in_ok-known.was
-    (feed_has c.in_ok-known.known c.args.item.now.tracked c.in-Feed.filter c.in-Feed.given c.in-Feed.total c.in-Feed.due (sym c.tracked.ensures ∙ c.in-Feed.is)) are
+    (feed_has c.in_ok-known.known c.args.item.now.tracked c.in-Feed.feed c.in-Feed.filter c.in-Feed.given (sym c.tracked.ensures ∙ c.in-Feed.is)) are
 
 pub returns-in-Feed-clause-over : goal.returns-in-Feed-clause-over
 returns-in-Feed-clause-over c = λ before are.
     over_marked c.args.mark c.in_ok-known.known c.args.item.now before c.in_ok-known.was
-    (feed_has c.in_ok-known.known c.args.item.now.tracked c.in-Feed.filter c.in-Feed.given c.in-Feed.total c.in-Feed.due (sym c.tracked.ensures ∙ c.in-Feed.is)) are
+    (feed_has c.in_ok-known.known c.args.item.now.tracked c.in-Feed.feed c.in-Feed.filter c.in-Feed.given (sym c.tracked.ensures ∙ c.in-Feed.is)) are

@@ -1,16 +1,17 @@
-use Rattle.std.proofs.Common.{arith, ◌≡◌, ◌∙◌, ◌≤◌, ◌<◌, ℕ, List, length, not, subst, sym, nat_le, false}
+use Rattle.std.proofs.Common.{◌≡◌, ℕ, ◌<◌, false, ap, nat_le, subst, ◌∙◌, arith}
+use Rattle.std.specs.Prelude.{count_by}
 use Rattle.std.proofs.lemmas.Bool.Decides.{nat_tests}
-use Rattle.std.proofs.lemmas.List.Sums.{count_by-le-length, length-filter}
-use Rattle.ob_watch.specs.Tables.{Leased, is_over, live}
+use Rattle.ob_watch.specs.Giving.{is_busy}
+use Rattle.ob_watch.proofs.GivingLemmas.{few_busy}
+use Rattle.ob_watch.proofs.TableLemmas.{counted}
 use Rattle.ob_watch.proofs.watches.are_thousand.Goals as goal
+
+pub returns-then-len-ge1000 : goal.returns-then-len-ge1000
+returns-then-len-ge1000 c =
+    ap (nat_le 1000)
+    (c.count_busy.ensures ∙ ap (count_by (is_busy c.args.now)) (c.as_slice.ensures ∙ c.values.ensures.rest) ∙ counted (is_busy c.args.now) c.args.held.now.entries)
 
 pub returns-else-len-ge1000 : goal.returns-else-len-ge1000
 returns-else-len-ge1000 c =
-    let es : List (ℕ × Leased) = c.args.held.now.entries in
-    let few : length (live c.args.now es) ≤ length es =
-    subst (λ (n : ℕ). n ≤ length es) (sym (length-filter (λ e. not (is_over c.args.now e.1)) es))
-    (count_by-le-length (λ e. not (is_over c.args.now e.1)) es) in
-    let held : length es < 1000 = subst (λ (n : ℕ). n < 1000) c.len.ensures.len c.if-len-ge1000.false in
-    let not_held : nat_le 1000 c.len.result ≡ false = grind (arith, nat_tests) in
-    let not_live : nat_le 1000 (length (live c.args.now es)) ≡ false = grind (arith, nat_tests) in
-    not_held ∙ sym not_live
+    let few : nat_le 1000 c.len.result ≡ false = grind (arith, nat_tests) in
+    few ∙ few_busy c.args.now c.args.held.now.entries (subst (λ (n : ℕ). n < 1000) c.len.ensures.len c.if-len-ge1000.false)

@@ -6,7 +6,7 @@ use Rattle.ob_watch.proofs.watches.Watches.add.Goals as goal
 
 pub returns-in-None : goal.returns-in-None
 returns-in-None c =
-    adds_nothing c.args.number c.args.item c.args.self.now (table c.get_mut.follows.lender-at-none.entries c.self.inside.next) c.args.undo.now c.args.undo.now _
+    adds_nothing c.args.number c.args.item c.args.room c.args.self.now (table c.get_mut.follows.lender-at-none.entries c.self.inside.next) c.args.undo.now c.args.undo.now _
     (found_in c.args.number c.self.inside.map.entries c.self.inside.next c.args.self.now c.self.view_is None (sym c.get_mut.ensures.value ∙ ap option_copied_mut c.in-None.is))
     (record { table = (λ i. table (c.get_mut.follows.holds-at-none i).entries c.self.inside.next) ∙ c.self.view_is; kept = refl; refused = refl })
 
@@ -14,12 +14,12 @@ pub invariant_of-self-2 : goal.invariant_of-self-2
 invariant_of-self-2 c = (
   numbered_same c.self.inside.next c.self.inside.map.entries (c.get_mut.follows.lender c.add.new.self).entries (c.get_mut.follows.holds c.add.new.self).1 c.self.invariant.0,
   stand_same c.self.inside.soonest (nat_eq c.args.number) c.self.inside.map.entries (c.get_mut.follows.lender c.add.new.self).entries c.in-Some.watch.now c.add.new.self
-      (sym c.get_mut.ensures.value ∙ ap option_copied_mut c.in-Some.is) (added_lapses c.in-Some.watch.now c.add.new.self c.args.item c.add.result c.add.ensures.adds) (c.get_mut.follows.holds c.add.new.self).0 c.self.invariant.1,
+      (sym c.get_mut.ensures.value ∙ ap option_copied_mut c.in-Some.is) (added_lapses c.args.room c.in-Some.watch.now c.add.new.self c.args.item c.add.result c.add.ensures.adds) (c.get_mut.follows.holds c.add.new.self).0 c.self.invariant.1,
 )
 
 pub returns : goal.returns
 returns c =
-    adds_to c.args.number c.args.item c.args.self.now (table (c.get_mut.follows.lender c.add.new.self).entries c.self.inside.next) c.args.undo.now c.add.new.undo c.add.result c.in-Some.watch.now
+    adds_to c.args.number c.args.item c.args.room c.args.self.now (table (c.get_mut.follows.lender c.add.new.self).entries c.self.inside.next) c.args.undo.now c.add.new.undo c.add.result c.in-Some.watch.now
     (found_in c.args.number c.self.inside.map.entries c.self.inside.next c.args.self.now c.self.view_is (Some c.in-Some.watch.now) (sym c.get_mut.ensures.value ∙ ap option_copied_mut c.in-Some.is))
     (record {
       left = c.add.new.self;
