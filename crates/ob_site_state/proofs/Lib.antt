@@ -27,3 +27,5 @@ pub mod OwnRows
 pub mod Renewed
 pub mod Renoted
 mod Equal
+pub mod FeedPaths
+pub mod FeedLogs

@@ -10,3 +10,4 @@ pub mod OwnContracts
 pub mod Tallies
 pub mod States
 pub mod Stamping
+pub mod Feeds

@@ -7,6 +7,7 @@
 mod change;
 mod contents;
 mod ending;
+mod feeds;
 mod logs;
 mod numbers;
 mod own_contracts;
