@@ -14,16 +14,14 @@ use Rattle.ob_watching.specs.Operations.{Lists}
 use Rattle.ob_watching.specs.Watches.{Feed, changes_of, lists_some}
 use Rattle.ob_site_rules.specs.Build.{Text, Path}
 use Rattle.ob_site_rules.specs.declared.plan.Plan.{Plan}
-use Rattle.ob_site_rules.specs.State.{Log, State, at, board}
+use Rattle.ob_site_rules.specs.State.{State, at}
 use Rattle.ob_site_rules.specs.Locating.{locate}
-use Rattle.ob_site_rules.specs.Entries.{record_object, event_object, event_objects, first_events, is_within}
+use Rattle.ob_site_rules.specs.Entries.{record_object, event_object, first_events, is_within}
 use Rattle.ob_site_rules.specs.declared.resource.Resource.{Resource}
-use Rattle.ob_site_rules.specs.declared.resource.Resource.TheVariants.{FeedOf, AlarmFeed}
 use Rattle.ob_site_rules.specs.Places.{event_places}
-use Rattle.ob_site_rules.specs.Posts.{kept_in}
 use Rattle.ob_site_rules.specs.Replies.{content_object}
 use Rattle.ob_site_rules.specs.Sites.{site}
-use Rattle.ob_site_rules.specs.Watched.{passes, events_at, gone_in, gone_at, feed_there}
+use Rattle.ob_site_rules.specs.Watched.{passes, events_at, gone_at, feed_there}
 use Rattle.ob_site_reads.specs.Events.{feed_of_some}
 
 -- a record passes by its time
@@ -137,30 +135,7 @@ one_event f b given n le =
     ∙ ap (filter (passes f)) (drop_push given (first_events b n) (event_object b n) (omega (arith, length-first_events b n)))
     ∙ filter-append (passes f) (drop given (first_events b n)) (event_object b n ∷ [])
 
--- how many events feeds have had
-length-map_records : (rs : List Record) → length rs ≡ length (map record_object rs)
-length-map_records [] = refl
-length-map_records (r ∷ rs) = ap suc (length-map_records rs)
-
-pub log_ever : (plan : Plan) (s : State) (h : Path) (l : Log) (place : Option Resource) (n : ℕ) → place ≡ Some (FeedOf h) → Some l ≡ at h s.logs → n ≡ l.gone + length l.kept
-    → n ≡ gone_at s place + length (events_at plan s place)
-log_ever plan s h l place n here found is =
-    is
-    ∙ ap (λ (k : ℕ). l.gone + k) (length-map_records l.kept)
-    ∙ ap (λ (o : Option Log). gone_in o + length (map record_object (kept_in o))) found
-    ∙ sym (ap (λ (o : Option Resource). gone_at s o + length (events_at plan s o)) here)
-
-pub alarms_ever : (plan : Plan) (s : State) (place : Option Resource) (n : ℕ) → place ≡ Some AlarmFeed → n ≡ length s.events → n ≡ gone_at s place + length (events_at plan s place)
-alarms_ever plan s place n here is =
-    is
-    ∙ sym (length-first_events (board plan s) (length s.events))
-    ∙ from_none (length (event_objects (board plan s)))
-    ∙ sym (ap (λ (o : Option Resource). gone_at s o + length (events_at plan s o)) here)
-  where
-    from_none : (k : ℕ) → k ≡ 0 + k
-    from_none k = omega arith
-
--- and what has changed of a feed
+-- what has changed of a feed
 lists_are : (plan : Plan) (text : Text) (path : Path) (dropped : ℕ) (es : List Object) → option_to_list (feed_of_some plan path dropped es) ≡ map (λ r. content_object r.content) (lists_some (site locate plan) text path dropped es)
 lists_are plan text path zero [] = refl
 lists_are plan text path zero (e ∷ es) = refl

@@ -1,7 +1,8 @@
 //! Feeds as watches report them.
-ghost use Rattle.std.specs.Prelude.{◌≡◌, ◌<◌, ◌^◌, ◌-◌, ◌+◌, ℕ, drop, length, map, true, is_none, Some, option_to_list, IfOk};
+ghost use Rattle.std.specs.Prelude.{◌≡◌, ◌<◌, ◌^◌, ◌-◌, ℕ, drop, map, true, is_none, option_to_list, IfOk};
 ghost use Rattle.std.specs.List.{filter, list_all};
-ghost use Rattle.ob_watching.specs.Watches.{content_now, changes_of, count, Feed};
+ghost use Rattle.ob_watch.specs.Feeds.{feed_of, feed_place};
+ghost use Rattle.ob_watching.specs.Watches.{content_now, changes_of, Feed};
 ghost use Rattle.ob_site_rules.specs.Build.{Text as Href};
 ghost use Rattle.ob_site_rules.specs.Locating.{locate};
 ghost use Rattle.ob_site_rules.specs.Replies.{content_object};
@@ -11,7 +12,7 @@ ghost use Rattle.ob_site_reads.specs.Events.{feed_of_some};
 
 use crate::event_place;
 use crate::events::{alarm_events, log_events};
-use ob_history::{Filter, Log};
+use ob_history::Filter;
 use ob_object::Obj;
 use ob_replies::{feed_entry, feed_there};
 use ob_site_rules::{Plan, Resource};
@@ -66,43 +67,25 @@ fn gone_at(state: &State, place: &Option<Resource>) -> u64
     }
 }
 
-/// How many records a log has had.
-fn records_ever(log: &Log) -> u64
-    ensures { result ≡ log.now.gone + length log.now.kept }
-{
-    log.gone() + log.len()
-}
-
-/// How many events the feed of a place has had; another place has none.
-fn place_events_ever(state: &State, place: &Resource) -> u64
-    ensures { result ≡ gone_at state.now.now (Some place.now) + length (events_at state.now.plan state.now.now (Some place.now)) }
+/// The number of the feed of a place, if it is one.
+fn feed_of(state: &State, place: &Resource) -> Option<usize>
+    ensures { result ≡ feed_of state.now.plan place.now }
 {
     match place {
-        Resource::FeedOf(history) => match state.log_at(history) {
-            Some(log) => records_ever(log),
-            None => 0,
-        },
-        Resource::AlarmFeed => state.alarms().events(0).len() as u64,
-        _ => 0,
+        Resource::FeedOf(history) => state.history_at(history),
+        Resource::AlarmFeed => Some(state.plan().histories.as_slice().len()),
+        _ => None,
     }
 }
 
-/// How many events a feed has had.
-fn events_ever(state: &State, place: &Option<Resource>) -> u64
-    ensures { result ≡ gone_at state.now.now place.now + length (events_at state.now.plan state.now.now place.now) }
+/// The number of the feed at a path, as watches have it, if a feed stands there. An error only for want of memory.
+pub fn feed_place(state: &State, path: &Text) -> Result<Option<usize>, AllocError>
+    ensures { IfOk result (λ feed. feed ≡ feed_place state.now.plan path.now) }
 {
-    match place {
-        Some(place) => place_events_ever(state, place),
-        None => 0,
+    match event_place(state, path)? {
+        Some(place) => Ok(feed_of(state, &place)),
+        None => Ok(None),
     }
-}
-
-/// How many events the feed at a path has had, those that rolled off counted. An error only for want of memory.
-pub fn count_at(state: &State, path: &Text) -> Result<u64, AllocError>
-    ensures { IfOk result (λ n. n ≡ count (site locate state.now.plan) state.now.now path.now) }
-{
-    let place = event_place(state, path)?;
-    Ok(events_ever(state, &place))
 }
 
 /// A feed with all kept events that pass a filter. An error only for want of memory.

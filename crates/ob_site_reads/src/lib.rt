@@ -23,7 +23,7 @@ mod roles;
 mod shown;
 
 pub use children::shows_child;
-pub use feeds::{Since, count_at, feed_since, whole_feed};
+pub use feeds::{Since, feed_place, feed_since, whole_feed};
 pub use finding::resolve_item;
 pub use heads::{own_kind, own_target, shown_kind};
 pub use objects::{object_at, reply_at};
