@@ -54,17 +54,17 @@ stamped plan s t values differ ns changed tree root long p (tracked.Object node 
     ∙ next_stamp (is_same_watched plan s t p) tree.steps old.0 (slice_get tree.stamps n) (slice_get u.stamps n) old.1
     (stamps_follow plan s t values differ changed.looked changed.left ns changed.numbers (done Begins tree) root long p n head.0 own.0 head.1 (own.1 head.0 head.1))
     ∙ ap (λ (x : ℕ). cond (not (is_same_watched plan s t p)) (tree.steps + 1) x) (sym (there tree n within))
-stamped plan s t values differ ns changed tree root long p (tracked.Feed filter given total due) own = tt
+stamped plan s t values differ ns changed tree root long p (tracked.Feed feed filter given) own = tt
 
 pub later_mark : (steps more : ℕ) (k : Tracked) → more ≡ steps + 1 → IsMarkPastBy steps k → IsMarkPastBy more k
 later_mark steps more (tracked.Object node mark) is past = omega (arith, past, is)
-later_mark steps more (tracked.Feed filter given total due) is past = tt
+later_mark steps more (tracked.Feed feed filter given) is past = tt
 
 pub steps_end : StepsEnd
 steps_end plan s t values differ ns changed tree root long = record {
   stamps = λ i own. stamped plan s t values differ ns changed tree root long i.path i.tracked own;
   settles = λ i own past.
-      (as_rules plan tree).1.1.0.settles s t (after_step ns tree) i past
+      ((as_rules plan tree).1.1 []).settles s t (after_step ns tree) i past
       (stamped plan s t values differ ns changed tree root long i.path i.tracked own);
   marks = λ i past. later_mark tree.steps (after_step ns tree).steps i.tracked (stepped ns (done Begins tree)) past;
   root = rooted ns (done Begins tree);

@@ -9,14 +9,6 @@ pub mod Differing
 pub mod FirstTold
 pub mod Changing
 pub mod Looping
-pub mod Counting
-pub mod Leading
-pub mod Recorded
-pub mod Alarmed
-pub mod Rolled
-pub mod Joined
-pub mod Tells
-pub mod Gathered
 pub mod Places
 pub mod Compared
 pub mod Numbered

@@ -1,5 +1,5 @@
 -- The end of a step that left another library.
-use Rattle.std.proofs.Common.{ℕ, ◌≡◌, zero, suc, ◌+◌, ◌-◌, ◌<◌, Bool, true, false, not, ◌&&◌, ◌||◌, cond, List, ◌++◌, length, Option, Some, option_map, refl, sym, ap, ◌∙◌, arith}
+use Rattle.std.proofs.Common.{ℕ, ◌≡◌, zero, suc, ◌+◌, ◌-◌, ◌<◌, Bool, true, false, not, ◌&&◌, ◌||◌, cond, List, [], ◌++◌, length, Option, Some, option_map, refl, sym, ap, ◌∙◌, arith}
 use Rattle.std.specs.Prelude.{Any, Contains, nat_lt, nat_le, slice_get}
 use Rattle.std.proofs.lemmas.List.Elements.{All-contains}
 use Rattle.std.proofs.lemmas.List.Folds.{Any-from_list_any, list_any-from_Any, list_any-append}
@@ -179,7 +179,7 @@ module _ (plan : Plan) (s u : State) (differs : DiffersInDefaults s u) (differ :
       ∙ next_stamp (is_same_watched plan s (roll u) p) tree.steps old.0 (slice_get tree.stamps n) (slice_get v.stamps n) old.1
       (stamp p n head.0 part.0 own.0 head.1 part.1 part.2 (own.1 head.0 head.1))
       ∙ ap (λ (x : ℕ). cond (not (is_same_watched plan s (roll u) p)) (tree.steps + 1) x) (sym (there tree n within))
-  stamped p (tracked.Feed filter given total due) own = tt
+  stamped p (tracked.Feed feed filter given) own = tt
 
 pub defaults_end : DefaultsEnd
 defaults_end plan s u differs differ ns ms changed others tree root long table own past =
@@ -187,7 +187,7 @@ defaults_end plan s u differs differ ns ms changed others tree root long table o
     (record {
       stamps = λ i own. stamped plan s u differs differ ns ms changed others tree root long i.path i.tracked own;
       settles = λ i own past.
-          (as_rules plan tree).1.1.0.settles s (roll u) (after_step (ns ++ ms) tree) i past
+          ((as_rules plan tree).1.1 []).settles s (roll u) (after_step (ns ++ ms) tree) i past
           (stamped plan s u differs differ ns ms changed others tree root long i.path i.tracked own);
       marks = λ i past. later_mark tree.steps (after_step (ns ++ ms) tree).steps i.tracked (stepped (ns ++ ms) (done Begins tree)) past;
       root = rooted (ns ++ ms) (done Begins tree);

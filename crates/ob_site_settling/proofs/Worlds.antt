@@ -1,22 +1,18 @@
 -- The end of a step on all watches.
-use Rattle.std.proofs.Common.{ℕ, ◌≡◌, Bool, true, false, cond, List, [], ◌∷◌, map, refl, ap, ap₂}
+use Rattle.std.proofs.Common.{ℕ, ◌≡◌, List, [], ◌∷◌, map, refl, ap, ap₂}
 use Rattle.std.specs.List.{AllByRecursion}
-use Rattle.std.specs.Str.{bytes_eq}
-use Rattle.ob_times.specs.Times.{Instant}
 use Rattle.ob_history.specs.declared.records.Filter.{Filter}
 use Rattle.ob_site_rules.specs.declared.plan.Plan.{Plan}
 use Rattle.ob_site_rules.specs.State.{State, roll}
 use Rattle.ob_tree.specs.Trees.{Stamped}
 use Rattle.ob_watching.specs.Tables.{map_values}
-use Rattle.ob_watching.specs.Watches.{ItemOf, WatchOf, TrackedOf, settled, with_items}
-use Rattle.ob_watch.specs.declared.item.Tracked.{Tracked}
-use Rattle.ob_watch.specs.declared.item.Tracked.TheVariants as tracked
+use Rattle.ob_watching.specs.Watches.{ItemOf, WatchOf, settled, with_items}
 use Rattle.ob_watch.specs.declared.item.Item.{Item}
-use Rattle.ob_watch.specs.Items.{Text, at_path, changed_by, one_more_by, rolled_by}
-use Rattle.ob_watch.specs.Counted.{of_plan}
-use Rattle.ob_watch.specs.Flags.{flag_of, flags, flags_of}
+use Rattle.ob_watch.specs.Items.{Text}
+use Rattle.ob_watch.specs.OfPlan.{of_plan}
+use Rattle.ob_watch.specs.Flags.{flags, flags_of}
 use Rattle.ob_watch.specs.Marks.{IsMarkPast}
-use Rattle.ob_watch.specs.Tables.{Leased, Table, with_all_items}
+use Rattle.ob_watch.specs.Tables.{Leased, Table}
 use Rattle.ob_site_state.specs.Stamping.{after_step}
 use Rattle.ob_site_settling.specs.Ending.{IsOwn, Settles}
 use Rattle.ob_site_settling.specs.Worlds.{AllOwn, AllMarksPast, WorldEnds, WorldsEnd}
@@ -50,32 +46,6 @@ module _ (plan : Plan) (s t : State) (ns : List ℕ) (tree : Stamped) (ends : Se
   all_marks [] past = tt
   all_marks (w ∷ ws) past = (marks_end w.1.items past.0, all_marks ws past.1)
 
--- what is counted of feeds is no flag
-module _ (t : Stamped) (f : Tracked → Tracked) (same : (k : Tracked) → flag_of t (f k) ≡ flag_of t k) (path : Text) where
-  flag_stays : (b : Bool) (k : Tracked) → flag_of t (cond b (f k) k) ≡ flag_of t k
-  flag_stays true k = same k
-  flag_stays false k = refl
-
-  items_stay : (items : List Item) → map (flags t) (map (changed_by (at_path path f)) items) ≡ map (flags t) items
-  items_stay [] = refl
-  items_stay (i ∷ items) =
-      ap₂ (λ (k : TrackedOf Filter) (xs : List Flagged). let x : Flagged = record { text = i.text; path = i.path; tracked = k } in x ∷ xs)
-      (flag_stays (bytes_eq i.path path) i.tracked) (items_stay items)
-
-  flags_stay : (ws : List (ℕ × Leased)) → flags_of t (with_all_items (changed_by (at_path path f)) ws) ≡ flags_of t ws
-  flags_stay [] = refl
-  flags_stay (w ∷ ws) =
-      ap₂ (λ (is : List Flagged) (vs : List (ℕ × Watched)). let v : Watched = record { lease = w.1.lease; touched = w.1.touched; items = is } in let e : ℕ × Watched = (w.0, v) in e ∷ vs)
-      (items_stay w.1.items) (flags_stay ws)
-
-one_more_flag : (t : Stamped) (time : Instant) (k : Tracked) → flag_of t (one_more_by time k) ≡ flag_of t k
-one_more_flag t time (tracked.Object node mark) = refl
-one_more_flag t time (tracked.Feed filter given total due) = refl
-
-rolled_flag : (t : Stamped) (gone : ℕ) (k : Tracked) → flag_of t (rolled_by gone k) ≡ flag_of t k
-rolled_flag t gone (tracked.Object node mark) = refl
-rolled_flag t gone (tracked.Feed filter given total due) = refl
-
 -- where each item is as the rules of watches have it, all watches are
 pub world_ends : (plan : Plan) (s u : State) (ns : List ℕ) (tree : Stamped) (table : Table) → Settles plan s (roll u) ns tree → AllOwn s.tree table.watches → AllMarksPast tree.steps table.watches
     → WorldEnds plan s u ns tree table
@@ -84,8 +54,6 @@ world_ends plan s u ns tree table ends own past = record {
       ap (λ (vs : List (ℕ × Watched)). record { time = time; site = roll u; watches = vs; next = table.next })
       (watches_end plan s (roll u) ns tree ends table.watches own past);
   marks = all_marks plan s (roll u) ns tree ends table.watches past;
-  events = λ t path time. flags_stay t (one_more_by time) (one_more_flag t time) path table.watches;
-  rolls = λ t path gone. flags_stay t (rolled_by gone) (rolled_flag t gone) path table.watches;
 }
 
 pub worlds_end : WorldsEnd

@@ -19,7 +19,7 @@ use Rattle.ob_watching.specs.Watches.{settled}
 use Rattle.ob_watch.specs.declared.item.Tracked.{Tracked}
 use Rattle.ob_watch.specs.declared.item.Tracked.TheVariants as tracked
 use Rattle.ob_watch.specs.declared.item.Item.{Item}
-use Rattle.ob_watch.specs.Counted.{of_plan}
+use Rattle.ob_watch.specs.OfPlan.{of_plan}
 use Rattle.ob_watch.specs.Flags.{flags}
 use Rattle.ob_watch.specs.Marks.{IsMarkPast, IsStampedNext}
 
@@ -34,7 +34,7 @@ pub record AreChanged (plan : Plan) (s t : State) (ns : List ℕ) : Type 0 where
 abbrev pub IsOwnBy : Object → Path → Tracked → Type 0
 IsOwnBy o p (tracked.Object node mark) =
     (place_of p (paths o) ≡ Some node.number) × ((h : Head) → head_at node.number o ≡ Some h → is_watchable h ≡ true)
-IsOwnBy o p (tracked.Feed filter given total due) = Unit {0}
+IsOwnBy o p (tracked.Feed feed filter given) = Unit {0}
 
 abbrev pub IsOwn : Object → Item → Type 0
 IsOwn o i = IsOwnBy o i.path i.tracked

@@ -6,9 +6,6 @@ pub mod Worlds
 pub mod Spans
 pub mod Values
 pub mod Rows
-pub mod News
-pub mod Told
-pub mod FeedNotes
 pub mod Otherwise
 pub mod Watched
 pub mod Ended

@@ -1,7 +1,6 @@
--- The end of a step on the whole state: all watches at once, and what is counted of feeds.
+-- The end of a step on the whole state: all watches at once.
 use Rattle.std.specs.Prelude.{◌≡◌, ℕ, List, length}
 use Rattle.std.specs.List.{AllByRecursion}
-use Rattle.ob_times.specs.Times.{Instant}
 use Rattle.ob_object.specs.Object.{Object, parts}
 use Rattle.ob_site_rules.specs.declared.plan.Plan.{Plan}
 use Rattle.ob_site_rules.specs.State.{State, roll}
@@ -10,11 +9,9 @@ use Rattle.ob_shown_laws.specs.Alike.{row, DifferInValues}
 use Rattle.ob_shown_laws.specs.Changed.{PathsDiffer}
 use Rattle.ob_tree.specs.Trees.{Stamped}
 use Rattle.ob_watching.specs.Watches.{ended}
-use Rattle.ob_watch.specs.Items.{Text, one_more, rolled_to}
-use Rattle.ob_watch.specs.Counted.{of_plan}
-use Rattle.ob_watch.specs.Flags.{flags_of}
+use Rattle.ob_watch.specs.OfPlan.{of_plan}
 use Rattle.ob_watch.specs.Marks.{IsMarkPast}
-use Rattle.ob_watch.specs.Tables.{Leased, Table, with_all_items}
+use Rattle.ob_watch.specs.Tables.{Leased, Table}
 use Rattle.ob_watch.specs.AsRules.{world_of}
 use Rattle.ob_site_state.specs.Stamping.{after_step}
 use Rattle.ob_site_settling.specs.Ending.{AreChanged, IsOwn}
@@ -28,15 +25,11 @@ abbrev pub AllMarksPast : ℕ → List (ℕ × Leased) → Type 0
 AllMarksPast steps ws = AllByRecursion (λ e. AllByRecursion (IsMarkPast steps) e.1.items) ws
 
 -- The end of a step of the definitions is that the histories drop what they have too much of, and that the tree is stamped: the
--- watches stay as they are. What is counted of feeds may follow, since the definitions count it by their events.
+-- watches stay as they are, whatever events came to feeds or rolled off.
 pub record WorldEnds (plan : Plan) (s u : State) (ns : List ℕ) (tree : Stamped) (table : Table) : Type 0 where
   pub ends : (time : ℕ)
       → ended (of_plan plan) s (world_of plan time u tree table) ≡ world_of plan time (roll u) (after_step ns tree) table
   pub marks : AllMarksPast (after_step ns tree).steps table.watches
-  pub events : (t : Stamped) (path : Text) (time : Instant)
-      → flags_of t (with_all_items (one_more path time) table.watches) ≡ flags_of t table.watches
-  pub rolls : (t : Stamped) (path : Text) (gone : ℕ)
-      → flags_of t (with_all_items (rolled_to path gone) table.watches) ≡ flags_of t table.watches
 
 -- so for each step that changes values alone
 abbrev pub WorldsEnd : Type 0

@@ -27,7 +27,7 @@ pub fn notes_are_values()
 {}
 
 /// So such a step leaves all watches at once as the definitions' end of a step does, and no mark is of a step to
-/// come; and what is counted of feeds changes no flag.
+/// come.
 ///
 /// Source: oBIX 1.1, chapter 12 (Watches).
 pub fn worlds_end()
