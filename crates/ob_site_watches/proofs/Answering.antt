@@ -1,5 +1,5 @@
 -- What marks are left of a watch is what the definitions leave of its flags.
-use Rattle.std.proofs.Common.{◌≡◌, ℕ, ◌+◌, ◌*◌, ◌==◌, Bool, true, false, cond, not, List, [], ◌∷◌, map, Option, Some, None, Result, Ok, Err, refl, sym, ap, ◌∙◌, subst, arith}
+use Rattle.std.proofs.Common.{◌≡◌, ℕ, ◌+◌, ◌*◌, ◌==◌, Bool, true, false, cond, not, List, [], ◌∷◌, map, Option, Some, None, Result, Ok, Err, refl, sym, ap, ap₂, ◌∙◌, subst, arith}
 use Rattle.std.specs.Prelude.{option_map, nat_le, nat_eq}
 use Rattle.std.specs.List.{AllByRecursion, IsDistinct}
 use Rattle.std.proofs.lemmas.Map.Keys.{IsDistinct-head, IsDistinct-tail}
@@ -8,7 +8,8 @@ use Rattle.ob_object.specs.Object.{Object as Node}
 use Rattle.ob_watching.specs.Operations.{Look, Renew, Add, Remove, PollChanges, PollRefresh, Delete, Refuse}
 use Rattle.ob_watching.specs.Sites.{Site}
 use Rattle.ob_watching.specs.Tables.{lookup, replace, numbers_of}
-use Rattle.ob_watching.specs.Watches.{ItemOf, WatchOf, on_watch, reported, touched, watch_after, with_items, with_lease}
+use Rattle.ob_watching.specs.Watches as rules
+use Rattle.ob_watching.specs.Watches.{ItemOf, Room, WatchOf, on_watch, reported, touched, watch_after, with_items, with_lease}
 use Rattle.ob_history.specs.declared.records.Filter.{Filter}
 use Rattle.ob_site_rules.specs.Build.{Text}
 use Rattle.ob_site_rules.specs.declared.fault.Fault.{Fault}
@@ -17,20 +18,24 @@ use Rattle.ob_site_rules.specs.Faults.{err}
 use Rattle.ob_site_rules.specs.State.{State}
 use Rattle.ob_requests.specs.Calls.{lease_in}
 use Rattle.ob_watch.proofs.TableLemmas.{elsewhere}
+use Rattle.ob_site_watches.proofs.Feeding.{fed}
 use Rattle.ob_site_watches.proofs.Leased.{asked_fits}
 use Rattle.ob_site_rules.specs.Replies.{sent}
 use Rattle.ob_site_rules.specs.Watched.{WatchOperation, lease_asked}
+use Rattle.ob_site_state.specs.Feeds.{AreFeeds, feed_logs}
 use Rattle.ob_site_state.specs.Kept.{Kept}
 use Rattle.ob_site_state.specs.Stamping.{tree_of}
 use Rattle.ob_tree.specs.Trees.{Stamped}
 use Rattle.ob_watch.specs.declared.item.Item.{Item}
 use Rattle.ob_watch.specs.AsRules.{world_of}
-use Rattle.ob_watch.specs.Counted.{of_plan}
+use Rattle.ob_watch.specs.OfPlan.{of_plan}
 use Rattle.ob_watch.specs.Flags.{flagged, flags, flags_of}
 use Rattle.ob_watch.specs.Items.{reported_at}
 use Rattle.ob_watch.specs.Marks.{AreStampsPast}
-use Rattle.ob_watch.specs.Tables.{IsLease, Leased, Table, holding, is_over, lapsed_at, live, touched_at}
-use Rattle.ob_watch.proofs.LawLemmas.{items_agree, lapses_commute, reports_agree, tables_agree, Numbered}
+use Rattle.ob_watch.specs.Tables.{IsLease, Leased, Table, holding, is_over, lapsed_at, live, room_beside, touched_at}
+use Rattle.ob_watch.proofs.LapseLemmas.{lapses_commute}
+use Rattle.ob_watch.proofs.LawLemmas.{items_agree, reports_agree, tables_agree}
+use Rattle.ob_watch.proofs.TableLemmas.{Numbered}
 use Rattle.ob_site_watches.specs.Answers.{AllKnown, IsDone, IsReply}
 use Rattle.ob_site_watches.specs.Known.{AreSoundItems}
 use Rattle.ob_site_watches.specs.Leaving.{is_add, leased_if, marks_after}
@@ -93,30 +98,30 @@ module _ (k : Kept) where
   known_there now n table w known there =
       all_there (λ (v : Leased). AreSoundItems k v.items) n (live now table.watches) w (all_live (λ (v : Leased). AreSoundItems k v.items) now table.watches known) there
 
-  all_reported_flags : (items : List Item) → AreStampsPast t → AreSoundItems k items → map (reported m k.now) (map (flags t) items) ≡ map (flags t) (map (reported_at t.steps) items)
-  all_reported_flags [] past known = refl
-  all_reported_flags (i ∷ items) past known =
-      ap (λ (f : ItemOf Text Text Filter). f ∷ map (reported m k.now) (map (flags t) items)) ((reports_agree k.plan t).reports past k.now i known.0.counted)
-      ∙ ap (λ (fs : List (ItemOf Text Text Filter)). flags t (reported_at t.steps i) ∷ fs) (all_reported_flags items past known.1)
+  all_reported_flags : AreFeeds k.plan k.now → (items : List Item) → AreStampsPast t → AreSoundItems k items → map (reported m k.now) (map (flags t) items) ≡ map (flags t) (map (reported_at t.steps (feed_logs k.now)) items)
+  all_reported_flags feeds [] past known = refl
+  all_reported_flags feeds (i ∷ items) past known =
+      ap (λ (f : ItemOf Text Text Filter). f ∷ map (reported m k.now) (map (flags t) items)) ((reports_agree k.plan t (feed_logs k.now)).reports past k.now i (fed k.plan k.now feeds i known.0.numbered))
+      ∙ ap (λ (fs : List (ItemOf Text Text Filter)). flags t (reported_at t.steps (feed_logs k.now) i) ∷ fs) (all_reported_flags feeds items past known.1)
 
   leased_flags : (r : Result ℕ Fault) (v : Leased) → Some (with_lease m (flagged t v) r) ≡ Some (flagged t (leased_if r v))
   leased_flags (Ok lease) v = refl
   leased_flags (Err fault) v = refl
 
   -- what is left of a watch
-  pub agrees : (now : ℕ) (ns : List ℕ) (op : WatchOperation) (w : Leased) → AreStampsPast t → AreSoundItems k w.items → is_add op ≡ false
-      → watch_after m k.now ns (touched m now (flagged t w)) op ≡ option_map (flagged t) (marks_after k now op w)
-  agrees now ns (Look part) w past known other = refl
-  agrees now ns (Renew input) w past known other = leased_flags (lease_asked k.now input) (touched_at now w)
-  agrees now ns (Add asked) w past known other = absurd (let e : true ≡ false = other in cc)
-  agrees now ns (Remove texts) w past known other =
+  pub agrees : (now : ℕ) (ns : List ℕ) (room : Room) (op : WatchOperation) (w : Leased) → AreFeeds k.plan k.now → AreStampsPast t → AreSoundItems k w.items → is_add op ≡ false
+      → watch_after m k.now ns room (touched m now (flagged t w)) op ≡ option_map (flagged t) (marks_after k now op w)
+  agrees now ns room (Look part) w feeds past known other = refl
+  agrees now ns room (Renew input) w feeds past known other = leased_flags (lease_asked k.now input) (touched_at now w)
+  agrees now ns room (Add asked) w feeds past known other = absurd (let e : true ≡ false = other in cc)
+  agrees now ns room (Remove texts) w feeds past known other =
       ap (λ (fs : List (ItemOf Text Text Filter)). Some (with_items m (touched m now (flagged t w)) fs)) ((items_agree k.plan t).removes texts w.items)
-  agrees now ns PollChanges w past known other =
-      ap (λ (fs : List (ItemOf Text Text Filter)). Some (with_items m (touched m now (flagged t w)) fs)) (all_reported_flags w.items past known)
-  agrees now ns PollRefresh w past known other =
-      ap (λ (fs : List (ItemOf Text Text Filter)). Some (with_items m (touched m now (flagged t w)) fs)) (all_reported_flags w.items past known)
-  agrees now ns Delete w past known other = refl
-  agrees now ns (Refuse fault) w past known other = refl
+  agrees now ns room PollChanges w feeds past known other =
+      ap (λ (fs : List (ItemOf Text Text Filter)). Some (with_items m (touched m now (flagged t w)) fs)) (all_reported_flags feeds w.items past known)
+  agrees now ns room PollRefresh w feeds past known other =
+      ap (λ (fs : List (ItemOf Text Text Filter)). Some (with_items m (touched m now (flagged t w)) fs)) (all_reported_flags feeds w.items past known)
+  agrees now ns room Delete w feeds past known other = refl
+  agrees now ns room (Refuse fault) w feeds past known other = refl
 
   -- A watch that is left hasn't lapsed.
   abbrev pub Lasts : ℕ → Option Leased → Type 0
@@ -156,8 +161,8 @@ module _ (k : Kept) where
   pub one_stands : (now n : ℕ) (old new : Table) (op : WatchOperation) (w : Leased) (left : Option Leased) (o : Node)
       → IsDistinct nat_eq (numbers_of old.watches) → lookup n (live now old.watches) ≡ Some w
       → new ≡ holding (replace n left old.watches) old → Lasts now left
-      → watch_after m k.now (numbers_of (live now old.watches)) (touched m now (flagged t w)) op ≡ option_map (flagged t) left
-      → IsReply k now (numbers_of (live now old.watches)) n w op o → IsDone k now old new n op o
+      → watch_after m k.now (numbers_of (live now old.watches)) (room_beside n (live now old.watches)) (touched m now (flagged t w)) op ≡ option_map (flagged t) left
+      → IsReply k now (numbers_of (live now old.watches)) (room_beside n (live now old.watches)) n w op o → IsDone k now old new n op o
   one_stands now n old new op w left o distinct there put lasts after reply = record {
     watches =
         ap (λ (u : Table). world_of k.plan now k.now t (lapsed_at now u)) put
@@ -165,10 +170,11 @@ module _ (k : Kept) where
         ∙ ap (λ (fs : List (ℕ × WatchOf Text Text Filter)). record { time = now; site = k.now; watches = fs; next = old.next })
         (sym ((tables_agree k.plan t).replaces n left (live now old.watches))
         ∙ ap (λ (v : Option (WatchOf Text Text Filter)). replace n v (flags_of t (live now old.watches)))
-        (sym after ∙ ap (λ (ns : List ℕ). watch_after m k.now ns (touched m now (flagged t w)) op) (sym numbers)))
+        (sym after ∙ ap₂ (λ (ns : List ℕ) (room : Room). watch_after m k.now ns room (touched m now (flagged t w)) op) (sym numbers) (sym room)))
         ∙ sym (ap (λ (v : Option (WatchOf Text Text Filter)). (on_watch m (world_of k.plan now k.now t (lapsed_at now old)) n op v).0) something);
     reply =
-        subst (λ (ns : List ℕ). IsReply k now ns n w op o) (sym numbers) reply
+        subst (λ (ns : List ℕ). IsReply k now ns (rules.room_beside m n (flags_of t (live now old.watches))) n w op o) (sym numbers)
+        (subst (λ (room : Room). IsReply k now (numbers_of (live now old.watches)) room n w op o) (sym room) reply)
         ∙ sym (ap (λ (v : Option (WatchOf Text Text Filter)). sent k.plan (on_watch m (world_of k.plan now k.now t (lapsed_at now old)) n op v).1) something);
   }
     where
@@ -177,3 +183,6 @@ module _ (k : Kept) where
 
       numbers : numbers_of (flags_of t (live now old.watches)) ≡ numbers_of (live now old.watches)
       numbers = (tables_agree k.plan t).numbers (live now old.watches)
+
+      room : rules.room_beside m n (flags_of t (live now old.watches)) ≡ room_beside n (live now old.watches)
+      room = (tables_agree k.plan t).room n (live now old.watches)

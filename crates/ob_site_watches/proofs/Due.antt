@@ -14,15 +14,17 @@ use Rattle.ob_site_rules.specs.Build.{Text, Path, under_href}
 use Rattle.ob_site_rules.specs.declared.plan.Plan.{Plan}
 use Rattle.ob_site_rules.specs.State.{State}
 use Rattle.ob_site_rules.specs.Replies.{content_object, entry}
+use Rattle.ob_site_state.specs.Feeds.{AreFeeds, feed_logs}
 use Rattle.ob_site_state.specs.Kept.{Kept}
 use Rattle.ob_site_state.specs.Stamping.{tree_of}
 use Rattle.ob_watch.specs.declared.item.Item.{Item}
-use Rattle.ob_watch.specs.Counted.{of_plan}
+use Rattle.ob_watch.specs.OfPlan.{of_plan}
 use Rattle.ob_watch.specs.Flags.{flags, flag_of}
 use Rattle.ob_watch.specs.Items.{is_due}
 use Rattle.ob_watch.proofs.LawLemmas.{reports_agree}
 use Rattle.ob_site_watches.specs.Entries.{all_changes, all_readings, changes_in, reading_entry}
 use Rattle.ob_site_watches.specs.Known.{AreSoundItems, IsSoundItem}
+use Rattle.ob_site_watches.proofs.Feeding.{fed}
 
 -- a node that is found at a path is one of the tree
 pub placed_within : (o : Node) (p : Path) (n : ℕ) → place_of p (paths o) ≡ Some n → n < parts o
@@ -63,8 +65,8 @@ module _ (k : Kept) where
   site = of_plan k.plan
 
   -- an item that isn't due has no entry
-  pub nothing_due : (i : Item) → IsSoundItem k i → is_due (tree_of k) i ≡ false → map entry (changes_in k i) ≡ []
-  nothing_due i known h = ap (map entry) ((reports_agree k.plan (tree_of k)).not_due k.now i known.counted h)
+  pub nothing_due : AreFeeds k.plan k.now → (i : Item) → IsSoundItem k i → is_due (tree_of k) (feed_logs k.now) i ≡ false → map entry (changes_in k i) ≡ []
+  nothing_due feeds i known h = ap (map entry) ((reports_agree k.plan (tree_of k) (feed_logs k.now)).not_due k.now i (fed k.plan k.now feeds i known.numbered) h)
 
   -- the entry of what is due
   pub entry_due : (i : Item) (o : Option Node) → option_to_list o ≡ map (λ r. content_object r.content) (changes_in k i)
@@ -94,13 +96,13 @@ module _ (k : Kept) where
       ∙ map-append entry (map (reading site k.now) (map (flags (tree_of k)) (take n items))) (reading site k.now (flags (tree_of k) i) ∷ [])
 
   -- where nothing is due, nothing has an entry
-  pub none_due : (items : List Item) → AreSoundItems k items → list_any (is_due (tree_of k)) items ≡ false → all_changes k items ≡ []
-  none_due [] known none = refl
-  none_due (i ∷ items) known none =
-      let now : is_due (tree_of k) i ≡ false = (none_of (is_due (tree_of k) i) (list_any (is_due (tree_of k)) items) none).0 in
+  pub none_due : AreFeeds k.plan k.now → (items : List Item) → AreSoundItems k items → list_any (is_due (tree_of k) (feed_logs k.now)) items ≡ false → all_changes k items ≡ []
+  none_due feeds [] known none = refl
+  none_due feeds (i ∷ items) known none =
+      let both = none_of (is_due (tree_of k) (feed_logs k.now) i) (list_any (is_due (tree_of k) (feed_logs k.now)) items) none in
       map-append entry (changes_in k i) (changes site k.now (map (flags (tree_of k)) items))
-      ∙ ap (λ es. es ++ all_changes k items) (nothing_due i known.0 now)
-      ∙ none_due items known.1 (none_of (is_due (tree_of k) i) (list_any (is_due (tree_of k)) items) none).1
+      ∙ ap (λ es. es ++ all_changes k items) (nothing_due feeds i known.0 both.0)
+      ∙ none_due feeds items known.1 both.1
     where
       none_of : (a b : Bool) → (a || b) ≡ false → (a ≡ false) × (b ≡ false)
       none_of true b none = absurd (let e : true ≡ false = none in cc)

@@ -1,23 +1,23 @@
 -- What holds of each item goes on holding.
-use Rattle.std.proofs.Common.{ℕ, ◌≡◌, ◌≤◌, ◌==◌, Bool, true, false, not, cond, List, [], ◌∷◌, ◌++◌, map, filter, Option, Some, None, option_map, refl, subst, arith}
+use Rattle.std.proofs.Common.{ℕ, ◌≡◌, ◌≤◌, ◌==◌, Bool, true, false, not, cond, List, [], ◌∷◌, ◌++◌, zero, suc, map, length, filter, Option, Some, None, option_map, refl, subst, arith}
+use Rattle.std.specs.Prelude.{unwrap_or}
 use Rattle.std.specs.List.{AllByRecursion}
 use Rattle.std.specs.Str.{bytes_eq}
-use Rattle.ob_times.specs.Times.{Instant}
 use Rattle.ob_site_rules.specs.declared.plan.Plan.{Plan}
-use Rattle.ob_site_rules.specs.State.{State}
 use Rattle.ob_tree.specs.declared.node.NodeId.{NodeId}
 use Rattle.ob_tree.specs.Trees.{Stamped}
 use Rattle.ob_watching.specs.Tables.{lookup, replace}
 use Rattle.ob_watch.specs.declared.item.Tracked.{Tracked}
 use Rattle.ob_watch.specs.declared.item.Tracked.TheVariants as tracked
 use Rattle.ob_watch.specs.declared.item.Item.{Item}
-use Rattle.ob_watch.specs.Counted.{CountsBy}
-use Rattle.ob_watch.specs.Items.{Text, among, anew_by, one_more_by, put_item, reported_by, rolled_by}
+use Rattle.ob_watch.specs.Feeds.{FeedLog}
+use Rattle.ob_watch.specs.Items.{Text, among, anew_by, put_item, reported_by}
 use Rattle.ob_watch.specs.Marks.{IsMarkPastBy}
-use Rattle.ob_watch.specs.Tables.{Leased, at_number, is_over, live, new_watch, with_all_items}
-use Rattle.ob_watch.proofs.LawLemmas.{Numbered}
+use Rattle.ob_watch.specs.Tables.{Leased, at_number, idlest, is_over, lacks_room, live, new_watch, with_all_items, yielding}
+use Rattle.ob_watch.proofs.TableLemmas.{Numbered}
 use Rattle.ob_site_watches.proofs.Staying.{own_nodes_stay}
-use Rattle.ob_site_watches.specs.Items.{OnNode, OnNodeBy, NodesStay, IsOwnNode, MarksStayPast, CountsStayAnew, OwnItemsStay}
+use Rattle.ob_site_watches.specs.Items.{OnNode, OnNodeBy, NodesStay, IsOwnNode, MarksStayPast, NumbersStay, OwnItemsStay}
+use Rattle.ob_site_watches.specs.Known.{IsNumberedBy}
 use Rattle.ob_site_watches.specs.Tables.{AllOf, AllItems, TableKeeps}
 
 -- tables
@@ -68,6 +68,17 @@ module _ (P : Item → Type 0) where
       go true rest = rest
       go false rest = (all.0, rest)
 
+  -- idle watches give way
+  kept_yielding : (most now : ℕ) (ws : Numbered) → AllItems P ws → AllItems P (yielding most now ws)
+  kept_yielding zero now ws all = all
+  kept_yielding (suc more) now ws all = go (lacks_room ws) (idlest now ws) (λ n. kept_yielding more now (replace n None ws) (kept_deleted n ws all))
+    where
+      go : (b : Bool) (o : Option ℕ) → ((n : ℕ) → AllItems P (yielding more now (replace n None ws)))
+          → AllItems P (cond b (unwrap_or (option_map (λ n. yielding more now (replace n None ws)) o) ws) ws)
+      go true None each = all
+      go true (Some n) each = each n
+      go false o each = all
+
   kept_one : (n : ℕ) (f : Leased → Leased) → ((w : Leased) → AllOf P w → AllOf P (f w)) → (ws : Numbered) → AllItems P ws → AllItems P (at_number n f ws)
   kept_one n f each ws all = go (lookup n ws) refl
     where
@@ -96,6 +107,7 @@ pub table_keeps : (P : Item → Type 0) → TableKeeps P
 table_keeps P = record {
   makes = λ now table all. pushed P table.watches (table.next, new_watch now) all tt;
   lapses = λ now table all. kept_live P now table.watches all;
+  yields = λ now table all. kept_yielding P (length table.watches) now table.watches all;
   changes = λ f each ws all. kept_changed P f each ws all;
   looks_up = λ n w ws all e. kept_found P n w ws all e;
   replaces = λ n w ws all own. kept_replaced P n w ws all own;
@@ -133,58 +145,36 @@ module _ (P Q : Item → Type 0) where
 
 -- items
 module _ (P : Text → NodeId → Type 0) where
-  on_reported : (steps : ℕ) (path : Text) (k : Tracked) → OnNodeBy P path k → OnNodeBy P path (reported_by steps k)
-  on_reported steps path (tracked.Object node mark) on = on
-  on_reported steps path (tracked.Feed filter given total due) on = tt
-
-  on_counted : (time : Instant) (path : Text) (b : Bool) (k : Tracked) → OnNodeBy P path k → OnNodeBy P path (cond b (one_more_by time k) k)
-  on_counted time path true (tracked.Object node mark) on = on
-  on_counted time path true (tracked.Feed filter given total due) on = tt
-  on_counted time path false k on = on
-
-  on_rolled : (gone : ℕ) (path : Text) (b : Bool) (k : Tracked) → OnNodeBy P path k → OnNodeBy P path (cond b (rolled_by gone k) k)
-  on_rolled gone path true (tracked.Object node mark) on = on
-  on_rolled gone path true (tracked.Feed filter given total due) on = tt
-  on_rolled gone path false k on = on
+  on_reported : (steps : ℕ) (feeds : List FeedLog) (path : Text) (k : Tracked) → OnNodeBy P path k → OnNodeBy P path (reported_by steps feeds k)
+  on_reported steps feeds path (tracked.Object node mark) on = on
+  on_reported steps feeds path (tracked.Feed feed filter given) on = tt
 
   on_anew : (t : Stamped) (path : Text) (k : Tracked) → OnNodeBy P path k → OnNodeBy P path (anew_by t k)
   on_anew t path (tracked.Object node mark) on = on
-  on_anew t path (tracked.Feed filter given total due) on = tt
+  on_anew t path (tracked.Feed feed filter given) on = tt
 
 pub nodes_stay : (P : Text → NodeId → Type 0) → NodesStay P
 nodes_stay P = record {
-  reports = λ steps i on. on_reported P steps i.path i.tracked on;
-  counts = λ path time i on. on_counted P time i.path (bytes_eq i.path path) i.tracked on;
-  rolls = λ path gone i on. on_rolled P gone i.path (bytes_eq i.path path) i.tracked on;
+  reports = λ steps feeds i on. on_reported P steps feeds i.path i.tracked on;
   renumbers = λ t i on. on_anew P t i.path i.tracked on;
 }
 
 on_other : (P Q : Text → NodeId → Type 0) → ((path : Text) (node : NodeId) → P path node → Q path node) → (path : Text) (k : Tracked) → OnNodeBy P path k → OnNodeBy Q path k
 on_other P Q each path (tracked.Object node mark) on = each path node on
-on_other P Q each path (tracked.Feed filter given total due) on = tt
+on_other P Q each path (tracked.Feed feed filter given) on = tt
 
 pub own_items_stay : OwnItemsStay
 own_items_stay o q d ws all =
     all_weaker (OnNode (IsOwnNode o)) (OnNode (IsOwnNode q))
     (λ i on. on_other (IsOwnNode o) (IsOwnNode q) (λ path node own. own_nodes_stay o q d path node.number own) i.path i.tracked on) ws all
 
-past_reported : (steps : ℕ) (k : Tracked) → IsMarkPastBy steps (reported_by steps k)
-past_reported steps (tracked.Object node mark) = omega arith
-past_reported steps (tracked.Feed filter given total due) = tt
-
-past_counted : (steps : ℕ) (time : Instant) (b : Bool) (k : Tracked) → IsMarkPastBy steps k → IsMarkPastBy steps (cond b (one_more_by time k) k)
-past_counted steps time true (tracked.Object node mark) past = past
-past_counted steps time true (tracked.Feed filter given total due) past = tt
-past_counted steps time false k past = past
-
-past_rolled : (steps gone : ℕ) (b : Bool) (k : Tracked) → IsMarkPastBy steps k → IsMarkPastBy steps (cond b (rolled_by gone k) k)
-past_rolled steps gone true (tracked.Object node mark) past = past
-past_rolled steps gone true (tracked.Feed filter given total due) past = tt
-past_rolled steps gone false k past = past
+past_reported : (steps : ℕ) (feeds : List FeedLog) (k : Tracked) → IsMarkPastBy steps (reported_by steps feeds k)
+past_reported steps feeds (tracked.Object node mark) = omega arith
+past_reported steps feeds (tracked.Feed feed filter given) = tt
 
 past_later : (steps more : ℕ) (k : Tracked) → steps ≤ more → IsMarkPastBy steps k → IsMarkPastBy more k
 past_later steps more (tracked.Object node mark) le past = omega (arith, le, past)
-past_later steps more (tracked.Feed filter given total due) le past = tt
+past_later steps more (tracked.Feed feed filter given) le past = tt
 
 one_at_most : (b : Bool) → cond b 0 1 ≤ 1
 one_at_most true = omega arith
@@ -192,22 +182,27 @@ one_at_most false = omega arith
 
 past_anew : (t : Stamped) (k : Tracked) → IsMarkPastBy 1 (anew_by t k)
 past_anew t (tracked.Object node mark) = one_at_most _
-past_anew t (tracked.Feed filter given total due) = tt
+past_anew t (tracked.Feed feed filter given) = tt
 
 pub marks_stay_past : MarksStayPast
 marks_stay_past = record {
   adds = λ text path node steps. (let e : steps ≤ steps = omega arith in e);
-  adds_feed = λ text path filter total steps. tt;
-  reports = λ steps i. past_reported steps i.tracked;
-  counts = λ path time steps i past. past_counted steps time (bytes_eq i.path path) i.tracked past;
-  rolls = λ path gone steps i past. past_rolled steps gone (bytes_eq i.path path) i.tracked past;
+  adds_feed = λ text path feed filter given steps. tt;
+  reports = λ steps feeds i. past_reported steps feeds i.tracked;
   later = λ steps more i le past. past_later steps more i.tracked le past;
   renumbers = λ t i. past_anew t i.tracked;
 }
 
-counts_anew : (plan : Plan) (s : State) (t : Stamped) (path : Text) (k : Tracked) → CountsBy plan s path k → CountsBy plan s path (anew_by t k)
-counts_anew plan s t path (tracked.Object node mark) counts = tt
-counts_anew plan s t path (tracked.Feed filter given total due) counts = counts
+number_reported : (plan : Plan) (steps : ℕ) (feeds : List FeedLog) (path : Text) (k : Tracked) → IsNumberedBy plan path k → IsNumberedBy plan path (reported_by steps feeds k)
+number_reported plan steps feeds path (tracked.Object node mark) numbered = tt
+number_reported plan steps feeds path (tracked.Feed feed filter given) numbered = numbered
 
-pub counts_stay_anew : CountsStayAnew
-counts_stay_anew plan s t i counted = counts_anew plan s t i.path i.tracked counted
+number_anew : (plan : Plan) (t : Stamped) (path : Text) (k : Tracked) → IsNumberedBy plan path k → IsNumberedBy plan path (anew_by t k)
+number_anew plan t path (tracked.Object node mark) numbered = tt
+number_anew plan t path (tracked.Feed feed filter given) numbered = numbered
+
+pub numbers_stay : NumbersStay
+numbers_stay = record {
+  reports = λ plan steps feeds i numbered. number_reported plan steps feeds i.path i.tracked numbered;
+  renumbers = λ plan t i numbered. number_anew plan t i.path i.tracked numbered;
+}

@@ -1,5 +1,5 @@
 -- What is known of items stays known.
-use Rattle.std.proofs.Common.{◌≡◌, ℕ, ◌≤◌, ◌==◌, Bool, true, false, cond, not, List, [], ◌∷◌, ◌++◌, map, Option, Some, None, Result, Ok, Err, refl, sym, subst, arith}
+use Rattle.std.proofs.Common.{◌≡◌, ℕ, ◌==◌, Bool, true, false, cond, not, List, [], ◌∷◌, ◌++◌, map, Option, Some, None, Result, Ok, Err, refl, sym, subst, arith}
 use Rattle.std.specs.Prelude.{option_and_then}
 use Rattle.std.specs.List.{AllByRecursion, filter}
 use Rattle.ob_object.specs.Object.{Object as Node}
@@ -8,26 +8,24 @@ use Rattle.ob_watching.specs.Tables.{lookup, replace}
 use Rattle.ob_site_rules.specs.Build.{Path}
 use Rattle.ob_site_rules.specs.declared.fault.Fault.{Fault}
 use Rattle.ob_site_rules.specs.Watched.{WatchOperation, lease_asked}
+use Rattle.ob_site_state.specs.Feeds.{feed_logs}
 use Rattle.ob_site_state.specs.Kept.{Kept}
 use Rattle.ob_watch.specs.declared.item.Tracked.{Tracked}
 use Rattle.ob_watch.specs.declared.item.Tracked.TheVariants as tracked
 use Rattle.ob_watch.specs.declared.item.Item.{Item}
 use Rattle.ob_watch.specs.Items.{among, reported_at, reported_by}
-use Rattle.ob_watch.specs.Marks.{IsMarkPastBy}
-use Rattle.ob_watch.specs.Tables.{Leased, Table, new_watch, touched_at, with_new}
-use Rattle.ob_watch.proofs.LawLemmas.{counts_stay, Numbered}
+use Rattle.ob_watch.specs.Feeds.{FeedLog}
+use Rattle.ob_watch.specs.Tables.{Leased, Table, lapsed_at, new_watch, touched_at, with_new, yielded_at}
+use Rattle.ob_watch.proofs.TableLemmas.{Numbered}
 use Rattle.ob_site_watches.specs.Answers.{AllKnown}
-use Rattle.ob_site_watches.specs.Known.{AreSoundItems, IsPlacedBy}
+use Rattle.ob_site_watches.specs.Known.{AreSoundItems, IsPlacedBy, IsSoundItem}
 use Rattle.ob_site_watches.specs.Leaving.{leased_if, leaving, marks_after}
 use Rattle.ob_site_watches.proofs.Answering.{all_there}
+use Rattle.ob_site_watches.proofs.Keeping.{marks_stay_past, numbers_stay, table_keeps}
 
-placed_reported : (root : Node) (path : Path) (steps : ℕ) (t : Tracked) → IsPlacedBy root path t → IsPlacedBy root path (reported_by steps t)
-placed_reported root path steps (tracked.Object node mark) placed = placed
-placed_reported root path steps (tracked.Feed bounds given total due) placed = placed
-
-past_reported : (steps : ℕ) (t : Tracked) → IsMarkPastBy steps (reported_by steps t)
-past_reported steps (tracked.Object node mark) = (let e : steps ≤ steps = omega arith in e)
-past_reported steps (tracked.Feed bounds given total due) = record {}
+placed_reported : (root : Node) (path : Path) (steps : ℕ) (feeds : List FeedLog) (t : Tracked) → IsPlacedBy root path t → IsPlacedBy root path (reported_by steps feeds t)
+placed_reported root path steps feeds (tracked.Object node mark) placed = placed
+placed_reported root path steps feeds (tracked.Feed feed filter given) placed = placed
 
 module _ (k : Kept) where
   abbrev Known : ℕ × Leased → Type 0
@@ -37,13 +35,13 @@ module _ (k : Kept) where
   LeftKnown None = Unit {0}
   LeftKnown (Some w) = AreSoundItems k w.items
 
-  reported_known : (items : List Item) → AreSoundItems k items → AreSoundItems k (map (reported_at k.steps) items)
+  reported_known : (items : List Item) → AreSoundItems k items → AreSoundItems k (map (reported_at k.steps (feed_logs k.now)) items)
   reported_known [] known = known
   reported_known (i ∷ items) known = (
     record {
-      placed = placed_reported k.now.tree i.path k.steps i.tracked known.0.placed;
-      counted = (counts_stay k.plan).reports k.now k.steps i known.0.counted;
-      past = past_reported k.steps i.tracked;
+      placed = placed_reported k.now.tree i.path k.steps (feed_logs k.now) i.tracked known.0.placed;
+      numbered = numbers_stay.reports k.plan k.steps (feed_logs k.now) i known.0.numbered;
+      past = marks_stay_past.reports k.steps (feed_logs k.now) i;
     },
     reported_known items known.1,
   )
@@ -105,3 +103,10 @@ pushed_known k (w ∷ ws) n now known = (known.0, pushed_known k ws n now known.
 
 pub made_known : (now : ℕ) (old new : Table) → new ≡ with_new now old → (k : Kept) → AllKnown k old → AllKnown k new
 made_known now old new is k known = subst (λ (t : Table). AllKnown k t) (sym is) (pushed_known k old.watches old.next now known)
+
+-- and others have given way to it
+pub way_known : (now : ℕ) (before new : Table) → new ≡ with_new now (yielded_at now (lapsed_at now before)) → (k : Kept) → AllKnown k before → AllKnown k new
+way_known now before new is k known =
+    let keeps = table_keeps (IsSoundItem k) in
+    subst (λ (t : Table). AllKnown k t) (sym is)
+    (keeps.makes now (yielded_at now (lapsed_at now before)) (keeps.yields now (lapsed_at now before) (keeps.lapses now before known)))

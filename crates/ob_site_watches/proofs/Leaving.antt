@@ -11,7 +11,8 @@ use Rattle.ob_requests.specs.declared.target.Operation.{Operation}
 use Rattle.ob_requests.specs.declared.target.Operation.TheVariants as asks
 use Rattle.ob_requests.specs.Targets.{operation_of}
 use Rattle.ob_site_watches.specs.Leaving.{Renews, leased_if, leaving}
-use Rattle.ob_watch.proofs.LawLemmas.{lapses_commute, Numbered}
+use Rattle.ob_watch.proofs.LapseLemmas.{lapses_commute}
+use Rattle.ob_watch.proofs.TableLemmas.{Numbered}
 use Rattle.ob_watch.proofs.TableLemmas.{none_replaced}
 
 kept_by : (f : Leased → Leased) (o : Option Leased) → option_map f o ≡ option_and_then (λ w. Some (f w)) o

@@ -1,8 +1,10 @@
 pub mod Calls
+pub mod FeedNumbers
 pub mod OwnFound
 pub mod Staying
 pub mod Stamping
 pub mod Keeping
+pub mod Feeding
 pub mod Renumbering
 pub mod Due
 pub mod Leaving

@@ -1,15 +1,16 @@
 -- Entries of WatchOut have no names.
-use Rattle.std.proofs.Common.{◌≡◌, ℕ, zero, suc, ◌-◌, Bool, true, false, cond, not, ◌&&◌, List, [], ◌∷◌, ◌++◌, map, length, None, refl, ap, ◌∙◌}
-use Rattle.std.specs.Prelude.{is_none, unwrap_or, nat_le}
+use Rattle.std.proofs.Common.{◌≡◌, ℕ, zero, suc, ◌-◌, Bool, true, false, cond, ◌&&◌, List, [], ◌∷◌, ◌++◌, map, Option, Some, None, refl, ap, ◌∙◌}
+use Rattle.std.specs.Prelude.{is_none, unwrap_or}
 use Rattle.std.specs.List.{filter, list_all}
 use Rattle.std.proofs.lemmas.List.{map-append}
 use Rattle.std.proofs.lemmas.List.Folds.{list_all-append}
 use Rattle.ob_object.specs.Object.{Object as Node}
 use Rattle.ob_history.specs.declared.records.Filter.{Filter}
-use Rattle.ob_watching.specs.Operations.{ObjectAt, FeedAt, NotFound, Refuses}
+use Rattle.ob_watching.specs.Operations.{ObjectAt, FeedAt, NotFound}
 use Rattle.ob_watching.specs.Sites.{Site}
-use Rattle.ob_watching.specs.Watches.{Item, TrackedOf, Object, Feed, max_items, count, since, content_now, reading, changes, changes_of, lists_some, has_text, put_item, added, add_found, readings_added}
+use Rattle.ob_watching.specs.Watches.{Item, TrackedOf, Object, Feed, Room, count, since, content_now, reading, changes, changes_of, lists_some, refusal, added, added_unless, add_found, readings_added}
 use Rattle.ob_site_rules.specs.Build.{Text, Path, nameless as without_name, under_href}
+use Rattle.ob_site_rules.specs.declared.fault.Fault.{Fault}
 use Rattle.ob_site_rules.specs.declared.plan.Plan.{Plan}
 use Rattle.ob_site_rules.specs.State.{State}
 use Rattle.ob_site_rules.specs.Shown.{shown}
@@ -18,7 +19,7 @@ use Rattle.ob_site_rules.specs.Watched.{Asked, SiteFound}
 use Rattle.ob_site_rules.specs.Replies.{Reading, entry, is_plain}
 use Rattle.ob_site_rules.specs.Sites.{plain_or_empty}
 use Rattle.ob_site_reads.proofs.Nameless.{nameless}
-use Rattle.ob_watch.specs.Counted.{of_plan}
+use Rattle.ob_watch.specs.OfPlan.{of_plan}
 
 plain_named : (o : Node) → (plain_or_empty (under_href None (without_name o))).head.name ≡ None
 plain_named o = elim (is_plain (under_href None (without_name o))) as (λ b. (let p : Node = cond b (under_href None (without_name o)) empty_object in p).head.name ≡ None) [ true ↦ refl | false ↦ refl ]
@@ -61,20 +62,20 @@ module _ (plan : Plan) where
       ap (list_all nameless) (map-append entry (changes_of m s i.text i.path i.tracked) (changes m s items))
       ∙ appended (map entry (changes_of m s i.text i.path i.tracked)) (map entry (changes m s items)) (change_named s i.text i.path i.tracked) (changes_named s items)
 
-  added_named : (s : State) (items : List Flagged) (i : Flagged) → is_none (entry (added m s items i).1).head.name ≡ true
-  added_named s items i =
-      elim (nat_le max_items (length items) && not (has_text m items i.text)) as (λ b. is_none (entry (let r : List Flagged × Reading = cond b (items, record { text = i.text; content = Refuses (m.err m.too_many_items) }) (put_item m i items, reading m s i) in r).1).head.name ≡ true) [
-        | true ↦ refl
-        | false ↦ reading_named s i.text i.path i.tracked
-      ]
+  unless_named : (f : Option Fault) (s : State) (items : List Flagged) (i : Flagged) → is_none (entry (added_unless m f s items i).1).head.name ≡ true
+  unless_named None s items i = reading_named s i.text i.path i.tracked
+  unless_named (Some fault) s items i = refl
 
-  found_named : (s : State) (items : List Flagged) (text : Text) (f : SiteFound) → is_none (entry (add_found m s items text f).1).head.name ≡ true
-  found_named s items text (NotFound fault) = refl
-  found_named s items text (ObjectAt path) = added_named s items (record { text = text; path = path; tracked = Object false })
-  found_named s items text (FeedAt path bounds) = added_named s items (record { text = text; path = path; tracked = Feed bounds (count m s path) })
+  added_named : (s : State) (room : Room) (items : List Flagged) (i : Flagged) → is_none (entry (added m s room items i).1).head.name ≡ true
+  added_named s room items i = unless_named (refusal m room items i.text) s items i
 
-  pub added_all_named : (s : State) (ns : List ℕ) (items : List Flagged) (asked : List Asked) → list_all nameless (map entry (readings_added m s ns items asked)) ≡ true
-  added_all_named s ns items [] = refl
-  added_all_named s ns items (a ∷ asked) =
-      both_true _ _ (found_named s items a.0 (m.find s ns a.0 a.1))
-      (added_all_named s ns (add_found m s items a.0 (m.find s ns a.0 a.1)).0 asked)
+  found_named : (s : State) (room : Room) (items : List Flagged) (text : Text) (f : SiteFound) → is_none (entry (add_found m s room items text f).1).head.name ≡ true
+  found_named s room items text (NotFound fault) = refl
+  found_named s room items text (ObjectAt path) = added_named s room items (record { text = text; path = path; tracked = Object false })
+  found_named s room items text (FeedAt path bounds) = added_named s room items (record { text = text; path = path; tracked = Feed bounds (count m s path) })
+
+  pub added_all_named : (s : State) (ns : List ℕ) (room : Room) (items : List Flagged) (asked : List Asked) → list_all nameless (map entry (readings_added m s ns room items asked)) ≡ true
+  added_all_named s ns room items [] = refl
+  added_all_named s ns room items (a ∷ asked) =
+      both_true _ _ (found_named s room items a.0 (m.find s ns a.0 a.1))
+      (added_all_named s ns room (add_found m s room items a.0 (m.find s ns a.0 a.1)).0 asked)

@@ -10,11 +10,12 @@ use Rattle.ob_object.specs.Paths.{is_path, node_path}
 use Rattle.ob_contracts.specs.Inherit.{Contracts, Words, or_else, only_if, result_of, effective_of}
 use Rattle.ob_history.specs.declared.records.Filter.{Filter}
 use Rattle.ob_history.specs.Filters.{filter_of}
-use Rattle.ob_watching.specs.Operations.{ObjectAt, NotFound}
+use Rattle.ob_watching.specs.Operations.{FeedAt, ObjectAt, NotFound}
 use Rattle.ob_site_rules.specs.Build.{Path}
 use Rattle.ob_site_rules.specs.declared.fault.Fault.TheVariants.{HrefTooLong, NotWatchable}
 use Rattle.ob_site_rules.specs.Locating.{locate}
 use Rattle.ob_site_rules.specs.Places.{computed_places}
+use Rattle.ob_watch.specs.Feeds.{feed_place}
 use Rattle.ob_site_rules.specs.Shown.{derived, rule_of, with_status, with_status_at, with_status_by, with_roles, shown}
 use Rattle.ob_site_rules.specs.State.{State, at}
 use Rattle.ob_site_rules.specs.declared.resource.Resource.{Resource}
@@ -37,6 +38,7 @@ use Rattle.ob_tree.specs.Paths.{place_of}
 use Rattle.ob_tree.proofs.Contexts.{heads_row}
 use Rattle.ob_site_watches.specs.Watched.{IsOwnFound, AllWatchedAreOwn}
 use Rattle.ob_site_watches.proofs.Calls.{call_found, derived_calls, is_node, computed_free}
+use Rattle.ob_site_watches.proofs.FeedNumbers.{HasNumber, feed_numbered}
 
 -- the first of these heads that is of a node of a path
 abbrev first_of : Path → List Head → Option Head
@@ -192,14 +194,14 @@ watchable h p path call = go h.kind refl path call
 pub all_watched_are_own : AllWatchedAreOwn
 all_watched_are_own plan s numbers text input = by_length (nat_lt 1024 (length text))
   where
-    by_node : (p : Path) (o : Object) → shown plan s p ≡ Some o → (b : Bool) → is_call_kind o.head.kind ≡ b → IsOwnFound s.tree (cond b (NotFound NotWatchable) (ObjectAt p))
+    by_node : (p : Path) (o : Object) → shown plan s p ≡ Some o → (b : Bool) → is_call_kind o.head.kind ≡ b → IsOwnFound plan s.tree (cond b (NotFound NotWatchable) (ObjectAt p))
     by_node p o e true is = tt
     by_node p o e false is = go (standing_at plan s p) refl (sym ((shown_there plan s p).shows) ∙ e)
       where
         some_same : {a b : Object} → Some a ≡ Some b → a ≡ b
         some_same f = cc
 
-        go : (i : Option Standing) → standing_at plan s p ≡ i → option_map effective i ≡ Some o → IsOwnFound s.tree (ObjectAt p)
+        go : (i : Option Standing) → standing_at plan s p ≡ i → option_map effective i ≡ Some o → IsOwnFound plan s.tree (ObjectAt p)
         go None stood f = absurd cc
         go (Some x) stood f =
             let kinds : o.head.kind ≡ x.object.head.kind =
@@ -214,37 +216,37 @@ all_watched_are_own plan s numbers text input = by_length (nat_lt 1024 (length t
                   subst (λ (g : Head). is_watchable g ≡ true) same (watchable own.0 p number.3 (ap is_call_kind own.2 ∙ call))),
             )
 
-    by_filter : (p : Path) (b : Bool) (f : Option Filter) → IsOwnFound s.tree (feed_if b p f)
-    by_filter p true f = tt
-    by_filter p false None = tt
-    by_filter p false (Some f) = tt
+    by_filter : (p : Path) (b : Bool) (f : Option Filter) → (n : ℕ) × (feed_place plan p ≡ Some n) → IsOwnFound plan s.tree (feed_if b p f)
+    by_filter p true f number = tt
+    by_filter p false None number = tt
+    by_filter p false (Some f) number = number
 
-    by_feed : (p : Path) → IsOwnFound s.tree (feed_with p input)
-    by_feed p = by_filter p (sets_limit input) (filter_of input)
+    by_feed : (p : Path) → (n : ℕ) × (feed_place plan p ≡ Some n) → IsOwnFound plan s.tree (feed_with p input)
+    by_feed p number = by_filter p (sets_limit input) (filter_of input) number
 
-    by_computed : (p : Path) (place : Resource) → is_node place ≡ false → IsOwnFound s.tree (found_place p input place)
-    by_computed p About free = tt
-    by_computed p Batch free = tt
-    by_computed p Service free = tt
-    by_computed p Make free = tt
-    by_computed p (AlarmAt n) free = tt
-    by_computed p (AckOf n) free = tt
-    by_computed p (WritePointOf q) free = tt
-    by_computed p (QueryOf h) free = tt
-    by_computed p (FeedOf h) free = by_feed p
-    by_computed p AlarmQuery free = tt
-    by_computed p AlarmFeed free = by_feed p
-    by_computed p (Node o) free = absurd cc
+    by_computed : (p : Path) (place : Resource) → is_node place ≡ false → HasNumber plan p place → IsOwnFound plan s.tree (found_place p input place)
+    by_computed p About free number = tt
+    by_computed p Batch free number = tt
+    by_computed p Service free number = tt
+    by_computed p Make free number = tt
+    by_computed p (AlarmAt n) free number = tt
+    by_computed p (AckOf n) free number = tt
+    by_computed p (WritePointOf q) free number = tt
+    by_computed p (QueryOf h) free number = tt
+    by_computed p (FeedOf h) free number = by_feed p number
+    by_computed p AlarmQuery free number = tt
+    by_computed p AlarmFeed free number = by_feed p number
+    by_computed p (Node o) free number = absurd cc
 
-    by_place : (p : Path) (i : Option Resource) (o : Option Object) → at p (computed_places plan s) ≡ i → shown plan s p ≡ o → IsOwnFound s.tree (found_at plan numbers p input (or_else i (option_map Node o)))
-    by_place p (Some place) o computed is = by_computed p place (computed_free plan s p place computed)
+    by_place : (p : Path) (i : Option Resource) (o : Option Object) → at p (computed_places plan s) ≡ i → shown plan s p ≡ o → IsOwnFound plan s.tree (found_at plan numbers p input (or_else i (option_map Node o)))
+    by_place p (Some place) o computed is = by_computed p place (computed_free plan s p place computed) (feed_numbered plan s p place computed)
     by_place p None None computed is = tt
     by_place p None (Some o) computed is = by_node p o is (is_call_kind o.head.kind) refl
 
-    by_path : (o : Option Path) → IsOwnFound s.tree (found_located plan s numbers input o)
+    by_path : (o : Option Path) → IsOwnFound plan s.tree (found_located plan s numbers input o)
     by_path None = tt
     by_path (Some p) = by_place p (at p (computed_places plan s)) (shown plan s p) refl refl
 
-    by_length : (b : Bool) → IsOwnFound s.tree (cond b (NotFound HrefTooLong) (found_located plan s numbers input (locate plan.base text)))
+    by_length : (b : Bool) → IsOwnFound plan s.tree (cond b (NotFound HrefTooLong) (found_located plan s numbers input (locate plan.base text)))
     by_length true = tt
     by_length false = by_path (locate plan.base text)

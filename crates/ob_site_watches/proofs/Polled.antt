@@ -32,7 +32,8 @@ use Rattle.ob_tree.proofs.Within.{place_within}
 use Rattle.ob_watch.specs.declared.item.Item.{Item}
 use Rattle.ob_watch.specs.declared.item.Tracked.{Tracked}
 use Rattle.ob_watch.specs.declared.item.Tracked.TheVariants as kept
-use Rattle.ob_watch.specs.Counted.{of_plan}
+use Rattle.ob_watch.specs.OfPlan.{of_plan}
+use Rattle.ob_watch.specs.Feeds.{FeedLog}
 use Rattle.ob_watch.specs.Flags.{flag_of, flagged, flags, flags_of}
 use Rattle.ob_watch.specs.Items.{is_due, is_due_by}
 use Rattle.ob_watch.specs.Tables.{Leased}
@@ -72,11 +73,11 @@ shown_for plan s path node o old new placed read steps =
     added a b c = omega arith
 
 -- since it is due, or since all are read
-pub object_steps : (plan : Plan) (s : State) (t : Stamped) (path : Path) (k : Tracked) (node : NodeId) (mark : ℕ) (o : Object) (old new : ℕ)
-    → k ≡ kept.Object node mark → is_due_by t k ≡ true → place_of path (paths s.tree) ≡ Some node.number → o ≡ watched_object plan s path
+pub object_steps : (plan : Plan) (s : State) (t : Stamped) (feeds : List FeedLog) (path : Path) (k : Tracked) (node : NodeId) (mark : ℕ) (o : Object) (old new : ℕ)
+    → k ≡ kept.Object node mark → is_due_by t feeds k ≡ true → place_of path (paths s.tree) ≡ Some node.number → o ≡ watched_object plan s path
     → new ≡ old + depth_at node.number s.tree + min (parts o) (2 ^ 64 - 1) → new ≡ old + item_steps plan s path (flag_of t k)
-object_steps plan s t path k node mark o old new is due placed read steps =
-    let below : is_due_by t (kept.Object node mark) ≡ true = subst (λ (x : Tracked). is_due_by t x ≡ true) is due in
+object_steps plan s t feeds path k node mark o old new is due placed read steps =
+    let below : is_due_by t feeds (kept.Object node mark) ≡ true = subst (λ (x : Tracked). is_due_by t feeds x ≡ true) is due in
     subst (λ (x : Tracked). new ≡ old + item_steps plan s path (flag_of t x)) (sym is)
     (subst (λ (b : Bool). new ≡ old + item_steps plan s path (rules.Object b)) (sym below) (shown_for plan s path node o old new placed read steps))
 
@@ -86,26 +87,26 @@ pub reading_object : (plan : Plan) (s : State) (t : Stamped) (path : Path) (k : 
 reading_object plan s t path k node mark o old new is placed read steps =
     subst (λ (x : Tracked). new ≡ old + reading_steps plan s path (flag_of t x)) (sym is) (shown_for plan s path node o old new placed read steps)
 
-pub reading_feed : (plan : Plan) (s : State) (t : Stamped) (path : Path) (k : Tracked) (filter : Filter) (given total : ℕ) (due : Bool) (old : ℕ)
-    → k ≡ kept.Feed filter given total due → old ≡ old + reading_steps plan s path (flag_of t k)
-reading_feed plan s t path k filter given total due old is = subst (λ (x : Tracked). old ≡ old + reading_steps plan s path (flag_of t x)) (sym is) (no_more old)
+pub reading_feed : (plan : Plan) (s : State) (t : Stamped) (path : Path) (k : Tracked) (feed : ℕ) (filter : Filter) (given : ℕ) (old : ℕ)
+    → k ≡ kept.Feed feed filter given → old ≡ old + reading_steps plan s path (flag_of t k)
+reading_feed plan s t path k feed filter given old is = subst (λ (x : Tracked). old ≡ old + reading_steps plan s path (flag_of t x)) (sym is) (no_more old)
 
 -- for a feed nothing is counted
-pub feed_steps : (plan : Plan) (s : State) (t : Stamped) (path : Path) (k : Tracked) (filter : Filter) (given total : ℕ) (due : Bool) (old : ℕ)
-    → k ≡ kept.Feed filter given total due → old ≡ old + item_steps plan s path (flag_of t k)
-feed_steps plan s t path k filter given total due old is = subst (λ (x : Tracked). old ≡ old + item_steps plan s path (flag_of t x)) (sym is) (no_more old)
+pub feed_steps : (plan : Plan) (s : State) (t : Stamped) (path : Path) (k : Tracked) (feed : ℕ) (filter : Filter) (given : ℕ) (old : ℕ)
+    → k ≡ kept.Feed feed filter given → old ≡ old + item_steps plan s path (flag_of t k)
+feed_steps plan s t path k feed filter given old is = subst (λ (x : Tracked). old ≡ old + item_steps plan s path (flag_of t x)) (sym is) (no_more old)
 
 -- nor for what isn't due
-pub idle_steps : (plan : Plan) (s : State) (t : Stamped) (path : Path) (k : Tracked) → is_due_by t k ≡ false → item_steps plan s path (flag_of t k) ≡ 0
-idle_steps plan s t path (kept.Object node mark) idle = ap (λ (b : Bool). item_steps plan s path (rules.Object b)) idle
-idle_steps plan s t path (kept.Feed filter given total due) idle = refl
+pub idle_steps : (plan : Plan) (s : State) (t : Stamped) (feeds : List FeedLog) (path : Path) (k : Tracked) → is_due_by t feeds k ≡ false → item_steps plan s path (flag_of t k) ≡ 0
+idle_steps plan s t feeds path (kept.Object node mark) idle = ap (λ (b : Bool). item_steps plan s path (rules.Object b)) idle
+idle_steps plan s t feeds path (kept.Feed feed filter given) idle = refl
 
 -- so nothing is where nothing is due
-pub none_steps : (plan : Plan) (s : State) (t : Stamped) (items : List Item) → list_any (is_due t) items ≡ false → poll_steps plan s (map (flags t) items) ≡ 0
-none_steps plan s t [] none = refl
-none_steps plan s t (i ∷ items) none =
-    let both = none_of (is_due t i) (list_any (is_due t) items) none in
-    nothing (item_steps plan s i.path (flag_of t i.tracked)) (poll_steps plan s (map (flags t) items)) (idle_steps plan s t i.path i.tracked both.0) (none_steps plan s t items both.1)
+pub none_steps : (plan : Plan) (s : State) (t : Stamped) (feeds : List FeedLog) (items : List Item) → list_any (is_due t feeds) items ≡ false → poll_steps plan s (map (flags t) items) ≡ 0
+none_steps plan s t feeds [] none = refl
+none_steps plan s t feeds (i ∷ items) none =
+    let both = none_of (is_due t feeds i) (list_any (is_due t feeds) items) none in
+    nothing (item_steps plan s i.path (flag_of t i.tracked)) (poll_steps plan s (map (flags t) items)) (idle_steps plan s t feeds i.path i.tracked both.0) (none_steps plan s t feeds items both.1)
   where
     nothing : (a b : ℕ) → a ≡ 0 → b ≡ 0 → a + b ≡ 0
     nothing a b x y = omega (arith, x, y)

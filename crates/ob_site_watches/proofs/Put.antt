@@ -1,19 +1,18 @@
 -- What is put into a watch is what the definitions add to its flags.
-use Rattle.std.proofs.Common.{◌≡◌, ℕ, Bool, true, false, cond, not, ◌&&◌, List, [], ◌∷◌, ◌++◌, map, length, Option, Some, refl, sym, ap, ap₂, ◌∙◌, subst}
-use Rattle.std.specs.Prelude.{is_none, nat_eq, nat_le, option_map, option_and_then}
+use Rattle.std.proofs.Common.{◌≡◌, ℕ, Bool, true, false, cond, List, [], ◌∷◌, ◌++◌, map, Option, Some, None, refl, sym, ap, ap₂, ◌∙◌, subst}
+use Rattle.std.specs.Prelude.{is_none, nat_eq, option_map, option_and_then}
 use Rattle.std.specs.List.{IsDistinct, list_all}
 use Rattle.std.specs.Str.{bytes_eq}
 use Rattle.ob_object.specs.Object.{Object as Node}
 use Rattle.ob_history.specs.declared.records.Filter.{Filter}
 use Rattle.ob_tree.specs.Trees.{Stamped}
-use Rattle.ob_watching.specs.Operations.{Add, Refuses}
+use Rattle.ob_watching.specs.Operations.{Add}
 use Rattle.ob_watching.specs.Sites.{Site}
 use Rattle.ob_watching.specs.Tables.{lookup, numbers_of, replace}
-use Rattle.ob_watching.specs.Watches.{ItemOf, WatchOf, add_found, added, has_text as has_flagged, items_added, max_items, put_item as put_flagged, reading, readings_added, touched, watch_after, with_items}
+use Rattle.ob_watching.specs.Watches.{ItemOf, Room, WatchOf, add_found, added, added_unless, items_added, readings_added, touched, watch_after, with_items}
 use Rattle.ob_site_rules.specs.Build.{Text}
 use Rattle.ob_site_rules.specs.Computed.{watch_out}
-use Rattle.ob_site_rules.specs.declared.fault.Fault.TheVariants.{TooManyItems}
-use Rattle.ob_site_rules.specs.Faults.{err}
+use Rattle.ob_site_rules.specs.declared.fault.Fault.{Fault}
 use Rattle.ob_site_rules.specs.Locating.{locate}
 use Rattle.ob_site_rules.specs.Replies.{Reading, entry}
 use Rattle.ob_site_rules.specs.Sites.{found}
@@ -22,11 +21,10 @@ use Rattle.ob_site_rules.specs.Watched.{Asked}
 use Rattle.ob_site_state.specs.Kept.{Kept}
 use Rattle.ob_site_state.specs.Stamping.{tree_of}
 use Rattle.ob_watch.specs.declared.item.Item.{Item}
-use Rattle.ob_watch.specs.Adding.{is_refused}
-use Rattle.ob_watch.specs.Counted.{of_plan}
+use Rattle.ob_watch.specs.OfPlan.{of_plan}
 use Rattle.ob_watch.specs.Flags.{flagged, flags}
 use Rattle.ob_watch.specs.Items.{put_item}
-use Rattle.ob_watch.specs.Tables.{IsLease, Leased, Table, at_number, holding, is_over, live, touched_at, watching}
+use Rattle.ob_watch.specs.Tables.{IsLease, Leased, Table, at_number, holding, is_over, live, room_beside, touched_at}
 use Rattle.ob_watch.proofs.LawLemmas.{items_agree}
 use Rattle.ob_requests.specs.AsRules.{IsAsRules}
 use Rattle.ob_requests.specs.Calls.{firsts}
@@ -34,9 +32,8 @@ use Rattle.ob_site_watches.specs.declared.offering.Offer.{Offer}
 use Rattle.ob_site_watches.specs.declared.offering.Offer.TheVariants as offer
 use Rattle.ob_site_watches.specs.Answers.{AllKnown, IsDone}
 use Rattle.ob_site_watches.specs.Known.{AreSoundItems, IsSoundItem}
-use Rattle.ob_site_watches.specs.Entries.{reading_entry}
-use Rattle.ob_site_watches.specs.Offered.{IsOffered, refused_entry}
-use Rattle.ob_site_watches.specs.Putting.{HasAdded, HasPut, IsPlaced, entry_put, put_offer}
+use Rattle.ob_site_watches.specs.Offered.{IsOffered}
+use Rattle.ob_site_watches.specs.Putting.{HasAdded, HasPut, IsPlaced, entry_put, entry_unless, put_offer, put_unless, refused_for}
 use Rattle.ob_site_watches.proofs.Answering.{fresh, one_stands}
 use Rattle.ob_site_watches.proofs.Knowing.{one_known}
 use Rattle.ob_site_watches.proofs.Leaving.{two_left}
@@ -60,45 +57,38 @@ module _ (k : Kept) where
 
   -- ---- one after the other
 
-  -- whether an href can be added
-  same_test : (w : Leased) (item : Item) → (nat_le max_items (length (map (flags t) w.items)) && not (has_flagged m (map (flags t) w.items) item.text)) ≡ is_refused w item.text
-  same_test w item = ap₂ (λ (a b : Bool). a && not b) ((items_agree k.plan t).full w) ((items_agree k.plan t).has w.items item.text)
+  abbrev added_if : Option Fault → Leased → Item → Answer
+  added_if f w item = added_unless m f s (map (flags t) w.items) (flags t item)
 
-  abbrev refusal_in : Leased → Item → Answer
-  refusal_in w item = (map (flags t) w.items, record { text = item.text; content = Refuses (err TooManyItems) })
-
-  abbrev adding : Leased → Item → Answer
-  adding w item = (put_flagged m (flags t item) (map (flags t) w.items), reading m s (flags t item))
-
-  added_items : (w : Leased) (item : Item) → map (flags t) (put_offer (offer.Item item) w).items ≡ (added m s (map (flags t) w.items) (flags t item)).0
-  added_items w item =
-      go (is_refused w item.text)
-      ∙ sym (ap (λ (b : Bool). (let a : Answer = cond b (refusal_in w item) (adding w item) in a).0) (same_test w item))
+  added_items : (room : Room) (w : Leased) (item : Item) → map (flags t) (put_offer k room (offer.Item item) w).items ≡ (added m s room (map (flags t) w.items) (flags t item)).0
+  added_items room w item =
+      go (refused_for k.plan room w item.text)
+      ∙ sym (ap (λ (f : Option Fault). (added_if f w item).0) ((items_agree k.plan t).refuses room w item.text))
     where
-      go : (b : Bool) → map (flags t) (let v : Leased = cond b w (watching (put_item item w.items) w) in v).items ≡ (let a : Answer = cond b (refusal_in w item) (adding w item) in a).0
-      go true = refl
-      go false = sym ((items_agree k.plan t).puts item w.items)
+      go : (f : Option Fault) → map (flags t) (put_unless f item w).items ≡ (added_if f w item).0
+      go None = sym ((items_agree k.plan t).puts item w.items)
+      go (Some fault) = refl
 
-  added_entry : (w : Leased) (item : Item) → entry_put k (offer.Item item) w ≡ entry (added m s (map (flags t) w.items) (flags t item)).1
-  added_entry w item =
-      go (is_refused w item.text)
-      ∙ sym (ap (λ (b : Bool). entry (let a : Answer = cond b (refusal_in w item) (adding w item) in a).1) (same_test w item))
+  added_entry : (room : Room) (w : Leased) (item : Item) → entry_put k room (offer.Item item) w ≡ entry (added m s room (map (flags t) w.items) (flags t item)).1
+  added_entry room w item =
+      go (refused_for k.plan room w item.text)
+      ∙ sym (ap (λ (f : Option Fault). entry (added_if f w item).1) ((items_agree k.plan t).refuses room w item.text))
     where
-      go : (b : Bool) → (let p : Node = cond b (refused_entry item.text TooManyItems) (reading_entry k item) in p) ≡ entry (let a : Answer = cond b (refusal_in w item) (adding w item) in a).1
-      go true = refl
-      go false = refl
+      go : (f : Option Fault) → entry_unless f k item ≡ entry (added_if f w item).1
+      go None = refl
+      go (Some fault) = refl
 
-  module _ (ns : List ℕ) where
+  module _ (room : Room) (ns : List ℕ) where
     abbrev adds_of : List Shown → Asked → Answer
-    adds_of items a = add_found m s items a.0 (found locate k.plan s ns a.0 a.1)
+    adds_of items a = add_found m s room items a.0 (found locate k.plan s ns a.0 a.1)
 
-    one_items : (a : Asked) (o : Offer) (w : Leased) → IsOffered k ns a o → map (flags t) (put_offer o w).items ≡ (adds_of (map (flags t) w.items) a).0
-    one_items a (offer.Item item) w is = added_items w item ∙ sym (ap (λ (p : Answer). p.0) (is.adds (map (flags t) w.items)))
-    one_items a (offer.Refused o) w is = sym (is (map (flags t) w.items)).0
+    one_items : (a : Asked) (o : Offer) (w : Leased) → IsOffered k ns a o → map (flags t) (put_offer k room o w).items ≡ (adds_of (map (flags t) w.items) a).0
+    one_items a (offer.Item item) w is = added_items room w item ∙ sym (ap (λ (p : Answer). p.0) (is.adds room (map (flags t) w.items)))
+    one_items a (offer.Refused o) w is = sym (is room (map (flags t) w.items)).0
 
-    one_entry : (a : Asked) (o : Offer) (w : Leased) → IsOffered k ns a o → entry_put k o w ≡ entry (adds_of (map (flags t) w.items) a).1
-    one_entry a (offer.Item item) w is = added_entry w item ∙ sym (ap (λ (p : Answer). entry p.1) (is.adds (map (flags t) w.items)))
-    one_entry a (offer.Refused o) w is = sym (is (map (flags t) w.items)).1
+    one_entry : (a : Asked) (o : Offer) (w : Leased) → IsOffered k ns a o → entry_put k room o w ≡ entry (adds_of (map (flags t) w.items) a).1
+    one_entry a (offer.Item item) w is = added_entry room w item ∙ sym (ap (λ (p : Answer). entry p.1) (is.adds room (map (flags t) w.items)))
+    one_entry a (offer.Refused o) w is = sym (is room (map (flags t) w.items)).1
 
     -- what is offered can be read
     pub placed : (a : Asked) (o : Offer) → IsOffered k ns a o → IsPlaced k o
@@ -115,32 +105,32 @@ module _ (k : Kept) where
         go true rest = (own, known.1)
         go false rest = (known.0, rest)
 
-    one_offer_known : (a : Asked) (o : Offer) (w : Leased) → IsOffered k ns a o → AreSoundItems k w.items → AreSoundItems k (put_offer o w).items
+    one_offer_known : (a : Asked) (o : Offer) (w : Leased) → IsOffered k ns a o → AreSoundItems k w.items → AreSoundItems k (put_offer k room o w).items
     one_offer_known a (offer.Refused o) w is known = known
-    one_offer_known a (offer.Item item) w is known = go (is_refused w item.text)
+    one_offer_known a (offer.Item item) w is known = go (refused_for k.plan room w item.text)
       where
-        go : (b : Bool) → AreSoundItems k (let v : Leased = cond b w (watching (put_item item w.items) w) in v).items
-        go true = known
-        go false = one_item_known item w.items is.known known
+        go : (f : Option Fault) → AreSoundItems k (put_unless f item w).items
+        go None = one_item_known item w.items is.known known
+        go (Some fault) = known
 
     -- ---- all that is asked for, one after the other
 
-    items_push : (items : List Shown) (xs : List Asked) (a : Asked) → items_added m s ns items (xs ++ a ∷ []) ≡ (adds_of (items_added m s ns items xs) a).0
+    items_push : (items : List Shown) (xs : List Asked) (a : Asked) → items_added m s ns room items (xs ++ a ∷ []) ≡ (adds_of (items_added m s ns room items xs) a).0
     items_push items [] a = refl
     items_push items (x ∷ xs) a = items_push (adds_of items x).0 xs a
 
     entries_push : (items : List Shown) (xs : List Asked) (a : Asked)
-        → map entry (readings_added m s ns items (xs ++ a ∷ [])) ≡ map entry (readings_added m s ns items xs) ++ entry (adds_of (items_added m s ns items xs) a).1 ∷ []
+        → map entry (readings_added m s ns room items (xs ++ a ∷ [])) ≡ map entry (readings_added m s ns room items xs) ++ entry (adds_of (items_added m s ns room items xs) a).1 ∷ []
     entries_push items [] a = refl
     entries_push items (x ∷ xs) a = ap (λ (es : List Node). entry (adds_of items x).1 ∷ es) (entries_push (adds_of items x).0 xs a)
 
     -- nothing was added
-    pub added_none : (w : Leased) → HasAdded k ns [] w w []
+    pub added_none : (w : Leased) → HasAdded k ns room [] w w []
     added_none w = record { items = refl; entries = refl; known = λ known. known }
 
     -- one more was added
-    pub added_more : (asked : List Asked) (a : Asked) (o : Offer) (w half left : Leased) (es : List Node) (e : Node) → HasAdded k ns asked w half es → IsOffered k ns a o
-        → left ≡ put_offer o half → e ≡ entry_put k o half → HasAdded k ns (asked ++ a ∷ []) w left (es ++ e ∷ [])
+    pub added_more : (asked : List Asked) (a : Asked) (o : Offer) (w half left : Leased) (es : List Node) (e : Node) → HasAdded k ns room asked w half es → IsOffered k ns a o
+        → left ≡ put_offer k room o half → e ≡ entry_put k room o half → HasAdded k ns room (asked ++ a ∷ []) w left (es ++ e ∷ [])
     added_more asked a o w half left es e has is is_left is_entry = record {
       items =
           ap (λ (v : Leased). map (flags t) v.items) is_left ∙ one_items a o half is
@@ -152,9 +142,9 @@ module _ (k : Kept) where
     }
 
     -- no entry has a name
-    pub all_named : (asked : List Asked) (w left : Leased) (es : List Node) → HasAdded k ns asked w left es → list_all (λ (o : Node). is_none o.head.name) es ≡ true
+    pub all_named : (asked : List Asked) (w left : Leased) (es : List Node) → HasAdded k ns room asked w left es → list_all (λ (o : Node). is_none o.head.name) es ≡ true
     all_named asked w left es has =
-        subst (λ (fs : List Node). list_all (λ (o : Node). is_none o.head.name) fs ≡ true) (sym has.entries) (added_all_named k.plan s ns (map (flags t) w.items) asked)
+        subst (λ (fs : List Node). list_all (λ (o : Node). is_none o.head.name) fs ≡ true) (sym has.entries) (added_all_named k.plan s ns room (map (flags t) w.items) asked)
 
   -- ---- the watches
 
@@ -168,14 +158,17 @@ module _ (k : Kept) where
   -- what Watch.add leaves and replies is what the definitions say
   pub added_stands : (now n : ℕ) (old mid new : Table) (asked : List Asked) (w : Leased) (o : Node) → IsAsRules k.plan
       → IsDistinct nat_eq (numbers_of old.watches) → lookup n old.watches ≡ Some w → lookup n (live now old.watches) ≡ Some w → IsLease w.lease
-      → HasPut k (numbers_of (live now old.watches)) (firsts asked) n old mid o w
+      → HasPut k (numbers_of (live now old.watches)) (room_beside n (live now old.watches)) (firsts asked) n old mid o w
       → new ≡ holding (at_number n (touched_at now) mid.watches) mid → IsDone k now old new n (Add asked) o
   added_stands now n old mid new asked w o rules distinct there standing fits put touch =
       one_stands k now n old new (Add asked) w (Some (touched_at now left)) o distinct standing (left_put now n w left old mid new there put.table touch) lasts after
-      (put.reply ∙ ap watch_out (put.added.entries ∙ ap (λ (all : List Asked). map entry (readings_added m s ns (map (flags t) w.items) all)) (sym (rules.first_asked asked))))
+      (put.reply ∙ ap watch_out (put.added.entries ∙ ap (λ (all : List Asked). map entry (readings_added m s ns room (map (flags t) w.items) all)) (sym (rules.first_asked asked))))
     where
       ns : List ℕ
       ns = numbers_of (live now old.watches)
+
+      room : Room
+      room = room_beside n (live now old.watches)
 
       left : Leased
       left = put.left
@@ -186,16 +179,16 @@ module _ (k : Kept) where
       lasts : is_over now (touched_at now left) ≡ false
       lasts = fresh now left.lease (subst IsLease (sym lease) fits)
 
-      after : watch_after m s ns (touched m now (flagged t w)) (Add asked) ≡ option_map (flagged t) (Some (touched_at now left))
+      after : watch_after m s ns room (touched m now (flagged t w)) (Add asked) ≡ option_map (flagged t) (Some (touched_at now left))
       after =
-          ap (λ (all : List Asked). Some (with_items m (touched m now (flagged t w)) (items_added m s ns (map (flags t) w.items) all))) (rules.first_asked asked)
+          ap (λ (all : List Asked). Some (with_items m (touched m now (flagged t w)) (items_added m s ns room (map (flags t) w.items) all))) (rules.first_asked asked)
           ∙ ap (λ (items : List Shown). Some (with_items m (touched m now (flagged t w)) items)) (sym put.added.items)
           ∙ ap (λ (l : ℕ). (let r : Option (WatchOf Text Text Filter) = Some (record { lease = l; touched = now; items = map (flags t) left.items }) in r)) (sym lease)
 
   -- and what is known of all items is known again
-  pub added_known : (now n : ℕ) (old mid new : Table) (asked : List Asked) (ns : List ℕ) (w : Leased) (o : Node) → lookup n old.watches ≡ Some w
-      → AllKnown k old → AreSoundItems k w.items → HasPut k ns asked n old mid o w
+  pub added_known : (now n : ℕ) (old mid new : Table) (asked : List Asked) (ns : List ℕ) (room : Room) (w : Leased) (o : Node) → lookup n old.watches ≡ Some w
+      → AllKnown k old → AreSoundItems k w.items → HasPut k ns room asked n old mid o w
       → new ≡ holding (at_number n (touched_at now) mid.watches) mid → AllKnown k new
-  added_known now n old mid new asked ns w o there all known put touch =
+  added_known now n old mid new asked ns room w o there all known put touch =
       subst (AllKnown k) (sym (left_put now n w put.left old mid new there put.table touch))
       (one_known k n (touched_at now put.left) old.watches (put.added.known known) all)

@@ -43,7 +43,7 @@ all_anew t (w ∷ ws) = (marks_anew t w.1.items, all_anew t ws)
 
 pub flags_stay_anew : FlagsStayAnew
 flags_stay_anew plan t ws = record {
-  flags = flags_same t (anew t) (marked_anew t) (λ i. (reports_agree plan t).renumbers i) ws;
+  flags = flags_same t (anew t) (marked_anew t) (λ i. (reports_agree plan t []).renumbers i) ws;
   marks = all_anew t ws;
   stamps = anew_past t;
 }

@@ -6,7 +6,8 @@ use Rattle.std.proofs.lemmas.Bool.Decides.{Decides-eqb}
 use Rattle.std.proofs.lemmas.Map.Keys.{IsDistinct-head, IsDistinct-tail}
 use Rattle.ob_watching.specs.Tables.{lookup, numbers_of, replace}
 use Rattle.ob_watch.specs.Tables.{Leased, Table, at_number, holding, watching}
-use Rattle.ob_watch.proofs.LawLemmas.{lapses_commute, Numbered}
+use Rattle.ob_watch.proofs.LapseLemmas.{lapses_commute}
+use Rattle.ob_watch.proofs.TableLemmas.{Numbered}
 use Rattle.ob_watch.proofs.TableLemmas.{elsewhere, none_replaced}
 
 some_same : (a b : Leased) → (let r : Option Leased = Some a in r) ≡ Some b → a ≡ b

@@ -6,6 +6,7 @@ use Rattle.ob_site_rules.specs.declared.fault.Fault.{Fault}
 use Rattle.ob_site_rules.specs.Watched.{WatchOperation, lease_asked}
 use Rattle.ob_site_state.specs.Kept.{Kept}
 use Rattle.ob_watch.specs.Tables.{Leased, Table, at_number, holding, leased_for, touched_at, without}
+use Rattle.ob_site_state.specs.Feeds.{feed_logs}
 use Rattle.ob_watch.specs.Reported.{all_reported}
 
 abbrev pub is_add : WatchOperation → Bool
@@ -25,8 +26,8 @@ Renews n old new (Err fault) = new ≡ old
 abbrev pub marks_after : Kept → ℕ → WatchOperation → Leased → Option Leased
 marks_after k now (Renew input) w = Some (leased_if (lease_asked k.now input) (touched_at now w))
 marks_after k now (Remove texts) w = Some (without texts (touched_at now w))
-marks_after k now PollChanges w = Some (all_reported k.steps (touched_at now w))
-marks_after k now PollRefresh w = Some (all_reported k.steps (touched_at now w))
+marks_after k now PollChanges w = Some (all_reported k.steps (feed_logs k.now) (touched_at now w))
+marks_after k now PollRefresh w = Some (all_reported k.steps (feed_logs k.now) (touched_at now w))
 marks_after k now Delete w = None
 marks_after k now _ w = Some (touched_at now w)
 

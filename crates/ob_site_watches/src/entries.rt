@@ -7,6 +7,7 @@ ghost use Rattle.ob_site_rules.specs.Replies.{content_object, entry};
 ghost use Rattle.ob_site_watches.specs.Entries.{all_changes, all_readings, changes_in, object_now, reading_entry};
 ghost use Rattle.ob_site_watches.specs.Known.{AreSoundItems, IsSoundItem, IsPlacedBy};
 ghost use Rattle.ob_site_watches.specs.Polls.{item_steps, poll_steps, reading_steps, refresh_steps};
+ghost use Rattle.ob_site_state.specs.Feeds.{feed_logs};
 ghost use Rattle.ob_site_state.specs.Stamping.{tree_of};
 
 use ob_contracts::Steps;
@@ -32,10 +33,9 @@ fn object_now<L: Ledger>(
     match item.tracked() {
         Tracked::Object { node, mark: _ } => watched_node(state, *node, steps),
         Tracked::Feed {
+            feed: _,
             filter,
             given: _,
-            total: _,
-            due: _,
         } => whole_feed(state, item.path(), filter),
     }
 }
@@ -86,7 +86,7 @@ fn change_due<L: Ledger>(
     steps: &mut Steps<L>,
 ) -> Result<Option<Obj>, AllocError>
     requires placed { IsPlacedBy state.now.now.tree item.now.path item.now.tracked }
-    requires due { is_due (tree_of state.now) item.now ≡ true }
+    requires due { is_due (tree_of state.now) (feed_logs state.now.now) item.now ≡ true }
     ensures content { IfOk result (λ o. option_to_list o ≡ map (λ r. content_object r.content) (changes_in state.now item.now)) }
     ensures steps { IfOk result (λ _. steps.new ≡ steps.old + item_steps state.now.plan state.now.now item.now.path (flag_of (tree_of state.now) item.now.tracked)) }
 {
@@ -96,10 +96,9 @@ fn change_due<L: Ledger>(
             Ok(Some(object))
         }
         Tracked::Feed {
+            feed: _,
             filter,
             given,
-            total: _,
-            due: _,
         } => {
             let since = Since {
                 filter: *filter,
@@ -121,7 +120,7 @@ fn push_due<L: Ledger>(
     steps: &mut Steps<L>,
 ) -> Result<(), AllocError>
     requires known { IsSoundItem state.now item.now }
-    requires due { is_due (tree_of state.now) item.now ≡ true }
+    requires due { is_due (tree_of state.now) (feed_logs state.now.now) item.now ≡ true }
     ensures entries { IfOk result (λ _. entries.new.items ≡ entries.old.items ++ map entry (changes_in state.now item.now)) }
     ensures steps { IfOk result (λ _. steps.new ≡ steps.old + item_steps state.now.plan state.now.now item.now.path (flag_of (tree_of state.now) item.now.tracked)) }
 {
@@ -145,7 +144,8 @@ fn push_change<L: Ledger>(
     ensures entries { IfOk result (λ _. entries.new.items ≡ entries.old.items ++ map entry (changes_in state.now item.now)) }
     ensures steps { IfOk result (λ _. steps.new ≡ steps.old + item_steps state.now.plan state.now.now item.now.path (flag_of (tree_of state.now) item.now.tracked)) }
 {
-    if !item.is_due(state.tree()) {
+    state.feeds_law();
+    if !item.is_due(state.tree(), state) {
         return Ok(());
     }
     push_due(state, item, entries, steps)
@@ -173,7 +173,7 @@ pub fn changes<L: Ledger>(
 }
 
 /// The entries of what has changed of the items of a watch since it was last reported, and the steps counted, as `changes`
-/// says. Where nothing has changed since all were reported, only the items on feeds are looked at.
+/// says. Where nothing has changed since all were reported, no object is read, and no item is looked at where none was ever on a feed.
 ///
 /// Source: oBIX 1.1, chapter 12 (Watch.pollChanges).
 #[tactic(auto, using(crate::proofs::Due::none_due))]
@@ -187,7 +187,8 @@ pub fn watch_changes<L: Ledger>(
     ensures entries { IfOk result (λ os. os.items ≡ all_changes state.now watch.now.items) }
     ensures steps { IfOk result (λ _. steps.new ≡ steps.old + poll_steps state.now.plan state.now.now (map (flags (tree_of state.now)) watch.now.items)) }
 {
-    if !watch.has_due(state.tree()) {
+    state.feeds_law();
+    if !watch.has_due(state.tree(), state) {
         return Ok(Vec::new(state.allocator()));
     }
     changes(state, watch.items(), steps)

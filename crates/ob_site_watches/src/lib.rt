@@ -11,12 +11,12 @@ mod operations;
 mod watched;
 
 ghost use Rattle.ob_site_watches.specs.Anew.{FlagsStayAnew};
-ghost use Rattle.ob_site_watches.specs.Items.{CountsStayAnew, MarksStayPast, OwnItemsStay, OwnNodesStay};
+ghost use Rattle.ob_site_watches.specs.Items.{MarksStayPast, NumbersStay, OwnItemsStay, OwnNodesStay};
 ghost use Rattle.ob_site_watches.specs.Stamps.{StampsArePast};
-ghost use Rattle.ob_site_watches.specs.Tables.{TablesKeepCounts, TablesKeepMarks};
+ghost use Rattle.ob_site_watches.specs.Tables.{TablesKeepMarks, TablesKeepNumbers};
 
 pub use entries::{changes, reading, readings};
-pub use making::make;
+pub use making::{make, make_way};
 pub use operations::{Call, on_watch};
 pub use watched::{own_nodes_stay, watched_are_own};
 
@@ -25,25 +25,24 @@ pub fn stamps_are_past()
     ensures { StampsArePast }
 {}
 
-/// What holds of each item of all watches holds after a watch is made, watches lapse, items are changed by what
+/// What holds of each item of all watches holds after a watch is made, watches lapse or give way, items are changed by what
 /// keeps it, a watch is replaced or deleted, and items are removed or put.
 ///
 /// Source: oBIX 1.1, chapter 12 (Watches).
 pub fn tables_keep()
     ensures marks { TablesKeepMarks }
-    ensures counts { TablesKeepCounts }
+    ensures numbers { TablesKeepNumbers }
 {}
 
-/// What holds of an item goes on holding when it is reported, when events of its feed are counted or roll off, and
-/// when steps are counted anew: no mark is of a step to come, the item stays on its own node (in a tree with other
-/// slots, too), and what is counted of feeds stays.
+/// What holds of an item goes on holding when it is reported, and when steps are counted anew: no mark is of a step to
+/// come, the item stays on its own node (in a tree with other slots, too), or on its feed.
 ///
 /// Source: oBIX 1.1, chapter 12 (Watches).
 pub fn items_keep()
     ensures marks { MarksStayPast }
     ensures nodes { OwnNodesStay }
     ensures items { OwnItemsStay }
-    ensures counts { CountsStayAnew }
+    ensures numbers { NumbersStay }
 {}
 
 /// When steps are counted from 1 again, each watch is to be told of the same items as before.

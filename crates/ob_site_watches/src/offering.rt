@@ -11,11 +11,11 @@ use ob_contracts::Steps;
 use ob_object::Obj;
 use ob_replies::{entry, refusal};
 use ob_requests::{Found, WatchInItem};
-use ob_site_reads::{count_at, resolve_item};
+use ob_site_reads::{feed_place, resolve_item};
 use ob_site_rules::Fault;
 use ob_site_state::State;
 use ob_values::Text;
-use ob_watch::Item;
+use ob_watch::{Feeds, Item};
 use std::alloc::{AllocError, Global};
 use std::sync::ledger::Ledger;
 
@@ -30,7 +30,7 @@ pub enum Offer {
 #[tactic(auto, using(crate::proofs::Found::object_for, crate::proofs::Found::feed_for))]
 fn item_for(state: &State, text: Text, found: Found) -> Result<Result<Item, Fault>, AllocError>
     requires past { AreStampsPast (tree_of state.now) }
-    requires own { IsOwnFound state.now.now.tree (found_of found) }
+    requires own { IsOwnFound state.now.plan state.now.now.tree (found_of found) }
     ensures { IfOk result (IsFor state.now text (found_of found)) }
 {
     match found {
@@ -40,8 +40,11 @@ fn item_for(state: &State, text: Text, found: Found) -> Result<Result<Item, Faul
             None => unreachable!(),
         },
         Found::Feed(path, filter) => {
-            let count = count_at(state, &path)?;
-            Ok(Ok(Item::feed(text, path, filter, count)))
+            state.feeds_law();
+            match feed_place(state, &path)? {
+                Some(feed) => Ok(Ok(Item::feed(text, path, feed, filter, state.ever(feed)))),
+                None => unreachable!(),
+            }
         }
     }
 }

@@ -4,10 +4,10 @@ ghost use Rattle.ob_requests.specs.Targets.{operation_of};
 ghost use Rattle.ob_watch.specs.Flags.{flagged, flags, flags_of};
 ghost use Rattle.ob_watch.specs.Tables.{live};
 ghost use Rattle.ob_watching.specs.Tables.{lookup};
-ghost use Rattle.ob_watching.specs.Watches.{told_lease};
+ghost use Rattle.ob_watching.specs.Watches.{Room, told_lease};
 ghost use Rattle.ob_site_rules.specs.Computed.{watch_out};
 ghost use Rattle.ob_site_rules.specs.Replies.{sent};
-ghost use Rattle.ob_watch.specs.Counted.{of_plan};
+ghost use Rattle.ob_watch.specs.OfPlan.{of_plan};
 ghost use Rattle.ob_requests.specs.Calls.{lease_in};
 ghost use Rattle.ob_watch.specs.Marks.{AreStampsPast};
 ghost use Rattle.ob_site_rules.specs.Watched.{lease_asked};
@@ -97,7 +97,7 @@ fn reply<L: Ledger>(
     requires past { AreStampsPast (tree_of state.now) }
     requires known { AreSoundItems state.now watch.now.items }
     requires other { is_add (operation_of call.now.asks) ≡ false }
-    ensures reply { IfOk result (λ o. (numbers : List ℕ) → IsReply state.now call.now.moment numbers call.now.number watch.now (operation_of call.now.asks) o) }
+    ensures reply { IfOk result (λ o. (numbers : List ℕ) (room : Room) → IsReply state.now call.now.moment numbers room call.now.number watch.now (operation_of call.now.asks) o) }
     ensures steps { IfOk result (λ _. WatchTakes state.now.plan state.now.now (Some (flagged (tree_of state.now) watch.now)) (operation_of call.now.asks) steps.old steps.new) }
 {
     match &call.asks {
@@ -145,6 +145,7 @@ fn leave<L: Ledger>(state: &State, watches: &mut Watches, call: &Call, steps: &m
         Operation::Remove(texts) => watches.remove(call.number, texts),
         Operation::PollChanges | Operation::PollRefresh => watches.reported(
             state.tree(),
+            state,
             call.number,
         ),
         Operation::Delete => watches.delete(call.number),
@@ -172,6 +173,7 @@ fn on_other<L: Ledger>(
         return refusal(state.allocator(), Fault::NoSuchObject);
     };
     let _lease = watch.lease();
+    state.feeds_law();
     let reply = reply(state, watch, call, steps)?;
     leave(state, watches, call, steps);
     Ok(reply)

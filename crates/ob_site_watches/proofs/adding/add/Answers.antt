@@ -3,7 +3,7 @@ use Rattle.std.proofs.lemmas.Result.{IfOk-weaker}
 use Rattle.ob_watching.specs.Operations.{Add}
 use Rattle.ob_watching.specs.Tables.{lookup, numbers_of}
 use Rattle.ob_watch.specs.declared.item.Item.{Item}
-use Rattle.ob_watch.specs.Tables.{IsLease, Leased, live}
+use Rattle.ob_watch.specs.Tables.{IsLease, Leased, live, room_beside}
 use Rattle.ob_watch.specs.Undo.{Undoes}
 use Rattle.ob_requests.specs.Calls.{firsts as firsts_of}
 use Rattle.ob_site_watches.proofs.Answering.{known_there, live_there, none_stands}
@@ -50,5 +50,5 @@ returns-clause-known g c =
     let old = c.args.watches.now in
     let w = c.in-Some.watch.now in
     let there = live_there now n old.watches w c.numbers-numbers.ensures.differ (sym c.in-Some.ensures) in
-    added_known k now n old c.put_or_leave.new.watches c.touch.new.self (firsts_of c.args.adding.now.asked.now) (numbers_of (live now old.watches)) w c.in_ok-reply.reply there
+    added_known k now n old c.put_or_leave.new.watches c.touch.new.self (firsts_of c.args.adding.now.asked.now) (numbers_of (live now old.watches)) (room_beside n (live now old.watches)) w c.in_ok-reply.reply there
     c.requires.known (known_there k now n old w c.requires.known (sym c.in-Some.ensures)) (c.in_ok-reply.ensures.put w there) c.touch.ensures.touched

@@ -5,7 +5,7 @@ use Rattle.ob_site_rules.specs.Build.{Text}
 use Rattle.ob_site_rules.specs.Replies.{content_object}
 use Rattle.ob_site_state.specs.Stamping.{tree_of}
 use Rattle.ob_watch.specs.declared.item.Tracked.{Tracked}
-use Rattle.ob_watch.specs.Counted.{of_plan}
+use Rattle.ob_watch.specs.OfPlan.{of_plan}
 use Rattle.ob_watch.specs.Flags.{flag_of}
 use Rattle.ob_site_watches.specs.Known.{IsPlacedBy}
 use Rattle.ob_site_watches.proofs.Polled.{both, reading_feed, reading_object, whatever}
@@ -22,7 +22,7 @@ returns-in-Feed-clause-object g c =
 pub returns-in-Feed-clause-steps : goal.returns-in-Feed-clause-steps
 returns-in-Feed-clause-steps g c =
     whatever c.whole_feed.result _
-    (reading_feed c.args.state.now.plan c.args.state.now.now (tree_of c.args.state.now) c.args.item.now.path c.args.item.now.tracked _ _ _ _ c.args.steps.now
+    (reading_feed c.args.state.now.plan c.args.state.now.now (tree_of c.args.state.now) c.args.item.now.path c.args.item.now.tracked _ _ _ c.args.steps.now
     (sym (sym c.in-Feed.is ∙ c.tracked.ensures)))
 
 pub returns-in-Object-clause-steps : goal.returns-in-Object-clause-steps

@@ -7,7 +7,7 @@ use Rattle.ob_site_watches.proofs.offering.offered.Goals as goal
 
 pub item_for-requires-clause-own : goal.item_for-requires-clause-own
 item_for-requires-clause-own g c =
-    subst (IsOwnFound c.args.state.now.now.tree) (sym c.in_ok-found.ensures) (c.watched_are_own.ensures c.args.state.now.plan c.args.state.now.now c.args.numbers.now c.args.asked.now.0 c.args.asked.now.1)
+    subst (IsOwnFound c.args.state.now.plan c.args.state.now.now.tree) (sym c.in_ok-found.ensures) (c.watched_are_own.ensures c.args.state.now.plan c.args.state.now.now c.args.numbers.now c.args.asked.now.0 c.args.asked.now.1)
 
 pub returns-in_ok-entry-in-Err : goal.returns-in_ok-entry-in-Err
 returns-in_ok-entry-in-Err g c =

@@ -8,6 +8,7 @@ use Rattle.ob_site_rules.specs.Watched.{WatchOperation}
 use Rattle.ob_requests.specs.Calls.{lease_in}
 use Rattle.ob_requests.specs.declared.target.Operation.{Operation}
 use Rattle.ob_requests.specs.Targets.{operation_of}
+use Rattle.ob_site_state.specs.Feeds.{feed_logs}
 use Rattle.ob_watch.specs.Reported.{all_reported}
 use Rattle.ob_watch.specs.Tables.{at_number, holding, touched_at, without}
 use Rattle.ob_tree.specs.Trees.{Stamped}
@@ -52,8 +53,8 @@ returns-in-PollChanges-clause-left g c =
     let now = c.args.call.now.moment in
     let old = c.args.watches.now in
     polled_left c.args.state.now now n old c.reported.new.self c.args.call.now.asks c.in-PollChanges.is
-    (two_left n (all_reported c.args.state.now.steps) (touched_at now) old c.touch-held.new.self c.reported.new.self c.touch-held.ensures.touched
-    (subst (λ (t : Stamped). c.reported.new.self ≡ holding (at_number n (all_reported t.steps) c.touch-held.new.self.watches) c.touch-held.new.self) c.tree.ensures.value c.reported.ensures.reported))
+    (two_left n (all_reported c.args.state.now.steps (feed_logs c.args.state.now.now)) (touched_at now) old c.touch-held.new.self c.reported.new.self c.touch-held.ensures.touched
+    (subst (λ (t : Stamped). c.reported.new.self ≡ holding (at_number n (all_reported t.steps (feed_logs c.args.state.now.now)) c.touch-held.new.self.watches) c.touch-held.new.self) c.tree.ensures.value c.reported.ensures.reported))
 
 pub returns-in-Renew-clause-steps : goal.returns-in-Renew-clause-steps
 returns-in-Renew-clause-steps g c = λ plan s w before h. subst (λ (a : Operation). WatchTakes plan s w (operation_of a) before c.renew.new.steps) (sym c.in-Renew.is) tt

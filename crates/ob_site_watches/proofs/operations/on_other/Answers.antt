@@ -5,7 +5,7 @@ use Rattle.ob_watching.specs.Tables.{numbers_of, replace}
 use Rattle.ob_requests.specs.Targets.{operation_of}
 use Rattle.ob_site_state.specs.Stamping.{tree_of}
 use Rattle.ob_watch.specs.Flags.{flagged}
-use Rattle.ob_watch.specs.Tables.{IsLease, Leased, holding, live}
+use Rattle.ob_watch.specs.Tables.{IsLease, Leased, holding, live, room_beside}
 use Rattle.ob_site_watches.specs.Answers.{AllKnown}
 use Rattle.ob_site_watches.specs.Leaving.{marks_after}
 use Rattle.ob_site_watches.proofs.Knowing.{left_known}
@@ -32,11 +32,12 @@ returns-clause-done g c =
     let w = c.in-Some.watch.now in
     let differ = c.numbers-numbers.ensures.differ in
     let ns = numbers_of (live now old.watches) in
+    let room = room_beside n (live now old.watches) in
     one_stands k now n old c.leave.new.watches op w (marks_after k now op w) c.in_ok-reply.reply differ (sym c.in-Some.ensures)
     (c.leave.ensures.left ∙ ap (λ (v : Option Leased). holding (replace n (option_and_then (marks_after k now op) v) old.watches) old) (live_there now n old.watches w differ (sym c.in-Some.ensures)))
     (marks_last k now op w (subst IsLease c.lease-lease.ensures.value c.lease-lease.ensures.bounded))
-    (agrees k now ns op w c.requires.past (known_there k now n old w c.requires.known (sym c.in-Some.ensures)) c.requires.other)
-    (c.in_ok-reply.ensures.reply ns)
+    (agrees k now ns room op w c.feeds_law.ensures c.requires.past (known_there k now n old w c.requires.known (sym c.in-Some.ensures)) c.requires.other)
+    (c.in_ok-reply.ensures.reply ns room)
 
 pub returns-clause-known : goal.returns-clause-known
 returns-clause-known g c =
