@@ -22,7 +22,7 @@ use Rattle.ob_watch.specs.declared.item.Tracked.{Tracked}
 use Rattle.ob_watch.specs.declared.item.Tracked.TheVariants as tracked
 use Rattle.ob_watch.specs.declared.item.Item.{Item}
 use Rattle.ob_watch.specs.AsRules.{world_of}
-use Rattle.ob_watch.specs.Counted.{of_plan}
+use Rattle.ob_watch.specs.OfPlan.{of_plan}
 use Rattle.ob_watch.specs.Flags.{flag_of, flags, flags_of}
 use Rattle.ob_watch.specs.Tables.{Leased, Table, lapsed_at, live}
 use Rattle.ob_watch.proofs.LawLemmas.{tables_agree}
@@ -45,7 +45,7 @@ module _ (stamps : List ℕ) (steps : ℕ) (a b : Node) (same : parts a ≡ part
   flag_beside : (i : Tracked) → flag_of (beside a) i ≡ flag_of (beside b) i
   flag_beside (tracked.Object node mark) =
       ap (λ (n : ℕ). let f : TrackedOf Filter = rules.Object (nat_lt mark (cond (nat_lt node.number n) (unwrap_or (slice_get stamps node.number) 0) 0)) in f) same
-  flag_beside (tracked.Feed filter given total due) = refl
+  flag_beside (tracked.Feed feed filter given) = refl
 
   items_beside : (items : List Item) → map (flags (beside a)) items ≡ map (flags (beside b)) items
   items_beside [] = refl

@@ -11,15 +11,14 @@ use Rattle.ob_site_rules.specs.Build.{Path, Text}
 use Rattle.ob_site_rules.specs.declared.fault.Fault.TheVariants.{NoSuchObject}
 use Rattle.ob_site_rules.specs.Faults.{err}
 use Rattle.ob_site_rules.specs.Replies.{sent}
-use Rattle.ob_site_rules.specs.declared.plan.Plan.{Plan}
 use Rattle.ob_site_rules.specs.Watched.{WatchOperation}
 use Rattle.ob_site_state.specs.Kept.{Kept}
 use Rattle.ob_site_state.specs.Stamping.{tree_of}
-use Rattle.ob_site_watches.specs.Answers.{IsDone, IsMade}
+use Rattle.ob_site_watches.specs.Answers.{IsDone, IsServed}
 use Rattle.ob_site_watches.specs.Polls.{Takes, WatchTakes}
 use Rattle.ob_site_watches.proofs.Polled.{none_for}
 use Rattle.ob_watch.specs.AsRules.{world_of}
-use Rattle.ob_watch.specs.Counted.{of_plan}
+use Rattle.ob_watch.specs.OfPlan.{of_plan}
 use Rattle.ob_watch.specs.Flags.{flagged, flags_of}
 use Rattle.ob_watch.specs.Tables.{Leased, Table, is_over, lapsed_at, live}
 use Rattle.ob_watch.proofs.LawLemmas.{tables_agree}
@@ -70,11 +69,11 @@ beyond_steps k t n op steps l few =
     subst (λ (found : Option (WatchOf Text Path Filter)). WatchTakes k.plan k.now found op steps steps) (sym (gone k t n l few)) (none_for k.plan k.now op steps)
 
 -- a watch is made
-pub made_so : (k : Kept) (plan : Plan) (now : ℕ) (t u : Table) (o : Object) → plan ≡ k.plan → now ≡ k.time → IsMade plan now t u o → (r : Request) → IsQuiet k t u r NewWatch o
-made_so k plan now t u o a b is r =
-    let made : IsMade k.plan k.time t u o = subst (λ (p : Plan). IsMade p k.time t u o) a (subst (λ (n : ℕ). IsMade plan n t u o) b is) in record {
-      world = made.watches k.now (tree_of k) r;
-      reply = made.reply k.now (tree_of k) r;
+pub made_so : (k : Kept) (now : ℕ) (t u : Table) (o : Object) → now ≡ k.time → IsServed k.plan now t u o → (r : Request) → IsQuiet k t u r NewWatch o
+made_so k now t u o e is r =
+    let served : IsServed k.plan k.time t u o = subst (λ (n : ℕ). IsServed k.plan n t u o) e is in record {
+      world = served.watches k.now (tree_of k) r;
+      reply = served.reply k.now (tree_of k) r;
     }
 
 -- a watch is asked

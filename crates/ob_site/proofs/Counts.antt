@@ -15,7 +15,7 @@ use Rattle.ob_site_state.specs.Stamping.{tree_of}
 use Rattle.ob_site_watches.specs.Polls.{Takes, object_entries, steps_for, steps_in}
 use Rattle.ob_site_watches.proofs.Polled.{steps_at_most}
 use Rattle.ob_watch.specs.AsRules.{world_of}
-use Rattle.ob_watch.specs.Counted.{of_plan}
+use Rattle.ob_watch.specs.OfPlan.{of_plan}
 use Rattle.ob_watch.specs.Tables.{Table, lapsed_at}
 use Rattle.ob_watch.proofs.LawLemmas.{tables_agree}
 use Rattle.ob_site.specs.Between.{IsShallow}

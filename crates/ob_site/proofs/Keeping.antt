@@ -25,12 +25,14 @@ use Rattle.ob_site_rules.specs.State.{State, roll}
 use Rattle.ob_site_rules.specs.Watched.{WatchOperation}
 use Rattle.ob_site_state.specs.Kept.{Kept}
 use Rattle.ob_site_state.specs.Stamping.{tree_of}
-use Rattle.ob_site_watches.specs.Answers.{IsMade, IsOneMore}
+use Rattle.ob_site_watches.specs.Answers.{IsMade}
+use Rattle.ob_site_watches.proofs.Made.{one_more}
 use Rattle.ob_site_actions.specs.Stops.{IsDone}
 use Rattle.ob_watch.specs.AsRules.{world_of}
-use Rattle.ob_watch.specs.Counted.{of_plan}
+use Rattle.ob_watch.specs.OfPlan.{of_plan}
 use Rattle.ob_watch.specs.Flags.{flags_of}
-use Rattle.ob_watch.specs.Tables.{Table, has_no_place, lapsed_at, live}
+use Rattle.ob_watch.specs.Adding.{is_full_at}
+use Rattle.ob_watch.specs.Tables.{Table, lapsed_at, live, yielded_at}
 use Rattle.ob_watch.proofs.LawLemmas.{tables_agree}
 use Rattle.ob_site.specs.Between.{IsBegun}
 use Rattle.ob_site.specs.Keeping.{Stepping, stepping, IsChange, Keeps, KeepsChange, KeepsMake, KeepsNext, KeepsNothing, KeepsPlace, KeepsRequest, MayKeep}
@@ -78,14 +80,20 @@ module _ (k : Kept) (t : Table) (r : Request) where
   same_numbers : numbers_of (flags_of (tree_of k) (live k.time t.watches)) ≡ numbers
   same_numbers = (tables_agree k.plan (tree_of k)).numbers (live k.time t.watches)
 
+  -- the watches that stand once idle ones have given way
+  abbrev after_way : World (of_plan k.plan)
+  after_way = world_of k.plan k.time k.now (tree_of k) (yielded_at k.time (lapsed_at k.time t))
+
   -- a step that makes a watch, unless no more can be made
-  abbrev making : Bool → Stepping
-  making b =
-      let done : World (of_plan k.plan) × Reply (of_plan k.plan) = cond b (world, Refused TooManyWatches) (made (of_plan k.plan) world, Told t.next first_lease Whole) in
+  abbrev making : Bool → World (of_plan k.plan) → Stepping
+  making b v =
+      let done : World (of_plan k.plan) × Reply (of_plan k.plan) = cond b (world, Refused TooManyWatches) (made (of_plan k.plan) v, Told v.next first_lease Whole) in
       record { request = r; target = NewWatch; site = k.now; next = t.next; left = ended (of_plan k.plan) k.now done.0; reply = sent k.plan done.1 }
 
-  full_is : (b : Bool) → has_no_place (lapsed_at k.time t) ≡ b → is_full (of_plan k.plan) world ≡ b
-  full_is b h = (tables_agree k.plan (tree_of k)).full k.time k.now (lapsed_at k.time t) ∙ h
+  made_by : (b : Bool) → is_full_at k.time t ≡ b → step_of k t r NewWatch ≡ making b after_way
+  made_by b h =
+      ap (λ (v : World (of_plan k.plan)). making (is_full (of_plan k.plan) v) v) ((tables_agree k.plan (tree_of k)).yields k.time k.now (lapsed_at k.time t))
+      ∙ ap (λ (c : Bool). making c after_way) ((tables_agree k.plan (tree_of k)).full k.time k.now (yielded_at k.time (lapsed_at k.time t)) ∙ h)
 
   -- a step that asks something of a watch, if it stands
   abbrev asking : ℕ → WatchOperation → Option (WatchOf Text Path Filter) → Stepping
@@ -136,23 +144,23 @@ module _ (k : Kept) (t : Table) (r : Request) where
 
     pub next_so : KeepsNext below keeps a l k.plan k.time t r → KeepsMake below keeps a l (step_of k t r NewWatch)
     next_so next =
-        subst (λ (b : Bool). KeepsMake below keeps a l (making b)) (sym (full_is false next.place))
+        subst (KeepsMake below keeps a l) (sym (made_by false next.place))
         (record { target = refl; made = refl; beyond = next.beyond; kept = next.kept })
 
-    refused_so : IsBegun k t → l ≡ a → has_no_place (lapsed_at k.time t) ≡ true → KeepsNothing below keeps a l (step_of k t r NewWatch)
+    refused_so : IsBegun k t → l ≡ a → is_full_at k.time t ≡ true → KeepsNothing below keeps a l (step_of k t r NewWatch)
     refused_so is same full =
-        subst (λ (b : Bool). KeepsNothing below keeps a l (making b)) (sym (full_is true full))
+        subst (KeepsNothing below keeps a l) (sym (made_by true full))
         (record { keeper = same; site = is.rolled; next = inl refl })
 
-    passed_so : IsBegun k t → l ≡ a → t.next + 1 ≤ below a → (b : Bool) → has_no_place (lapsed_at k.time t) ≡ b → KeepsNothing below keeps a l (step_of k t r NewWatch)
+    passed_so : IsBegun k t → l ≡ a → t.next + 1 ≤ below a → (b : Bool) → is_full_at k.time t ≡ b → KeepsNothing below keeps a l (step_of k t r NewWatch)
     passed_so is same passed true full = refused_so is same full
     passed_so is same passed false place =
-        subst (λ (b : Bool). KeepsNothing below keeps a l (making b)) (sym (full_is false place))
+        subst (KeepsNothing below keeps a l) (sym (made_by false place))
         (record { keeper = same; site = is.rolled; next = inr passed })
 
     pub place_so : IsBegun k t → KeepsPlace below keeps a l k.plan k.time t r → Keeps below keeps a l (step_of k t r NewWatch)
     place_so is (inl (same, inl full)) = inl (refused_so is same full)
-    place_so is (inl (same, inr passed)) = inl (passed_so is same passed (has_no_place (lapsed_at k.time t)) refl)
+    place_so is (inl (same, inr passed)) = inl (passed_so is same passed (is_full_at k.time t) refl)
     place_so is (inr next) = inr (inr (next_so next))
 
     -- ---- a request to a watch, or to nothing
@@ -185,13 +193,14 @@ made_in told plan now time t u o is same made = subst (λ (p : Plan). IsMade p t
 
 -- one that needs no keeping
 pub left_out_so : {K : Type 0} (below : K → ℕ) (keeps : K → K → Request → ℕ → ℕ → Object → Type 0) (a : K) (plan : Plan) (now time : ℕ) (t : Table) (r : Request) → now ≡ time
-    → (has_no_place (lapsed_at now t) ≡ true) ⊎ (t.next + 1 ≤ below a) → KeepsPlace below keeps a a plan time t r
-left_out_so below keeps a plan now time t r same why = inl (refl, subst (λ (n : ℕ). (has_no_place (lapsed_at n t) ≡ true) ⊎ (t.next + 1 ≤ below a)) same why)
+    → (is_full_at now t ≡ true) ⊎ (t.next + 1 ≤ below a) → KeepsPlace below keeps a a plan time t r
+left_out_so below keeps a plan now time t r same why = inl (refl, subst (λ (n : ℕ). (is_full_at n t ≡ true) ⊎ (t.next + 1 ≤ below a)) same why)
 
 -- The request was kept once the watch was made, with the reply that tells of it.
 pub made_next : {K : Type 0} (below : K → ℕ) (keeps : K → K → Request → ℕ → ℕ → Object → Type 0) (a l : K) (told plan : Plan) (now time : ℕ) (t u : Table) (r : Request) (o : Object) (next : ℕ)
-    → told ≡ plan → now ≡ time → (has_no_place (lapsed_at now t) ≡ false) × (below a ≤ t.next) → IsOneMore told now t u o → next ≡ u.next → keeps a l r now next o → KeepsNext below keeps a l plan time t r
-made_next below keeps a l told plan now time t u r o next is same (place, beyond) more next_is kept =
+    → told ≡ plan → now ≡ time → (is_full_at now t ≡ false) × (below a ≤ t.next) → IsMade told now t u o → next ≡ u.next → keeps a l r now next o → KeepsNext below keeps a l plan time t r
+made_next below keeps a l told plan now time t u r o next is same (place, beyond) made next_is kept =
+    let more = one_more told now t u o place made in
     subst (λ (n : ℕ). KeepsNext below keeps a l plan n t r) same (record {
       place = place;
       beyond = beyond;

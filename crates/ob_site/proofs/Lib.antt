@@ -7,7 +7,6 @@ pub mod Noted
 pub mod Marks
 pub mod Ended
 pub mod Acted
-pub mod Told
 pub mod Renumbered
 pub mod Restarted
 pub mod Sound

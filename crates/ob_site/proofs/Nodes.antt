@@ -41,7 +41,7 @@ watched_before o n m slot within can h is = go (nat_eq m n) refl
 own_set : (o : Object) (n : ℕ) (slot : Slot) (p : Path) (k : Tracked) → n < parts o → IsOwnBy (changed (set_to slot) n o) p k → IsOwnBy o p k
 own_set o n slot p (tracked.Object node mark) within own =
     (ap (λ (ps : List (Option tree.Path)). place_of p ps) (sym (paths_stay o n slot within)) ∙ own.0, watched_before o n node.number slot within own.1)
-own_set o n slot p (tracked.Feed filter given total due) within own = own
+own_set o n slot p (tracked.Feed feed filter given) within own = own
 
 own_undone : (c : Change) (s : State) (p : Path) (k : Tracked) → CanUndo c s → IsOwnBy (undone c s).tree p k → IsOwnBy s.tree p k
 own_undone (change.Slot node slot) s p k can own = own_set s.tree node.number slot p k can.0 own

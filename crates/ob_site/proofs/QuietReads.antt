@@ -11,7 +11,7 @@ use Rattle.ob_site_actions.proofs.Batched.{with_now}
 use Rattle.ob_site_state.specs.Kept.{Kept}
 use Rattle.ob_site_state.specs.Stamping.{tree_of}
 use Rattle.ob_site_actions.specs.Stops.{IsDone}
-use Rattle.ob_watch.specs.Counted.{of_plan}
+use Rattle.ob_watch.specs.OfPlan.{of_plan}
 use Rattle.ob_watch.specs.Flags.{flags_of}
 use Rattle.ob_watch.specs.Tables.{Table, lapsed_at, live}
 use Rattle.ob_watch.proofs.LawLemmas.{tables_agree}

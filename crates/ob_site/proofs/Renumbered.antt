@@ -6,7 +6,8 @@ use Rattle.ob_tree.specs.Trees.{Stamped}
 use Rattle.ob_watching.specs.Watches.{WatchOf}
 use Rattle.ob_site_watches.specs.Anew.{IsRenumbered}
 use Rattle.ob_site_watches.specs.Items.{IsOwnNode}
-use Rattle.ob_site_watches.proofs.Keeping.{counts_stay_anew, nodes_stay, table_keeps}
+use Rattle.ob_site_watches.specs.Known.{IsNumbered}
+use Rattle.ob_site_watches.proofs.Keeping.{nodes_stay, numbers_stay, table_keeps}
 use Rattle.ob_site_watches.proofs.Renumbering.{flags_stay_anew}
 use Rattle.ob_site_laws.specs.SiteLaws.{IsSoundSite}
 use Rattle.ob_site_rules.specs.Build.{Path, Text}
@@ -14,7 +15,6 @@ use Rattle.ob_site_rules.specs.Sites.{SiteState}
 use Rattle.ob_site_settling.specs.Ending.{IsOwn}
 use Rattle.ob_site_state.specs.Kept.{Kept}
 use Rattle.ob_site_state.specs.Stamping.{tree_of}
-use Rattle.ob_watch.specs.Counted.{IsCounted}
 use Rattle.ob_watch.specs.Items.{marked_anew}
 use Rattle.ob_watch.specs.Tables.{Table, holding, with_all_items}
 use Rattle.ob_site.specs.Between.{IsSite}
@@ -50,7 +50,7 @@ module _ (k : Kept) (t : Table) where
       past = anew_is.stamps;
       own = (table_keeps (IsOwn k.now.tree)).changes (marked_anew (tree_of k)) (λ i own. (nodes_stay (IsOwnNode k.now.tree)).renumbers (tree_of k) i own) t.watches is.kept.own;
       marks = anew_is.marks;
-      counted = (table_keeps (IsCounted k.plan k.now)).changes (marked_anew (tree_of k)) (λ i counted. counts_stay_anew k.plan k.now (tree_of k) i counted) t.watches is.kept.counted;
+      numbered = (table_keeps (IsNumbered k.plan)).changes (marked_anew (tree_of k)) (λ i numbered. numbers_stay.renumbers k.plan (tree_of k) i numbered) t.watches is.kept.numbered;
     };
     sound = subst IsSoundSite (sym same_site) is.sound;
   }

@@ -18,7 +18,7 @@ bare_site k t below le is = record {
     past = is.kept.past;
     own = tt;
     marks = tt;
-    counted = tt;
+    numbered = tt;
   };
   sound = record {
     of_watches = record { numbers = omega arith; next = omega (arith, le, is.sound.of_watches.next); texts = tt; rolled = is.sound.of_watches.rolled };

@@ -41,7 +41,7 @@ opened_site k o sound rolled =
         past = stamps_are_past.begins s.tree;
         own = tt;
         marks = tt;
-        counted = tt;
+        numbered = tt;
       };
       sound = record { of_watches = record { numbers = omega arith; next = omega arith; texts = tt; rolled = rolled }; of_alarms = nothing_told st.plan s owed.alarms owed.events };
     }

@@ -6,6 +6,7 @@ use Rattle.ob_history.specs.declared.records.Filter.{Filter}
 use Rattle.ob_tree.specs.Trees.{Stamped}
 use Rattle.ob_watching.specs.Tables.{map_values}
 use Rattle.ob_watching.specs.Watches.{TrackedOf, ItemOf, WatchOf, Object, Feed, World, ended, settled, settled_at, with_items}
+use Rattle.ob_site_watches.specs.Known.{IsNumbered}
 use Rattle.ob_site_watches.proofs.Keeping.{table_keeps}
 use Rattle.ob_site_laws.proofs.Same.{object_decides}
 use Rattle.ob_site_rules.specs.declared.request.Request.{Request}
@@ -19,7 +20,7 @@ use Rattle.ob_site_settling.specs.Ending.{IsOwn}
 use Rattle.ob_site_state.specs.Kept.{Kept}
 use Rattle.ob_site_state.specs.Stamping.{tree_of}
 use Rattle.ob_watch.specs.AsRules.{world_of}
-use Rattle.ob_watch.specs.Counted.{of_plan, IsCounted}
+use Rattle.ob_watch.specs.OfPlan.{of_plan}
 use Rattle.ob_watch.specs.Flags.{flags_of}
 use Rattle.ob_watch.specs.Marks.{IsMarkPast}
 use Rattle.ob_watch.specs.Tables.{Table, lapsed_at}
@@ -92,7 +93,7 @@ lapsed_kept plan s xs m now u kept = record {
   past = kept.past;
   own = (table_keeps (IsOwn s.tree)).lapses now u kept.own;
   marks = (table_keeps (IsMarkPast m)).lapses now u kept.marks;
-  counted = (table_keeps (IsCounted plan s)).lapses now u kept.counted;
+  numbered = (table_keeps (IsNumbered plan)).lapses now u kept.numbered;
 }
 
 pub quietly : (k n : Kept) (t u x : Table) (r : Request) (target : SiteTarget) (o : Node) → IsBegun k t → IsQuiet k t u r target o → HoldsBetweenSteps k.plan k.now k.stamps k.steps u → n ≡ quiet k → x ≡ lapsed_at k.time u

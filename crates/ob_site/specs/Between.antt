@@ -3,6 +3,7 @@ use Rattle.std.specs.Prelude.{◌≡◌, ℕ, ◌<◌, ◌≤◌, ◌-◌, ◌^�
 use Rattle.ob_object.specs.Object.{Object, parts}
 use Rattle.ob_object.specs.WellFormed.{IsWellFormed}
 use Rattle.ob_step_laws.specs.Given.{IsMade, PointsHaveValues}
+use Rattle.ob_site_watches.specs.Known.{IsNumbered}
 use Rattle.ob_site_watches.specs.Tables.{AllItems}
 use Rattle.ob_site_laws.specs.SiteLaws.{IsSoundSite}
 use Rattle.ob_site_open.specs.Opens.{Opens}
@@ -12,7 +13,6 @@ use Rattle.ob_site_settling.specs.Ending.{IsOwn}
 use Rattle.ob_site_state.specs.Kept.{Kept}
 use Rattle.ob_tree.specs.Depths.{levels}
 use Rattle.ob_tree.specs.Shown.{row}
-use Rattle.ob_watch.specs.Counted.{IsCounted}
 use Rattle.ob_watch.specs.Marks.{AreStampsPast, IsMarkPast}
 use Rattle.ob_watch.specs.Tables.{Table}
 use Rattle.ob_site.specs.Views.{site_of, tree_with}
@@ -23,7 +23,7 @@ IsShallow root = levels (row root) ≤ 32
 
 -- The library is the one that the site's contracts make, each writable point is of a kind that has values, and the own objects
 -- stand on at most 32 levels. Each own object has a stamp, and no stamp and no mark is of a step to come; each item on an object
--- names an own node that can be watched, and each item on a feed has counted its events.
+-- names an own node that can be watched, and each item on a feed the feed at its path.
 pub record HoldsBetweenSteps (plan : Plan) (s : State) (stamps : List ℕ) (steps : ℕ) (t : Table) : Type 0 where
   pub made : IsMade s
   pub points : PointsHaveValues plan s
@@ -32,7 +32,7 @@ pub record HoldsBetweenSteps (plan : Plan) (s : State) (stamps : List ℕ) (step
   pub past : AreStampsPast (tree_with s stamps steps)
   pub own : AllItems (IsOwn s.tree) t.watches
   pub marks : AllItems (IsMarkPast steps) t.watches
-  pub counted : AllItems (IsCounted plan s) t.watches
+  pub numbered : AllItems (IsNumbered plan) t.watches
 
 -- So it is between two steps, of which the state notes nothing; and the site is sound.
 pub record IsSite (k : Kept) (t : Table) : Type 0 where

@@ -15,7 +15,8 @@ use Rattle.ob_site_rules.specs.declared.plan.Plan.{Plan}
 use Rattle.ob_site_rules.specs.State.{State, roll}
 use Rattle.ob_site_rules.specs.Watched.{SiteTarget}
 use Rattle.ob_site_laws.specs.SiteLaws.{acts, of_plan}
-use Rattle.ob_watch.specs.Tables.{Table, has_no_place, lapsed_at}
+use Rattle.ob_watch.specs.Adding.{is_full_at}
+use Rattle.ob_watch.specs.Tables.{Table}
 
 -- time, site, watches and the number of the next watch
 abbrev pub SiteWorld : Type 0
@@ -85,7 +86,7 @@ module _ {K : Type 0} (below : K → ℕ) (keeps : K → K → Request → ℕ �
 
   -- A make was kept, since there was a place for one more watch, and its number can't have been given.
   pub record KeepsNext (k l : K) (plan : Plan) (now : ℕ) (t : Table) (r : Request) : Type 0 where
-    pub place : has_no_place (lapsed_at now t) ≡ false
+    pub place : is_full_at now t ≡ false
     pub beyond : below k ≤ t.next
     pub kept : keeps k l r now (t.next + 1) (watch_part_object plan t.next first_lease Whole)
 
@@ -93,7 +94,7 @@ module _ {K : Type 0} (below : K → ℕ) (keeps : K → K → Request → ℕ �
   -- its number may have been given; or else it was kept.
   abbrev pub KeepsPlace : K → K → Plan → ℕ → Table → Request → Type 0
   KeepsPlace k l plan now t r =
-      ((l ≡ k) × ((has_no_place (lapsed_at now t) ≡ true) ⊎ (t.next + 1 ≤ below k))) ⊎ KeepsNext k l plan now t r
+      ((l ≡ k) × ((is_full_at now t ≡ true) ⊎ (t.next + 1 ≤ below k))) ⊎ KeepsNext k l plan now t r
 
 -- What a step that was not done, for want of memory or by an error of its keeper, made of it: nothing; or what an error may have
 -- left of it.

@@ -10,7 +10,7 @@ use Rattle.ob_site_rules.specs.Watched.{SiteTarget}
 use Rattle.ob_site_state.specs.Kept.{Kept}
 use Rattle.ob_site_state.specs.Stamping.{tree_of}
 use Rattle.ob_watch.specs.AsRules.{world_of}
-use Rattle.ob_watch.specs.Counted.{of_plan}
+use Rattle.ob_watch.specs.OfPlan.{of_plan}
 use Rattle.ob_watch.specs.Tables.{Table, lapsed_at}
 use Rattle.ob_site.specs.Between.{HoldsBetweenSteps}
 use Rattle.ob_site.specs.Keeping.{Stepping}

@@ -4,7 +4,6 @@ ghost use Rattle.ob_values.specs.declared.verb.Verb.TheVariants.{Get};
 ghost use Rattle.ob_object.specs.Object.{parts};
 ghost use Rattle.ob_step_laws.specs.Given.{IsMade, TakesNoneAway};
 ghost use Rattle.ob_site_settling.specs.Ended.{EndsAll};
-ghost use Rattle.ob_site_settling.specs.News.{IsNews};
 ghost use Rattle.ob_site.specs.Between.{HoldsBetweenSteps};
 ghost use Rattle.ob_site.specs.Ending.{IsEnded, NodesStay};
 ghost use Rattle.ob_site.specs.Keeping.{IsChange, KeepsChange};
@@ -14,7 +13,7 @@ use crate::keeper::Keeper;
 use ob_contracts::Steps;
 use ob_object::Obj;
 use ob_site_rules::Request;
-use ob_site_settling::{News, feeds_are_told, news, stamped_nodes, tell};
+use ob_site_settling::stamped_nodes;
 use ob_site_state::State;
 use ob_tree::NodeId;
 use ob_values::Verb;
@@ -36,20 +35,17 @@ fn nodes_stay_law(state: &State)
     let _changes = state.changes();
 }
 
-/// Ends a step, of which these nodes show themselves otherwise and feeds have these news. It takes no memory.
-fn settle(state: &mut State, watches: &mut Watches, nodes: &[NodeId], news: &News)
+/// Ends a step, of which these nodes show themselves otherwise. It takes no memory.
+fn settle(state: &mut State, watches: &mut Watches, nodes: &[NodeId])
     requires kept { HoldsBetweenSteps state.old.plan state.old.before state.old.stamps state.old.steps watches.old }
     requires room { state.old.steps < 2 ^ 64 - 1 }
     requires given { TakesNoneAway state.old.plan state.old.before state.old.now }
     requires ends { EndsAll state.old (map (λ node. node.number) nodes.now) }
     requires within { All (λ node. node.number < parts state.old.now.tree) nodes.now }
-    requires news { IsNews state.old.plan state.old.before state.old.now news.now.events.items news.now.rolls.items }
     ensures { IsEnded state.old state.new watches.old watches.new }
 {
     nodes_stay_law(state);
-    feeds_are_told();
     watches.sweep(state.time());
-    tell(watches, news);
     state.stamp(nodes);
     state.commit();
 }
@@ -117,8 +113,7 @@ pub(crate) fn end_step<L: Ledger, K: Keeper>(
 {
     nodes_stay_law(state);
     let nodes = stamped_nodes(state, steps)?;
-    let news = news(state)?;
     keep_change(state, watches, keeper, replied.request, replied.reply)?;
-    settle(state, watches, &nodes, &news);
+    settle(state, watches, &nodes);
     Ok(())
 }

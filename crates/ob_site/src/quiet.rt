@@ -4,7 +4,8 @@ ghost use Rattle.ob_watching.specs.Operations.{NewWatch, Nowhere, OneWatch};
 ghost use Rattle.ob_site_rules.specs.declared.request.Request.{Request as Asked};
 ghost use Rattle.ob_site_rules.specs.State.{roll};
 ghost use Rattle.ob_site_rules.specs.Watched.{WatchOperation};
-ghost use Rattle.ob_watch.specs.Tables.{has_no_place, lapsed_at};
+ghost use Rattle.ob_watch.specs.Adding.{is_full_at};
+ghost use Rattle.ob_watch.specs.Tables.{Table, lapsed_at};
 ghost use Rattle.ob_requests.specs.Targets.{operation_of};
 ghost use Rattle.ob_site_state.specs.Kept.{Kept};
 ghost use Rattle.ob_site_watches.specs.Answers.{AllKnown, IsMade};
@@ -22,7 +23,7 @@ use ob_replies::refusal;
 use ob_requests::Operation;
 use ob_site_rules::{Fault, Request};
 use ob_site_state::State;
-use ob_site_watches::{Call, make, on_watch};
+use ob_site_watches::{Call, make, make_way, on_watch};
 use ob_times::Moment;
 use ob_watch::Watches;
 use std::alloc::AllocError;
@@ -69,8 +70,8 @@ pub(crate) fn to_no_watch(state: &mut State, watches: &mut Watches) -> Result<Ob
 /// Whether a request for a new watch needs no keeping: there is no place for one more, or its number may have been given by what is
 /// kept.
 fn is_left_out<K: Keeper>(watches: &Watches, keeper: &K, now: Moment) -> bool
-    ensures { MatchBool result ((has_no_place (lapsed_at now watches.now) ≡ true) ⊎ (watches.now.next + 1 ≤ K.below keeper.now))
-        ((has_no_place (lapsed_at now watches.now) ≡ false) × (K.below keeper.now ≤ watches.now.next)) }
+    ensures { MatchBool result ((is_full_at now watches.now ≡ true) ⊎ (watches.now.next + 1 ≤ K.below keeper.now))
+        ((is_full_at now watches.now ≡ false) × (K.below keeper.now ≤ watches.now.next)) }
 {
     watches.next_number() < keeper.below() || watches.is_full(now)
 }
@@ -105,7 +106,7 @@ fn make_kept<K: Keeper>(
     }
 }
 
-/// Makes a watch, if there is a place for one more.
+/// Makes a watch, if there is a place for one more, for which idle watches may give way. These go last, when nothing can fail.
 ///
 /// Source: oBIX 1.1, chapter 12 (WatchService.make).
 pub(crate) fn to_service<K: Keeper>(
@@ -121,7 +122,9 @@ pub(crate) fn to_service<K: Keeper>(
     ensures keeps { OnOk result (Keeps K.below K.keeps keeper.old keeper.new (step_of state.old watches.old request.now NewWatch)) }
     ensures may_keep { OnErr result (MayKeep K.below K.may_keep keeper.old keeper.new (step_of state.old watches.old request.now NewWatch)) }
 {
+    let number = watches.next_number();
     let reply = make_kept(state, watches, keeper, request)?;
+    make_way(watches, number, state.time());
     end_quietly(state, watches);
     Ok(reply)
 }

@@ -1,6 +1,7 @@
 use Rattle.std.proofs.Common.{inr, subst, sym}
 use Rattle.ob_site_watches.specs.Answers.{AllKnown}
 use Rattle.ob_watch.specs.Tables.{Table}
+use Rattle.ob_site_watches.proofs.Made.{one_more}
 use Rattle.ob_site.proofs.Keeping.{left_out_so, made_in, made_next}
 use Rattle.ob_site.proofs.quiet.make_kept.Goals as goal
 
@@ -27,20 +28,20 @@ pub returns-in-Ok-clause-keeps : goal.returns-in-Ok-clause-keeps
 returns-in-Ok-clause-keeps g c =
     let needed = rw c.if-left_out.false at c.is_left_out-left_out.ensures in
     inr (made_next g.K.Keeper.below g.K.Keeper.keeps c.args.keeper.now c.keep.new.self c.plan.result.now c.args.state.now.plan c.time-now.result c.args.state.now.time
-    c.args.watches.now c.make.new.watches c.args.request.now c.in_ok-reply.reply c.next_number.result c.plan.ensures c.time-now.ensures needed (c.in_ok-reply.ensures.one_more needed.0) c.next_number.ensures c.in-Ok.ensures.done)
+    c.args.watches.now c.make.new.watches c.args.request.now c.in_ok-reply.reply c.next_number.result c.plan.ensures c.time-now.ensures needed c.in_ok-reply.ensures.done c.next_number.ensures c.in-Ok.ensures.done)
 
 pub returns-in-Err-clause-same : goal.returns-in-Err-clause-same
 returns-in-Err-clause-same g c =
     let needed = rw c.if-left_out.false at c.is_left_out-left_out.ensures in
-    c.unmake.ensures c.time-now.result c.args.watches.now (c.in_ok-reply.ensures.one_more needed.0).table
+    c.unmake.ensures c.time-now.result c.args.watches.now (one_more c.plan.result.now c.time-now.result c.args.watches.now c.make.new.watches c.in_ok-reply.reply needed.0 c.in_ok-reply.ensures.done).table
 
 pub returns-in-Err-clause-may_keep : goal.returns-in-Err-clause-may_keep
 returns-in-Err-clause-may_keep g c =
     let needed = rw c.if-left_out.false at c.is_left_out-left_out.ensures in
     inr (made_next g.K.Keeper.below g.K.Keeper.may_keep c.args.keeper.now c.keep.new.self c.plan.result.now c.args.state.now.plan c.time-now.result c.args.state.now.time
-    c.args.watches.now c.make.new.watches c.args.request.now c.in_ok-reply.reply c.next_number.result c.plan.ensures c.time-now.ensures needed (c.in_ok-reply.ensures.one_more needed.0) c.next_number.ensures c.in-Err.ensures.err)
+    c.args.watches.now c.make.new.watches c.args.request.now c.in_ok-reply.reply c.next_number.result c.plan.ensures c.time-now.ensures needed c.in_ok-reply.ensures.done c.next_number.ensures c.in-Err.ensures.err)
 
 pub returns-in-Err-clause-known : goal.returns-in-Err-clause-known
 returns-in-Err-clause-known g c = λ k known.
     let needed = rw c.if-left_out.false at c.is_left_out-left_out.ensures in
-    subst (λ (t : Table). AllKnown k t) (sym (c.unmake.ensures c.time-now.result c.args.watches.now (c.in_ok-reply.ensures.one_more needed.0).table)) known
+    subst (λ (t : Table). AllKnown k t) (sym (c.unmake.ensures c.time-now.result c.args.watches.now (one_more c.plan.result.now c.time-now.result c.args.watches.now c.make.new.watches c.in_ok-reply.reply needed.0 c.in_ok-reply.ensures.done).table)) known
