@@ -18,7 +18,7 @@ use Rattle.ob_machine.specs.declared.call.Answer.{Answer}
 use Rattle.ob_machine.specs.declared.call.Answer.TheVariants.{Done, NoMemory}
 use Rattle.ob_watching.specs.Operations.{Target, Itself, Nowhere, NewWatch, OneWatch, Told, Refused}
 use Rattle.ob_watching.specs.Tables.{lookup, numbers_of}
-use Rattle.ob_watching.specs.Watches.{first_lease, World, Watch, begun, made, is_full, on_watch, acted, Reply}
+use Rattle.ob_watching.specs.Watches.{first_lease, World, Watch, begun, made, is_full, on_watch, acted, Reply, yielded}
 use Rattle.ob_site_rules.specs.declared.request.Request.{Request}
 use Rattle.ob_site_rules.specs.Build.{Text, Path, child}
 use Rattle.ob_site_rules.specs.declared.fault.Fault.{Fault}
@@ -195,9 +195,9 @@ module _ (Good : Plan → State → Type 0)
   acted_good : (plan : Plan) (w : World (of_plan plan)) (r : Request) (t : Target Text (Option Object) WatchPart Fault) → Good plan w.site → Good plan (acted (of_plan plan) w r t).0.site
   acted_good plan w r Itself h = act_located_good plan w.site (numbers_of w.watches) w.time r (locate plan.base r.target) h
   acted_good plan w r Nowhere h = h
-  acted_good plan w r NewWatch h = go (is_full (of_plan plan) w)
+  acted_good plan w r NewWatch h = go (is_full (of_plan plan) (yielded (of_plan plan) w))
     where
-      go : (b : Bool) → let done : World (of_plan plan) × Reply (of_plan plan) = cond b (w, Refused TooManyWatches) (made (of_plan plan) w, Told w.next first_lease Whole) in Good plan done.0.site
+      go : (b : Bool) → let done : World (of_plan plan) × Reply (of_plan plan) = cond b (w, Refused TooManyWatches) (made (of_plan plan) (yielded (of_plan plan) w), Told w.next first_lease Whole) in Good plan done.0.site
       go true = h
       go false = h
   acted_good plan w r (OneWatch n op) h = go (lookup n w.watches)

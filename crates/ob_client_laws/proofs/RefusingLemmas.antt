@@ -18,7 +18,7 @@ use Rattle.ob_watching.specs.Laws as watches
 use Rattle.ob_watching.specs.Sites.{Site}
 use Rattle.ob_watching.specs.Replay.{replay_heard, changed_by}
 use Rattle.ob_watching.specs.Tables.{lookup, numbers_of}
-use Rattle.ob_watching.specs.Watches.{Asks, Watch, World, Reading, reading, changes, readings_added, firsts, touched, reply_to, begun, on_watch, acted, has_lapsed, Distinct, IsSound}
+use Rattle.ob_watching.specs.Watches.{Asks, Room, room_beside, Watch, World, Reading, reading, changes, readings_added, firsts, touched, reply_to, begun, on_watch, acted, has_lapsed, Distinct, IsSound}
 use Rattle.ob_watching.specs.WatchOuts.{Text, Held, Heard, is_of_kind, entries_of, entry_read, heard_entries}
 use Rattle.ob_site_rules.specs.Computed.{watch_out}
 use Rattle.ob_site_rules.specs.declared.watch_part.WatchPart.{WatchPart}
@@ -73,38 +73,38 @@ pub record IsOut (plan : Plan) (op : Asks (of_plan plan)) (reply : Object) : Typ
 no_entries : (reply : Object) (os : List Object) → reply ≡ err NoSuchObject → entries_of reply ≡ Some os → ⊥
 no_entries reply os e h = let none : None ≡ Some os = ap entries_of (sym e) ∙ h in absurd cc
 
-replied : (plan : Plan) (s : State) (ns : List ℕ) (n : ℕ) (v : Watch (of_plan plan)) (op : Asks (of_plan plan)) (reply : Object) → GivesOut op → Distinct (of_plan plan) v.items
-    → reply ≡ sent plan (reply_to (of_plan plan) s ns n v op) → IsOut plan op reply
-replied plan s ns n v (Add asked) reply gives apart is = record {
-  readings = readings_added (of_plan plan) s ns v.items (firsts (of_plan plan) [] asked);
+replied : (plan : Plan) (s : State) (ns : List ℕ) (room : Room) (n : ℕ) (v : Watch (of_plan plan)) (op : Asks (of_plan plan)) (reply : Object) → GivesOut op → Distinct (of_plan plan) v.items
+    → reply ≡ sent plan (reply_to (of_plan plan) s ns room n v op) → IsOut plan op reply
+replied plan s ns room n v (Add asked) reply gives apart is = record {
+  readings = readings_added (of_plan plan) s ns room v.items (firsts (of_plan plan) [] asked);
   is = is;
-  apart = firsts_sent plan s ns v.items asked;
+  apart = firsts_sent plan s ns room v.items asked;
   tell = λ e. absurd cc;
 }
-replied plan s ns n v PollChanges reply gives apart is = record {
+replied plan s ns room n v PollChanges reply gives apart is = record {
   readings = changes (of_plan plan) s v.items;
   is = is;
   apart = changes_apart plan s v.items apart;
   tell = λ e. changes_tell plan s v.items;
 }
-replied plan s ns n v PollRefresh reply gives apart is = record {
+replied plan s ns room n v PollRefresh reply gives apart is = record {
   readings = map (reading (of_plan plan) s) v.items;
   is = is;
   apart = refresh_apart plan s v.items apart;
   tell = λ e. absurd cc;
 }
-replied plan s ns n v (Look part) reply gives apart is = absurd gives
-replied plan s ns n v (Renew input) reply gives apart is = absurd gives
-replied plan s ns n v (Remove texts) reply gives apart is = absurd gives
-replied plan s ns n v Delete reply gives apart is = absurd gives
-replied plan s ns n v (Refuse fault) reply gives apart is = absurd gives
+replied plan s ns room n v (Look part) reply gives apart is = absurd gives
+replied plan s ns room n v (Renew input) reply gives apart is = absurd gives
+replied plan s ns room n v (Remove texts) reply gives apart is = absurd gives
+replied plan s ns room n v Delete reply gives apart is = absurd gives
+replied plan s ns room n v (Refuse fault) reply gives apart is = absurd gives
 
 out_of : (plan : Plan) (w : World (of_plan plan)) (n : ℕ) (op : Asks (of_plan plan)) (found : Option (Watch (of_plan plan))) (reply : Object) (os : List Object) → GivesOut op
     → AllByRecursion (λ e. Distinct (of_plan plan) e.1.items) w.watches → lookup n w.watches ≡ found → entries_of reply ≡ Some os
     → reply ≡ sent plan (on_watch (of_plan plan) w n op found).1 → IsOut plan op reply
 out_of plan w n op None reply os gives apart at out is = absurd (no_entries reply os is out)
 out_of plan w n op (Some v) reply os gives apart at out is =
-    replied plan w.site (numbers_of w.watches) n (touched (of_plan plan) w.time v) op reply gives
+    replied plan w.site (numbers_of w.watches) (room_beside (of_plan plan) n w.watches) n (touched (of_plan plan) w.time v) op reply gives
     (all_looked (λ (u : Watch (of_plan plan)). Distinct (of_plan plan) u.items) n w.watches v apart at) is
 
 -- the reply of the machine to a request for the watch

@@ -1,19 +1,17 @@
 -- In one reply no href stands twice.
-use Rattle.std.proofs.Common.{◌≡◌, ℕ, zero, suc, ◌-◌, Bool, true, false, cond, not, ◌&&◌, ◌||◌, List, [], ◌∷◌, ◌++◌, map, length, nat_le, refl, sym, ap, ◌∙◌, subst, Option}
+use Rattle.std.proofs.Common.{◌≡◌, ℕ, zero, suc, ◌-◌, Bool, true, false, cond, not, ◌&&◌, ◌||◌, List, [], ◌∷◌, ◌++◌, map, length, nat_le, refl, sym, ap, ◌∙◌, subst, Option, Some, None}
 use Rattle.std.specs.List.{AllByRecursion, filter}
 use Rattle.std.specs.Str.{bytes_eq}
 use Rattle.ob_values.proofs.Bools.{neither_left, neither_right}
 use Rattle.ob_values.proofs.Lists.{all_both}
 use Rattle.ob_object.specs.Object.{Object}
 use Rattle.ob_history.specs.declared.records.Filter.{Filter}
-use Rattle.ob_watching.specs.Operations.{Refuses, Found, ObjectAt, FeedAt, NotFound}
+use Rattle.ob_watching.specs.Operations.{Found, ObjectAt, FeedAt, NotFound}
 use Rattle.ob_watching.specs.Tables.{is_among}
-use Rattle.ob_watching.specs.Watches.{max_items, Object as ObjectItem, Feed as FeedItem, Tracked, Item, Reading, count, since, reading, lists_some, changes_of, changes, put_item, has_text, added, add_found, readings_added, firsts, Distinct}
+use Rattle.ob_watching.specs.Watches.{Room, Object as ObjectItem, Feed as FeedItem, Tracked, Item, Reading, count, since, reading, lists_some, changes_of, changes, refusal, added, added_unless, add_found, readings_added, firsts, Distinct}
 use Rattle.ob_watching.specs.WatchOuts.{Text}
 use Rattle.ob_site_rules.specs.Build.{Path}
 use Rattle.ob_site_rules.specs.declared.fault.Fault.{Fault}
-use Rattle.ob_site_rules.specs.declared.fault.Fault.TheVariants.{TooManyItems}
-use Rattle.ob_site_rules.specs.Faults.{err}
 use Rattle.ob_site_rules.specs.Replies.{entry}
 use Rattle.ob_site_rules.specs.declared.plan.Plan.{Plan}
 use Rattle.ob_site_rules.specs.State.{State}
@@ -130,32 +128,35 @@ module _ (plan : Plan) where
       go true old new = old
       go false old new = (other (firsts (of_plan plan) (a.0 ∷ seen) asked) (new_among (a.0 ∷ seen) asked), new)
 
-  added_text : (s : State) (items : List (Item (of_plan plan))) (new : Item (of_plan plan)) → (added (of_plan plan) s items new).1.text ≡ new.text
-  added_text s items new = go (nat_le max_items (length items) && not (has_text (of_plan plan) items new.text))
-    where
-      go : (b : Bool) → let one : List (Item (of_plan plan)) × Reading (of_plan plan) = cond b (items, record { text = new.text; content = Refuses (err TooManyItems) }) (put_item (of_plan plan) new items, reading (of_plan plan) s new) in one.1.text ≡ new.text
-      go true = refl
-      go false = refl
+  unless_text : (f : Option Fault) (s : State) (items : List (Item (of_plan plan))) (new : Item (of_plan plan)) → (added_unless (of_plan plan) f s items new).1.text ≡ new.text
+  unless_text None s items new = refl
+  unless_text (Some fault) s items new = refl
 
-  found_text : (s : State) (items : List (Item (of_plan plan))) (t : Text) (found : Found Path Filter Fault) → (add_found (of_plan plan) s items t found).1.text ≡ t
-  found_text s items t (NotFound fault) = refl
-  found_text s items t (ObjectAt path) = added_text s items (record { text = t; path = path; tracked = ObjectItem false })
-  found_text s items t (FeedAt path bounds) = added_text s items (record { text = t; path = path; tracked = FeedItem bounds (count (of_plan plan) s path) })
+  added_text : (s : State) (room : Room) (items : List (Item (of_plan plan))) (new : Item (of_plan plan)) → (added (of_plan plan) s room items new).1.text ≡ new.text
+  added_text s room items new = unless_text (refusal (of_plan plan) room items new.text) s items new
 
-  added_from : (s : State) (ns : List ℕ) (t : Text) (items : List (Item (of_plan plan))) (asked : List Input) → AllByRecursion (λ b. bytes_eq t b.0 ≡ false) asked → StandsApart t (readings_added (of_plan plan) s ns items asked)
-  added_from s ns t items [] h = tt
-  added_from s ns t items (a ∷ asked) h = (
-    ap (bytes_eq t) (found_text s items a.0 ((of_plan plan).find s ns a.0 a.1)) ∙ h.0,
-    added_from s ns t (add_found (of_plan plan) s items a.0 ((of_plan plan).find s ns a.0 a.1)).0 asked h.1,
-  )
+  found_text : (s : State) (room : Room) (items : List (Item (of_plan plan))) (t : Text) (found : Found Path Filter Fault) → (add_found (of_plan plan) s room items t found).1.text ≡ t
+  found_text s room items t (NotFound fault) = refl
+  found_text s room items t (ObjectAt path) = added_text s room items (record { text = t; path = path; tracked = ObjectItem false })
+  found_text s room items t (FeedAt path bounds) = added_text s room items (record { text = t; path = path; tracked = FeedItem bounds (count (of_plan plan) s path) })
 
-  added_apart : (s : State) (ns : List ℕ) (items : List (Item (of_plan plan))) (asked : List Input) → AskedApart asked → AreApart (readings_added (of_plan plan) s ns items asked)
-  added_apart s ns items [] h = tt
-  added_apart s ns items (a ∷ asked) h = (
-    subst (λ (t : Text). StandsApart t (readings_added (of_plan plan) s ns (add_found (of_plan plan) s items a.0 ((of_plan plan).find s ns a.0 a.1)).0 asked)) (sym (found_text s items a.0 ((of_plan plan).find s ns a.0 a.1)))
-        (added_from s ns a.0 (add_found (of_plan plan) s items a.0 ((of_plan plan).find s ns a.0 a.1)).0 asked h.0),
-    added_apart s ns (add_found (of_plan plan) s items a.0 ((of_plan plan).find s ns a.0 a.1)).0 asked h.1,
-  )
+  module _ (s : State) (ns : List ℕ) (room : Room) where
+    abbrev one : List (Item (of_plan plan)) → Input → List (Item (of_plan plan)) × Reading (of_plan plan)
+    one items a = add_found (of_plan plan) s room items a.0 ((of_plan plan).find s ns a.0 a.1)
 
-  pub firsts_sent : (s : State) (ns : List ℕ) (items : List (Item (of_plan plan))) (asked : List Input) → AreApart (readings_added (of_plan plan) s ns items (firsts (of_plan plan) [] asked))
-  firsts_sent s ns items asked = added_apart s ns items (firsts (of_plan plan) [] asked) (firsts_apart [] asked)
+    one_text : (items : List (Item (of_plan plan))) (a : Input) → (one items a).1.text ≡ a.0
+    one_text items a = found_text s room items a.0 ((of_plan plan).find s ns a.0 a.1)
+
+    added_from : (t : Text) (items : List (Item (of_plan plan))) (asked : List Input) → AllByRecursion (λ b. bytes_eq t b.0 ≡ false) asked → StandsApart t (readings_added (of_plan plan) s ns room items asked)
+    added_from t items [] h = tt
+    added_from t items (a ∷ asked) h = (ap (bytes_eq t) (one_text items a) ∙ h.0, added_from t (one items a).0 asked h.1)
+
+    added_apart : (items : List (Item (of_plan plan))) (asked : List Input) → AskedApart asked → AreApart (readings_added (of_plan plan) s ns room items asked)
+    added_apart items [] h = tt
+    added_apart items (a ∷ asked) h = (
+      subst (λ (t : Text). StandsApart t (readings_added (of_plan plan) s ns room (one items a).0 asked)) (sym (one_text items a)) (added_from a.0 (one items a).0 asked h.0),
+      added_apart (one items a).0 asked h.1,
+    )
+
+    pub firsts_sent : (items : List (Item (of_plan plan))) (asked : List Input) → AreApart (readings_added (of_plan plan) s ns room items (firsts (of_plan plan) [] asked))
+    firsts_sent items asked = added_apart items (firsts (of_plan plan) [] asked) (firsts_apart [] asked)

@@ -34,7 +34,7 @@ use Rattle.ob_site_laws.specs.SiteLaws.{of_plan, acts}
 use Rattle.ob_watching.specs.Operations.{Itself, Nowhere, NewWatch, OneWatch, Told, Refused}
 use Rattle.ob_watching.specs.Sites.{Site}
 use Rattle.ob_watching.specs.Tables.{lookup}
-use Rattle.ob_watching.specs.Watches.{World, Watch, Reply, acted, begun, is_full, made, on_watch, first_lease}
+use Rattle.ob_watching.specs.Watches.{World, Watch, Reply, acted, begun, is_full, made, on_watch, first_lease, yielded}
 
 pub record Follows (s u : State) : Type 0 where
   pub slots : DifferInSlots (row s.tree) (row u.tree)
@@ -151,12 +151,12 @@ act_located_follows plan s ns now r (Some p) = act_on_follows plan s ns now r p 
 acted_follows : (plan : Plan) (w : World (of_plan plan)) (r : Request) (t : SiteTarget) → Follows w.site (acted (of_plan plan) w r t).0.site
 acted_follows plan w r Itself = act_located_follows plan w.site _ w.time r (locate plan.base r.target)
 acted_follows plan w r Nowhere = itself plan w.site
-acted_follows plan w r NewWatch = go (is_full (of_plan plan) w)
+acted_follows plan w r NewWatch = go (is_full (of_plan plan) (yielded (of_plan plan) w))
   where
     m : Site
     m = of_plan plan
 
-    go : (b : Bool) → let done : World m × Reply m = cond b (w, Refused m.too_many_watches) (made m w, Told w.next first_lease m.whole) in Follows w.site done.0.site
+    go : (b : Bool) → let done : World m × Reply m = cond b (w, Refused m.too_many_watches) (made m (yielded m w), Told w.next first_lease m.whole) in Follows w.site done.0.site
     go true = itself plan w.site
     go false = itself plan w.site
 acted_follows plan w r (OneWatch n op) = go (lookup n w.watches)
