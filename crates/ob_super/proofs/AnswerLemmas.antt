@@ -1,5 +1,5 @@
 -- Rounds one behind the other, and the replies to requests.
-use Rattle.std.proofs.Common.{◌≡◌, ℕ, zero, suc, ◌+◌, ◌-◌, ◌<◌, List, [], ◌∷◌, ◌++◌, Option, Some, None, Result, Ok, Err, refl, sym, ap, subst, ◌∙◌, append_assoc, append-nil, add-one, inl, inr, arith}
+use Rattle.std.proofs.Common.{◌≡◌, ℕ, zero, suc, ◌+◌, ◌-◌, ◌<◌, Bool, List, [], ◌∷◌, ◌++◌, Option, Some, None, Result, Ok, Err, refl, sym, ap, subst, ◌∙◌, append_assoc, append-nil, add-one, inl, inr, arith}
 use Rattle.std.specs.Prelude.{IsSome, IsErr, IfOk, unwrap_or, is_some}
 use Rattle.std.specs.declared.alloc.AllocError.{AllocError}
 use Rattle.ob_io.specs.Dials.{Dial, Visit}
@@ -11,38 +11,33 @@ use Rattle.ob_asking.specs.declared.request.Request.{Request}
 use Rattle.ob_asking.specs.Places.{place_at}
 use Rattle.ob_super.specs.declared.upstream.Live.{Live}
 use Rattle.ob_super.specs.declared.upstream.Followed.{Followed}
+use Rattle.ob_super.specs.declared.state.Super.{Super}
 use Rattle.ob_super.specs.Upstreams.{Upstream}
 use Rattle.ob_super.specs.Turns.{Standing, Down, Up}
 use Rattle.ob_super.specs.Trees.{View, Entry, shown_in, shown_at, view_of, views_of, entry_at}
+use Rattle.ob_super.specs.Dialling.{Past}
 use Rattle.ob_super.specs.Rounds.{Rounds, Stops, PutsHere, Sends, SendsIf, Puts, not_supported}
 use Rattle.ob_super.specs.Supervised.{no_such_object, refused_at, RepliesTo, ManyRounds, StopsAmong}
 use Rattle.ob_super.specs.InHand as in_hand
 use Rattle.ob_super.specs.InHand.{Outside, Goes, Stands, StandAll, RoundsAll, PutsAll, ManyAll, RepliesOr, RepliesAll, AnswersAll}
 use Rattle.ob_client.proofs.SessionLemmas.{never}
-use Rattle.ob_super.proofs.SuperLemmas.{told_before, part_less, goes_none, goes_then, held_stands}
+use Rattle.ob_super.proofs.SuperLemmas.{told_before, goes_none, goes_then, held_stands}
+use Rattle.ob_super.proofs.RoundLemmas.{rounds_less}
 
 -- ---- what is told less
 
 module _ (T U : Type 0) (less : U → T) where
-  pub rounds_less : (us : List Upstream) (olds news : List Standing) (ds : List Dial) (vs : List Visit) → Rounds T us olds news ds vs → Rounds U us olds news ds vs
-  rounds_less [] [] [] ds vs r = r
-  rounds_less [] [] (n ∷ news) ds vs r = absurd r
-  rounds_less [] (o ∷ olds) news ds vs r = absurd r
-  rounds_less (u ∷ us) [] news ds vs r = absurd r
-  rounds_less (u ∷ us) (o ∷ olds) [] ds vs r = absurd r
-  rounds_less (u ∷ us) (o ∷ olds) (n ∷ news) ds vs (d, e, v, w, dials, visits, part, rest) =
-      (d, e, v, w, dials, visits, part_less T U less u o n d v part, rounds_less us olds news e w rest)
-
-  pub many_less : (us : List Upstream) (n : ℕ) (olds news : List Standing) (ds : List Dial) (vs : List Visit) → ManyRounds T us n olds news ds vs → ManyRounds U us n olds news ds vs
-  many_less us zero olds news ds vs r = r
-  many_less us (suc n) olds news ds vs (mids, d, e, v, w, dials, visits, round, rest) =
-      (mids, d, e, v, w, dials, visits, rounds_less us olds mids d v round, many_less us n mids news e w rest)
+  pub many_less : (us : List Upstream) (n : ℕ) (past past' : Past) (olds news : List Standing) (ds : List Dial) (vs : List Visit) → ManyRounds T us n past past' olds news ds vs → ManyRounds U us n past past' olds news ds vs
+  many_less us zero past past' olds news ds vs r = r
+  many_less us (suc n) past past' olds news ds vs (mid, mids, d, e, v, w, dials, visits, round, rest) =
+      (mid, mids, d, e, v, w, dials, visits, rounds_less T U less us past mid olds mids d v round, many_less us n mid past' mids news e w rest)
 
 -- ---- one more round
 
-more_rounds : (T : Type 0) (us : List Upstream) (n : ℕ) (olds mids news : List Standing) (d e : List Dial) (v w : List Visit) → ManyRounds T us n olds mids d v → Rounds T us mids news e w
-    → ManyRounds T us (suc n) olds news (d ++ e) (v ++ w)
-more_rounds T us zero olds mids news d e v w (same, none, nothing) round = (
+more_rounds : (T : Type 0) (us : List Upstream) (n : ℕ) (past mid past' : Past) (olds mids news : List Standing) (d e : List Dial) (v w : List Visit) → ManyRounds T us n past mid olds mids d v → Rounds T us mid past' mids news e w
+    → ManyRounds T us (suc n) past past' olds news (d ++ e) (v ++ w)
+more_rounds T us zero past mid past' olds mids news d e v w (still, same, none, nothing) round = (
+  past',
   news,
   e,
   [],
@@ -50,10 +45,11 @@ more_rounds T us zero olds mids news d e v w (same, none, nothing) round = (
   [],
   ap (λ (x : List Dial). x ++ e) none ∙ sym (append-nil e),
   ap (λ (x : List Visit). x ++ w) nothing ∙ sym (append-nil w),
-  subst (λ (s : List Standing). Rounds T us s news e w) same round,
-  (refl, refl, refl),
+  subst (λ (p : Past). Rounds T us p past' olds news e w) still (subst (λ (s : List Standing). Rounds T us mid past' s news e w) same round),
+  (refl, refl, refl, refl),
 )
-more_rounds T us (suc n) olds mids news d e v w (first, a, b, p, q, dials, visits, round, rest) last = (
+more_rounds T us (suc n) past mid past' olds mids news d e v w (one, first, a, b, p, q, dials, visits, round, rest) last = (
+  one,
   first,
   a,
   b ++ e,
@@ -62,17 +58,19 @@ more_rounds T us (suc n) olds mids news d e v w (first, a, b, p, q, dials, visit
   ap (λ (x : List Dial). x ++ e) dials ∙ append_assoc a b e,
   ap (λ (x : List Visit). x ++ w) visits ∙ append_assoc p q w,
   round,
-  more_rounds T us n first mids news b e q w rest last,
+  more_rounds T us n one mid past' first mids news b e q w rest last,
 )
 
 -- memory was wanting in the one behind so many
-then_stops : (T : Type 0) (us : List Upstream) (n m : ℕ) (olds mids news : List Standing) (d e : List Dial) (v w : List Visit) → n < m → ManyRounds T us n olds mids d v → Stops T us mids news e w
-    → StopsAmong T us m olds news (d ++ e) (v ++ w)
-then_stops T us n zero olds mids news d e v w lt many stops = absurd (let x : ⊥ = omega (arith, lt) in x)
-then_stops T us zero (suc m) olds mids news d e v w lt (same, none, nothing) stops =
-    inl (subst (λ (x : List Dial). Stops T us olds news (x ++ e) (v ++ w)) (sym none) (subst (λ (y : List Visit). Stops T us olds news e (y ++ w)) (sym nothing) (subst (λ (s : List Standing). Stops T us s news e w) same stops)))
-then_stops T us (suc n) (suc m) olds mids news d e v w lt (first, a, b, p, q, dials, visits, round, rest) stops =
+then_stops : (T : Type 0) (us : List Upstream) (n m : ℕ) (past mid past' : Past) (olds mids news : List Standing) (d e : List Dial) (v w : List Visit) → n < m → ManyRounds T us n past mid olds mids d v → Stops T us mid past' mids news e w
+    → StopsAmong T us m past past' olds news (d ++ e) (v ++ w)
+then_stops T us n zero past mid past' olds mids news d e v w lt many stops = absurd (let x : ⊥ = omega (arith, lt) in x)
+then_stops T us zero (suc m) past mid past' olds mids news d e v w lt (still, same, none, nothing) stops =
+    inl (subst (λ (x : List Dial). Stops T us past past' olds news (x ++ e) (v ++ w)) (sym none) (subst (λ (y : List Visit). Stops T us past past' olds news e (y ++ w)) (sym nothing)
+    (subst (λ (p : Past). Stops T us p past' olds news e w) still (subst (λ (s : List Standing). Stops T us mid past' s news e w) same stops))))
+then_stops T us (suc n) (suc m) past mid past' olds mids news d e v w lt (one, first, a, b, p, q, dials, visits, round, rest) stops =
     inr (
+      one,
       first,
       a,
       b ++ e,
@@ -81,7 +79,7 @@ then_stops T us (suc n) (suc m) olds mids news d e v w lt (first, a, b, p, q, di
       ap (λ (x : List Dial). x ++ e) dials ∙ append_assoc a b e,
       ap (λ (x : List Visit). x ++ w) visits ∙ append_assoc p q w,
       round,
-      then_stops T us n m first mids news b e q w (omega (arith, lt)) rest stops,
+      then_stops T us n m one mid past' first mids news b e q w (omega (arith, lt)) rest stops,
     )
 
 -- ---- a PUT of a place that nothing holds
@@ -176,9 +174,10 @@ module _ {L : Type 0} (left taken held : L → Option (List ℕ)) where
 
   -- ---- a round, and a reply
 
-  pub answers : (before mid after : Outside) (old mids new : List (Followed L)) (q : Request) (r : Option Object) (x : Unit {0}) → in_hand.upstreams mids ≡ in_hand.upstreams old
-      → RoundsAll left taken held before mid old mids (Ok x) → RepliesAll left taken held mid after mids new q r → AnswersAll left taken held before after old new q r
-  answers before mid after old mids new q r x same rounds replies = λ olds are.
+  pub answers : (before mid after : Outside) (old mids new : Super L) (q : Request) (r : Option Object) (x : Unit {0}) → in_hand.upstreams mids.followed.items ≡ in_hand.upstreams old.followed.items
+      → in_hand.past new ≡ in_hand.past mids → RoundsAll left taken held before mid old mids (Ok x) → RepliesAll left taken held mid after mids.followed.items new.followed.items q r
+      → AnswersAll left taken held before after old new q r
+  answers before mid after old mids new q r x same still rounds replies = λ olds are.
       let p = rounds olds are in
       let a = replies p.0 p.5 in (
         a.0,
@@ -186,17 +185,21 @@ module _ {L : Type 0} (left taken held : L → Option (List ℕ)) where
         p.2 ++ a.1,
         subst (λ (ds : List Dial). Goes before ds (p.2 ++ a.1) after) (append-nil p.1) (goes_then before mid after p.1 [] p.2 a.1 p.3 a.2),
         of r olds p.0 a.0 p.1 p.2 a.1
-            (rounds_less (IsSome mid.visits) (IsSome after.visits) (λ t. told_before mid.visits after.visits a.1 a.2.back t) (in_hand.upstreams old) olds p.0 p.1 p.2 p.4)
-            (subst (λ (us : List Upstream). RepliesOr left taken held (IsSome after.visits) us p.0 a.0 q a.1 r) same a.3),
+            (subst (λ (y : Past). Rounds (IsSome after.visits) us (in_hand.past old) y olds p.0 p.1 p.2) (sym still)
+            (rounds_less (IsSome mid.visits) (IsSome after.visits) (λ t. told_before mid.visits after.visits a.1 a.2.back t) us (in_hand.past old) (in_hand.past mids) olds p.0 p.1 p.2 p.4))
+            (subst (λ (vs : List Upstream). RepliesOr left taken held (IsSome after.visits) vs p.0 a.0 q a.1 r) same a.3),
         a.4,
       )
     where
-      of : (r : Option Object) (olds rounded news : List Standing) (ds : List Dial) (v w : List Visit) → Rounds (IsSome after.visits) (in_hand.upstreams old) olds rounded ds v
-          → RepliesOr left taken held (IsSome after.visits) (in_hand.upstreams old) rounded news q w r → RepliesTo (IsSome after.visits) (in_hand.upstreams old) olds news q r ds (v ++ w)
+      us : List Upstream
+      us = in_hand.upstreams old.followed.items
+
+      of : (r : Option Object) (olds rounded news : List Standing) (ds : List Dial) (v w : List Visit) → Rounds (IsSome after.visits) us (in_hand.past old) (in_hand.past new) olds rounded ds v
+          → RepliesOr left taken held (IsSome after.visits) us rounded news q w r → RepliesTo (IsSome after.visits) us (in_hand.past old) (in_hand.past new) olds news q r ds (v ++ w)
       of (Some reply) olds rounded news ds v w round replies = record { rounded = rounded; in_round = v; in_reply = w; visits_are = refl; round = round; replies = replies }
       of None olds rounded news ds v w round lacks = record { rounded = rounded; in_round = v; in_reply = w; visits_are = refl; lacks = inr (round, lacks) }
 
-  pub answers_not : (before after : Outside) (old new : List (Followed L)) (q : Request) (r : Result Object AllocError) {e : AllocError} → IsErr r
+  pub answers_not : (before after : Outside) (old new : Super L) (q : Request) (r : Result Object AllocError) {e : AllocError} → IsErr r
       → RoundsAll left taken held before after old new (Err e) → AnswersAll left taken held before after old new q (in_hand.replied_by r)
   answers_not before after old new q (Ok x) is rounds = never is
   answers_not before after old new q (Err x) is rounds = λ olds are.
@@ -205,37 +208,39 @@ module _ {L : Type 0} (left taken held : L → Option (List ℕ)) where
 
   -- ---- many rounds
 
-  pub many_none : (o : Outside) (all : List (Followed L)) → ManyAll left taken held o o all all 0 (Ok tt)
-  many_none o all = λ olds are. (olds, [], [], goes_none o, (refl, refl, refl), are)
+  pub many_none : (o : Outside) (all : Super L) → ManyAll left taken held o o all all 0 (Ok tt)
+  many_none o all = λ olds are. (olds, [], [], goes_none o, (refl, refl, refl, refl), are)
 
-  pub many_more : (before mid after : Outside) (old mids new : List (Followed L)) (n : ℕ) (x y z : Unit {0}) → in_hand.upstreams mids ≡ in_hand.upstreams old
+  pub many_more : (before mid after : Outside) (old mids new : Super L) (n : ℕ) (x y z : Unit {0}) → in_hand.upstreams mids.followed.items ≡ in_hand.upstreams old.followed.items
       → ManyAll left taken held before mid old mids n (Ok x) → RoundsAll left taken held mid after mids new (Ok y) → ManyAll left taken held before after old new (n + 1) (Ok z)
   many_more before mid after old mids new n x y z same many rounds = λ olds are.
       let p = many olds are in
-      let a = rounds p.0 p.5 in (
+      let a = rounds p.0 p.5 in
+      let us = in_hand.upstreams old.followed.items in (
         a.0,
         p.1 ++ a.1,
         p.2 ++ a.2,
         goes_then before mid after p.1 a.1 p.2 a.2 p.3 a.3,
-        subst (λ (m : ℕ). ManyRounds (IsSome after.visits) (in_hand.upstreams old) m olds a.0 (p.1 ++ a.1) (p.2 ++ a.2)) (sym (add-one n))
-            (more_rounds (IsSome after.visits) (in_hand.upstreams old) n olds p.0 a.0 p.1 a.1 p.2 a.2
-            (many_less (IsSome mid.visits) (IsSome after.visits) (λ t. told_before mid.visits after.visits a.2 a.3.back t) (in_hand.upstreams old) n olds p.0 p.1 p.2 p.4)
-            (subst (λ (us : List Upstream). Rounds (IsSome after.visits) us p.0 a.0 a.1 a.2) same a.4)),
+        subst (λ (m : ℕ). ManyRounds (IsSome after.visits) us m (in_hand.past old) (in_hand.past new) olds a.0 (p.1 ++ a.1) (p.2 ++ a.2)) (sym (add-one n))
+            (more_rounds (IsSome after.visits) us n (in_hand.past old) (in_hand.past mids) (in_hand.past new) olds p.0 a.0 p.1 a.1 p.2 a.2
+            (many_less (IsSome mid.visits) (IsSome after.visits) (λ t. told_before mid.visits after.visits a.2 a.3.back t) us n (in_hand.past old) (in_hand.past mids) olds p.0 p.1 p.2 p.4)
+            (subst (λ (vs : List Upstream). Rounds (IsSome after.visits) vs (in_hand.past mids) (in_hand.past new) p.0 a.0 a.1 a.2) same a.4)),
         a.5,
       )
 
-  pub many_stop : (before mid after : Outside) (old mids new : List (Followed L)) (n m : ℕ) (x : Unit {0}) (r : Result (Unit {0}) AllocError) {e : AllocError} → IsErr r → n < m → in_hand.upstreams mids ≡ in_hand.upstreams old
+  pub many_stop : (before mid after : Outside) (old mids new : Super L) (n m : ℕ) (x : Unit {0}) (r : Result (Unit {0}) AllocError) {e : AllocError} → IsErr r → n < m → in_hand.upstreams mids.followed.items ≡ in_hand.upstreams old.followed.items
       → ManyAll left taken held before mid old mids n (Ok x) → RoundsAll left taken held mid after mids new (Err e) → ManyAll left taken held before after old new m r
   many_stop before mid after old mids new n m x (Ok y) is lt same many rounds = never is
   many_stop before mid after old mids new n m x (Err y) is lt same many rounds = λ olds are.
       let p = many olds are in
-      let a = rounds p.0 p.5 in (
+      let a = rounds p.0 p.5 in
+      let us = in_hand.upstreams old.followed.items in (
         a.0,
         p.1 ++ a.1,
         p.2 ++ a.2,
         goes_then before mid after p.1 a.1 p.2 a.2 p.3 a.3,
-        then_stops (IsSome after.visits) (in_hand.upstreams old) n m olds p.0 a.0 p.1 a.1 p.2 a.2 lt
-            (many_less (IsSome mid.visits) (IsSome after.visits) (λ t. told_before mid.visits after.visits a.2 a.3.back t) (in_hand.upstreams old) n olds p.0 p.1 p.2 p.4)
-            (subst (λ (us : List Upstream). Stops (IsSome after.visits) us p.0 a.0 a.1 a.2) same a.4),
+        then_stops (IsSome after.visits) us n m (in_hand.past old) (in_hand.past mids) (in_hand.past new) olds p.0 a.0 p.1 a.1 p.2 a.2 lt
+            (many_less (IsSome mid.visits) (IsSome after.visits) (λ t. told_before mid.visits after.visits a.2 a.3.back t) us n (in_hand.past old) (in_hand.past mids) olds p.0 p.1 p.2 p.4)
+            (subst (λ (vs : List Upstream). Stops (IsSome after.visits) vs (in_hand.past mids) (in_hand.past new) p.0 a.0 a.1 a.2) same a.4),
         a.5,
       )

@@ -1,5 +1,5 @@
 -- A whole run, from the rounds before any request to the end.
-use Rattle.std.proofs.Common.{◌≡◌, ℕ, zero, suc, List, [], ◌∷◌, ◌++◌, Option, Some, None, Result, Ok, Err, refl, sym, subst, ◌∙◌, append-nil, inl, inr}
+use Rattle.std.proofs.Common.{◌≡◌, ℕ, zero, suc, Bool, List, [], ◌∷◌, ◌++◌, map, Option, Some, None, Result, Ok, Err, refl, sym, ap₂, subst, ◌∙◌, append-nil, inl, inr}
 use Rattle.std.specs.Prelude.{IsSome}
 use Rattle.std.specs.List.{AllByRecursion}
 use Rattle.std.specs.declared.alloc.AllocError.{AllocError}
@@ -13,37 +13,23 @@ use Rattle.ob_asking.specs.declared.request.Request.{Request}
 use Rattle.ob_asking.specs.Places.{place_at}
 use Rattle.ob_super.specs.declared.upstream.Live.{Live}
 use Rattle.ob_super.specs.declared.upstream.Followed.{Followed}
+use Rattle.ob_super.specs.declared.state.Super.{Super}
 use Rattle.ob_super.specs.Upstreams.{Upstream}
 use Rattle.ob_super.specs.Calls.{Call, stage_of}
 use Rattle.ob_super.specs.Turns.{Standing, Down, Up, after}
 use Rattle.ob_super.specs.Trees.{Entry, entry_at}
-use Rattle.ob_super.specs.Rounds.{Stops, Lacks, BackForMemory, PutsHere, Sends, SendsIf, SendsTo, Puts, Ends}
-use Rattle.ob_super.specs.Supervised.{RepliesBy, LacksReply, Asked, RepliesTo, Supervises, StopsAmong, all_down}
+use Rattle.ob_super.specs.Dialling.{Past, no_rounds}
+use Rattle.ob_super.specs.Rounds.{PutsHere, Sends, SendsIf, SendsTo, Puts, Ends}
+use Rattle.ob_super.specs.Supervised.{RepliesBy, LacksReply, Asked, RepliesTo, Supervises, ManyRounds, StopsAmong, all_down}
 use Rattle.ob_super.specs.InHand as in_hand
-use Rattle.ob_super.specs.InHand.{Outside, Goes, Stands, StandAll, EndsAll, ManyAll, AnswersAll, SupervisesAll, RunsAll, StopsAll}
-use Rattle.ob_super.proofs.SuperLemmas.{told_before, breaks_next_less, back_less, part_less, goes_none, goes_then}
-use Rattle.ob_super.proofs.AnswerLemmas.{rounds_less, many_less}
+use Rattle.ob_super.specs.InHand.{Outside, Goes, Stands, StandAll, EndsAll, ManyAll, AnswersAll, SupervisesAll, RunsAll, StopsAll, IsNew}
+use Rattle.ob_super.proofs.SuperLemmas.{told_before, goes_none, goes_then}
+use Rattle.ob_super.proofs.RoundLemmas.{rounds_less, stops_less}
+use Rattle.ob_super.proofs.AnswerLemmas.{many_less}
 
 -- ---- what is told less
 
 module _ (T U : Type 0) (less : U → T) where
-  for_memory_less : (u : Upstream) (s : Standing) (vs : List Visit) → BackForMemory T u s vs → BackForMemory U u s vs
-  for_memory_less u Down vs b = b
-  for_memory_less u (Up calls) vs b = breaks_next_less T U less u calls (stage_of u calls) _ vs b
-
-  lacks_less : (u : Upstream) (old : Standing) (ds : List Dial) (vs : List Visit) → Lacks T u old ds vs → Lacks U u old ds vs
-  lacks_less u old ds vs l =
-      record { turns = l.turns; are = l.are; dials_are = l.dials_are; none = back_less T U less u old l.turns [] l.none; back = for_memory_less u (after u old l.turns) vs l.back }
-
-  stops_less : (us : List Upstream) (olds news : List Standing) (ds : List Dial) (vs : List Visit) → Stops T us olds news ds vs → Stops U us olds news ds vs
-  stops_less [] olds news ds vs s = s
-  stops_less (u ∷ us) [] news ds vs s = s
-  stops_less (u ∷ us) (o ∷ olds) [] ds vs s = s
-  stops_less (u ∷ us) (o ∷ olds) (n ∷ news) ds vs s = elim s [
-    | inl l ↦ inl (lacks_less u o ds vs l.0, l.1, l.2)
-    | inr (d, e, v, w, dials, visits, part, rest) ↦ inr (d, e, v, w, dials, visits, part_less T U less u o n d v part, stops_less us olds news e w rest)
-  ]
-
   sends_to_less : (u : Upstream) (calls : List Call) (new : Standing) (path : Text) (q : Request) (vs : List Visit) (r : Result (Option Object) AllocError) → SendsTo T u calls new path q vs r → SendsTo U u calls new path q vs r
   sends_to_less u calls new path q vs (Ok None) s = s
   sends_to_less u calls new path q vs (Ok (Some reply)) s = elim s [
@@ -93,30 +79,30 @@ module _ (T U : Type 0) (less : U → T) where
   lacks_reply_less us olds news Put path body vs (put, none, puts) = (put, none, puts_less us olds news path body vs put puts)
   lacks_reply_less us olds news Post path body vs r = r
 
-  replies_less : (us : List Upstream) (olds news : List Standing) (q : Request) (reply : Option Object) (ds : List Dial) (vs : List Visit) → RepliesTo T us olds news q reply ds vs → RepliesTo U us olds news q reply ds vs
-  replies_less us olds news q (Some reply) ds vs r = record {
+  replies_less : (us : List Upstream) (past past' : Past) (olds news : List Standing) (q : Request) (reply : Option Object) (ds : List Dial) (vs : List Visit) → RepliesTo T us past past' olds news q reply ds vs → RepliesTo U us past past' olds news q reply ds vs
+  replies_less us past past' olds news q (Some reply) ds vs r = record {
     rounded = r.rounded;
     in_round = r.in_round;
     in_reply = r.in_reply;
     visits_are = r.visits_are;
-    round = rounds_less T U less us olds r.rounded ds r.in_round r.round;
+    round = rounds_less T U less us past past' olds r.rounded ds r.in_round r.round;
     replies = by_less us r.rounded news q.verb q.target q.body r.in_reply reply r.replies;
   }
-  replies_less us olds news q None ds vs r = record {
+  replies_less us past past' olds news q None ds vs r = record {
     rounded = r.rounded;
     in_round = r.in_round;
     in_reply = r.in_reply;
     visits_are = r.visits_are;
     lacks = elim r.lacks [
-      | inl s ↦ inl (stops_less us olds r.rounded ds r.in_round s.0, s.1, s.2)
-      | inr s ↦ inr (rounds_less T U less us olds r.rounded ds r.in_round s.0, lacks_reply_less us r.rounded news q.verb q.target q.body r.in_reply s.1)
+      | inl s ↦ inl (stops_less T U less us past past' olds r.rounded ds r.in_round s.0, s.1, s.2)
+      | inr s ↦ inr (rounds_less T U less us past past' olds r.rounded ds r.in_round s.0, lacks_reply_less us r.rounded news q.verb q.target q.body r.in_reply s.1)
     ];
   }
 
-  supervises_less : (us : List Upstream) (olds news : List Standing) (qs : List Asked) (ds : List Dial) (vs : List Visit) → Supervises T us olds news qs ds vs → Supervises U us olds news qs ds vs
-  supervises_less us olds news [] ds vs s = s
-  supervises_less us olds news (a ∷ qs) ds vs (mids, d, e, v, w, dials, visits, first, rest) =
-      (mids, d, e, v, w, dials, visits, replies_less us olds mids a.request a.reply d v first, supervises_less us mids news qs e w rest)
+  supervises_less : (us : List Upstream) (past past' : Past) (olds news : List Standing) (qs : List Asked) (ds : List Dial) (vs : List Visit) → Supervises T us past past' olds news qs ds vs → Supervises U us past past' olds news qs ds vs
+  supervises_less us past past' olds news [] ds vs s = s
+  supervises_less us past past' olds news (a ∷ qs) ds vs (mid, mids, d, e, v, w, dials, visits, first, rest) =
+      (mid, mids, d, e, v, w, dials, visits, replies_less us past mid olds mids a.request a.reply d v first, supervises_less us mid past' mids news qs e w rest)
 
 module _ {L : Type 0} (left taken held : L → Option (List ℕ)) where
   abbrev AllStand : List Standing → List (Followed L) → Type 0
@@ -124,19 +110,21 @@ module _ {L : Type 0} (left taken held : L → Option (List ℕ)) where
 
   -- ---- requests, one behind the other
 
-  pub supervises_none : (o : Outside) (all : List (Followed L)) → SupervisesAll left taken held o o all all []
-  supervises_none o all = λ olds are. (olds, [], [], goes_none o, (refl, refl, refl), are)
+  pub supervises_none : (o : Outside) (all : Super L) → SupervisesAll left taken held o o all all []
+  supervises_none o all = λ olds are. (olds, [], [], goes_none o, (refl, refl, refl, refl), are)
 
-  pub supervises_more : (before mid after : Outside) (old mids new : List (Followed L)) (q : Request) (reply : Option Object) (qs : List Asked) → in_hand.upstreams mids ≡ in_hand.upstreams old
+  pub supervises_more : (before mid after : Outside) (old mids new : Super L) (q : Request) (reply : Option Object) (qs : List Asked) → in_hand.upstreams mids.followed.items ≡ in_hand.upstreams old.followed.items
       → AnswersAll left taken held before mid old mids q reply → SupervisesAll left taken held mid after mids new qs → SupervisesAll left taken held before after old new (in_hand.asked q reply ∷ qs)
   supervises_more before mid after old mids new q reply qs same first rest = λ olds are.
       let p = first olds are in
-      let a = rest p.0 p.5 in (
+      let a = rest p.0 p.5 in
+      let us = in_hand.upstreams old.followed.items in (
         a.0,
         p.1 ++ a.1,
         p.2 ++ a.2,
         goes_then before mid after p.1 a.1 p.2 a.2 p.3 a.3,
         (
+          in_hand.past mids,
           p.0,
           p.1,
           a.1,
@@ -144,27 +132,38 @@ module _ {L : Type 0} (left taken held : L → Option (List ℕ)) where
           a.2,
           refl,
           refl,
-          replies_less (IsSome mid.visits) (IsSome after.visits) (λ t. told_before mid.visits after.visits a.2 a.3.back t) (in_hand.upstreams old) olds p.0 q reply p.1 p.2 p.4,
-          subst (λ (us : List Upstream). Supervises (IsSome after.visits) us p.0 a.0 qs a.1 a.2) same a.4,
+          replies_less (IsSome mid.visits) (IsSome after.visits) (λ t. told_before mid.visits after.visits a.2 a.3.back t) us (in_hand.past old) (in_hand.past mids) olds p.0 q reply p.1 p.2 p.4,
+          subst (λ (vs : List Upstream). Supervises (IsSome after.visits) vs (in_hand.past mids) (in_hand.past new) p.0 a.0 qs a.1 a.2) same a.4,
         ),
         a.5,
       )
 
   -- ---- a whole run
 
-  pub down_stand : (all : List (Followed L)) → AllByRecursion (λ (f : Followed L). f.live ≡ None) all → AllStand (all_down (in_hand.upstreams all)) all
-  down_stand [] down = tt
-  down_stand (f ∷ fs) (none, rest) = (subst (λ (live : Option (Live L)). Stands left taken held (in_hand.upstream f.upstream) Down live) (sym none) tt, down_stand fs rest)
+  abbrev NeverDialled : List (Followed L) → Type 0
+  NeverDialled all = AllByRecursion (λ (f : Followed L). (f.live ≡ None) × (f.failed ≡ 0)) all
 
-  pub runs : (before mid late after : Outside) (old begun last : List (Followed L)) (n : ℕ) (x : Unit {0}) (qs : List Asked) → AllByRecursion (λ (f : Followed L). f.live ≡ None) old
-      → in_hand.upstreams begun ≡ in_hand.upstreams old → in_hand.upstreams last ≡ in_hand.upstreams begun
-      → ManyAll left taken held before mid old begun n (Ok x) → SupervisesAll left taken held mid late begun last qs → EndsAll left taken held late after last
-      → RunsAll before after (in_hand.upstreams old) n qs
+  down_stand : (all : List (Followed L)) → NeverDialled all → AllStand (all_down (in_hand.upstreams all)) all
+  down_stand [] down = tt
+  down_stand (f ∷ fs) (none, rest) = (subst (λ (live : Option (Live L)). Stands left taken held (in_hand.upstream f.upstream) Down live) (sym none.0) tt, down_stand fs rest)
+
+  none_dialled : (all : List (Followed L)) → NeverDialled all → in_hand.fails all ≡ map (λ (u : Upstream). 0) (in_hand.upstreams all)
+  none_dialled [] down = refl
+  none_dialled (f ∷ fs) (none, rest) = ap₂ (λ (n : ℕ) (ns : List ℕ). n ∷ ns) none.1 (none_dialled fs rest)
+
+  -- before the first round
+  first_past : (s : Super L) → IsNew s → in_hand.past s ≡ no_rounds (in_hand.upstreams s.followed.items)
+  first_past s (none, down) = ap₂ (λ (n : ℕ) (ns : List ℕ). let x : Past = record { rounds = n; fails = ns } in x) none (none_dialled s.followed.items down)
+
+  pub runs : (before mid late after : Outside) (old begun last : Super L) (n : ℕ) (x : Unit {0}) (qs : List Asked) → IsNew old
+      → in_hand.upstreams begun.followed.items ≡ in_hand.upstreams old.followed.items → in_hand.upstreams last.followed.items ≡ in_hand.upstreams begun.followed.items
+      → ManyAll left taken held before mid old begun n (Ok x) → SupervisesAll left taken held mid late begun last qs → EndsAll left taken held late after last.followed.items
+      → RunsAll before after (in_hand.upstreams old.followed.items) n qs
   runs before mid late after old begun last n x qs down same still many asked ends =
-      let p = many (all_down (in_hand.upstreams old)) (down_stand old down) in
+      let us = in_hand.upstreams old.followed.items in
+      let p = many (all_down us) (down_stand old.followed.items down.1) in
       let a = asked p.0 p.5 in
       let e = ends a.0 a.5 in
-      let us = in_hand.upstreams old in
       let lost = λ (t : IsSome after.visits). told_before late.visits after.visits e.0 e.1.back t in (
         p.1 ++ a.1,
         p.2 ++ (a.2 ++ e.0),
@@ -173,6 +172,8 @@ module _ {L : Type 0} (left taken held : L → Option (List ℕ)) where
         record {
           begun = p.0;
           last = a.0;
+          past_begun = in_hand.past begun;
+          past_last = in_hand.past last;
           dials_before = p.1;
           dials_asked = a.1;
           back_before = p.2;
@@ -180,35 +181,39 @@ module _ {L : Type 0} (left taken held : L → Option (List ℕ)) where
           back_last = e.0;
           dials_are = refl;
           visits_are = refl;
-          before = many_less (IsSome mid.visits) (IsSome after.visits) (λ t. told_before mid.visits late.visits a.2 a.3.back (lost t)) us n (all_down us) p.0 p.1 p.2 p.4;
-          replies = subst (λ (vs : List Upstream). Supervises (IsSome after.visits) vs p.0 a.0 qs a.1 a.2) same (supervises_less (IsSome late.visits) (IsSome after.visits) lost (in_hand.upstreams begun) p.0 a.0 qs a.1 a.2 a.4);
+          before = subst (λ (y : Past). ManyRounds (IsSome after.visits) us n y (in_hand.past begun) (all_down us) p.0 p.1 p.2) (first_past old down)
+              (many_less (IsSome mid.visits) (IsSome after.visits) (λ t. told_before mid.visits late.visits a.2 a.3.back (lost t)) us n (in_hand.past old) (in_hand.past begun) (all_down us) p.0 p.1 p.2 p.4);
+          replies = subst (λ (vs : List Upstream). Supervises (IsSome after.visits) vs (in_hand.past begun) (in_hand.past last) p.0 a.0 qs a.1 a.2) same
+              (supervises_less (IsSome late.visits) (IsSome after.visits) lost (in_hand.upstreams begun.followed.items) (in_hand.past begun) (in_hand.past last) p.0 a.0 qs a.1 a.2 a.4);
           ends = subst (λ (vs : List Upstream). Ends (IsSome after.visits) vs a.0 e.0) (still ∙ same) e.2;
         },
       )
 
-  among_less : (T U : Type 0) → (U → T) → (us : List Upstream) (n : ℕ) (olds news : List Standing) (ds : List Dial) (vs : List Visit) → StopsAmong T us n olds news ds vs → StopsAmong U us n olds news ds vs
-  among_less T U less us zero olds news ds vs s = s
-  among_less T U less us (suc n) olds news ds vs s = elim s [
-    | inl a ↦ inl (stops_less T U less us olds news ds vs a)
-    | inr (mids, d, e, v, w, dials, visits, round, rest) ↦ inr (mids, d, e, v, w, dials, visits, rounds_less T U less us olds mids d v round, among_less T U less us n mids news e w rest)
+  among_less : (T U : Type 0) → (U → T) → (us : List Upstream) (n : ℕ) (past past' : Past) (olds news : List Standing) (ds : List Dial) (vs : List Visit) → StopsAmong T us n past past' olds news ds vs → StopsAmong U us n past past' olds news ds vs
+  among_less T U less us zero past past' olds news ds vs s = s
+  among_less T U less us (suc n) past past' olds news ds vs s = elim s [
+    | inl a ↦ inl (stops_less T U less us past past' olds news ds vs a)
+    | inr (mid, mids, d, e, v, w, dials, visits, round, rest) ↦ inr (mid, mids, d, e, v, w, dials, visits, rounds_less T U less us past mid olds mids d v round, among_less T U less us n mid past' mids news e w rest)
   ]
 
-  pub stops : (before mid after : Outside) (old last : List (Followed L)) (n : ℕ) (x : AllocError) → AllByRecursion (λ (f : Followed L). f.live ≡ None) old
-      → in_hand.upstreams last ≡ in_hand.upstreams old → ManyAll left taken held before mid old last n (Err x) → EndsAll left taken held mid after last
-      → StopsAll before after (in_hand.upstreams old) n
+  pub stops : (before mid after : Outside) (old last : Super L) (n : ℕ) (x : AllocError) → IsNew old
+      → in_hand.upstreams last.followed.items ≡ in_hand.upstreams old.followed.items → ManyAll left taken held before mid old last n (Err x) → EndsAll left taken held mid after last.followed.items
+      → StopsAll before after (in_hand.upstreams old.followed.items) n
   stops before mid after old last n x down same many ends =
-      let p = many (all_down (in_hand.upstreams old)) (down_stand old down) in
-      let e = ends p.0 p.5 in
-      let us = in_hand.upstreams old in (
+      let us = in_hand.upstreams old.followed.items in
+      let p = many (all_down us) (down_stand old.followed.items down.1) in
+      let e = ends p.0 p.5 in (
         p.1,
         p.2 ++ e.0,
         subst (λ (ds : List Dial). Goes before ds (p.2 ++ e.0) after) (append-nil p.1) (goes_then before mid after p.1 [] p.2 e.0 p.3 e.1),
         record {
           last = p.0;
+          past_last = in_hand.past last;
           back_before = p.2;
           back_last = e.0;
           visits_are = refl;
-          before = among_less (IsSome mid.visits) (IsSome after.visits) (λ t. told_before mid.visits after.visits e.0 e.1.back t) us n (all_down us) p.0 p.1 p.2 p.4;
+          before = subst (λ (y : Past). StopsAmong (IsSome after.visits) us n y (in_hand.past last) (all_down us) p.0 p.1 p.2) (first_past old down)
+              (among_less (IsSome mid.visits) (IsSome after.visits) (λ t. told_before mid.visits after.visits e.0 e.1.back t) us n (in_hand.past old) (in_hand.past last) (all_down us) p.0 p.1 p.2 p.4);
           ends = subst (λ (vs : List Upstream). Ends (IsSome after.visits) vs p.0 e.0) same e.2;
         },
       )

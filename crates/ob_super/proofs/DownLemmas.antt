@@ -1,5 +1,5 @@
 -- Upstreams that are followed, and down.
-use Rattle.std.proofs.Common.{◌≡◌, List, [], ◌∷◌, ◌++◌, map, true, None, Some, refl, ap, sym, subst, ◌∙◌}
+use Rattle.std.proofs.Common.{◌≡◌, ℕ, List, [], ◌∷◌, ◌++◌, map, true, None, Some, refl, ap, sym, subst, ◌∙◌}
 use Rattle.std.specs.List.{AllByRecursion}
 use Rattle.std.proofs.lemmas.List.{map-append}
 use Rattle.ob_object.specs.Object.{Object}
@@ -14,42 +14,54 @@ use Rattle.ob_super.specs.declared.config_fault.ConfigFault.TheVariants.{Shape, 
 use Rattle.ob_parts.proofs.Earliest.{least_some}
 use Rattle.std.specs.declared.result.Result.TheVariants.{Err}
 use Rattle.ob_super.specs.Names.{are_apart, names}
-use Rattle.ob_super.specs.InHand.{upstream, upstreams, AreDown, down, Configures}
+use Rattle.ob_super.specs.InHand.{upstream, upstreams, AreDown, AllWait, down, Configures}
 
 same_all : {A : Type 0} (xs : List A) → map (λ x. x) xs ≡ xs
 same_all [] = refl
 same_all (x ∷ xs) = ap (λ ys. x ∷ ys) (same_all xs)
 
-module _ {L : Type 0} where
+module _ {L : Type 0} (wait_ms : ℕ) where
   -- those that were yielded are followed, and at the end all of them
-  pub down_more : (us : List Upstream) (u : Upstream) (old new : List (Followed L)) → new ≡ old ++ down u ∷ [] → old ≡ map down us → new ≡ map down (us ++ u ∷ [])
-  down_more us u old new e f = e ∙ (ap (λ xs. xs ++ down u ∷ []) f ∙ sym (map-append down us (u ∷ [])))
+  pub down_more : (us : List Upstream) (u : Upstream) (old new : List (Followed L)) → new ≡ old ++ down wait_ms u ∷ [] → old ≡ map (down wait_ms) us → new ≡ map (down wait_ms) (us ++ u ∷ [])
+  down_more us u old new e f = e ∙ (ap (λ xs. xs ++ down wait_ms u ∷ []) f ∙ sym (map-append (down wait_ms) us (u ∷ [])))
 
-  pub down_end : (yielded us : List Upstream) (all : List (Followed L)) → map (λ x. x) yielded ≡ us → all ≡ map down yielded → AreDown us all
-  down_end yielded us all e f = f ∙ ap (map down) (sym (same_all yielded) ∙ e)
+  pub down_end : (yielded us : List Upstream) (all : List (Followed L)) → map (λ x. x) yielded ≡ us → all ≡ map (down wait_ms) yielded → AreDown wait_ms us all
+  down_end yielded us all e f = f ∙ ap (map (down wait_ms)) (sym (same_all yielded) ∙ e)
 
-names_down : (L : Type 0) (us : List Upstream) → names (map (down {L = L}) us) ≡ map (λ (u : Upstream). u.name) us
-names_down L [] = refl
-names_down L (u ∷ us) = ap (λ (ns : List Text). u.name ∷ ns) (names_down L us)
+module _ (L : Type 0) (wait_ms : ℕ) where
+  abbrev downs : List Upstream → List (Followed L)
+  downs us = map (down {L = L} wait_ms) us
 
-upstreams_down : (L : Type 0) (us : List Upstream) → upstreams (map (down {L = L}) us) ≡ map upstream us
-upstreams_down L [] = refl
-upstreams_down L (u ∷ us) = ap (λ (vs : List spec.Upstream). upstream u ∷ vs) (upstreams_down L us)
+  names_down : (us : List Upstream) → names (downs us) ≡ map (λ (u : Upstream). u.name) us
+  names_down [] = refl
+  names_down (u ∷ us) = ap (λ (ns : List Text). u.name ∷ ns) (names_down us)
 
-all_are : (L : Type 0) (us : List Upstream) → AllByRecursion (λ (f : Followed L). f.live ≡ None) (map (down {L = L}) us)
-all_are L [] = tt
-all_are L (u ∷ us) = (refl, all_are L us)
+  upstreams_down : (us : List Upstream) → upstreams (downs us) ≡ map upstream us
+  upstreams_down [] = refl
+  upstreams_down (u ∷ us) = ap (λ (vs : List spec.Upstream). upstream u ∷ vs) (upstreams_down us)
+
+  all_are : (us : List Upstream) → AllByRecursion (λ (f : Followed L). (f.live ≡ None) × (f.failed ≡ 0)) (downs us)
+  all_are [] = tt
+  all_are (u ∷ us) = ((refl, refl), all_are us)
+
+  all_wait : (us : List Upstream) → AllWait wait_ms (downs us)
+  all_wait [] = tt
+  all_wait (u ∷ us) = (refl, all_wait us)
 
 -- what a config tells is followed
-pub new_ok : {L : Type 0} (config : Object) (us : List Upstream) (all : List (Followed L)) → offences config ≡ [] → configured config ≡ Some (map upstream us) → AreDown us all
-    → IsConfig config × (configured config ≡ Some (upstreams all)) × AllByRecursion (λ (f : Followed L). f.live ≡ None) all
-new_ok {L = L} config us all none told e =
-    (none, told ∙ ap Some (sym (ap upstreams e ∙ upstreams_down L us)), subst (AllByRecursion (λ (f : Followed L). f.live ≡ None)) (sym e) (all_are L us))
+pub new_ok : {L : Type 0} (config : Object) (wait_ms : ℕ) (us : List Upstream) (all : List (Followed L)) → offences config ≡ [] → configured config ≡ Some (map upstream us) → AreDown wait_ms us all
+    → IsConfig config × (configured config ≡ Some (upstreams all)) × ((let zero : ℕ = 0 in zero ≡ 0) × AllByRecursion (λ (f : Followed L). (f.live ≡ None) × (f.failed ≡ 0)) all) × AllWait wait_ms all
+new_ok {L = L} config wait_ms us all none told e = (
+  none,
+  told ∙ ap Some (sym (ap upstreams e ∙ upstreams_down L wait_ms us)),
+  (refl, subst (AllByRecursion (λ (f : Followed L). (f.live ≡ None) × (f.failed ≡ 0))) (sym e) (all_are L wait_ms us)),
+  subst (λ (fs : List (Followed L)). AllWait wait_ms fs) (sym e) (all_wait L wait_ms us),
+)
 
-pub new_apart : {L : Type 0} (us : List Upstream) (all : List (Followed L)) → are_apart (map (λ (u : Upstream). u.name) us) ≡ true → AreDown us all → are_apart (names all) ≡ true
-new_apart {L = L} us all apart e = ap are_apart (ap names e ∙ names_down L us) ∙ apart
+pub new_apart : {L : Type 0} (wait_ms : ℕ) (us : List Upstream) (all : List (Followed L)) → are_apart (map (λ (u : Upstream). u.name) us) ≡ true → AreDown wait_ms us all → are_apart (names all) ≡ true
+new_apart {L = L} wait_ms us all apart e = ap are_apart (ap names e ∙ names_down L wait_ms us) ∙ apart
 
 -- a refusal names the first part that offends
-pub new_err : {A : Type 0} (L : Type 0) (config : Object) (P : A → Type 0) (f : ConfigFault) → Judges (offences config) P (Err f) → Configures {L = L} config (Err f)
-new_err L config P (Shape offence) h = least_some (offences config) offence h
-new_err L config P Memory h = tt
+pub new_err : {A : Type 0} (L : Type 0) (config : Object) (wait_ms : ℕ) (P : A → Type 0) (f : ConfigFault) → Judges (offences config) P (Err f) → Configures {L = L} config wait_ms (Err f)
+new_err L config wait_ms P (Shape offence) h = least_some (offences config) offence h
+new_err L config wait_ms P Memory h = tt

@@ -5,6 +5,7 @@ pub mod TurnLemmas
 pub mod PartLemmas
 pub mod LiveLemmas
 pub mod SuperLemmas
+pub mod RoundLemmas
 pub mod PlaceLemmas
 pub mod TreeLemmas
 pub mod NameLemmas

@@ -71,13 +71,16 @@ module _ {L : Type 0} where
   pub apart_still : (old new : List (Followed L)) → upstreams new ≡ upstreams old → are_apart (names old) ≡ true → are_apart (names new) ≡ true
   apart_still old new same apart = subst (λ (ns : List Text). are_apart ns ≡ true) (names_of old ∙ ap (map (λ (u : Upstream). u.name)) (sym same) ∙ sym (names_of new)) apart
 
-  -- and with other elements in the same place
+  -- with other elements of the same upstreams in the same place these are its elements
+  pub items_after : {Z : Type 0} (v : Vec (Followed L) Z) (new : List (Followed L)) → length v.items ≡ v.len → upstreams new ≡ upstreams v.items → (with_items v new).items ≡ new
+  items_after v new len same =
+      with_items_is v new (sym (length-map new (λ (f : Followed L). upstream f.upstream)) ∙ ap length same ∙ length-map v.items (λ (f : Followed L). upstream f.upstream) ∙ len)
+
+  -- and their names differ as before
   pub apart_after : {Z : Type 0} (v : Vec (Followed L) Z) (new : List (Followed L)) → length v.items ≡ v.len → upstreams new ≡ upstreams v.items → are_apart (names v.items) ≡ true
       → are_apart (names (with_items v new).items) ≡ true
   apart_after v new len same apart =
-      subst (λ (fs : List (Followed L)). are_apart (names fs) ≡ true)
-      (sym (with_items_is v new (sym (length-map new (λ (f : Followed L). upstream f.upstream)) ∙ ap length same ∙ length-map v.items (λ (f : Followed L). upstream f.upstream) ∙ len)))
-      (apart_still v.items new same apart)
+      subst (λ (fs : List (Followed L)). are_apart (names fs) ≡ true) (sym (items_after v new len same)) (apart_still v.items new same apart)
 
 -- ---- a name of the form that an upstream has fits an object
 

@@ -1,5 +1,5 @@
 -- Calls over several upstreams, one upstream after the other.
-use Rattle.std.proofs.Common.{◌≡◌, ℕ, suc, ◌+◌, List, [], ◌∷◌, ◌++◌, length, Option, Some, None, Result, Ok, Err, refl, sym, ap, subst, ◌∙◌, inl, inr}
+use Rattle.std.proofs.Common.{◌≡◌, ℕ, suc, List, [], ◌∷◌, ◌++◌, length, Option, Some, None, Result, Ok, Err, refl, sym, ap, subst, ◌∙◌, inl, inr}
 use Rattle.std.specs.Prelude.{IsSome, IsErr, IfOk, IfSome, slice_get}
 use Rattle.std.specs.declared.alloc.AllocError.{AllocError}
 use Rattle.ob_io.specs.Dials.{Dial, Visit}
@@ -19,9 +19,9 @@ use Rattle.ob_super.specs.Calls.{Stage, Call, InRound, SentOn, Said, put_on, sai
 use Rattle.ob_super.specs.Turns.{Turn, Dialled, Reply, Broken, Standing, Down, Up, standing, turned, held_at, held_of}
 use Rattle.ob_super.specs.Trees.{Entry, placed, object_path, the_entry, entry_in, entry_at}
 use Rattle.ob_super.specs.Links.{IsBack, IsBroken}
-use Rattle.ob_super.specs.Rounds.{host, ComesBack, BreaksAt, BreaksNext, BackIfDown, AreBackAt, AreBack, Part, Rounded, PutsHere, Puts, Sends, Ends, upstream_down, not_supported}
+use Rattle.ob_super.specs.Rounds.{host, ComesBack, BreaksAt, BreaksNext, BackIfDown, AreBackAt, AreBack, Part, PutsHere, Puts, Sends, Ends, upstream_down, not_supported}
 use Rattle.ob_super.specs.InHand as in_hand
-use Rattle.ob_super.specs.InHand.{Outside, Goes, Stands, Follows, StandAll, RoundsAll, SendsOn, PutsTo, HasSent, MayPut, PutsOne, PutsAll, EndsAll, HasEntry}
+use Rattle.ob_super.specs.InHand.{Outside, Goes, Stands, StandAll, SendsOn, PutsTo, HasSent, MayPut, PutsOne, PutsAll, EndsAll, HasEntry}
 use Rattle.ob_client.proofs.SessionLemmas.{never}
 use Rattle.ob_super.proofs.SaidLemmas.{unasked}
 use Rattle.ob_super.proofs.PartLemmas.{said_back, broken_back}
@@ -69,70 +69,13 @@ pub goes_then : (a b c : Outside) (ds es : List Dial) (vs ws : List Visit) → G
 goes_then a b c ds es vs ws g h =
     record { dialled = Gains-then a.dials b.dials c.dials ds es g.dialled h.dialled; back = Gains-then a.visits b.visits c.visits vs ws g.back h.back }
 
-no_length : {A : Type 0} (xs : List A) → length xs ≡ 0 → xs ≡ []
+pub no_length : {A : Type 0} (xs : List A) → length xs ≡ 0 → xs ≡ []
 no_length [] e = refl
 no_length (x ∷ xs) e = absurd (let l : suc (length xs) ≡ 0 = e in cc)
 
 module _ {L : Type 0} (left taken held : L → Option (List ℕ)) where
   abbrev AllStand : List Standing → List (Followed L) → Type 0
   AllStand ss all = StandAll left taken held ss all
-
-  -- ---- rounds
-
-  rounds_empty : (o : Outside) → RoundsAll left taken held o o [] [] (Ok tt)
-  rounds_empty o = λ olds are. of olds are
-    where
-      of : (olds : List Standing) → AllStand olds [] → (news : List Standing) × (dials : List Dial) × (visits : List Visit)
-          × Goes o dials visits o × Rounded (IsSome o.visits) [] olds news dials visits (Ok tt) × AllStand news []
-      of [] are = ([], [], [], goes_none o, (refl, refl), tt)
-      of (s ∷ ss) are = absurd are
-
-  pub rounds_none : (o : Outside) (all : List (Followed L)) → length all ≡ 0 → RoundsAll left taken held o o all all (Ok tt)
-  rounds_none o all e = subst (λ (x : List (Followed L)). RoundsAll left taken held o o x x (Ok tt)) (sym (no_length all e)) (rounds_empty o)
-
-  pub rounds_stop : (before after : Outside) (f g : Followed L) (rest : List (Followed L)) (r : Result (Unit {0}) AllocError) {e : AllocError} → IsErr r → g.upstream ≡ f.upstream
-      → ((old : Standing) → Stands left taken held (in_hand.upstream f.upstream) old f.live → Follows left taken held before after (in_hand.upstream f.upstream) old g.live (Err e))
-      → RoundsAll left taken held before after (f ∷ rest) (g ∷ rest) r
-  rounds_stop before after f g rest (Ok x) is same follows = never is
-  rounds_stop before after f g rest (Err x) is same follows = λ olds are. of olds are
-    where
-      down : (live : Option (Live L)) → live ≡ None → Stands left taken held (in_hand.upstream g.upstream) Down live
-      down None d = tt
-      down (Some l) d = absurd (let x : Some l ≡ None = d in cc)
-
-      of : (olds : List Standing) → AllStand olds (f ∷ rest) → (news : List Standing) × (dials : List Dial) × (visits : List Visit)
-          × Goes before dials visits after × Rounded (IsSome after.visits) (in_hand.upstreams (f ∷ rest)) olds news dials visits (Err x) × AllStand news (g ∷ rest)
-      of [] are = absurd are
-      of (s ∷ ss) (first, others) =
-          let p = follows s first in
-          (Down ∷ ss, p.0.0, p.0.1, p.0.2, inl (p.0.3, refl, refl), (down g.live p.1, others))
-
-  pub rounds_more : (before mid after : Outside) (f g : Followed L) (rest more : List (Followed L)) (r : Result (Unit {0}) AllocError) (x : Unit {0}) → g.upstream ≡ f.upstream
-      → ((old : Standing) → Stands left taken held (in_hand.upstream f.upstream) old f.live → Follows left taken held before mid (in_hand.upstream f.upstream) old g.live (Ok x))
-      → RoundsAll left taken held mid after rest more r
-      → RoundsAll left taken held before after (f ∷ rest) (g ∷ more) r
-  rounds_more before mid after f g rest more r x same follows rounds = λ olds are. of olds are
-    where
-      put : (r : Result (Unit {0}) AllocError) (old new : Standing) (olds news : List Standing) (d ds : List Dial) (v vs : List Visit)
-          → Part (IsSome after.visits) (in_hand.upstream f.upstream) old new d v → Rounded (IsSome after.visits) (in_hand.upstreams rest) olds news ds vs r
-          → Rounded (IsSome after.visits) (in_hand.upstreams (f ∷ rest)) (old ∷ olds) (new ∷ news) (d ++ ds) (v ++ vs) r
-      put (Ok y) old new olds news d ds v vs p q = (d, ds, v, vs, refl, refl, p, q)
-      put (Err e) old new olds news d ds v vs p q = inr (d, ds, v, vs, refl, refl, p, q)
-
-      of : (olds : List Standing) → AllStand olds (f ∷ rest) → (news : List Standing) × (dials : List Dial) × (visits : List Visit)
-          × Goes before dials visits after × Rounded (IsSome after.visits) (in_hand.upstreams (f ∷ rest)) olds news dials visits r × AllStand news (g ∷ more)
-      of [] are = absurd are
-      of (s ∷ ss) (first, others) =
-          let p = follows s first in
-          let q = rounds ss others in (
-            p.0 ∷ q.0,
-            p.1 ++ q.1,
-            p.2 ++ q.2,
-            goes_then before mid after p.1 q.1 p.2 q.2 p.3 q.3,
-            put r s p.0 ss q.0 p.1 q.1 p.2 q.2
-                (part_less (IsSome mid.visits) (IsSome after.visits) (λ t. told_before mid.visits after.visits q.2 q.3.back t) (in_hand.upstream f.upstream) s p.0 p.1 p.2 p.4) q.4,
-            (subst (λ (u : Upstream). Stands left taken held u p.0 g.live) (sym (ap in_hand.upstream same)) p.5, q.5),
-          )
 
   -- ---- a PUT
 

@@ -1,5 +1,5 @@
 -- What contracts see of a supervisor in hand.
-use Rattle.std.specs.Prelude.{◌≡◌, ◌⊎◌, ◌<◌, ℕ, length, false, true, List, [], ◌∷◌, ◌++◌, map, codes, IsSome, Option, Some, None, option_map, option_and_then, unwrap_or, slice_get, Result}
+use Rattle.std.specs.Prelude.{◌≡◌, ◌⊎◌, ◌<◌, ◌+◌, ℕ, zero, suc, Bool, length, false, true, cond, not, is_ok, List, [], ◌∷◌, ◌++◌, map, codes, IsSome, Option, Some, None, is_some, option_map, option_and_then, unwrap_or, slice_get, Result}
 use Rattle.std.specs.declared.result.Result.TheVariants.{Ok, Err}
 use Rattle.ob_io.specs.Links.{inlet}
 use Rattle.ob_asking.specs.Wires.{Wire, wire}
@@ -11,14 +11,16 @@ use Rattle.ob_io.specs.Dials.{Dial, Visit, IsVisit}
 use Rattle.ob_http.specs.Replies.{AreTaken}
 use Rattle.ob_io.specs.Told.{Gains}
 use Rattle.ob_super.specs.Calls.{Call, SentOn, Stage, Polling, put_on, stage_of, said_in}
-use Rattle.ob_super.specs.Turns.{Standing, Down, Up}
+use Rattle.ob_super.specs.Turns.{Standing, Down, Up, is_up}
 use Rattle.ob_super.specs.Trees.{Entry, View, the_entry, entry_in, objects, subtree, with_children, shown_among}
 use Rattle.ob_super.specs.Links.{is_fault, HasSaid}
-use Rattle.ob_super.specs.Rounds.{host, BreaksAt, Part, Lacks, Rounded, SendsIf, Sends, Puts, Ends}
+use Rattle.ob_super.specs.Dialling.{Past, State, dialled}
+use Rattle.ob_super.specs.Rounds.{host, BreaksAt, Part, Lacks, HadPart, Asks, AsksAll, StopsAsking, IsDialled, DialsAll, Round, NoneDialled, Rounded, SendsIf, Sends, Puts, Ends}
 use Rattle.ob_super.specs.Supervised.{Asked, RepliesBy, LacksReply, RepliesTo, Supervises, ManyRounds, StopsAmong, Supervised, StoppedEarly}
 use Rattle.std.specs.declared.alloc.AllocError.{AllocError}
 use Rattle.ob_object.specs.Object.{Object, in_row}
-use Rattle.std.specs.List.{AllByRecursion, flat_map}
+use Rattle.std.specs.List.{AllByRecursion, list_all, flat_map}
+use Rattle.std.specs.Option.{option_map_or}
 use Rattle.ob_watching.specs.WatchOuts.{Text, Held}
 use Rattle.ob_client.specs.declared.mirror_fault.MirrorFault.{MirrorFault}
 use Rattle.ob_client.specs.declared.mirror_fault.MirrorFault.TheVariants as mirrors
@@ -40,6 +42,47 @@ use Rattle.ob_super.specs.declared.upstream.Followed.{Followed}
 
 abbrev pub upstreams : {L : Type 0} → List (Followed L) → List spec.Upstream
 upstreams all = map (λ f. upstream f.upstream) all
+
+-- the rounds in which their last dials failed
+abbrev pub fails : {L : Type 0} → List (Followed L) → List ℕ
+fails all = map (λ f. f.failed) all
+
+-- what there was of rounds
+abbrev pub past : {L : Type 0} → Super L → Past
+past s = record { rounds = s.rounds; fails = fails s.followed.items }
+
+-- all of them are down, none was ever dialled, and there was no round
+abbrev pub IsNew : {L : Type 0} → Super L → Type 0
+IsNew s = (s.rounds ≡ 0) × AllByRecursion (λ f. (f.live ≡ None) × (f.failed ≡ 0)) s.followed.items
+
+-- an upstream in a round
+abbrev pub state : {L : Type 0} → Followed L → State
+state f = record { waits = f.waits; failed = f.failed }
+
+abbrev pub states : {L : Type 0} → List (Followed L) → List State
+states all = map state all
+
+-- the same at first
+abbrev pub begun : {L : Type 0} → Followed L → State
+begun f = record { waits = not (is_some f.live); failed = f.failed }
+
+abbrev pub all_begun : {L : Type 0} → List (Followed L) → List State
+all_begun all = map begun all
+
+-- what is kept of an upstream after its dial in the round of this number
+abbrev pub noted : {L : Type 0} → ℕ → Followed L → Followed L
+noted number f = record f { waits = false; failed = cond (is_some f.live) 0 number }
+
+-- the one at a place waits no more, and the others are as they were
+abbrev pub IsSpent : (place : ℕ) → (olds news : List State) → Type 0
+IsSpent zero (x ∷ xs) (y ∷ ys) = (y.waits ≡ false) × (ys ≡ xs)
+IsSpent (suc place) (x ∷ xs) (y ∷ ys) = (y ≡ x) × IsSpent place xs ys
+IsSpent _ _ _ = ⊥
+
+-- how many wait
+abbrev pub count_waiting : List State → ℕ
+count_waiting [] = 0
+count_waiting (x ∷ xs) = cond x.waits 1 0 + count_waiting xs
 
 -- what is told outside: the dials, and the links that came back
 pub record Outside : Type 0 where
@@ -100,6 +143,19 @@ module _ {L : Type 0} (left taken held : L → Option (List ℕ)) where
   Follows before after u old live (Ok _) = Parts before after u old (Ok live)
   Follows before after u old live (Err e) = Parts before after u old (Err e) × (live ≡ None)
 
+  -- One that is up was asked for its changes, and one that is down is left so; or memory was wanting.
+  abbrev pub Polls : Outside → Outside → spec.Upstream → Standing → Option (Live L) → Result (Unit {0}) AllocError → Type 0
+  Polls before after u old live (Ok _) =
+      (new : Standing) × (visits : List Visit) × Goes before [] visits after × Asks (IsSome after.visits) u old new visits × Stands u new live
+  Polls before after u old live (Err e) =
+      (is_up old ≡ true) × ((visits : List Visit) × Goes before [] visits after × Lacks (IsSome after.visits) u old [] visits) × (live ≡ None)
+
+  -- An upstream had its part in the round of this number; or memory was wanting in it.
+  abbrev pub DialsOne : Outside → Outside → ℕ → spec.Upstream → Standing → Followed L → Result (Unit {0}) AllocError → Type 0
+  DialsOne before after number u old f result =
+      (new : Standing) × (dials : List Dial) × (visits : List Visit) × Goes before dials visits after
+      × HadPart (IsSome after.visits) (is_ok result) u old new dials visits × (state f ≡ dialled number new) × Stands u new f.live
+
   -- A PUT was sent on and answered; or the call broke, and its link came back; or memory was wanting.
   abbrev pub SendsOn : Outside → Outside → spec.Upstream → List Call → Request → Option (Live L) → Result (Option Object) AllocError → Type 0
   SendsOn before after u calls q live (Ok (Some o)) = (after ≡ before) × Stands u (Up (calls ++ SentOn q.target q.body o ∷ [])) live
@@ -140,10 +196,47 @@ module _ {L : Type 0} (left taken held : L → Option (List ℕ)) where
   StandAll (s ∷ ss) (f ∷ fs) = Stands (upstream f.upstream) s f.live × StandAll ss fs
   StandAll _ _ = ⊥
 
-  abbrev pub RoundsAll : Outside → Outside → List (Followed L) → List (Followed L) → Result (Unit {0}) AllocError → Type 0
-  RoundsAll before after old new result =
+  -- those that are up were asked for their changes, in order; or memory was wanting in the part of one
+  abbrev pub HaveAsked : Type 0 → List spec.Upstream → List Standing → List Standing → List Visit → Result (Unit {0}) AllocError → Type 0
+  HaveAsked Told us olds news visits (Ok _) = AsksAll Told us olds news visits
+  HaveAsked Told us olds news visits (Err _) = StopsAsking Told us olds news visits
+
+  abbrev pub PollsOver : Outside → Outside → List (Followed L) → List (Followed L) → Result (Unit {0}) AllocError → Type 0
+  PollsOver before after old new result =
+      (olds : List Standing) → StandAll olds old → (news : List Standing) × (visits : List Visit)
+      × Goes before [] visits after × HaveAsked (IsSome after.visits) (upstreams old) olds news visits result × StandAll news new
+
+  -- the one at a place was dialled
+  abbrev pub DialsAt : Outside → Outside → ℕ → (place : ℕ) → List (Followed L) → List (Followed L) → Result (Unit {0}) AllocError → Type 0
+  DialsAt before after number place old new result =
       (olds : List Standing) → StandAll olds old → (news : List Standing) × (dials : List Dial) × (visits : List Visit)
-      × Goes before dials visits after × Rounded (IsSome after.visits) (upstreams old) olds news dials visits result × StandAll news new
+      × Goes before dials visits after
+      × IsDialled (IsSome after.visits) (is_ok result) number place (upstreams old) (states old) olds (states new) news dials visits × StandAll news new
+
+  -- those that are down were dialled
+  abbrev pub DialsOver : Outside → Outside → ℕ → List (Followed L) → List (Followed L) → Result (Unit {0}) AllocError → Type 0
+  DialsOver before after number old new result =
+      (olds : List Standing) → StandAll olds old → (news : List Standing) × (places : List ℕ) × (dials : List Dial) × (visits : List Visit)
+      × Goes before dials visits after
+      × DialsAll (IsSome after.visits) (is_ok result) number (upstreams old) places (states old) olds (states new) news dials visits × StandAll news new
+
+  -- So it is in a round of this number; or memory was wanting.
+  abbrev pub HadRound : Type 0 → List spec.Upstream → ℕ → (fails fails' : List ℕ) → List Standing → List Standing → List Dial → List Visit → Result (Unit {0}) AllocError → Type 0
+  HadRound Told us number fails fails' olds news dials visits (Ok _) = Round Told true us number fails fails' olds news dials visits
+  HadRound Told us number fails fails' olds news dials visits (Err _) =
+      NoneDialled Told us fails fails' olds news dials visits ⊎ Round Told false us number fails fails' olds news dials visits
+
+  abbrev pub RoundsOver : Outside → Outside → ℕ → List (Followed L) → List (Followed L) → Result (Unit {0}) AllocError → Type 0
+  RoundsOver before after number old new result =
+      (olds : List Standing) → StandAll olds old → (news : List Standing) × (dials : List Dial) × (visits : List Visit)
+      × Goes before dials visits after
+      × HadRound (IsSome after.visits) (upstreams old) number (fails old) (fails new) olds news dials visits result × StandAll news new
+
+  abbrev pub RoundsAll : Outside → Outside → Super L → Super L → Result (Unit {0}) AllocError → Type 0
+  RoundsAll before after old new result =
+      (olds : List Standing) → StandAll olds old.followed.items → (news : List Standing) × (dials : List Dial) × (visits : List Visit)
+      × Goes before dials visits after
+      × Rounded (IsSome after.visits) (upstreams old.followed.items) (past old) (past new) olds news dials visits result × StandAll news new.followed.items
 
   abbrev pub PutsAll : Outside → Outside → List (Followed L) → List (Followed L) → Text → Option Object → Result (Option Object) AllocError → Type 0
   PutsAll before after old new path body result =
@@ -156,14 +249,15 @@ module _ {L : Type 0} (left taken held : L → Option (List ℕ)) where
       (ss : List Standing) → StandAll ss all → (visits : List Visit) × Goes before [] visits after × Ends (IsSome after.visits) (upstreams all) ss visits
 
   -- So many rounds were had; or memory was wanting in one of them.
-  abbrev pub HasRounds : Type 0 → List spec.Upstream → ℕ → List Standing → List Standing → List Dial → List Visit → Result (Unit {0}) AllocError → Type 0
-  HasRounds Told us n olds news dials visits (Ok _) = ManyRounds Told us n olds news dials visits
-  HasRounds Told us n olds news dials visits (Err _) = StopsAmong Told us n olds news dials visits
+  abbrev pub HasRounds : Type 0 → List spec.Upstream → ℕ → (past past' : Past) → List Standing → List Standing → List Dial → List Visit → Result (Unit {0}) AllocError → Type 0
+  HasRounds Told us n past past' olds news dials visits (Ok _) = ManyRounds Told us n past past' olds news dials visits
+  HasRounds Told us n past past' olds news dials visits (Err _) = StopsAmong Told us n past past' olds news dials visits
 
-  abbrev pub ManyAll : Outside → Outside → List (Followed L) → List (Followed L) → ℕ → Result (Unit {0}) AllocError → Type 0
+  abbrev pub ManyAll : Outside → Outside → Super L → Super L → ℕ → Result (Unit {0}) AllocError → Type 0
   ManyAll before after old new n result =
-      (olds : List Standing) → StandAll olds old → (news : List Standing) × (dials : List Dial) × (visits : List Visit)
-      × Goes before dials visits after × HasRounds (IsSome after.visits) (upstreams old) n olds news dials visits result × StandAll news new
+      (olds : List Standing) → StandAll olds old.followed.items → (news : List Standing) × (dials : List Dial) × (visits : List Visit)
+      × Goes before dials visits after
+      × HasRounds (IsSome after.visits) (upstreams old.followed.items) n (past old) (past new) olds news dials visits result × StandAll news new.followed.items
 
   -- A request has this reply; or memory was wanting for it.
   abbrev pub RepliesOr : Type 0 → List spec.Upstream → List Standing → List Standing → Request → List Visit → Option Object → Type 0
@@ -176,15 +270,17 @@ module _ {L : Type 0} (left taken held : L → Option (List ℕ)) where
       × Goes before [] visits after × RepliesOr (IsSome after.visits) (upstreams old) olds news q visits reply × StandAll news new
 
   -- Before a request there was a round, and then it had this reply; or memory was wanting.
-  abbrev pub AnswersAll : Outside → Outside → List (Followed L) → List (Followed L) → Request → Option Object → Type 0
+  abbrev pub AnswersAll : Outside → Outside → Super L → Super L → Request → Option Object → Type 0
   AnswersAll before after old new q reply =
-      (olds : List Standing) → StandAll olds old → (news : List Standing) × (dials : List Dial) × (visits : List Visit)
-      × Goes before dials visits after × RepliesTo (IsSome after.visits) (upstreams old) olds news q reply dials visits × StandAll news new
+      (olds : List Standing) → StandAll olds old.followed.items → (news : List Standing) × (dials : List Dial) × (visits : List Visit)
+      × Goes before dials visits after
+      × RepliesTo (IsSome after.visits) (upstreams old.followed.items) (past old) (past new) olds news q reply dials visits × StandAll news new.followed.items
 
-  abbrev pub SupervisesAll : Outside → Outside → List (Followed L) → List (Followed L) → List Asked → Type 0
+  abbrev pub SupervisesAll : Outside → Outside → Super L → Super L → List Asked → Type 0
   SupervisesAll before after old new qs =
-      (olds : List Standing) → StandAll olds old → (news : List Standing) × (dials : List Dial) × (visits : List Visit)
-      × Goes before dials visits after × Supervises (IsSome after.visits) (upstreams old) olds news qs dials visits × StandAll news new
+      (olds : List Standing) → StandAll olds old.followed.items → (news : List Standing) × (dials : List Dial) × (visits : List Visit)
+      × Goes before dials visits after
+      × Supervises (IsSome after.visits) (upstreams old.followed.items) (past old) (past new) olds news qs dials visits × StandAll news new.followed.items
 
 -- ---- what calls bring
 
@@ -304,17 +400,22 @@ IsBehind front text (Some rest) = text ≡ front ++ rest
 
 -- ---- a config
 
--- an upstream that is down
-abbrev pub down : {L : Type 0} → Upstream → Followed L
-down u = record { upstream = u; live = None }
+-- an upstream that is down, and was never dialled
+abbrev pub down : {L : Type 0} → ℕ → Upstream → Followed L
+down wait_ms u = record { upstream = u; wait_ms = wait_ms; waits = false; failed = 0; live = None }
 
--- these are followed, and all of them are down
-abbrev pub AreDown : {L : Type 0} → List Upstream → List (Followed L) → Type 0
-AreDown us all = all ≡ map down us
+-- these are followed, and all of them are so
+abbrev pub AreDown : {L : Type 0} → ℕ → List Upstream → List (Followed L) → Type 0
+AreDown wait_ms us all = all ≡ map (down wait_ms) us
 
--- it is a config, and what it tells is followed, and all of it is down; or this part is the first that offends against its form; or there
--- was no memory
-abbrev pub Configures : {L : Type 0} → Object → Result (Super L) ConfigFault → Type 0
-Configures config (Ok s) = IsConfig config × (configured config ≡ Some (upstreams s.followed.items)) × AllByRecursion (λ f. f.live ≡ None) s.followed.items
-Configures config (Err (Shape offence)) = IsFirstOffence config offence
-Configures config (Err Memory) = Unit {0}
+-- a limit of so many milliseconds stands for each
+abbrev pub AllWait : {L : Type 0} → ℕ → List (Followed L) → Type 0
+AllWait wait_ms all = AllByRecursion (λ f. f.wait_ms ≡ wait_ms) all
+
+-- it is a config, and what it tells is followed, with this limit, and all of it is down and was never dialled; or this part is the
+-- first that offends against its form; or there was no memory
+abbrev pub Configures : {L : Type 0} → Object → ℕ → Result (Super L) ConfigFault → Type 0
+Configures config wait_ms (Ok s) =
+    IsConfig config × (configured config ≡ Some (upstreams s.followed.items)) × IsNew s × AllWait wait_ms s.followed.items
+Configures config wait_ms (Err (Shape offence)) = IsFirstOffence config offence
+Configures config wait_ms (Err Memory) = Unit {0}

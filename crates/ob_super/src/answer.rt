@@ -41,6 +41,7 @@ impl<L: Link + Drop> Super<L> {
         body: Option<&Obj>,
     ) -> Result<Obj, AllocError>
         ensures same { in_hand.upstreams self.new.followed.items ≡ in_hand.upstreams self.old.followed.items }
+        ensures past { in_hand.past self.new ≡ in_hand.past self.old }
         ensures replies { in_hand.RepliesAll L.left L.taken L.held (in_hand.outside (W.dials dialer.old) (W.visits dialer.old)) (in_hand.outside (W.dials dialer.new) (W.visits dialer.new)) self.old.followed.items self.new.followed.items (in_hand.request Put path.now (option_copied body.entry)) (in_hand.replied_by result) }
     {
         match self.put(dialer, path, body)? {
@@ -58,6 +59,7 @@ impl<L: Link + Drop> Super<L> {
         body: Option<&Obj>,
     ) -> Result<Obj, AllocError>
         ensures same { in_hand.upstreams self.new.followed.items ≡ in_hand.upstreams self.old.followed.items }
+        ensures past { in_hand.past self.new ≡ in_hand.past self.old }
         ensures replies { in_hand.RepliesAll L.left L.taken L.held (in_hand.outside (W.dials dialer.old) (W.visits dialer.old)) (in_hand.outside (W.dials dialer.new) (W.visits dialer.new)) self.old.followed.items self.new.followed.items (in_hand.request verb path.now (option_copied body.entry)) (in_hand.replied_by result) }
     {
         match verb {
@@ -78,7 +80,7 @@ impl<L: Link + Drop> Super<L> {
         body: Option<&Obj>,
     ) -> Result<Obj, AllocError>
         ensures same { in_hand.upstreams self.new.followed.items ≡ in_hand.upstreams self.old.followed.items }
-        ensures answers { in_hand.AnswersAll L.left L.taken L.held (in_hand.outside (W.dials dialer.old) (W.visits dialer.old)) (in_hand.outside (W.dials dialer.new) (W.visits dialer.new)) self.old.followed.items self.new.followed.items (in_hand.request verb path.now (option_copied body.entry)) (in_hand.replied_by result) }
+        ensures answers { in_hand.AnswersAll L.left L.taken L.held (in_hand.outside (W.dials dialer.old) (W.visits dialer.old)) (in_hand.outside (W.dials dialer.new) (W.visits dialer.new)) self.old self.new (in_hand.request verb path.now (option_copied body.entry)) (in_hand.replied_by result) }
     {
         self.round(dialer)?;
         self.reply(dialer, verb, path, body)
@@ -87,7 +89,7 @@ impl<L: Link + Drop> Super<L> {
     /// Has so many rounds, one behind the other. Without memory in one of them there are no more, and its upstream in hand is down.
     pub fn rounds<W: Dialer<L = L>>(&mut self, dialer: &mut W, count: u32) -> Result<(), AllocError>
         ensures same { in_hand.upstreams self.new.followed.items ≡ in_hand.upstreams self.old.followed.items }
-        ensures rounds { in_hand.ManyAll L.left L.taken L.held (in_hand.outside (W.dials dialer.old) (W.visits dialer.old)) (in_hand.outside (W.dials dialer.new) (W.visits dialer.new)) self.old.followed.items self.new.followed.items count result }
+        ensures rounds { in_hand.ManyAll L.left L.taken L.held (in_hand.outside (W.dials dialer.old) (W.visits dialer.old)) (in_hand.outside (W.dials dialer.new) (W.visits dialer.new)) self.old self.new count result }
     {
         for _ in 0..count {
             self.round(dialer)?;

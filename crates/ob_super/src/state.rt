@@ -10,5 +10,7 @@ use std::alloc::Global;
 pub struct Super<L> {
     pub(crate) alloc: Global,
     pub(crate) followed: Vec<Followed<L>>,
+    /// How many rounds there were.
+    pub(crate) rounds: u64,
     ghost apart: { are_apart (names followed.items) ≡ true },
 }

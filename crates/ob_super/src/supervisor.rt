@@ -1,15 +1,17 @@
 //! The supervisor.
-ghost use Rattle.std.specs.Prelude.{◌≡◌, ◌<◌, ◌++◌, ℕ, List, [], ◌∷◌, None, Some, IsSome, IfSome, IfOk, OnOk, is_some, option_copied, option_map, slice_get, length};
+ghost use Rattle.std.specs.Prelude.{◌≡◌, ◌<◌, ◌++◌, ℕ, List, [], ◌∷◌, None, Some, IsSome, IfSome, IsOk, IfOk, OnOk, is_some, option_copied, option_map, slice_get, length};
 ghost use Rattle.ob_client.specs.Mirrors.{found};
 ghost use Rattle.ob_asking.specs.Places.{place_at};
 ghost use Rattle.ob_super.specs.Calls.{Call};
 ghost use Rattle.ob_super.specs.Trees.{object_at, entry_in, with_children, subtree, shown_among, shown_in};
 ghost use Rattle.ob_super.specs.Turns.{Up};
+ghost use Rattle.ob_super.specs.Dialling.{is_no_sooner, next_place, none_failed, next_dial};
+ghost use Rattle.std.specs.List.{list_all};
 ghost use Rattle.ob_super.specs.InHand as in_hand;
 
 use crate::config::upstreams;
 use crate::config_fault::ConfigFault;
-use crate::live::{end_live, follow, send_put};
+use crate::live::{dial, end_live, poll_if_up, send_put};
 use crate::place::{ROOT, behind_list, is_list_path, is_number, object_path};
 use crate::refusal::{err, not_supported};
 use crate::state::Super;
@@ -93,6 +95,7 @@ fn put_at<W: Dialer>(
     requires live { IsSome followed.old.live }
     requires there { place < length followed.old.upstream.hrefs.items }
     ensures same { followed.new.upstream ≡ followed.old.upstream }
+    ensures failed { followed.new.failed ≡ followed.old.failed }
     ensures puts { (calls : List Call) → (href : List ℕ) → in_hand.Stands W.L.left W.L.taken W.L.held (in_hand.upstream followed.old.upstream) (Up calls) followed.old.live
         → slice_get followed.old.upstream.hrefs.items place ≡ Some href
         → in_hand.MayPut W.L.left W.L.taken W.L.held (in_hand.outside (W.dials dialer.old) (W.visits dialer.old)) (in_hand.outside (W.dials dialer.new) (W.visits dialer.new)) (in_hand.upstream followed.old.upstream) calls (object_at followed.old.upstream.name place) (place_at followed.old.upstream.lobby.url href) (option_copied body.entry) followed.new.live result }
@@ -110,20 +113,134 @@ fn put_at<W: Dialer>(
     }
 }
 
-// Has a round over upstreams, in order.
-fn round_over<W: Dialer>(
+// Whether another upstream doesn't wait for a dial, or its last dial that failed was in no earlier round.
+fn is_no_sooner<L>(followed: &Followed<L>, other: &Followed<L>) -> bool
+    ensures { result ≡ is_no_sooner (in_hand.state followed.now) (in_hand.state other.now) }
+{
+    !other.waits || followed.failed <= other.failed
+}
+
+// The same of each of these.
+fn are_no_sooner<L>(followed: &Followed<L>, behind: &[Followed<L>]) -> bool
+    ensures { result ≡ list_all (is_no_sooner (in_hand.state followed.now)) (in_hand.states behind.now) }
+{
+    for other in behind {
+        if !is_no_sooner(followed, other) {
+            return false;
+        }
+    }
+    true
+}
+
+// The first place, of those that wait for a dial, where the last dial that failed is the longest ago.
+fn next_place<L>(all: &[Followed<L>]) -> Option<usize>
+    ensures next { result ≡ next_place (in_hand.states all.now) }
+    ensures there { IfSome result (λ place. place < length all.now) }
+{
+    let Some((first, rest)) = all.split_first() else {
+        return None;
+    };
+    if first.waits && are_no_sooner(first, rest) {
+        return Some(0);
+    }
+    match next_place(rest) {
+        Some(place) => Some(place + 1),
+        None => None,
+    }
+}
+
+// Whether no dial of the round of this number left one down.
+fn none_failed<L>(number: u64, all: &[Followed<L>]) -> bool
+    ensures { result ≡ none_failed number (in_hand.states all.now) }
+{
+    for followed in all {
+        if followed.failed == number {
+            return false;
+        }
+    }
+    true
+}
+
+// Which place is dialled next in the round of this number.
+fn next_dial<L>(number: u64, all: &[Followed<L>]) -> Option<usize>
+    ensures next { result ≡ next_dial number (in_hand.states all.now) }
+    ensures there { IfSome result (λ place. place < length all.now) }
+{
+    if number == 1 || none_failed(number, all) {
+        return next_place(all);
+    }
+    None
+}
+
+// Asks each upstream that is up for its changes, in order; the others wait for a dial.
+fn poll_over<W: Dialer>(
     alloc: Global,
     all: &mut [Followed<W::L>],
     dialer: &mut W,
 ) -> Result<(), AllocError>
     ensures same { in_hand.upstreams all.new ≡ in_hand.upstreams all.old }
-    ensures rounds { in_hand.RoundsAll W.L.left W.L.taken W.L.held (in_hand.outside (W.dials dialer.old) (W.visits dialer.old)) (in_hand.outside (W.dials dialer.new) (W.visits dialer.new)) all.old all.new result }
+    ensures fails { in_hand.fails all.new ≡ in_hand.fails all.old }
+    ensures begun { IsOk result → in_hand.states all.new ≡ in_hand.all_begun all.old }
+    ensures polls { in_hand.PollsOver W.L.left W.L.taken W.L.held (in_hand.outside (W.dials dialer.old) (W.visits dialer.old)) (in_hand.outside (W.dials dialer.new) (W.visits dialer.new)) all.old all.new result }
 {
     let Some((first, rest)) = all.split_first_mut() else {
         return Ok(());
     };
-    follow(alloc, first, dialer)?;
-    round_over(alloc, rest, dialer)
+    poll_if_up(alloc, first, dialer)?;
+    poll_over(alloc, rest, dialer)
+}
+
+// Has the part of the round of this number with the upstream at a place.
+fn dial_at<W: Dialer>(
+    alloc: Global,
+    number: u64,
+    place: usize,
+    all: &mut [Followed<W::L>],
+    dialer: &mut W,
+) -> Result<(), AllocError>
+    requires there { place < length all.old }
+    ensures same { in_hand.upstreams all.new ≡ in_hand.upstreams all.old }
+    ensures spent { in_hand.IsSpent place (in_hand.states all.old) (in_hand.states all.new) }
+    ensures dials { in_hand.DialsAt W.L.left W.L.taken W.L.held (in_hand.outside (W.dials dialer.old) (W.visits dialer.old)) (in_hand.outside (W.dials dialer.new) (W.visits dialer.new)) number place all.old all.new result }
+{
+    let Some((first, rest)) = all.split_first_mut() else {
+        return Ok(());
+    };
+    if place == 0 {
+        return dial(alloc, number, first, dialer);
+    }
+    dial_at(alloc, number, place - 1, rest, dialer)
+}
+
+// Dials upstreams in the round of this number, as long as one is next.
+fn dial_over<W: Dialer>(
+    alloc: Global,
+    number: u64,
+    all: &mut [Followed<W::L>],
+    dialer: &mut W,
+) -> Result<(), AllocError>
+    ensures same { in_hand.upstreams all.new ≡ in_hand.upstreams all.old }
+    ensures dials { in_hand.DialsOver W.L.left W.L.taken W.L.held (in_hand.outside (W.dials dialer.old) (W.visits dialer.old)) (in_hand.outside (W.dials dialer.new) (W.visits dialer.new)) number all.old all.new result }
+{
+    let Some(place) = next_dial(number, all) else {
+        return Ok(());
+    };
+    dial_at(alloc, number, place, all, dialer)?;
+    dial_over(alloc, number, all, dialer)
+}
+
+// Has the round of this number over upstreams.
+fn round_over<W: Dialer>(
+    alloc: Global,
+    number: u64,
+    all: &mut [Followed<W::L>],
+    dialer: &mut W,
+) -> Result<(), AllocError>
+    ensures same { in_hand.upstreams all.new ≡ in_hand.upstreams all.old }
+    ensures rounds { in_hand.RoundsOver W.L.left W.L.taken W.L.held (in_hand.outside (W.dials dialer.old) (W.visits dialer.old)) (in_hand.outside (W.dials dialer.new) (W.visits dialer.new)) number all.old all.new result }
+{
+    poll_over(alloc, all, dialer)?;
+    dial_over(alloc, number, all, dialer)
 }
 
 // Takes an upstream down.
@@ -148,6 +265,7 @@ fn put_or_down<W: Dialer>(
     requires live { IsSome followed.old.live }
     requires there { place < length followed.old.upstream.hrefs.items }
     ensures same { followed.new.upstream ≡ followed.old.upstream }
+    ensures failed { followed.new.failed ≡ followed.old.failed }
     ensures puts { (calls : List Call) → (href : List ℕ) → in_hand.Stands W.L.left W.L.taken W.L.held (in_hand.upstream followed.old.upstream) (Up calls) followed.old.live
         → slice_get followed.old.upstream.hrefs.items place ≡ Some href
         → in_hand.PutsTo W.L.left W.L.taken W.L.held (in_hand.outside (W.dials dialer.old) (W.visits dialer.old)) (in_hand.outside (W.dials dialer.new) (W.visits dialer.new)) (in_hand.upstream followed.old.upstream) calls (object_at followed.old.upstream.name place) (place_at followed.old.upstream.lobby.url href) (option_copied body.entry) followed.new.live result }
@@ -162,11 +280,18 @@ fn put_or_down<W: Dialer>(
 }
 
 // An upstream that is down stands last.
-fn push_down<L: Drop>(all: &mut Vec<Followed<L>>, upstream: Upstream) -> Result<(), AllocError>
-    ensures { OnOk result (all.new.items ≡ all.old.items ++ in_hand.down upstream ∷ []) }
+fn push_down<L: Drop>(
+    all: &mut Vec<Followed<L>>,
+    upstream: Upstream,
+    wait_ms: u32,
+) -> Result<(), AllocError>
+    ensures { OnOk result (all.new.items ≡ all.old.items ++ in_hand.down wait_ms upstream ∷ []) }
 {
     all.push(Followed {
         upstream,
+        wait_ms,
+        waits: false,
+        failed: 0,
         live: None,
     })?;
     Ok(())
@@ -176,12 +301,13 @@ fn push_down<L: Drop>(all: &mut Vec<Followed<L>>, upstream: Upstream) -> Result<
 fn all_down<L: Drop>(
     alloc: Global,
     upstreams: Vec<Upstream>,
+    wait_ms: u32,
 ) -> Result<Vec<Followed<L>>, AllocError>
-    ensures { IfOk result (λ all. in_hand.AreDown upstreams.items all.items) }
+    ensures { IfOk result (λ all. in_hand.AreDown wait_ms upstreams.items all.items) }
 {
     let mut all = Vec::new(alloc);
     for upstream in upstreams {
-        push_down(&mut all, upstream)?;
+        push_down(&mut all, upstream, wait_ms)?;
     }
     Ok(all)
 }
@@ -195,6 +321,7 @@ fn put_over<W: Dialer>(
     body: Option<&Obj>,
 ) -> Result<Option<Obj>, AllocError>
     ensures same { in_hand.upstreams all.new ≡ in_hand.upstreams all.old }
+    ensures fails { in_hand.fails all.new ≡ in_hand.fails all.old }
     ensures puts { in_hand.PutsAll W.L.left W.L.taken W.L.held (in_hand.outside (W.dials dialer.old) (W.visits dialer.old)) (in_hand.outside (W.dials dialer.new) (W.visits dialer.new)) all.old all.new path.now (option_copied body.entry) result }
 {
     let Some((first, rest)) = all.split_first_mut() else {
@@ -230,27 +357,35 @@ fn shown_over<L>(alloc: Global, all: &[Followed<L>], path: &str) -> Result<Optio
 }
 
 impl<L: Link + Drop> Super<L> {
-    /// Follows the upstreams of a config, each of which is down. Shape where a part of the config isn't as it has to be, with
-    /// the number of the first such part.
-    pub fn new(alloc: Global, config: &Obj) -> Result<Super<L>, ConfigFault>
-        ensures configured { in_hand.Configures config.now result }
+    /// Follows the upstreams of a config, each of which is down. Each of these may take so many milliseconds: a poll; a dial with all
+    /// that then opens a watch; a PUT that is sent on. Shape where a part of the config isn't as it has to be, with the
+    /// number of the first such part.
+    pub fn new(alloc: Global, config: &Obj, wait_ms: u32) -> Result<Super<L>, ConfigFault>
+        ensures configured { in_hand.Configures config.now wait_ms result }
     {
         match upstreams(alloc, config) {
             Ok(upstreams) => {
-                let followed = all_down(alloc, upstreams)?;
-                Ok(Super { alloc, followed })
+                let followed = all_down(alloc, upstreams, wait_ms)?;
+                Ok(Super {
+                    alloc,
+                    followed,
+                    rounds: 0,
+                })
             }
             Err(fault) => Err(fault),
         }
     }
 
-    /// Has a round over the upstreams, in order: one that is down is dialled and a watch opened over the link, one that is up is
-    /// asked for its changes. Without memory the upstream in hand is down.
+    /// Has a round over the upstreams. Each that is up is asked for its changes, in order. Then those that were down before the round
+    /// are dialled, one after the other, and a watch is opened over the link: first those whose last dial didn't fail, in order, then
+    /// the others, the one whose last dial failed longest ago first. After the first round dialling ends with the first one that
+    /// stays down. Without memory the upstream in hand is down.
     pub fn round<W: Dialer<L = L>>(&mut self, dialer: &mut W) -> Result<(), AllocError>
         ensures same { in_hand.upstreams self.new.followed.items ≡ in_hand.upstreams self.old.followed.items }
-        ensures rounds { in_hand.RoundsAll L.left L.taken L.held (in_hand.outside (W.dials dialer.old) (W.visits dialer.old)) (in_hand.outside (W.dials dialer.new) (W.visits dialer.new)) self.old.followed.items self.new.followed.items result }
+        ensures rounds { in_hand.RoundsAll L.left L.taken L.held (in_hand.outside (W.dials dialer.old) (W.visits dialer.old)) (in_hand.outside (W.dials dialer.new) (W.visits dialer.new)) self.old self.new result }
     {
-        round_over(self.alloc, &mut self.followed, dialer)
+        self.rounds = self.rounds.saturating_add(1);
+        round_over(self.alloc, self.rounds, &mut self.followed, dialer)
     }
 
     /// What the tree shows at the place of this path; None where it has no such place.
@@ -274,6 +409,7 @@ impl<L: Link + Drop> Super<L> {
         body: Option<&Obj>,
     ) -> Result<Option<Obj>, AllocError>
         ensures same { in_hand.upstreams self.new.followed.items ≡ in_hand.upstreams self.old.followed.items }
+        ensures past { in_hand.past self.new ≡ in_hand.past self.old }
         ensures puts { in_hand.PutsAll L.left L.taken L.held (in_hand.outside (W.dials dialer.old) (W.visits dialer.old)) (in_hand.outside (W.dials dialer.new) (W.visits dialer.new)) self.old.followed.items self.new.followed.items path.now (option_copied body.entry) result }
     {
         put_over(self.alloc, &mut self.followed, dialer, path, body)
@@ -286,6 +422,7 @@ impl<L: Link + Drop> Super<L> {
         let Super {
             alloc: _,
             mut followed,
+            rounds: _,
         } = self;
         end_over(&mut followed, dialer);
         drop(followed);

@@ -38,5 +38,11 @@ pub(crate) struct Live<L> {
 #[derive(Drop)]
 pub(crate) struct Followed<L> {
     pub(crate) upstream: Upstream,
+    /// How many milliseconds a poll may take, a dial with all that then opens a watch, and a PUT that is sent on.
+    pub(crate) wait_ms: u32,
+    /// Whether it waits for a dial in this round.
+    pub(crate) waits: bool,
+    /// The number of the round in which its last dial left it down, the first being 1; 0 where that brought it up, or there was none.
+    pub(crate) failed: u64,
     pub(crate) live: Option<Live<L>>,
 }
