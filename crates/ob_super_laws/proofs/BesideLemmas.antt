@@ -1,22 +1,14 @@
--- One upstream beside another, in a round and in a PUT.
+-- One upstream beside another, in a PUT.
 use Rattle.std.proofs.Common.{◌≡◌, List, [], ◌∷◌, Option, Some, None, Result, refl, sym, subst, ◌∙◌}
 use Rattle.std.specs.declared.alloc.AllocError.{AllocError}
-use Rattle.ob_io.specs.Dials.{Dial, Visit}
+use Rattle.ob_io.specs.Dials.{Visit}
 use Rattle.ob_object.specs.Object.{Object}
 use Rattle.ob_watching.specs.WatchOuts.{Text}
 use Rattle.ob_super.specs.Upstreams.{Upstream}
 use Rattle.ob_super.specs.Turns.{Standing}
 use Rattle.ob_super.specs.Trees.{Entry, entry_at}
-use Rattle.ob_super.specs.Rounds.{Rounds, Sends, PutsHere, Puts}
-use Rattle.ob_super_laws.specs.Laws.{AllOf, HasTurns, StaysWithout}
-
-pub turns : (Told : Type 0) (us : List Upstream) (olds news : List Standing) (dials : List Dial) (visits : List Visit) → Rounds Told us olds news dials visits → AllOf HasTurns us olds news
-turns Told [] [] [] dials visits r = tt
-turns Told [] [] (n ∷ news) dials visits r = tt
-turns Told [] (o ∷ olds) news dials visits r = absurd r
-turns Told (u ∷ us) [] news dials visits r = absurd r
-turns Told (u ∷ us) (o ∷ olds) [] dials visits r = absurd r
-turns Told (u ∷ us) (o ∷ olds) (n ∷ news) dials visits (d, e, v, w, ds, vs, part, rest) = ((part.turns, part.are, part.new_is), turns Told us olds news e w rest)
+use Rattle.ob_super.specs.Rounds.{Sends, PutsHere, Puts}
+use Rattle.ob_super_laws.specs.Laws.{AllOf, StaysWithout}
 
 -- where all are as they were
 all_stay : (path : Text) (us : List Upstream) (olds : List Standing) → AllOf (StaysWithout path) us olds olds

@@ -1,3 +1,5 @@
 pub mod CauseLemmas
 pub mod ToldLemmas
 pub mod BesideLemmas
+pub mod TurnLemmas
+pub mod DialLemmas

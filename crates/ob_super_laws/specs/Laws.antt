@@ -1,5 +1,6 @@
 -- What follows of a round, and of a PUT that was sent on.
-use Rattle.std.specs.Prelude.{◌≡◌, ◌⊎◌, ◌&&◌, ◌||◌, not, Bool, true, false, List, [], ◌∷◌, Option, Some, None, IsSome, Result}
+use Rattle.std.specs.Prelude.{◌≡◌, ◌⊎◌, ◌<◌, ◌≤◌, ◌+◌, ◌&&◌, ◌||◌, ◌==◌, not, cond, nat_lt, ℕ, Bool, true, false, List, [], ◌∷◌, Option, Some, None, IsSome, Result}
+use Rattle.std.specs.List.{list_all}
 use Rattle.std.specs.declared.result.Result.TheVariants.{Ok}
 use Rattle.std.specs.declared.alloc.AllocError.{AllocError}
 use Rattle.ob_io.specs.Dials.{Dial, Visit}
@@ -9,7 +10,8 @@ use Rattle.ob_asking.specs.declared.request.Request.{Request}
 use Rattle.ob_asking.specs.declared.fault.Fault.{Fault}
 use Rattle.ob_super.specs.Upstreams.{Upstream}
 use Rattle.ob_super.specs.Calls.{Call, stage_of, said_in}
-use Rattle.ob_super.specs.Turns.{Turn, Standing, Down, is_up, after, ArePart}
+use Rattle.ob_super.specs.Turns.{Turn, Standing, Down, Up, is_up, after, ArePart}
+use Rattle.ob_super.specs.Dialling.{Past}
 use Rattle.ob_super.specs.Trees.{entry_at}
 use Rattle.ob_super.specs.Links.{is_fault, IsBack, IsBroken}
 use Rattle.ob_super.specs.Rounds.{host, dial, Part, Rounds, Puts, upstream_down}
@@ -69,15 +71,36 @@ abbrev pub AllOf : (Upstream → Standing → Standing → Type 0) → List Upst
 AllOf P (u ∷ us) (old ∷ olds) (new ∷ news) = P u old new × AllOf P us olds news
 AllOf P _ _ _ = Unit {0}
 
--- it had the turns of a round, and these alone are what it comes to
+-- it had the turns of a part, and these alone are what it comes to
 abbrev pub HasTurns : Upstream → Standing → Standing → Type 0
 HasTurns u old new = (turns : List Turn) × ArePart u old turns × (new ≡ after u old turns)
 
--- In a round each upstream has turns of its own, and what it comes to is decided by no other's.
+-- where it is up it had those of being asked; where it is down it had those of a dial, or is as it was
+abbrev pub TakesTurns : Upstream → Standing → Standing → Type 0
+TakesTurns u Down new = (new ≡ Down) ⊎ HasTurns u Down new
+TakesTurns u (Up calls) new = HasTurns u (Up calls) new
+
+-- In a round each upstream has turns once, but for those that are down and are left; what an upstream comes to is decided by no other's
+-- turns.
 abbrev pub EachHasTurns : Type 0
 EachHasTurns =
-    (back : Option (List Visit)) (us : List Upstream) (olds news : List Standing) (dials : List Dial) (visits : List Visit) → Rounds (IsSome back) us olds news dials visits
-    → AllOf HasTurns us olds news
+    (back : Option (List Visit)) (us : List Upstream) (past past' : Past) (olds news : List Standing) (dials : List Dial) (visits : List Visit) → Rounds (IsSome back) us past past' olds news dials visits
+    → AllOf TakesTurns us olds news
+
+-- ---- who is dialled
+
+-- how often a number is among these
+abbrev pub count_number : ℕ → List ℕ → ℕ
+count_number number [] = 0
+count_number number (n ∷ ns) = cond (n == number) 1 0 + count_number number ns
+
+-- After the first round at most one upstream is left down by a dial of a round.
+abbrev pub OneStaysDown : Type 0
+OneStaysDown =
+    (back : Option (List Visit)) (us : List Upstream) (past past' : Past) (olds news : List Standing) (dials : List Dial) (visits : List Visit) → Rounds (IsSome back) us past past' olds news dials visits
+    → 0 < past.rounds → list_all (λ n. nat_lt n past'.rounds) past.fails ≡ true → count_number past'.rounds past'.fails ≤ 1
+
+-- ---- one upstream beside another, in a PUT
 
 -- it holds nothing at this path, or stays as it is
 abbrev pub StaysWithout : Text → Upstream → Standing → Standing → Type 0

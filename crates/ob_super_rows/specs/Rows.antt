@@ -13,9 +13,10 @@ use Rattle.ob_super.specs.declared.config_rule.ConfigRule.TheVariants as rule
 use Rattle.ob_super.specs.Upstreams.{lobby_at, offences, configured}
 use Rattle.ob_super.specs.Calls.{Lobby, Adding, Polling, next}
 use Rattle.ob_super.specs.Turns.{Reply, Down, Up, after}
+use Rattle.ob_super.specs.Dialling.{no_rounds, states_of, next_dial, dialled}
 use Rattle.ob_super.specs.Trees.{View, shown_in}
 use Rattle.ob_super.specs.Rounds.{Rounds, plain_err}
-use Rattle.ob_super_rows.specs.Worked.{holding, uri, str, hrefs, url, config, named_obj, two, upstream, int, held, watch_out, one, seven, other}
+use Rattle.ob_super_rows.specs.Worked.{holding, uri, str, hrefs, url, config, named_obj, two, upstream, int, held, watch_out, one, seven, other, both, past, waiting, left}
 
 -- ---- configs: the root has the number 0
 
@@ -90,7 +91,38 @@ abbrev pub failed_dial : Dial
 failed_dial = record { host = codes "h"; port = 8081; failed = true }
 
 abbrev pub DialFails : Type 0
-DialFails = Rounds (Unit {0}) (one ∷ []) (Down ∷ []) (Down ∷ []) (failed_dial ∷ []) []
+DialFails = Rounds (Unit {0}) (one ∷ []) (past 0 (0 ∷ [])) (past 1 (1 ∷ [])) (Down ∷ []) (Down ∷ []) (failed_dial ∷ []) []
+
+-- two upstreams whose dials fail: `a` and `b` are dialled in the first round, `a` in the second, `b` in the third, `a` in the fourth
+abbrev pub InTurn : Type 0
+InTurn =
+    (next_dial 1 (states_of (Down ∷ Down ∷ []) (no_rounds both).fails) ≡ Some 0)
+    × (next_dial 1 (dialled 1 Down ∷ waiting 0 ∷ []) ≡ Some 1)
+    × (next_dial 1 (dialled 1 Down ∷ dialled 1 Down ∷ []) ≡ None)
+    × (next_dial 2 (states_of (Down ∷ Down ∷ []) (1 ∷ 1 ∷ [])) ≡ Some 0)
+    × (next_dial 2 (dialled 2 Down ∷ waiting 1 ∷ []) ≡ None)
+    × (next_dial 3 (states_of (Down ∷ Down ∷ []) (2 ∷ 1 ∷ [])) ≡ Some 1)
+    × (next_dial 3 (waiting 2 ∷ dialled 3 Down ∷ []) ≡ None)
+    × (next_dial 4 (states_of (Down ∷ Down ∷ []) (2 ∷ 3 ∷ [])) ≡ Some 0)
+    × (next_dial 4 (dialled 4 Down ∷ waiting 3 ∷ []) ≡ None)
+
+-- four upstreams of which the second is up, and the last dials of the others failed in the rounds 7, 8 and 4: in round 10 the last one is
+-- dialled; where it comes up the first one is, and where that comes up too, the third one
+abbrev pub BesideOneUp : Type 0
+BesideOneUp =
+    (next_dial 10 (states_of (Down ∷ Up [] ∷ Down ∷ Down ∷ []) (7 ∷ 0 ∷ 8 ∷ 4 ∷ [])) ≡ Some 3)
+    × (next_dial 10 (waiting 7 ∷ left 0 ∷ waiting 8 ∷ dialled 10 (Up []) ∷ []) ≡ Some 0)
+    × (next_dial 10 (dialled 10 (Up []) ∷ left 0 ∷ waiting 8 ∷ dialled 10 (Up []) ∷ []) ≡ Some 2)
+    × (next_dial 10 (dialled 10 (Up []) ∷ left 0 ∷ dialled 10 Down ∷ dialled 10 (Up []) ∷ []) ≡ None)
+
+-- the watches of the second and the fourth lapsed in the round before, and the dials of the others failed long ago: those two come first,
+-- and are up though one of the others stays down
+abbrev pub LapsedFirst : Type 0
+LapsedFirst =
+    (next_dial 10 (states_of (Down ∷ Down ∷ Down ∷ Down ∷ []) (2 ∷ 0 ∷ 1 ∷ 0 ∷ [])) ≡ Some 1)
+    × (next_dial 10 (waiting 2 ∷ dialled 10 (Up []) ∷ waiting 1 ∷ waiting 0 ∷ []) ≡ Some 3)
+    × (next_dial 10 (waiting 2 ∷ dialled 10 (Up []) ∷ waiting 1 ∷ dialled 10 (Up []) ∷ []) ≡ Some 2)
+    × (next_dial 10 (waiting 2 ∷ dialled 10 (Up []) ∷ dialled 10 Down ∷ dialled 10 (Up []) ∷ []) ≡ None)
 
 -- an err in a round brings an upstream down
 abbrev pub ErrBringsDown : Type 0

@@ -1,5 +1,5 @@
 -- Configs, upstreams and replies on which rows are worked.
-use Rattle.std.specs.Prelude.{ℕ, pos, codes, List, [], ◌∷◌, ◌++◌, map, Option, Some, None}
+use Rattle.std.specs.Prelude.{ℕ, true, false, pos, codes, List, [], ◌∷◌, ◌++◌, map, Option, Some, None}
 use Rattle.url.specs.Parts.{Parts}
 use Rattle.url.specs.declared.host.Host.TheVariants.{Domain}
 use Rattle.ob_values.specs.declared.value.Value.TheVariants as value
@@ -10,6 +10,7 @@ use Rattle.ob_object.specs.Object.{Object, empty_head, in_row, none}
 use Rattle.ob_watching.specs.Operations.{Shows}
 use Rattle.ob_watching.specs.WatchOuts.{Text, Held}
 use Rattle.ob_super.specs.Upstreams.{Upstream}
+use Rattle.ob_super.specs.Dialling.{Past, State}
 
 -- an object of a kind, with a name or none, and with these in it
 abbrev pub holding : Kind → Option Text → List Object → Object
@@ -76,3 +77,17 @@ seven = held (codes "/obix/n") (int (Some (codes "n")) None 7 (int (Some (codes 
 
 abbrev pub other : Upstream
 other = upstream (codes "b") (codes "/obix/n" ∷ [])
+
+abbrev pub both : List Upstream
+both = one ∷ other ∷ []
+
+-- so many rounds, and the rounds in which the last dials failed
+abbrev pub past : ℕ → List ℕ → Past
+past rounds fails = record { rounds = rounds; fails = fails }
+
+-- one that waits for a dial, and one that doesn't, whose last dials failed in this round
+abbrev pub waiting : ℕ → State
+waiting n = record { waits = true; failed = n }
+
+abbrev pub left : ℕ → State
+left n = record { waits = false; failed = n }

@@ -31,6 +31,15 @@ returns-clause-shown_nowhere c = rows.shown_nowhere
 pub returns-clause-dial_fails : goal.returns-clause-dial_fails
 returns-clause-dial_fails c = rows.dial_fails
 
+pub returns-clause-in_turn : goal.returns-clause-in_turn
+returns-clause-in_turn c = rows.in_turn
+
+pub returns-clause-beside_one_up : goal.returns-clause-beside_one_up
+returns-clause-beside_one_up c = rows.beside_one_up
+
+pub returns-clause-lapsed_first : goal.returns-clause-lapsed_first
+returns-clause-lapsed_first c = rows.lapsed_first
+
 pub returns-clause-err_brings_down : goal.returns-clause-err_brings_down
 returns-clause-err_brings_down c = rows.err_brings_down
 
