@@ -15,7 +15,7 @@ use Rattle.ob_server.specs.declared.end.LinkEnd.TheVariants as ends
 use Rattle.ob_super.specs.Upstreams.{Upstream}
 use Rattle.ob_super.specs.Supervised.{Asked}
 use Rattle.ob_super.specs.InHand.{Outside, outside, asked, upstreams, AnswersAll, SupervisesAll, RunsAll, StopsAll}
-use Rattle.ob_super.specs.declared.upstream.Followed.{Followed}
+use Rattle.ob_super.specs.declared.state.Super.{Super}
 use Rattle.ob_supervising.specs.declared.supervising.Supervising.{Supervising}
 
 -- ---- calls
@@ -44,16 +44,16 @@ module _ {L W : Type 0} (left taken held : L → Option (List ℕ)) (dials : W �
   abbrev pub Asks : Supervising L × W → Supervising L × W → Call → Type 0
   Asks before after call =
       (upstreams after.0.upstreams.followed.items ≡ upstreams before.0.upstreams.followed.items)
-      × AnswersAll left taken held (told_by before.1) (told_by after.1) before.0.upstreams.followed.items after.0.upstreams.followed.items (request_of call.request) (reply_of call.answer)
+      × AnswersAll left taken held (told_by before.1) (told_by after.1) before.0.upstreams after.0.upstreams (request_of call.request) (reply_of call.answer)
 
 module _ {L : Type 0} (left taken held : L → Option (List ℕ)) where
   -- A link's requests were answered by a supervisor, from the one to the other of what it follows.
-  pub record AnswersLink (before after : Outside) (old new : List (Followed L)) (link link' : Inlet) (sent sent' : Option (List ℕ)) (end : LinkEnd) : Type 0 where
+  pub record AnswersLink (before after : Outside) (old new : Super L) (link link' : Inlet) (sent sent' : Option (List ℕ)) (end : LinkEnd) : Type 0 where
     pub calls : List Call
     pub given : Option (List ℕ)
     pub serves : Serves None link link' (had sent (Some []) []) (had sent' given calls) end
     pub memory : (end ≡ ends.Memory) ⊎ AreDone calls
-    pub same : upstreams new ≡ upstreams old
+    pub same : upstreams new.followed.items ≡ upstreams old.followed.items
     pub supervises : SupervisesAll left taken held before after old new (all_asked calls)
 
 -- ---- a link

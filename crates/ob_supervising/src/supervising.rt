@@ -1,6 +1,5 @@
 //! One link and one supervisor.
-ghost use Rattle.std.specs.Prelude.{◌≡◌, None};
-ghost use Rattle.std.specs.List.{AllByRecursion};
+ghost use Rattle.std.specs.Prelude.{None};
 ghost use Rattle.ob_io.specs.Links.{inlet};
 ghost use Rattle.ob_server.specs.Answered.{HasEndCause};
 ghost use Rattle.ob_server.specs.Complete.{ServesWhole};
@@ -51,7 +50,7 @@ where
     W::L: Drop,
     ensures answers { AnswersLink W.L.left W.L.taken W.L.held
         (in_hand.outside (W.dials dialer.old) (W.visits dialer.old)) (in_hand.outside (W.dials dialer.new) (W.visits dialer.new))
-        serving.old.upstreams.followed.items serving.new.upstreams.followed.items
+        serving.old.upstreams serving.new.upstreams
         (inlet (L.left link.old) (L.taken link.old)) (inlet (L.left link.new) (L.taken link.new))
         (L.held link.old) (L.held link.new) result }
     ensures cause { HasEndCause (L.read_faults link.old) (L.read_faults link.new)
@@ -83,7 +82,7 @@ where
     upstreams.end(dialer);
 }
 
-/// Has so many rounds over upstreams that are down, and then answers the requests that come over a link, with a round before each of
+/// Has so many rounds over upstreams that are down, of which none was dialled yet, and then answers the requests that come over a link, with a round before each of
 /// them, until the link ends. Every link to an upstream is given back at the end, whatever it is. The end is `Memory` also where
 /// memory was wanting in the rounds before the first request.
 pub fn supervise<W: Dialer, L: Link>(
@@ -95,7 +94,7 @@ pub fn supervise<W: Dialer, L: Link>(
 ) -> LinkEnd
 where
     W::L: Drop,
-    requires down { AllByRecursion (λ f. f.live ≡ None) upstreams.followed.items }
+    requires fresh { in_hand.IsNew upstreams }
     ensures supervises { SupervisesLink (in_hand.upstreams upstreams.followed.items) rounds
         (in_hand.outside (W.dials dialer.old) (W.visits dialer.old)) (in_hand.outside (W.dials dialer.new) (W.visits dialer.new))
         (inlet (L.left link.old) (L.taken link.old)) (inlet (L.left link.new) (L.taken link.new))

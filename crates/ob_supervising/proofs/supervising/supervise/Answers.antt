@@ -10,10 +10,10 @@ returns-in-Ok-clause-supervises g c =
     let late = in_hand.outside (g.W.Dialer.dials c.serve_requests-end.new.dialer) (g.W.Dialer.visits c.serve_requests-end.new.dialer) in
     let after = in_hand.outside (g.W.Dialer.dials c.finish.new.dialer) (g.W.Dialer.visits c.finish.new.dialer) in
     whole_run g.W.L.Link.left g.W.L.Link.taken g.W.L.Link.held g.W.Dialer.dials g.W.Dialer.visits before mid late after
-    c.args.upstreams.followed.items c.rounds.new.self.followed.items c.serve_requests-end.new.serving.upstreams.followed.items c.args.rounds c.in-Ok.field-0
+    c.args.upstreams c.rounds.new.self c.serve_requests-end.new.serving.upstreams c.args.rounds c.in-Ok.field-0
     (inlet (g.L.Link.left c.args.link.now) (g.L.Link.taken c.args.link.now)) (inlet (g.L.Link.left c.serve_requests-end.new.link) (g.L.Link.taken c.serve_requests-end.new.link))
     (g.L.Link.held c.args.link.now) (g.L.Link.held c.serve_requests-end.new.link) c.serve_requests-end.result
-    c.requires.down c.in-Ok.ensures.same c.in-Ok.ensures.rounds c.serve_requests-end.ensures.answers c.finish.ensures
+    c.requires.fresh c.in-Ok.ensures.same c.in-Ok.ensures.rounds c.serve_requests-end.ensures.answers c.finish.ensures
 
 pub returns-in-Err-clause-supervises : goal.returns-in-Err-clause-supervises
 returns-in-Err-clause-supervises g c =
@@ -21,6 +21,6 @@ returns-in-Err-clause-supervises g c =
     let mid = in_hand.outside (g.W.Dialer.dials c.rounds.new.dialer) (g.W.Dialer.visits c.rounds.new.dialer) in
     let after = in_hand.outside (g.W.Dialer.dials c.finish-in-Err.new.dialer) (g.W.Dialer.visits c.finish-in-Err.new.dialer) in
     stopped_run g.W.L.Link.left g.W.L.Link.taken g.W.L.Link.held before mid after
-    c.args.upstreams.followed.items c.rounds.new.self.followed.items c.args.rounds c.in-Err.field-0
+    c.args.upstreams c.rounds.new.self c.args.rounds c.in-Err.field-0
     (inlet (g.L.Link.left c.args.link.now) (g.L.Link.taken c.args.link.now)) (g.L.Link.held c.args.link.now)
-    c.requires.down c.in-Err.ensures.same c.in-Err.ensures.rounds c.finish-in-Err.ensures
+    c.requires.fresh c.in-Err.ensures.same c.in-Err.ensures.rounds c.finish-in-Err.ensures
