@@ -1,7 +1,7 @@
 -- What a command has nothing to do with.
 use Rattle.std.proofs.Common.{◌≡◌, ℕ, List, Option, Some, None, refl, subst}
 use Rattle.std.specs.Prelude.{IsSome}
-use Rattle.ob_command.specs.Command.{Command, stdio, schedule, auditing, serve, keep, compacting, check, watch, console, storm, supervise}
+use Rattle.ob_command.specs.Command.{Command, stdio, schedule, auditing, serve, keep, compacting, check, watch, console, storm, supervise, help, version}
 use Rattle.ob_command.specs.declared.server.Output.{Output}
 use Rattle.ob_program.specs.Run.{LeavesAlone}
 
@@ -37,4 +37,6 @@ module _ (files devices source sink port dialer clock : Type 0) where
   all_apart (Some (watch url hrefs polls retries)) f v s k p d c = (f, v, s, p, c)
   all_apart (Some (console url subject polls ack user)) f v s k p d c = (f, v, s, p, c)
   all_apart (Some (storm asked)) f v s k p d c = (f, v, s, p, d, c)
-  all_apart (Some (supervise config rounds)) f v s k p d c = (v, p, c)
+  all_apart (Some (supervise config rounds wait_ms)) f v s k p d c = (v, p, c)
+  all_apart (Some (help verb)) f v s k p d c = (f, v, s, p, d, c)
+  all_apart (Some version) f v s k p d c = (f, v, s, p, d, c)

@@ -15,6 +15,7 @@ use Rattle.ob_site_file.specs.declared.fault.LoadFault.{LoadFault}
 use Rattle.ob_site_file.specs.declared.fault.LoadFault.TheVariants as loads
 use Rattle.ob_site_laws.specs.SiteLaws.{acts}
 use Rattle.ob_site_rules.specs.Sites.{SiteState}
+use Rattle.ob_io.specs.declared.cause.RefusedFile.{RefusedFile}
 use Rattle.ob_program.specs.declared.audit.AuditEnd.{AuditEnd}
 use Rattle.ob_program.specs.declared.audit.AuditEnd.TheVariants as ends
 use Rattle.ob_program.specs.declared.audit.RunFault.{RunFault}
@@ -220,10 +221,10 @@ complete unbroken law (Some other) (Some whole) held held' end exit F K is comes
     subst EndsWell (sym is) (ends_well unbroken law other whole held held' end F K comes file sink run recorded opens f k)
 
 -- the audit came to this end, which is the exit
-pub audit_ran : (unbroken : SpelledIsUnbroken) (law : OpenedIsNotRefused) (site file : Option (List ℕ)) (files files' : ℕ) (held held' : Option (List ℕ)) (writes writes' : ℕ) (e e' : ErrorsTold) (end : AuditEnd) (exit : Exit)
-    → exit ≡ exit_of_audit end → AuditComes site file held held' end → AuditRose end files files' writes writes' → Tells e e' exit (audit_words end)
-    → AuditRan site file files files' held held' writes writes' e e' exit
-audit_ran unbroken law site file files files' held held' writes writes' e e' end exit is comes rose says = record {
+pub audit_ran : (unbroken : SpelledIsUnbroken) (law : OpenedIsNotRefused) (site file : Option (List ℕ)) (files files' : ℕ) (held held' : Option (List ℕ)) (writes writes' : ℕ) (refused : Option RefusedFile) (e e' : ErrorsTold) (end : AuditEnd) (exit : Exit)
+    → exit ≡ exit_of_audit end → AuditComes site file held held' end → AuditRose end files files' writes writes' → Tells e e' exit (audit_words refused end)
+    → AuditRan site file files files' held held' writes writes' refused e e' exit
+audit_ran unbroken law site file files files' held held' writes writes' refused e e' end exit is comes rose says = record {
   end = end;
   exit_is = is;
   comes = comes;

@@ -7,6 +7,7 @@ use Rattle.ob_documents.specs.Spelling.{Spells}
 use Rattle.ob_xml.specs.declared.doc.Doc.{Doc}
 use Rattle.ob_xml.specs.declared.refused.Refused as refused
 use Rattle.ob_xml.specs.Judged.{document, fault, Judged}
+use Rattle.ob_io.specs.declared.cause.RefusedFile.{RefusedFile}
 use Rattle.ob_program.specs.declared.document.DocumentFault.{DocumentFault}
 use Rattle.ob_program.specs.declared.document.DocumentFault.TheVariants as faults
 use Rattle.ob_program.specs.declared.check.CheckEnd.{CheckEnd}
@@ -94,11 +95,11 @@ spells_check spelled (Some bytes) before after Memory exit e c = λ ok. (let f =
 
 -- the check came to this end, which is the exit
 pub check_ran : (once : IsOnce) (spelled : (bytes : List ℕ) (d : Doc) → Judged bytes true (document d) → Spells bytes d.ns d.root)
-    (content : Option (List ℕ)) (files files' : ℕ) (before after : Option (List ℕ)) (writes writes' : ℕ) (e e' : ErrorsTold) (end : CheckEnd) (exit : Exit) → exit ≡ exit_of_check end
+    (content : Option (List ℕ)) (files files' : ℕ) (before after : Option (List ℕ)) (writes writes' : ℕ) (refused : Option RefusedFile) (e e' : ErrorsTold) (end : CheckEnd) (exit : Exit) → exit ≡ exit_of_check end
     → ChecksFile content before after end → (end ≡ ReadFault → Rose files files') → (end ≡ WriteFault → Rose writes writes')
-    → HasFault content end → Tells e e' exit (check_words end)
-    → CheckRan content files files' before after writes writes' e e' exit
-check_ran once spelled content files files' before after writes writes' e e' end exit is c file sink has says = record {
+    → HasFault content end → Tells e e' exit (check_words refused end)
+    → CheckRan content files files' before after writes writes' refused e e' exit
+check_ran once spelled content files files' before after writes writes' refused e e' end exit is c file sink has says = record {
   some_bytes = (c.bytes, subst (λ (x : Exit). Checks c.bytes before after x) (sym is) c.checks);
   checks = if_told content (λ bytes. Checks bytes before after (exit_of_check end)) (λ bytes. Checks bytes before after exit) (λ bytes k. subst (λ (x : Exit). Checks bytes before after x) (sym is) k) c.told;
   spells = spells_check spelled content before after end exit is c.told;

@@ -15,6 +15,8 @@ use Rattle.ob_load.specs.Loads.{OpenedIsNotRefused, OpensSite}
 use Rattle.ob_record_journal.specs.Writing.{LeavesOld}
 use Rattle.ob_site_file.specs.declared.fault.LoadFault.{LoadFault}
 use Rattle.ob_site_file.specs.declared.fault.LoadFault.TheVariants as loads
+use Rattle.ob_io.specs.declared.cause.Cause.{Cause}
+use Rattle.ob_io.specs.declared.cause.RefusedFile.{RefusedFile}
 use Rattle.ob_program.specs.Compact.{CompactComes, CompactRan, CompactRose, CompactsDevices, CompactsFile, CompactsInto, EndsWith, IsOfFiles, OpensNone, RoseSoFar, compact_text, end_of_compact, exit_of_compact}
 use Rattle.ob_program.specs.Keeping.{ComesBack, OpensRecord, end_of_device}
 use Rattle.ob_program.specs.Outside.{DevicesTold}
@@ -401,10 +403,10 @@ module _ {V : Type 0} (told : Type 0) (seen : V → List ℕ) (may_leave : V →
     complete_by law whole held held' writes writes' (Ended (Served serves.Memory)) is opens c rose no_read no_record no_write = inr (inl refl)
 
     -- the writing came to this end, which is the exit
-    pub compact_ran : (law : OpenedIsNotRefused) (held held' : Option (List ℕ)) (writes writes' : ℕ) (e e' : ErrorsTold) (end : CompactEnd) (exit : Exit) → exit ≡ exit_of_compact end
-        → Comes_ held held' end → CompactRose end files files' v.faults v'.faults writes writes' → Tells e e' exit (compact_words end)
-        → CompactRan told seen may_leave moment left_since failures content file name files files' v v' held held' writes writes' e e' exit
-    compact_ran law held held' writes writes' e e' end exit is c rose says = record {
+    pub compact_ran : (law : OpenedIsNotRefused) (held held' : Option (List ℕ)) (writes writes' : ℕ) (refused : Option RefusedFile) (device_refusal : Cause) (e e' : ErrorsTold) (end : CompactEnd) (exit : Exit) → exit ≡ exit_of_compact end
+        → Comes_ held held' end → CompactRose end files files' v.faults v'.faults writes writes' → Tells e e' exit (compact_words refused device_refusal end)
+        → CompactRan told seen may_leave moment left_since failures content file name files files' v v' held held' writes writes' refused device_refusal e e' exit
+    compact_ran law held held' writes writes' refused device_refusal e e' end exit is c rose says = record {
       end = end;
       exit_is = is;
       comes = c;

@@ -15,6 +15,8 @@ use Rattle.ob_kept.specs.declared.fault.ReopenFault.TheVariants as reopens
 use Rattle.ob_load.specs.Loads.{OpenedIsNotRefused, OpensSite, RefusesBytes, IsOutside}
 use Rattle.ob_server.specs.GivenBack.{PortTold, ClockTold}
 use Rattle.ob_site_file.specs.declared.fault.LoadFault.{LoadFault}
+use Rattle.ob_io.specs.declared.cause.Cause.{Cause}
+use Rattle.ob_io.specs.declared.cause.RefusedFile.{RefusedFile}
 use Rattle.ob_program.specs.declared.exit.Exit.{Exit}
 use Rattle.ob_program.specs.declared.exit.Exit.TheVariants as exits
 use Rattle.ob_program.specs.declared.keep.KeepEnd.{KeepEnd}
@@ -222,12 +224,12 @@ module _ {V : Type 0} (told : Type 0) (seen : V → List ℕ) (may_leave : V →
   complete_by law whole held held' writes writes' p p' t t' RecordFault is opens c no_read no_record no_write no_port no_clock = absurd (no_record c.rose)
 
   -- the service came to this end, which is the exit
-  pub keep_ran : (law : OpenedIsNotRefused) (held held' : Option (List ℕ)) (writes writes' : ℕ) (p p' : PortTold) (t t' : ClockTold) (e e' : ErrorsTold) (end : KeepEnd) (exit : Exit) → exit ≡ exit_of_keep end
+  pub keep_ran : (law : OpenedIsNotRefused) (held held' : Option (List ℕ)) (writes writes' : ℕ) (p p' : PortTold) (t t' : ClockTold) (refused : Option RefusedFile) (refusal device_refusal : Cause) (e e' : ErrorsTold) (end : KeepEnd) (exit : Exit) → exit ≡ exit_of_keep end
       → Comes_ held held' writes writes' p p' t t' end
-      → Tells e e' exit (keep_words end)
+      → Tells e e' exit (keep_words refused refusal device_refusal end)
       → KeepRan told seen may_leave moment left_since failures faults handed returned visits closed given pace misses content file host place wanted quota
-      files files' v v' held held' writes writes' p p' t t' e e' exit
-  keep_ran law held held' writes writes' p p' t t' e e' end exit is c says = record {
+      files files' v v' held held' writes writes' p p' t t' refused refusal device_refusal e e' exit
+  keep_ran law held held' writes writes' p p' t t' refused refusal device_refusal e e' end exit is c says = record {
     end = end;
     exit_is = is;
     comes = c;

@@ -13,8 +13,10 @@ pub mod KeepLemmas
 pub mod CompactLemmas
 pub mod ApartLemmas
 pub mod ClientLemmas
+pub mod TextLemmas
 pub mod StormRoot
 pub mod StormText
 pub mod StormOpens
 pub mod StormLemmas
 pub mod AuditLemmas
+pub mod CauseLemmas

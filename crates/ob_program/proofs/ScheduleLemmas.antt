@@ -24,6 +24,7 @@ use Rattle.ob_site_file.specs.declared.fault.LoadFault.{LoadFault}
 use Rattle.ob_site_laws.specs.SiteLaws.{acts, IsSoundSite}
 use Rattle.ob_site_rules.specs.Sites.{SiteState}
 use Rattle.ob_weekly.specs.declared.schedule.Schedules.{Schedules}
+use Rattle.ob_io.specs.declared.cause.RefusedFile.{RefusedFile}
 use Rattle.ob_program.specs.Outside.{Streams, ClockTold}
 use Rattle.ob_program.specs.Reading.{Reads, ReadsFile}
 use Rattle.ob_program.specs.Form.{plain, end_of_document}
@@ -231,13 +232,13 @@ module _ (only : IsOnly) (once : IsOnce) where
       by_at (Some start) why is opens c = never_refused law whole other (min start last_moment) end why left taken left' taken' held held' (Some []) c.1.0 is opens c.1.1
 
   -- the service came to this end, which is the exit
-  pub schedule_ran : (law : OpenedIsNotRefused) (site file : Option (List ℕ)) (at : Option ℕ) (tick files files' : ℕ) (s s' : Streams) (t t' : ClockTold) (e e' : ErrorsTold) (end : FormEnd) (exit : Exit) → exit ≡ exit_of (plain end)
+  pub schedule_ran : (law : OpenedIsNotRefused) (site file : Option (List ℕ)) (at : Option ℕ) (tick files files' : ℕ) (s s' : Streams) (t t' : ClockTold) (refused : Option RefusedFile) (e e' : ErrorsTold) (end : FormEnd) (exit : Exit) → exit ≡ exit_of (plain end)
       → ScheduleComes site file at tick end s.left None s'.left None s.held s'.held t.given t'.given
       → HasCause (plain end) files files' s.reads s'.reads s.writes s'.writes t.faults t'.faults
       → ((link : LinkEnd) → plain end ≡ Served link → ServesWhole s.left s.reads s'.reads s.writes s'.writes t.faults t'.faults link)
-      → Tells e e' exit (form_words end)
-      → ScheduledRan site file at tick files files' s s' t t' e e' exit
-  schedule_ran law site file at tick files files' s s' t t' e e' end exit is comes cause whole says = record {
+      → Tells e e' exit (form_words refused end)
+      → ScheduledRan site file at tick files files' s s' t t' refused e e' exit
+  schedule_ran law site file at tick files files' s s' t t' refused e e' end exit is comes cause whole says = record {
     end = end;
     exit_is = is;
     comes = comes;

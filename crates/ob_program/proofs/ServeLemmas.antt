@@ -12,6 +12,8 @@ use Rattle.ob_io.specs.Visits.{Visit}
 use Rattle.ob_site_laws.specs.Seen.{KeepsWatches}
 use Rattle.ob_site_laws.specs.SiteLaws.{acts, IsSoundSite}
 use Rattle.ob_site_rules.specs.Sites.{SiteState}
+use Rattle.ob_io.specs.declared.cause.Cause.{Cause}
+use Rattle.ob_io.specs.declared.cause.RefusedFile.{RefusedFile}
 use Rattle.ob_program.specs.declared.serve.ServeEnd.{ServeEnd}
 use Rattle.ob_program.specs.declared.serve.ServeEnd.TheVariants.{Done, Refused, ReadFault, WriteFault, PortFault, ClockFault, Memory}
 use Rattle.ob_program.specs.Stdio.{site_bytes, IsRefusedAs}
@@ -111,11 +113,11 @@ module _ {D C : Type 0} (door_faults handed returned : D → ℕ) (visits : D �
   complete_by law whole held held' writes writes' p p' t t' Memory told opens c no_read no_write no_port no_clock = inr refl
 
   -- the service came to this end, which is the exit
-  pub serve_ran : (law : OpenedIsNotRefused) (held held' : Option (List ℕ)) (writes writes' : ℕ) (p p' : PortTold) (t t' : ClockTold) (e e' : ErrorsTold) (end : ServeEnd) (exit : Exit) → exit ≡ exit_of_serve end
+  pub serve_ran : (law : OpenedIsNotRefused) (held held' : Option (List ℕ)) (writes writes' : ℕ) (p p' : PortTold) (t t' : ClockTold) (refused : Option RefusedFile) (refusal : Cause) (e e' : ErrorsTold) (end : ServeEnd) (exit : Exit) → exit ≡ exit_of_serve end
       → Comes_ held held' writes writes' p p' t t' end
-      → Tells e e' exit (serve_words end)
-      → ServeRan door_faults handed returned visits closed given pace misses file host place wanted quota files files' held held' writes writes' p p' t t' e e' exit
-  serve_ran law held held' writes writes' p p' t t' e e' end exit is c says = record {
+      → Tells e e' exit (serve_words refused refusal end)
+      → ServeRan door_faults handed returned visits closed given pace misses file host place wanted quota files files' held held' writes writes' p p' t t' refused refusal e e' exit
+  serve_ran law held held' writes writes' p p' t t' refused refusal e e' end exit is c says = record {
     end = end;
     exit_is = is;
     comes = c;

@@ -16,6 +16,7 @@ use Rattle.ob_site_rules.specs.Sites.{SiteState}
 use Rattle.ob_site_laws.specs.SiteLaws.{acts, IsSoundSite}
 use Rattle.ob_site_laws.specs.Seen.{KeepsWatches}
 use Rattle.ob_site_laws.proofs.Seen.{keeps_watches}
+use Rattle.ob_io.specs.declared.cause.RefusedFile.{RefusedFile}
 use Rattle.ob_program.specs.declared.exit.Exit.{Exit}
 use Rattle.ob_program.specs.declared.exit.Exit.TheVariants as exits
 use Rattle.ob_program.specs.declared.stdio.StdioEnd.{StdioEnd}
@@ -355,13 +356,13 @@ opens_unrefused output law (Some whole) at tick end exit left taken left' taken'
     (subst (λ (e : StdioEnd). StdioComes output (Some whole) at tick e left taken left' taken' held held' given given') r.1 comes)
 
 -- the service came to this end, which is the exit
-pub stdio_ran : (output : Output) (file : Option (List ℕ)) (at : Option ℕ) (tick files files' : ℕ) (s s' : Streams) (t t' : ClockTold) (e e' : ErrorsTold) (end : StdioEnd) (exit : Exit) → exit ≡ exit_of end
+pub stdio_ran : (output : Output) (file : Option (List ℕ)) (at : Option ℕ) (tick files files' : ℕ) (s s' : Streams) (t t' : ClockTold) (refused : Option RefusedFile) (e e' : ErrorsTold) (end : StdioEnd) (exit : Exit) → exit ≡ exit_of end
     → OpenedIsNotRefused → StdioComes output file at tick end s.left None s'.left None s.held s'.held t.given t'.given
     → HasCause end files files' s.reads s'.reads s.writes s'.writes t.faults t'.faults
     → ((link : LinkEnd) → end ≡ Served link → ServesWhole s.left s.reads s'.reads s.writes s'.writes t.faults t'.faults link)
-    → Tells e e' exit (stdio_words end)
-    → StdioRan output file at tick files files' s s' t t' e e' exit
-stdio_ran output file at tick files files' s s' t t' e e' end exit is law comes cause whole says = record {
+    → Tells e e' exit (stdio_words refused end)
+    → StdioRan output file at tick files files' s s' t t' refused e e' exit
+stdio_ran output file at tick files files' s s' t t' refused e e' end exit is law comes cause whole says = record {
   end = end;
   exit_is = is;
   comes = comes;

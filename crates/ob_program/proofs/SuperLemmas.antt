@@ -16,6 +16,7 @@ use Rattle.ob_super.specs.declared.config_fault.ConfigFault.TheVariants as confi
 use Rattle.ob_super.specs.declared.state.Super.{Super}
 use Rattle.ob_xml.specs.Judged.{Judged, document}
 use Rattle.ob_xml.specs.declared.doc.Doc.{Doc}
+use Rattle.ob_io.specs.declared.cause.RefusedFile.{RefusedFile}
 use Rattle.ob_program.specs.Form.{plain, end_of_document}
 use Rattle.ob_program.specs.Outside.{Streams, Dialled}
 use Rattle.ob_program.specs.Reading.{ReadsFile}
@@ -42,10 +43,10 @@ unread_follows_none config (documents.Refused refusal) reads = reads.told
 unread_follows_none config documents.Failed reads = tt
 unread_follows_none config documents.Memory reads = tt
 
-pub unformed_follows_none : (L : Type 0) (config : Option (List ℕ)) (ns : Option (List ℕ)) (root : Object) (why : ConfigFault) → IfSome config (λ whole. Spells whole ns root)
-    → Configures {L = L} root (Err why) → FollowsNone config (end_of_config why)
-unformed_follows_none L config ns root (configs.Shape offence) spelled first = record { ns = ns; root = root; spelled = spelled; first = first }
-unformed_follows_none L config ns root configs.Memory spelled first = tt
+pub unformed_follows_none : (L : Type 0) (config : Option (List ℕ)) (ns : Option (List ℕ)) (root : Object) (wait_ms : ℕ) (why : ConfigFault) → IfSome config (λ whole. Spells whole ns root)
+    → Configures {L = L} root wait_ms (Err why) → FollowsNone config (end_of_config why)
+unformed_follows_none L config ns root wait_ms (configs.Shape offence) spelled first = record { ns = ns; root = root; spelled = spelled; first = first }
+unformed_follows_none L config ns root wait_ms configs.Memory spelled first = tt
 
 pub unformed_unread : (why : ConfigFault) → end_of_config why ≡ Stdio ReadFault → ⊥
 unformed_unread (configs.Shape offence) is = cc is
@@ -137,13 +138,13 @@ module _ (only : IsOnly) (once : IsOnce) where
       never_refused whole rounds end r.0 left taken left' taken' held held' before after r.1 spells comes
 
   -- the supervision came to this end, which is the exit
-  pub super_ran : (config : Option (List ℕ)) (rounds files files' : ℕ) (s s' : Streams) (d d' : Dialled) (e e' : ErrorsTold) (end : FormEnd) (exit : Exit) → exit ≡ exit_of (plain end)
+  pub super_ran : (config : Option (List ℕ)) (rounds files files' : ℕ) (s s' : Streams) (d d' : Dialled) (refused : Option RefusedFile) (e e' : ErrorsTold) (end : FormEnd) (exit : Exit) → exit ≡ exit_of (plain end)
       → SuperComes config rounds end s.left None s'.left None s.held s'.held (reached d) (reached d')
       → HasCause (plain end) files files' s.reads s'.reads s.writes s'.writes 0 0
       → ((link : LinkEnd) → plain end ≡ Served link → ServesWhole s.left s.reads s'.reads s.writes s'.writes 0 0 link)
-      → Tells e e' exit (form_words end)
-      → SuperRan config rounds files files' s s' d d' e e' exit
-  super_ran config rounds files files' s s' d d' e e' end exit is comes cause whole says = record {
+      → Tells e e' exit (form_words refused end)
+      → SuperRan config rounds files files' s s' d d' refused e e' exit
+  super_ran config rounds files files' s s' d d' refused e e' end exit is comes cause whole says = record {
     end = end;
     exit_is = is;
     comes = comes;

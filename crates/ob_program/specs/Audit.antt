@@ -11,6 +11,7 @@ use Rattle.ob_site_file.specs.declared.fault.LoadFault.{LoadFault}
 use Rattle.ob_site_file.specs.declared.fault.LoadFault.TheVariants as loads
 use Rattle.ob_site_laws.specs.SiteLaws.{acts}
 use Rattle.ob_site_rules.specs.Sites.{SiteState}
+use Rattle.ob_io.specs.declared.cause.RefusedFile.{RefusedFile}
 use Rattle.ob_program.specs.declared.audit.AuditEnd.{AuditEnd}
 use Rattle.ob_program.specs.declared.audit.AuditEnd.TheVariants as ends
 use Rattle.ob_program.specs.declared.audit.RunFault.{RunFault}
@@ -135,7 +136,7 @@ pub record AuditRose (end : AuditEnd) (files files' writes writes' : ℕ) : Type
 
 -- The audit came to some end, which is the exit: `Illegal` exactly where the verdict is. Where the record's file is the record
 -- of a run, the site's file opens a site and no count rose, a verdict is told, or memory was wanting. The end is told on `errors`.
-pub record AuditRan (site file : Option (List ℕ)) (files files' : ℕ) (held held' : Option (List ℕ)) (writes writes' : ℕ) (e e' : ErrorsTold) (exit : Exit) : Type 0 where
+pub record AuditRan (site file : Option (List ℕ)) (files files' : ℕ) (held held' : Option (List ℕ)) (writes writes' : ℕ) (refused : Option RefusedFile) (e e' : ErrorsTold) (exit : Exit) : Type 0 where
   pub end : AuditEnd
   pub exit_is : exit ≡ exit_of_audit end
   pub comes : AuditComes site file held held' end
@@ -144,4 +145,4 @@ pub record AuditRan (site file : Option (List ℕ)) (files files' : ℕ) (held h
   pub complete : IfSome file (λ whole. IfSome site (λ other. (run : Recorded) → IsRecordOf run whole → OpensSite (site_bytes other)
       → ¬ (Rose files files') → ¬ (Rose writes writes')
       → (exit ≡ exits.Ok) ⊎ ((exit ≡ exits.Illegal) ⊎ (exit ≡ exits.Memory))))
-  pub says : Tells e e' exit (audit_words end)
+  pub says : Tells e e' exit (audit_words refused end)

@@ -7,6 +7,7 @@ use Rattle.ob_io.specs.Faults.{Rose}
 use Rattle.ob_io.specs.Told.{Gains, IsFront}
 use Rattle.ob_xml.specs.declared.doc.Doc.{Doc}
 use Rattle.ob_xml.specs.Judged.{Judged, document, fault}
+use Rattle.ob_io.specs.declared.cause.RefusedFile.{RefusedFile}
 use Rattle.ob_program.specs.declared.check.CheckEnd.{CheckEnd}
 use Rattle.ob_program.specs.declared.check.CheckEnd.TheVariants as ends
 use Rattle.ob_program.specs.declared.exit.Exit.{Exit}
@@ -48,16 +49,16 @@ HasFault content (ends.Refused r) = IfSome content (λ bytes. Judged bytes true 
 HasFault content _ = ⊤
 
 -- The check came to some end, which is the exit, and it is told on `errors`.
-pub record CheckSays (content : Option (List ℕ)) (e e' : ErrorsTold) (exit : Exit) : Type 0 where
+pub record CheckSays (content : Option (List ℕ)) (refused : Option RefusedFile) (e e' : ErrorsTold) (exit : Exit) : Type 0 where
   pub end : CheckEnd
   pub exit_is : exit ≡ exit_of_check end
   pub judged : HasFault content end
-  pub tells : Tells e e' exit (check_words end)
+  pub tells : Tells e e' exit (check_words refused end)
 
 -- The check came to this exit. Where the file is told, its bytes were written in their canonical form or refused: with status
 -- 0 it is the document that they spell by the grammar; bytes that are no document are refused, and one that they are is
 -- written, where nothing fails. A fault has its cause in a count.
-pub record CheckRan (content : Option (List ℕ)) (files files' : ℕ) (before after : Option (List ℕ)) (writes writes' : ℕ) (e e' : ErrorsTold) (exit : Exit) : Type 0 where
+pub record CheckRan (content : Option (List ℕ)) (files files' : ℕ) (before after : Option (List ℕ)) (writes writes' : ℕ) (refused : Option RefusedFile) (e e' : ErrorsTold) (exit : Exit) : Type 0 where
   pub some_bytes : (bytes : List ℕ) × Checks bytes before after exit
   pub checks : IfSome content (λ bytes. Checks bytes before after exit)
   pub spells : IfSome content (λ bytes. exit ≡ exits.Ok → (doc : Doc) × Spells bytes doc.ns doc.root × Gains before (printed doc) after)
@@ -66,4 +67,4 @@ pub record CheckRan (content : Option (List ℕ)) (files files' : ℕ) (before a
       → (exit ≡ exits.Ok) ⊎ (exit ≡ exits.Memory))
   pub read : exit ≡ exits.ReadFault → Rose files files'
   pub write : exit ≡ exits.WriteFault → Rose writes writes'
-  pub says : CheckSays content e e' exit
+  pub says : CheckSays content refused e e' exit

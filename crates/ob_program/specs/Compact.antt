@@ -9,6 +9,8 @@ use Rattle.ob_kept.specs.declared.fault.CompactFault.{CompactFault}
 use Rattle.ob_kept.specs.declared.fault.CompactFault.TheVariants as faults
 use Rattle.ob_load.specs.Loads.{OpensSite}
 use Rattle.ob_record_journal.specs.Writing.{LeavesOld}
+use Rattle.ob_io.specs.declared.cause.Cause.{Cause}
+use Rattle.ob_io.specs.declared.cause.RefusedFile.{RefusedFile}
 use Rattle.ob_program.specs.Keeping.{ComesBack, IsOfRecord, OpensRecord, end_of_device, end_of_reopen, exit_of_keep}
 use Rattle.ob_program.specs.Outside.{DevicesTold}
 use Rattle.ob_program.specs.Serving.{Prints}
@@ -120,12 +122,12 @@ module _ {V : Type 0} (told : Type 0) (seen : V → List ℕ) (may_leave : V →
   -- The writing came to some end, which is the exit. Where the site file opens a site and no count rose, that is a good one, or
   -- memory was wanting, or one of the two files isn't what it has to be. The end is told on `errors`.
   pub record CompactRan (content : Option (List ℕ)) (file name : List ℕ) (files files' : ℕ) (v v' : DevicesTold V) (held held' : Option (List ℕ))
-      (writes writes' : ℕ) (e e' : ErrorsTold) (exit : Exit) : Type 0 where
+      (writes writes' : ℕ) (refused : Option RefusedFile) (device_refusal : Cause) (e e' : ErrorsTold) (exit : Exit) : Type 0 where
     pub end : CompactEnd
     pub exit_is : exit ≡ exit_of_compact end
     pub comes : CompactComes content file name files files' v v' held held' end
     pub rose : CompactRose end files files' v.faults v'.faults writes writes'
-    pub says : Tells e e' exit (compact_words end)
+    pub says : Tells e e' exit (compact_words refused device_refusal end)
     pub complete : IfSome content (λ whole. OpensSite (site_bytes whole)
         → ¬ (Rose files files') → ¬ (Rose v.faults v'.faults) → ¬ (Rose writes writes')
         → (exit ≡ exits.Ok) ⊎ ((exit ≡ exits.Memory) ⊎ IsOfFiles end))

@@ -13,6 +13,8 @@ use Rattle.ob_kept.specs.Reopening.{Refuses, Reopens, SaysAsBefore}
 use Rattle.ob_kept.specs.declared.fault.ReopenFault.{ReopenFault}
 use Rattle.ob_kept.specs.declared.fault.ReopenFault.TheVariants as reopens
 use Rattle.ob_load.specs.Loads.{OpensSite}
+use Rattle.ob_io.specs.declared.cause.Cause.{Cause}
+use Rattle.ob_io.specs.declared.cause.RefusedFile.{RefusedFile}
 use Rattle.ob_program.specs.Outside.{ClockTold, DevicesTold, PortTold}
 use Rattle.ob_program.specs.Serving.{AtPlace, IsUntouched, ServeRose, end_of_load, exit_of_serve}
 use Rattle.ob_program.specs.Stdio.{site_bytes}
@@ -144,11 +146,11 @@ module _ {V : Type 0} (told : Type 0) (seen : V → List ℕ) (may_leave : V →
     -- The service came to some end, which is the exit. Where the site file opens a site and no count rose, that is a good one, or
     -- memory was wanting, or the record gives no site. The end is told on `errors`.
     pub record KeepRan (content : Option (List ℕ)) (file host : List ℕ) (place wanted quota : ℕ) (files files' : ℕ) (v v' : DevicesTold V)
-        (held held' : Option (List ℕ)) (writes writes' : ℕ) (p p' : PortTold) (t t' : ClockTold) (e e' : ErrorsTold) (exit : Exit) : Type 0 where
+        (held held' : Option (List ℕ)) (writes writes' : ℕ) (p p' : PortTold) (t t' : ClockTold) (refused : Option RefusedFile) (refusal device_refusal : Cause) (e e' : ErrorsTold) (exit : Exit) : Type 0 where
       pub end : KeepEnd
       pub exit_is : exit ≡ exit_of_keep end
       pub comes : KeepComes content file host place wanted quota files files' v v' held held' writes writes' p p' t t' end
-      pub says : Tells e e' exit (keep_words end)
+      pub says : Tells e e' exit (keep_words refused refusal device_refusal end)
       pub complete : IfSome content (λ whole. OpensSite (site_bytes whole)
           → ¬ (Rose files files') → ¬ (Rose v.faults v'.faults) → ¬ (Rose writes writes') → ¬ (Rose p.faults p'.faults) → ¬ (Rose t.faults t'.faults)
           → (exit ≡ exits.Ok) ⊎ ((exit ≡ exits.Memory) ⊎ IsOfRecord end))

@@ -15,4 +15,5 @@ pub mod Audit
 pub mod Form
 pub mod Schedule
 pub mod Super
+pub mod Text
 pub mod Run

@@ -1,6 +1,8 @@
 -- What is told of the outside, before and after a run.
 use Rattle.std.specs.Prelude.{ℕ, Bool, List, Option}
 use Rattle.ob_io.specs.Dials.{Dial, Visit}
+use Rattle.ob_io.specs.declared.cause.Cause.{Cause}
+use Rattle.ob_io.specs.declared.cause.RefusedFile.{RefusedFile}
 use Rattle.ob_journal.specs.Opened.{Opened}
 -- what is told of a port and of a clock
 pub use Rattle.ob_server.specs.GivenBack.{PortTold, port_told, ClockTold, clock_told}
@@ -33,3 +35,13 @@ pub record DevicesTold (V : Type 0) : Type 0 where
 
 abbrev pub devices_told : {V : Type 0} → Option (List (Opened V)) → Option (List V) → ℕ → DevicesTold V
 devices_told given returned faults = record { given = given; returned = returned; faults = faults }
+
+-- what the outside tells in the end of the calls that it refused: the last file that could not be read, and why the port and the
+-- devices of records refused last
+pub record Refusals : Type 0 where
+  pub file : Option RefusedFile
+  pub port : Cause
+  pub device : Cause
+
+abbrev pub refusals : Option RefusedFile → (port device : Cause) → Refusals
+refusals file port device = record { file = file; port = port; device = device }

@@ -20,6 +20,7 @@ use Rattle.ob_site_rules.specs.Sites.{SiteState}
 use Rattle.ob_weekly.specs.declared.schedule.Schedules.{Schedules}
 use Rattle.ob_parts.specs.declared.offence.Offence.{Offence}
 use Rattle.ob_schedule.specs.declared.rule.ScheduleRule.{ScheduleRule}
+use Rattle.ob_io.specs.declared.cause.RefusedFile.{RefusedFile}
 use Rattle.ob_program.specs.Form.{plain, IsUnspelled}
 use Rattle.ob_program.specs.Outside.{Streams, ClockTold}
 use Rattle.ob_program.specs.Stdio.{exit_of, site_bytes, IsIdle, IsRefusedAs}
@@ -122,7 +123,7 @@ OpensScheduled site file =
 -- its cause in a count. Where the source's bytes are whole requests, fewer than 2^40, and nothing fails, they are asked to their end, or
 -- a file is refused. Files of which the one opens a site and the other has the form for its points are not refused. The
 -- end is told on `errors`.
-pub record ScheduledRan (site file : Option (List ℕ)) (at : Option ℕ) (tick files files' : ℕ) (s s' : Streams) (t t' : ClockTold) (e e' : ErrorsTold) (exit : Exit) : Type 0 where
+pub record ScheduledRan (site file : Option (List ℕ)) (at : Option ℕ) (tick files files' : ℕ) (s s' : Streams) (t t' : ClockTold) (refused : Option RefusedFile) (e e' : ErrorsTold) (exit : Exit) : Type 0 where
   pub end : FormEnd
   pub exit_is : exit ≡ exit_of (plain end)
   pub comes : ScheduleComes site file at tick end s.left None s'.left None s.held s'.held t.given t'.given
@@ -132,5 +133,5 @@ pub record ScheduledRan (site file : Option (List ℕ)) (at : Option ℕ) (tick 
   pub complete : IfSome s.left (λ all. length all < 2 ^ 40 → IsWellFramed all
       → ¬ (Rose files files') → ¬ (Rose s.reads s'.reads) → ¬ (Rose s.writes s'.writes) → ¬ (Rose t.faults t'.faults)
       → (exit ≡ exits.Ok) ⊎ ((exit ≡ exits.Refused) ⊎ (exit ≡ exits.Memory)))
-  pub says : Tells e e' exit (form_words end)
+  pub says : Tells e e' exit (form_words refused end)
   pub opens : IfSome site (λ whole. IfSome file (λ other. OpensScheduled whole other → exit ≢ exits.Refused))

@@ -19,6 +19,8 @@ use Rattle.ob_site_file.specs.declared.fault.LoadFault.TheVariants as faults
 use Rattle.ob_site_laws.specs.SiteLaws.{acts, IsSoundSite}
 use Rattle.ob_site_rules.specs.declared.request.Request.{Request as Asked}
 use Rattle.ob_site_rules.specs.Sites.{SiteState}
+use Rattle.ob_io.specs.declared.cause.Cause.{Cause}
+use Rattle.ob_io.specs.declared.cause.RefusedFile.{RefusedFile}
 use Rattle.ob_program.specs.declared.exit.Exit.{Exit}
 use Rattle.ob_program.specs.declared.exit.Exit.TheVariants as exits
 use Rattle.ob_program.specs.declared.serve.ServeEnd.{ServeEnd}
@@ -181,11 +183,11 @@ module _ {D C : Type 0} (faults handed returned : D → ℕ) (visits : D → Opt
   -- The service came to some end, which is the exit. Where the file opens a site and no count rose, that is a good one, or
   -- memory was wanting, whatever the links did. The end is told on `errors`.
   pub record ServeRan (file : Option (List ℕ)) (host : List ℕ) (place wanted quota : ℕ) (files files' : ℕ)
-      (held held' : Option (List ℕ)) (writes writes' : ℕ) (p p' : PortTold) (t t' : ClockTold) (e e' : ErrorsTold) (exit : Exit) : Type 0 where
+      (held held' : Option (List ℕ)) (writes writes' : ℕ) (p p' : PortTold) (t t' : ClockTold) (refused : Option RefusedFile) (refusal : Cause) (e e' : ErrorsTold) (exit : Exit) : Type 0 where
     pub end : ServeEnd
     pub exit_is : exit ≡ exit_of_serve end
     pub comes : ServeComes file host place wanted quota files files' held held' writes writes' p p' t t' end
-    pub says : Tells e e' exit (serve_words end)
+    pub says : Tells e e' exit (serve_words refused refusal end)
     pub complete : IfSome file (λ whole. OpensSite (site_bytes whole)
         → ¬ (Rose files files') → ¬ (Rose writes writes') → ¬ (Rose p.faults p'.faults) → ¬ (Rose t.faults t'.faults)
         → (exit ≡ exits.Ok) ⊎ (exit ≡ exits.Memory))

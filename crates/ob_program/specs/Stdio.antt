@@ -17,6 +17,7 @@ use Rattle.ob_load.specs.Loads.{IsSite, OpensSite, RefusesBytes, IsOutside}
 use Rattle.ob_site_file.specs.declared.fault.LoadFault.{LoadFault}
 use Rattle.ob_site_file.specs.declared.fault.LoadFault.TheVariants as faults
 use Rattle.ob_server.specs.Complete.{IsWellFramed}
+use Rattle.ob_io.specs.declared.cause.RefusedFile.{RefusedFile}
 use Rattle.ob_program.specs.Outside.{Streams, ClockTold}
 use Rattle.ob_program.specs.Telling.{ErrorsTold, Tells}
 use Rattle.ob_program.specs.Words.{stdio_words}
@@ -133,7 +134,7 @@ pub record HasCause (end : StdioEnd) (files files' reads reads' writes writes' c
 -- told, nothing is said of them by themselves. A fault has its cause in a count. Where the file opens a site and the source's
 -- bytes are whole requests, fewer than 2^40, and nothing fails, they are asked to their end. A file that opens a site isn't
 -- refused. The end is told on `errors`.
-pub record StdioRan (output : Output) (file : Option (List ℕ)) (at : Option ℕ) (tick files files' : ℕ) (s s' : Streams) (t t' : ClockTold) (e e' : ErrorsTold) (exit : Exit) : Type 0 where
+pub record StdioRan (output : Output) (file : Option (List ℕ)) (at : Option ℕ) (tick files files' : ℕ) (s s' : Streams) (t t' : ClockTold) (refused : Option RefusedFile) (e e' : ErrorsTold) (exit : Exit) : Type 0 where
   pub end : StdioEnd
   pub exit_is : exit ≡ exit_of end
   pub comes : StdioComes output file at tick end s.left None s'.left None s.held s'.held t.given t'.given
@@ -143,5 +144,5 @@ pub record StdioRan (output : Output) (file : Option (List ℕ)) (at : Option �
   pub complete : IfSome s.left (λ all. length all < 2 ^ 40 → IsWellFramed all
       → ¬ (Rose files files') → ¬ (Rose s.reads s'.reads) → ¬ (Rose s.writes s'.writes) → ¬ (Rose t.faults t'.faults)
       → (exit ≡ exits.Ok) ⊎ ((exit ≡ exits.Refused) ⊎ (exit ≡ exits.Memory)))
-  pub says : Tells e e' exit (stdio_words end)
+  pub says : Tells e e' exit (stdio_words refused end)
   pub opens : IfSome file (λ whole. OpensSite (site_bytes whole) → exit ≢ exits.Refused)

@@ -12,6 +12,7 @@ use Rattle.ob_super.specs.declared.config_fault.ConfigFault.{ConfigFault}
 use Rattle.ob_super.specs.declared.config_fault.ConfigFault.TheVariants as configs
 use Rattle.ob_super.specs.declared.config_rule.ConfigRule.{ConfigRule}
 use Rattle.ob_supervising.specs.Supervising.{SupervisesLink}
+use Rattle.ob_io.specs.declared.cause.RefusedFile.{RefusedFile}
 use Rattle.ob_program.specs.Form.{plain, IsUnspelled}
 use Rattle.ob_program.specs.Outside.{Streams, Dialled}
 use Rattle.ob_program.specs.Stdio.{exit_of}
@@ -87,7 +88,7 @@ SpellsConfig bytes = (ns : Option (List ℕ)) × (root : Object) × Spells bytes
 -- an upstream or of a clock is among them. Where the source's bytes are whole requests, fewer than 2^40, and files, source and sink
 -- count no fault, they are answered to their end, whatever the links do, or the config is refused. One of the form is not refused. The end
 -- is told on `errors`.
-pub record SuperRan (config : Option (List ℕ)) (rounds files files' : ℕ) (s s' : Streams) (d d' : Dialled) (e e' : ErrorsTold) (exit : Exit) : Type 0 where
+pub record SuperRan (config : Option (List ℕ)) (rounds files files' : ℕ) (s s' : Streams) (d d' : Dialled) (refused : Option RefusedFile) (e e' : ErrorsTold) (exit : Exit) : Type 0 where
   pub end : FormEnd
   pub exit_is : exit ≡ exit_of (plain end)
   pub comes : SuperComes config rounds end s.left None s'.left None s.held s'.held (reached d) (reached d')
@@ -97,5 +98,5 @@ pub record SuperRan (config : Option (List ℕ)) (rounds files files' : ℕ) (s 
   pub complete : IfSome s.left (λ all. length all < 2 ^ 40 → IsWellFramed all
       → ¬ (Rose files files') → ¬ (Rose s.reads s'.reads) → ¬ (Rose s.writes s'.writes)
       → (exit ≡ exits.Ok) ⊎ ((exit ≡ exits.Refused) ⊎ (exit ≡ exits.Memory)))
-  pub says : Tells e e' exit (form_words end)
+  pub says : Tells e e' exit (form_words refused end)
   pub opens : IfSome config (λ whole. SpellsConfig whole → exit ≢ exits.Refused)

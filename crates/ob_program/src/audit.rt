@@ -1,5 +1,5 @@
 //! `audit`: whether a record is legal from a site file.
-ghost use Rattle.std.specs.Prelude.{◌≡◌, ◌≤◌, ℕ, List, IfOk, IfErr, IfSome, IsErrOf};
+ghost use Rattle.std.specs.Prelude.{◌≡◌, ◌≤◌, ℕ, List, option_copied, IfOk, IfErr, IfSome, IsErrOf};
 ghost use Rattle.ob_io.specs.Faults.{Rose};
 ghost use Rattle.ob_record.specs.Runs.{Recorded, Records, IsRecord};
 ghost use Rattle.ob_program.specs.Audit.{IsRecordOf, Unread, NoRun, Judges, Unjudged, JudgesNone, IsUntold, AuditComes, AuditRose, AuditRan, verdict_text};
@@ -7,9 +7,9 @@ ghost use Rattle.ob_program.specs.Telling.{errors_told};
 
 use crate::exit::Exit;
 use crate::telling::tell;
-use crate::words::{load_words, word_and_number};
+use crate::words::{file_words, load_words, word_and_number};
 use ob_command::Audit;
-use ob_io::{FileFault, Files, Sink, write_all};
+use ob_io::{FileFault, Files, RefusedFile, Sink, write_all};
 use ob_load::{LoadFault, load, opened_is_not_refused};
 use ob_record::{RecordFault, Run, Verdict, audit, read_record, spelled_is_unbroken};
 use std::alloc::{AllocError, Global};
@@ -88,16 +88,15 @@ impl AuditEnd {
         }
     }
 
-    /// The words that tell it on `errors`, where its line has some.
-    fn words(&self, alloc: Global) -> Result<Vec<u8>, AllocError>
-        ensures { IfOk result (λ words. words.items ≡ audit_words self.now) }
+    /// The words that tell it on `errors`, where its line has some. This file could not be read last.
+    fn words(&self, alloc: Global, refused: Option<&RefusedFile>) -> Result<Vec<u8>, AllocError>
+        ensures { IfOk result (λ words. words.items ≡ audit_words (option_copied refused.entry) self.now) }
     {
         match self {
             AuditEnd::NoRecord { place } => word_and_number(alloc, "Record", *place),
             AuditEnd::NoSite(fault) => load_words(alloc, fault),
-            AuditEnd::Told(_) | AuditEnd::ReadFault | AuditEnd::WriteFault | AuditEnd::Memory => Ok(
-                Vec::new(alloc),
-            ),
+            AuditEnd::ReadFault => file_words(alloc, refused),
+            AuditEnd::Told(_) | AuditEnd::WriteFault | AuditEnd::Memory => Ok(Vec::new(alloc)),
         }
     }
 }
@@ -206,13 +205,14 @@ pub(crate) fn run_audit<F: Files, K: Sink, E: Sink>(
     errors: &mut E,
 ) -> Exit
     ensures ran { AuditRan (F.content files.old words.entry.site.now) (F.content files.old words.entry.file.now) (F.faults files.old) (F.faults files.new)
-        (K.held sink.old) (K.held sink.new) (K.faults sink.old) (K.faults sink.new)
+        (K.held sink.old) (K.held sink.new) (K.faults sink.old) (K.faults sink.new) (F.refused files.new)
         (errors_told (E.held errors.old) (E.faults errors.old)) (errors_told (E.held errors.new) (E.faults errors.new)) result }
 {
     opened_is_not_refused();
     spelled_is_unbroken();
     let end = audit_file(alloc, words, files, sink);
     let exit = end.exit();
-    tell(alloc, errors, exit, end.words(alloc));
+    let words = end.words(alloc, files.last_refused());
+    tell(alloc, errors, exit, words);
     exit
 }

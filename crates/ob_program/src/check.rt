@@ -1,5 +1,5 @@
 // Checking the document of a file.
-ghost use Rattle.std.specs.Prelude.{◌≡◌, ◌≢◌, ◌≤◌, ◌++◌, IfOk};
+ghost use Rattle.std.specs.Prelude.{◌≡◌, ◌≢◌, ◌≤◌, ◌++◌, option_copied, IfOk};
 ghost use Rattle.ob_io.specs.Faults.{Rose};
 ghost use Rattle.ob_xml.specs.declared.doc.Doc.{Doc};
 ghost use Rattle.ob_program.specs.Check.{printed, ChecksFile, HasFault, CheckRan};
@@ -8,8 +8,8 @@ ghost use Rattle.ob_program.specs.Telling.{errors_told};
 use crate::document::{DocumentFault, read_file};
 use crate::exit::Exit;
 use crate::telling::tell;
-use crate::words::refusal_words;
-use ob_io::{Files, Sink, write_all};
+use crate::words::{file_words, refusal_words};
+use ob_io::{Files, RefusedFile, Sink, write_all};
 use ob_xml::{Doc, Refused, encode};
 use std::alloc::{AllocError, Global};
 
@@ -42,15 +42,14 @@ impl CheckEnd {
         }
     }
 
-    /// The words that tell it on `errors`, where its line has some.
-    fn words(&self, alloc: Global) -> Result<Vec<u8>, AllocError>
-        ensures { IfOk result (λ words. words.items ≡ check_words self.now) }
+    /// The words that tell it on `errors`, where its line has some. This file could not be read last.
+    fn words(&self, alloc: Global, unread: Option<&RefusedFile>) -> Result<Vec<u8>, AllocError>
+        ensures { IfOk result (λ words. words.items ≡ check_words (option_copied unread.entry) self.now) }
     {
         match self {
             CheckEnd::Refused(refused) => refusal_words(alloc, *refused),
-            CheckEnd::Printed | CheckEnd::ReadFault | CheckEnd::WriteFault | CheckEnd::Memory => Ok(
-                Vec::new(alloc),
-            ),
+            CheckEnd::ReadFault => file_words(alloc, unread),
+            CheckEnd::Printed | CheckEnd::WriteFault | CheckEnd::Memory => Ok(Vec::new(alloc)),
         }
     }
 }
@@ -101,7 +100,7 @@ pub(crate) fn run_check<F: Files, K: Sink, E: Sink>(
     errors: &mut E,
 ) -> Exit
     ensures ran { CheckRan (F.content files.old name.now) (F.faults files.old) (F.faults files.new)
-        (K.held sink.old) (K.held sink.new) (K.faults sink.old) (K.faults sink.new)
+        (K.held sink.old) (K.held sink.new) (K.faults sink.old) (K.faults sink.new) (F.refused files.new)
         (errors_told (E.held errors.old) (E.faults errors.old)) (errors_told (E.held errors.new) (E.faults errors.new)) result }
     ensures refused { result ≡ Exit.Refused → sink.new ≡ sink.old }
 {
@@ -109,6 +108,7 @@ pub(crate) fn run_check<F: Files, K: Sink, E: Sink>(
     ob_documents::spelled();
     let end = check(alloc, name, files, sink);
     let exit = end.exit();
-    tell(alloc, errors, exit, end.words(alloc));
+    let words = end.words(alloc, files.last_refused());
+    tell(alloc, errors, exit, words);
     exit
 }

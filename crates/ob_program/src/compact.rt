@@ -1,5 +1,5 @@
 //! `compact`: a shorter record of a site, in a new file.
-ghost use Rattle.std.specs.Prelude.{◌≡◌, IfOk};
+ghost use Rattle.std.specs.Prelude.{◌≡◌, option_copied, IfOk};
 ghost use Rattle.ob_program.specs.Compact.{CompactComes, CompactRan, CompactRose, CompactsFile, CompactsInto, compact_text};
 ghost use Rattle.ob_program.specs.Outside.{devices_told};
 ghost use Rattle.ob_program.specs.Telling.{errors_told};
@@ -10,7 +10,7 @@ use crate::outside::Storage;
 use crate::serve::ServeEnd;
 use crate::telling::tell;
 use ob_command::Compact;
-use ob_io::{FileFault, Files, Sink, write_all};
+use ob_io::{Cause, FileFault, Files, RefusedFile, Sink, write_all};
 use ob_journal::Devices;
 use ob_kept::{CompactFault, Compacted, compact};
 use ob_load::opened_is_not_refused;
@@ -52,14 +52,20 @@ impl CompactEnd {
         }
     }
 
-    /// The words that tell it on `errors`, where its line has some.
-    fn words(&self, alloc: Global) -> Result<Vec<u8>, AllocError>
-        ensures { IfOk result (λ words. words.items ≡ compact_words self.now) }
+    /// The words that tell it on `errors`, where its line has some. This file could not be read last, and this cause is the
+    /// last that the devices told.
+    fn words(
+        &self,
+        alloc: Global,
+        refused: Option<&RefusedFile>,
+        device: Cause,
+    ) -> Result<Vec<u8>, AllocError>
+        ensures { IfOk result (λ words. words.items ≡ compact_words (option_copied refused.entry) device self.now) }
     {
         match self {
             CompactEnd::Written(_) => Ok(Vec::new(alloc)),
             CompactEnd::Taken => b"New".to_vec(alloc),
-            CompactEnd::Ended(end) => end.words(alloc),
+            CompactEnd::Ended(end) => end.words(alloc, refused, Cause::Untold, device),
         }
     }
 }
@@ -172,12 +178,18 @@ pub(crate) fn run_compact<F: Files, V: Devices, K: Sink, E: Sink>(
         (devices_told (V.given storage.old.devices.now) (V.returned storage.old.devices.now) (V.faults storage.old.devices.now))
         (devices_told (V.given storage.new.devices.now) (V.returned storage.new.devices.now) (V.faults storage.new.devices.now))
         (K.held sink.old) (K.held sink.new) (K.faults sink.old) (K.faults sink.new)
+        (F.refused storage.new.files.now) (V.refusal storage.new.devices.now)
         (errors_told (E.held errors.old) (E.faults errors.old)) (errors_told (E.held errors.new) (E.faults errors.new)) result }
     ensures same { (storage.new.files.ghost_name ≡ storage.old.files.ghost_name) × (storage.new.devices.ghost_name ≡ storage.old.devices.ghost_name) }
 {
     opened_is_not_refused();
     let end = compact_site(alloc, words, storage.files, storage.devices, sink);
     let exit = end.exit();
-    tell(alloc, errors, exit, end.words(alloc));
+    let words = end.words(
+        alloc,
+        storage.files.last_refused(),
+        storage.devices.last_cause(),
+    );
+    tell(alloc, errors, exit, words);
     exit
 }

@@ -1,10 +1,11 @@
 //! The ends of a command that reads a file of a form of its own.
-ghost use Rattle.std.specs.Prelude.{◌≡◌, IfOk};
+ghost use Rattle.std.specs.Prelude.{◌≡◌, option_copied, IfOk};
 
 use crate::document::DocumentFault;
 use crate::exit::Exit;
 use crate::stdio::StdioEnd;
 use crate::words::{offence_words, refusal_words};
+use ob_io::RefusedFile;
 use ob_parts::Offence;
 use ob_schedule::ScheduleRule;
 use ob_super::ConfigRule;
@@ -51,12 +52,16 @@ impl FormEnd {
         }
     }
 
-    /// The words that tell it on `errors`, where its line has some.
-    pub(crate) fn words(&self, alloc: Global) -> Result<Vec<u8>, AllocError>
-        ensures { IfOk result (λ words. words.items ≡ form_words self.now) }
+    /// The words that tell it on `errors`, where its line has some. This file could not be read last.
+    pub(crate) fn words(
+        &self,
+        alloc: Global,
+        refused: Option<&RefusedFile>,
+    ) -> Result<Vec<u8>, AllocError>
+        ensures { IfOk result (λ words. words.items ≡ form_words (option_copied refused.entry) self.now) }
     {
         match self {
-            FormEnd::Stdio(end) => end.words(alloc),
+            FormEnd::Stdio(end) => end.words(alloc, refused),
             FormEnd::NoDocument(refused) => refusal_words(alloc, *refused),
             FormEnd::Config(offence) => {
                 offence_words(alloc, "Config", offence.part, offence.rule.word())

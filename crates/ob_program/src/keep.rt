@@ -12,9 +12,9 @@ use crate::exit::Exit;
 use crate::outside::{Front, Means, Storage};
 use crate::serve::{ServeEnd, announce, end_with, report};
 use crate::telling::tell;
-use crate::words::word_and_number;
+use crate::words::{told_cause, word_and_number};
 use ob_command::{Keep, Serve};
-use ob_io::{Clock, Door, Files, Port, Sink};
+use ob_io::{Cause, Clock, Door, Files, Port, RefusedFile, Sink};
 use ob_journal::{Device, DeviceFault, Devices};
 use ob_kept::{Kept, ReopenFault, Reopened, reopen, serve_port};
 use ob_load::opened_is_not_refused;
@@ -88,18 +88,25 @@ impl KeepEnd {
         }
     }
 
-    /// The words that tell it on `errors`, where its line has some.
-    pub(crate) fn words(&self, alloc: Global) -> Result<Vec<u8>, AllocError>
-        ensures { IfOk result (λ words. words.items ≡ keep_words self.now) }
+    /// The words that tell it on `errors`, where its line has some. This file could not be read last, and these causes are the
+    /// last that the port and the devices told.
+    pub(crate) fn words(
+        &self,
+        alloc: Global,
+        refused: Option<&RefusedFile>,
+        port: Cause,
+        device: Cause,
+    ) -> Result<Vec<u8>, AllocError>
+        ensures { IfOk result (λ words. words.items ≡ keep_words (option_copied refused.entry) port device self.now) }
     {
         match self {
-            KeepEnd::Served(end) => end.words(alloc),
+            KeepEnd::Served(end) => end.words(alloc, refused, port),
             KeepEnd::NoRecord { place } => word_and_number(alloc, "Record", *place),
             KeepEnd::Illegal { entry } => {
                 let text = format!(in alloc; "{entry}")?;
                 text.as_bytes().to_vec(alloc)
             }
-            KeepEnd::RecordFault => Ok(Vec::new(alloc)),
+            KeepEnd::RecordFault => told_cause(alloc, device),
         }
     }
 }
@@ -275,6 +282,7 @@ where
         (port_told (P.faults front.new.port.now) (P.opened front.new.port.now) (P.returned front.new.port.now) (P.listens front.new.port.now) (P.doors front.new.port.now))
         (clock_told (C.faults front.old.clock.now) (C.given front.old.clock.now) (C.pace front.old.clock.now) (C.twins front.old.clock.now))
         (clock_told (C.faults front.new.clock.now) (C.given front.new.clock.now) (C.pace front.new.clock.now) (C.twins front.new.clock.now))
+        (F.refused storage.new.files.now) (P.refusal front.new.port.now) (V.refusal storage.new.devices.now)
         (errors_told (E.held errors.old) (E.faults errors.old)) (errors_told (E.held errors.new) (E.faults errors.new)) result }
     ensures same_front { (front.new.sink.ghost_name ≡ front.old.sink.ghost_name)
         × (front.new.port.ghost_name ≡ front.old.port.ghost_name)
@@ -284,6 +292,12 @@ where
     opened_is_not_refused();
     let end = keep_site(means, kept, storage, front);
     let exit = end.exit();
-    tell(means.alloc, errors, exit, end.words(means.alloc));
+    let words = end.words(
+        means.alloc,
+        storage.files.last_refused(),
+        front.port.last_cause(),
+        storage.devices.last_cause(),
+    );
+    tell(means.alloc, errors, exit, words);
     exit
 }

@@ -4,7 +4,7 @@
 //! of links on threads; `keep SITE RECORD HOST PORT` is `serve` whose site outlives the process, and `compact
 //! SITE RECORD NEW` writes it a shorter record. `check FILE` reads a document and writes its canonical text. `watch` and `console` are clients.
 //! `storm SEED CLIENTS REQUESTS` asks a site of its own. `schedule SITE FILE` is `stdio SITE` with weekly schedules, and
-//! `super CONFIG` answers from a tree of what several servers show.
+//! `super CONFIG` answers from a tree of what several servers show. `help` and `--version` write a text.
 #![tactic(auto)]
 
 mod audit;
@@ -24,6 +24,7 @@ mod stdio;
 mod storm;
 mod supervise;
 mod telling;
+mod text;
 mod words;
 
 pub use exit::Exit;

@@ -2,9 +2,9 @@
 ghost use Rattle.std.specs.Prelude.{◌≡◌, ◌↔◌, ◌⊎◌, ℕ, List, map, string_bytes, None, IfSome};
 ghost use Rattle.ob_command.specs.Command.{command};
 ghost use Rattle.ob_program.specs.Causes.{CauseOf};
-ghost use Rattle.ob_program.specs.Outside.{streams, dialled, devices_told, port_told, clock_told};
+ghost use Rattle.ob_program.specs.Outside.{streams, dialled, devices_told, port_told, clock_told, refusals};
 ghost use Rattle.ob_program.specs.Run.{IsUnread, Ran, LeavesAlone};
-ghost use Rattle.ob_program.specs.Telling.{errors_told, Tells};
+ghost use Rattle.ob_program.specs.Telling.{errors_told, Tells, TellsSlip};
 
 use crate::audit::run_audit;
 use crate::check::run_check;
@@ -19,7 +19,8 @@ use crate::stdio::run_stdio;
 use crate::storm::run_storm;
 use crate::supervise::run_super;
 use crate::telling::tell;
-use ob_command::{Command, read_command};
+use crate::text::run_text;
+use ob_command::{Command, VERSION, page, read_command};
 use ob_io::{Clock, Dialer, Door, Files, Pair, Port, Sink, Source};
 use ob_journal::Devices;
 use ob_server::TimedLink;
@@ -38,9 +39,10 @@ use std::thread::Threads;
 /// run goes on from there. `compact SITE RECORD NEW` writes a shorter record by which it goes on alike. `check FILE` writes the
 /// canonical text of a file's document, and a line feed. `watch URL HREF.. [--polls N] [--retry R]` and `console URL SUBJECT
 /// [--polls N] [--ack HREF] [--user NAME]` write what a server tells of objects and of alarms. `storm SEED CLIENTS REQUESTS`
-/// asks a site of its own what a seed draws, and writes what it counts in the replies. `super CONFIG [--rounds N]` goes over
-/// the servers that a file names, and answers the source's requests from a tree of what they show. What went wrong is told on `errors`,
-/// whose own faults change nothing.
+/// asks a site of its own what a seed draws, and writes what it counts in the replies. `super CONFIG [--rounds N] [--wait MS]` goes over
+/// the servers that a file names, and answers the source's requests from a tree of what they show. `help [COMMAND]`, and `--help` among
+/// the words of a command, write a page, and `--version` the program's version. What went wrong is told on `errors`, whose own faults
+/// change nothing.
 ///
 /// The answers of `stdio` and `serve` are those of the site that the definition of the opening gives for the document that the
 /// file's bytes spell and the boot's moment, with the document's xmlns.
@@ -86,6 +88,9 @@ where
         (clock_told (C.faults clock.old) (C.given clock.old) (C.pace clock.old) (C.twins clock.old))
         (clock_told (C.faults clock.new) (C.given clock.new) (C.pace clock.new) (C.twins clock.new))
         (V.faults devices.old) (V.faults devices.new) }
+    // Of words that are no command the first offence is told.
+    ensures slip { command (map string_bytes words.now) ≡ None → result ≡ Exit.Usage
+        → TellsSlip (map string_bytes words.now) (errors_told (E.held errors.old) (E.faults errors.old)) (errors_told (E.held errors.new) (E.faults errors.new)) }
     // Whatever the command is, this is told of its end, with the words that its record has.
     ensures told { (words : List ℕ) × Tells (errors_told (E.held errors.old) (E.faults errors.old)) (errors_told (E.held errors.new) (E.faults errors.new)) result words }
     // The command was done, and this is how it ended; but to read a client's words there may be no memory.
@@ -103,19 +108,20 @@ where
         (dialled (W.dials dialer.new) (W.visits dialer.new) (W.rose dialer.new) (W.faults dialer.new))
         (clock_told (C.faults clock.old) (C.given clock.old) (C.pace clock.old) (C.twins clock.old))
         (clock_told (C.faults clock.new) (C.given clock.new) (C.pace clock.new) (C.twins clock.new))
+        (refusals (F.refused files.new) (P.refusal port.new) (V.refusal devices.new))
         (errors_told (E.held errors.old) (E.faults errors.old)) (errors_told (E.held errors.new) (E.faults errors.new)) asked result)
         ⊎ IsUnread (map string_bytes words.now) result ((link.new.sink ≡ link.old.sink) × (dialer.new ≡ dialer.old)) }
 {
-    let read = match read_command(alloc, words) {
-        Ok(read) => read,
+    let command = match read_command(alloc, words) {
+        Ok(Ok(command)) => command,
+        Ok(Err(slip)) => {
+            tell(alloc, errors, Exit::Usage, slip.words(alloc));
+            return Exit::Usage;
+        }
         Err(fault) => {
             tell(alloc, errors, Exit::Memory, Err(fault));
             return Exit::Memory;
         }
-    };
-    let Some(command) = read else {
-        tell(alloc, errors, Exit::Usage, Ok(Vec::new(alloc)));
-        return Exit::Usage;
     };
     let means = Means { rt, alloc };
     match command {
@@ -161,5 +167,7 @@ where
             let mut relay = Relay { link, dialer };
             run_super(alloc, asked, files, &mut relay, errors)
         }
+        Command::Help(verb) => run_text(alloc, page(verb), &mut link.sink, errors),
+        Command::Version => run_text(alloc, VERSION, &mut link.sink, errors),
     }
 }

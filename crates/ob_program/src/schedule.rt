@@ -179,6 +179,7 @@ pub(crate) fn run_schedule<F: Files, S: Source, K: Sink, E: Sink, C: Clock>(
         (streams (S.left timed.new.link.now.source) (K.held timed.new.link.now.sink) (S.faults timed.new.link.now.source) (K.faults timed.new.link.now.sink))
         (clock_told (C.faults timed.old.clock.now) (C.given timed.old.clock.now) (C.pace timed.old.clock.now) (C.twins timed.old.clock.now))
         (clock_told (C.faults timed.new.clock.now) (C.given timed.new.clock.now) (C.pace timed.new.clock.now) (C.twins timed.new.clock.now))
+        (F.refused files.new)
         (errors_told (E.held errors.old) (E.faults errors.old)) (errors_told (E.held errors.new) (E.faults errors.new)) result }
     ensures refused { result ≡ Exit.Refused → timed.new.link.now ≡ timed.old.link.now }
     ensures unasked { IsSome service.entry.at → timed.new.clock.now ≡ timed.old.clock.now }
@@ -189,6 +190,7 @@ pub(crate) fn run_schedule<F: Files, S: Source, K: Sink, E: Sink, C: Clock>(
     ob_xml::one_verdict();
     let end = serve_file(alloc, service, files, timed);
     let exit = end.exit();
-    tell(alloc, errors, exit, end.words(alloc));
+    let words = end.words(alloc, files.last_refused());
+    tell(alloc, errors, exit, words);
     exit
 }

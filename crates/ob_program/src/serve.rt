@@ -9,9 +9,9 @@ ghost use Rattle.ob_site_laws.specs.SiteLaws.{acts};
 use crate::exit::Exit;
 use crate::outside::{Front, Means};
 use crate::telling::tell;
-use crate::words::load_words;
+use crate::words::{file_words, load_words, told_cause};
 use ob_command::Serve;
-use ob_io::{Clock, Door, Files, Port, Sink, write_all};
+use ob_io::{Cause, Clock, Door, Files, Port, RefusedFile, Sink, write_all};
 use ob_load::{LoadFault, Loaded, Site, load, opened_is_not_refused};
 use ob_server::{Serving, Staff, TimedPort, WorkerEnd};
 use ob_site::serve_port;
@@ -85,18 +85,23 @@ impl ServeEnd {
         }
     }
 
-    /// The words that tell it on `errors`, where its line has some.
-    pub(crate) fn words(&self, alloc: Global) -> Result<Vec<u8>, AllocError>
-        ensures { IfOk result (λ words. words.items ≡ serve_words self.now) }
+    /// The words that tell it on `errors`, where its line has some. This file could not be read last, and this cause is the
+    /// last that the port told.
+    pub(crate) fn words(
+        &self,
+        alloc: Global,
+        refused: Option<&RefusedFile>,
+        port: Cause,
+    ) -> Result<Vec<u8>, AllocError>
+        ensures { IfOk result (λ words. words.items ≡ serve_words (option_copied refused.entry) port self.now) }
     {
         match self {
             ServeEnd::Refused(fault) => load_words(alloc, fault),
-            ServeEnd::Done
-            | ServeEnd::ReadFault
-            | ServeEnd::WriteFault
-            | ServeEnd::PortFault
-            | ServeEnd::ClockFault
-            | ServeEnd::Memory => Ok(Vec::new(alloc)),
+            ServeEnd::ReadFault => file_words(alloc, refused),
+            ServeEnd::PortFault => told_cause(alloc, port),
+            ServeEnd::Done | ServeEnd::WriteFault | ServeEnd::ClockFault | ServeEnd::Memory => Ok(
+                Vec::new(alloc),
+            ),
         }
     }
 }
@@ -277,6 +282,7 @@ where
         (port_told (P.faults front.new.port.now) (P.opened front.new.port.now) (P.returned front.new.port.now) (P.listens front.new.port.now) (P.doors front.new.port.now))
         (clock_told (C.faults front.old.clock.now) (C.given front.old.clock.now) (C.pace front.old.clock.now) (C.twins front.old.clock.now))
         (clock_told (C.faults front.new.clock.now) (C.given front.new.clock.now) (C.pace front.new.clock.now) (C.twins front.new.clock.now))
+        (F.refused files.new) (P.refusal front.new.port.now)
         (errors_told (E.held errors.old) (E.faults errors.old)) (errors_told (E.held errors.new) (E.faults errors.new)) result }
     ensures same { (front.new.sink.ghost_name ≡ front.old.sink.ghost_name)
         × (front.new.port.ghost_name ≡ front.old.port.ghost_name)
@@ -285,6 +291,7 @@ where
     opened_is_not_refused();
     let end = serve_file(means, service, files, front);
     let exit = end.exit();
-    tell(means.alloc, errors, exit, end.words(means.alloc));
+    let words = end.words(means.alloc, files.last_refused(), front.port.last_cause());
+    tell(means.alloc, errors, exit, words);
     exit
 }

@@ -1,5 +1,5 @@
 //! `stdio` and `record`: the requests of the source are asked of the site of a file, and their answers or their record written.
-ghost use Rattle.std.specs.Prelude.{◌≡◌, ◌≤◌, min, length, IsSome, IfOk};
+ghost use Rattle.std.specs.Prelude.{◌≡◌, ◌≤◌, min, length, option_copied, IsSome, IfOk};
 ghost use Rattle.ob_io.specs.Ticks.{last_moment};
 ghost use Rattle.ob_io.specs.Faults.{Rose};
 ghost use Rattle.ob_io.specs.Links.{inlet};
@@ -19,11 +19,11 @@ ghost use Rattle.ob_program.specs.Words.{frame_words, link_words};
 use crate::exit::Exit;
 use crate::outside::Means;
 use crate::telling::tell;
-use crate::words::load_words;
+use crate::words::{file_words, load_words};
 use ob_command::{Output, Stdio};
 use ob_dialogue::frame_word;
 use ob_http::FrameFault;
-use ob_io::{Clock, Files, Link, Pair, Sink, Source, Ticker};
+use ob_io::{Clock, Files, Link, Pair, RefusedFile, Sink, Source, Ticker};
 use ob_load::{LoadFault, Loaded, load, opened_is_not_refused};
 use ob_record::record_run;
 use ob_server::{LinkEnd, Serving, TimedLink};
@@ -90,14 +90,19 @@ impl StdioEnd {
         }
     }
 
-    /// The words that tell it on `errors`, where its line has some.
-    pub(crate) fn words(&self, alloc: Global) -> Result<Vec<u8>, AllocError>
-        ensures { IfOk result (λ words. words.items ≡ stdio_words self.now) }
+    /// The words that tell it on `errors`, where its line has some. This file could not be read last.
+    pub(crate) fn words(
+        &self,
+        alloc: Global,
+        refused: Option<&RefusedFile>,
+    ) -> Result<Vec<u8>, AllocError>
+        ensures { IfOk result (λ words. words.items ≡ stdio_words (option_copied refused.entry) self.now) }
     {
         match self {
             StdioEnd::Served(end) => link_words(alloc, end),
             StdioEnd::Refused(fault) => load_words(alloc, fault),
-            StdioEnd::ReadFault | StdioEnd::ClockFault | StdioEnd::Memory => Ok(Vec::new(alloc)),
+            StdioEnd::ReadFault => file_words(alloc, refused),
+            StdioEnd::ClockFault | StdioEnd::Memory => Ok(Vec::new(alloc)),
         }
     }
 }
@@ -263,6 +268,7 @@ pub(crate) fn run_stdio<R: Wait, F: Files, S: Source, K: Sink, E: Sink, C: Clock
         (streams (S.left timed.new.link.now.source) (K.held timed.new.link.now.sink) (S.faults timed.new.link.now.source) (K.faults timed.new.link.now.sink))
         (clock_told (C.faults timed.old.clock.now) (C.given timed.old.clock.now) (C.pace timed.old.clock.now) (C.twins timed.old.clock.now))
         (clock_told (C.faults timed.new.clock.now) (C.given timed.new.clock.now) (C.pace timed.new.clock.now) (C.twins timed.new.clock.now))
+        (F.refused files.new)
         (errors_told (E.held errors.old) (E.faults errors.old)) (errors_told (E.held errors.new) (E.faults errors.new)) result }
     ensures refused { result ≡ Exit.Refused → timed.new.link.now ≡ timed.old.link.now }
     ensures unasked { IsSome service.entry.at → timed.new.clock.now ≡ timed.old.clock.now }
@@ -271,6 +277,7 @@ pub(crate) fn run_stdio<R: Wait, F: Files, S: Source, K: Sink, E: Sink, C: Clock
     opened_is_not_refused();
     let end = stdio(means, service, files, timed);
     let exit = end.exit();
-    tell(means.alloc, errors, exit, end.words(means.alloc));
+    let words = end.words(means.alloc, files.last_refused());
+    tell(means.alloc, errors, exit, words);
     exit
 }

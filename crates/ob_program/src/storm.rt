@@ -12,7 +12,7 @@ use crate::exit::Exit;
 use crate::stdio::moment;
 use crate::telling::tell;
 use ob_command::Storm;
-use ob_io::{FileFault, Files, Sink, write_all};
+use ob_io::{FileFault, Files, RefusedFile, Sink, write_all};
 use ob_load::{LoadFault, Loaded, Site, load, opened_is_not_refused};
 use ob_storm::{BOOT, Totals, count_storm, site_text};
 use std::alloc::Global;
@@ -49,11 +49,13 @@ struct OwnFile {
 }
 
 impl Files for OwnFile {
-    ghost use Rattle.std.specs.Prelude.{Some, string_bytes};
+    ghost use Rattle.std.specs.Prelude.{Some, None, string_bytes};
 
     ghost content = { λ s name. Some (string_bytes s.text) };
 
     ghost faults = { λ s. 0 };
+
+    ghost refused = { λ s. None };
 
     fn read_file(&mut self, alloc: Global, _name: &str, limit: u64) -> Result<Vec<u8>, FileFault> {
         let bytes = self.text.as_bytes();
@@ -62,6 +64,10 @@ impl Files for OwnFile {
             Ok(front) => Ok(front),
             Err(_) => Err(FileFault::Memory),
         }
+    }
+
+    fn last_refused(&self) -> Option<&RefusedFile> {
+        None
     }
 }
 

@@ -1,10 +1,9 @@
 //! `super`: the requests of the source are answered from a tree of what the servers of a config show.
 ghost use Rattle.std.specs.Prelude.{◌≡◌, ◌≤◌, None, IfOk, IfErr};
-ghost use Rattle.std.specs.List.{AllByRecursion};
 ghost use Rattle.ob_io.specs.Faults.{Rose};
 ghost use Rattle.ob_server.specs.Complete.{ServesWhole};
 ghost use Rattle.ob_server.specs.declared.end.LinkEnd.{LinkEnd};
-ghost use Rattle.ob_super.specs.InHand.{upstreams, outside};
+ghost use Rattle.ob_super.specs.InHand.{upstreams, outside, IsNew};
 ghost use Rattle.ob_program.specs.Form.{plain};
 ghost use Rattle.ob_program.specs.Outside.{streams, dialled};
 ghost use Rattle.ob_program.specs.Stdio.{HasCause, IsUnserved};
@@ -35,25 +34,25 @@ fn of_config(fault: ConfigFault) -> FormEnd
     }
 }
 
-/// The supervisor of what the config of a file tells, all of which is down.
+/// The supervisor of what the config of a file tells, all of which is down and was never dialled.
 fn read_config<F: Files, L: Link + Drop>(
     alloc: Global,
-    name: &str,
+    asked: Supervise<'_>,
     files: &mut F,
 ) -> Result<Super<L>, FormEnd>
-    ensures follows { IfOk result (λ made. IsFollowed (F.content files.old name.now) (upstreams made.followed.items)) }
-    ensures down { IfOk result (λ made. AllByRecursion (λ f. f.live ≡ None) made.followed.items) }
-    ensures none { IfErr result (FollowsNone (F.content files.old name.now)) }
+    ensures follows { IfOk result (λ made. IsFollowed (F.content files.old asked.entry.config.now) (upstreams made.followed.items)) }
+    ensures fresh { IfOk result (λ made. IsNew made) }
+    ensures none { IfErr result (FollowsNone (F.content files.old asked.entry.config.now)) }
     ensures later { F.faults files.old ≤ F.faults files.new }
     ensures failed { IfErr result (λ end. end ≡ variants.Stdio plainly.ReadFault → Rose (F.faults files.old) (F.faults files.new)) }
 {
     ob_documents::spelled();
-    let doc = match read_file(alloc, name, files) {
+    let doc = match read_file(alloc, asked.config, files) {
         Ok(doc) => doc,
         Err(fault) => return Err(FormEnd::of_document(fault)),
     };
     let (_ns, root) = doc.into_parts();
-    match Super::new(alloc, &root) {
+    match Super::new(alloc, &root, asked.wait_ms) {
         Ok(made) => Ok(made),
         Err(fault) => Err(of_config(fault)),
     }
@@ -77,7 +76,7 @@ where
         (L.write_faults relay.old.link.now) (L.write_faults relay.new.link.now) 0 0 end }
     ensures same { (relay.new.link.ghost_name ≡ relay.old.link.ghost_name) × (relay.new.dialer.ghost_name ≡ relay.old.dialer.ghost_name) }
 {
-    match read_config(alloc, asked.config, files) {
+    match read_config(alloc, asked, files) {
         Ok(made) => {
             let end = supervise(alloc, made, asked.rounds, relay.dialer, relay.link);
             FormEnd::Stdio(StdioEnd::Served(end))
@@ -102,6 +101,7 @@ where
         (streams (S.left relay.new.link.now.source) (K.held relay.new.link.now.sink) (S.faults relay.new.link.now.source) (K.faults relay.new.link.now.sink))
         (dialled (W.dials relay.old.dialer.now) (W.visits relay.old.dialer.now) (W.rose relay.old.dialer.now) (W.faults relay.old.dialer.now))
         (dialled (W.dials relay.new.dialer.now) (W.visits relay.new.dialer.now) (W.rose relay.new.dialer.now) (W.faults relay.new.dialer.now))
+        (F.refused files.new)
         (errors_told (E.held errors.old) (E.faults errors.old)) (errors_told (E.held errors.new) (E.faults errors.new)) result }
     ensures refused { result ≡ Exit.Refused → (relay.new.link.now ≡ relay.old.link.now) × (relay.new.dialer.now ≡ relay.old.dialer.now) }
     ensures same { (relay.new.link.ghost_name ≡ relay.old.link.ghost_name) × (relay.new.dialer.ghost_name ≡ relay.old.dialer.ghost_name) }
@@ -110,6 +110,7 @@ where
     ob_xml::one_verdict();
     let end = serve_tree(alloc, asked, files, relay);
     let exit = end.exit();
-    tell(alloc, errors, exit, end.words(alloc));
+    let words = end.words(alloc, files.last_refused());
+    tell(alloc, errors, exit, words);
     exit
 }

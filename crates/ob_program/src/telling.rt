@@ -1,6 +1,6 @@
 //! What is told on `errors` of how a run ended.
 ghost use Rattle.std.specs.Prelude.{◌≡◌, ◌++◌, ℕ, List, codes, IfOk};
-ghost use Rattle.ob_program.specs.Telling.{errors_told, lead, has_words, Tells};
+ghost use Rattle.ob_program.specs.Telling.{errors_told, lead, has_words, short, Tells};
 
 use crate::exit::Exit;
 use ob_io::{Sink, write_all};
@@ -12,21 +12,21 @@ fn lead(exit: Exit) -> &'static str
 {
     match exit {
         Exit::Ok => "",
-        Exit::Usage => "obix: usage\n",
+        Exit::Usage => "obix: usage: ",
         Exit::Refused => "obix: refused: ",
-        Exit::ReadFault => "obix: read fault\n",
+        Exit::ReadFault => "obix: read fault",
         Exit::WriteFault => "obix: write fault\n",
         Exit::Frame => "obix: frame ",
         Exit::Truncated => "obix: truncated\n",
         Exit::LinkFault => "obix: link fault\n",
         Exit::Peer => "obix: peer: ",
-        Exit::PortFault => "obix: port fault\n",
+        Exit::PortFault => "obix: port fault",
         Exit::ClockFault => "obix: clock fault\n",
         Exit::Budget => "obix: budget\n",
         Exit::Memory => "obix: out of memory\n",
         Exit::Illegal => "",
         Exit::IllegalRecord => "obix: illegal at ",
-        Exit::RecordFault => "obix: record fault\n",
+        Exit::RecordFault => "obix: record fault",
     }
 }
 
@@ -36,8 +36,27 @@ fn has_words(exit: Exit) -> bool
 {
     matches!(
         exit,
-        Exit::Refused | Exit::Frame | Exit::Peer | Exit::IllegalRecord
+        Exit::Usage
+            | Exit::Refused
+            | Exit::ReadFault
+            | Exit::Frame
+            | Exit::Peer
+            | Exit::PortFault
+            | Exit::IllegalRecord
+            | Exit::RecordFault
     )
+}
+
+/// What is told of an exit that has words, where there is no memory for its line: a fault, or that.
+fn short(exit: Exit) -> &'static str
+    ensures { result.now ≡ short exit }
+{
+    match exit {
+        Exit::ReadFault => "obix: read fault\n",
+        Exit::PortFault => "obix: port fault\n",
+        Exit::RecordFault => "obix: record fault\n",
+        _ => "obix: out of memory\n",
+    }
 }
 
 /// The line of an exit that has words.
@@ -55,7 +74,8 @@ fn worded_line(
     Ok(line)
 }
 
-/// Tells the line of an exit, with these words where it has some. Where there was no memory for them, that is told in its place.
+/// Tells the line of an exit, with these words where it has some. Where there was no memory for them, a fault is told without
+/// them, and of another exit that in its place.
 /// Faults of `errors` change nothing.
 pub(crate) fn tell<E: Sink>(
     alloc: Global,
@@ -72,6 +92,6 @@ pub(crate) fn tell<E: Sink>(
     }
     let _ = match worded_line(alloc, exit, words) {
         Ok(line) => write_all(errors, &line),
-        Err(AllocError) => write_all(errors, lead(Exit::Memory).as_bytes()),
+        Err(AllocError) => write_all(errors, short(exit).as_bytes()),
     };
 }

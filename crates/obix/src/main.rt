@@ -50,7 +50,7 @@ fn read_words(rt: &HostRuntime, alloc: Global) -> Result<Vec<String>, WordFault>
 fn without_words<E: Sink>(errors: &mut E, fault: WordFault) -> Exit {
     match fault {
         WordFault::NotText => {
-            let _ = write_all(errors, b"obix: usage\n");
+            let _ = write_all(errors, b"obix: usage: a word isn't UTF-8\n");
             Exit::Usage
         }
         WordFault::Memory => {

@@ -10,4 +10,4 @@ returns-then-not-has_words g c = λ said is.
 pub returns-in-Err : goal.returns-in-Err
 returns-in-Err g c = λ said is.
     wanting_told _ _ _ said _ c.write_all-in-Err.result (sym c.has_words.ensures ∙ c.if-not-has_words.false)
-    (c.as_bytes-in-Err.ensures.value ∙ c.lead-in-Err.ensures) c.write_all-in-Err.ensures.sends c.write_all-in-Err.ensures.cause
+    (c.as_bytes-in-Err.ensures.value ∙ c.short.ensures) c.write_all-in-Err.ensures.sends c.write_all-in-Err.ensures.cause
