@@ -30,7 +30,7 @@ fn many(alloc: Global, upstreams: u64, hrefs: u64) -> Result<String, AllocError>
 
 // Tells what comes of a config.
 fn tell_config(alloc: Global, config: &Obj, told: &mut String) -> Result<(), AllocError> {
-    let made: Result<Super<MemLink>, ConfigFault> = Super::new(alloc, config);
+    let made: Result<Super<MemLink>, ConfigFault> = Super::new(alloc, config, 10_000);
     match &made {
         Ok(_) => told.push_str("config"),
         Err(ConfigFault::Shape(offence)) => {

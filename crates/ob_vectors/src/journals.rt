@@ -44,6 +44,8 @@ impl Device for Untold {
 
     ghost faults = { λ f. f.inner.faults };
 
+    ghost refusal = { λ f. f.inner.cause };
+
     ghost counts_now = { λ f t c le left. left };
 
     ghost only_now = { λ f c left. left };

@@ -76,7 +76,7 @@ fn dialer(alloc: Global, said: &str) -> Result<MemDialer<MemLink>, AllocError> {
 // The supervisor of a config, if it is one.
 fn supervisor(alloc: Global, config: &str) -> Option<Super<MemLink>> {
     let config = object(alloc, config)?;
-    Super::new(alloc, &config).ok()
+    Super::new(alloc, &config, 10_000).ok()
 }
 
 // Tells what is shown at a path.

@@ -7,8 +7,8 @@ use crate::ran::Ran;
 use crate::records::{RecordFile, Records};
 use crate::scarce::Scarce;
 use ob_io::{
-    Fresh, Gated, MemClock, MemDialer, MemDoor, MemFiles, MemLink, MemPort, MemSink, MemSource,
-    NamedFile, Pair, Waiting,
+    Cause, Fresh, Gated, MemClock, MemDialer, MemDoor, MemFiles, MemLink, MemPort, MemSink,
+    MemSource, NamedFile, Pair, Waiting,
 };
 use ob_program::run;
 use std::alloc::{AllocError, Global};
@@ -141,7 +141,7 @@ impl Maker<'_> {
             _ => (),
         }
         Scarce {
-            files: MemFiles::new(files, self.plan(Part::Files)),
+            files: MemFiles::new(files, self.plan(Part::Files)).telling(Cause::NotAllowed),
             is_scarce: self.case.is_scarce,
         }
     }
@@ -248,7 +248,7 @@ impl Maker<'_> {
             Inputs::Kept { record: _, doors } => self.doors(words, doors),
             _ => Vec::new(self.alloc),
         };
-        MemPort::new(self.alloc, doors, self.plan(Part::Port))
+        MemPort::new(self.alloc, doors, self.plan(Part::Port)).telling(Cause::NotAllowed)
     }
 
     // A link that is dialled.

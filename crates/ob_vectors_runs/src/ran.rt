@@ -1,5 +1,5 @@
 //! How runs went.
-use crate::failing::Part;
+use crate::failing::{Failing, Part};
 use ob_rows::push_bytes;
 use std::alloc::AllocError;
 
@@ -76,6 +76,17 @@ impl Ran {
             && (faults == LinkFaults::Show || whole.links.starts_with(&self.links))
     }
 
+    // The same of a file that can't be read, whose name stands in the line.
+    fn is_unread(&self, whole: &Ran, faults: LinkFaults) -> bool {
+        let (front, end) = ("obix: read fault: ", ": not allowed\n");
+        self.status == 3
+            && self.line.starts_with(front.as_bytes())
+            && self.line.ends_with(end.as_bytes())
+            && self.line.len() > front.len() + end.len()
+            && self.is_front(whole)
+            && (faults == LinkFaults::Show || whole.links.starts_with(&self.links))
+    }
+
     // Whether it ended as the other one.
     fn is_ended_as(&self, whole: &Ran) -> bool {
         self.status == whole.status && self.line.as_slice() == whole.line.as_slice()
@@ -100,17 +111,20 @@ impl Ran {
     /// the line are those of what failed, and what is written is a front. A link that comes to a door changes nothing but
     /// what is written to links, and standard error nothing but what is told there. A run that shows which links are broken
     /// ends as it does otherwise.
-    pub(crate) fn is_broken(&self, whole: &Ran, part: Part, faults: LinkFaults) -> bool {
-        match part {
-            Part::Files => self.is_cut(whole, faults, 3, "obix: read fault\n"),
+    pub(crate) fn is_broken(&self, whole: &Ran, failing: Failing, faults: LinkFaults) -> bool {
+        match failing.part {
+            Part::Files => self.is_unread(whole, faults),
             Part::Source => self.is_cut(whole, faults, 3, "obix: read fault\n"),
             Part::Sink => self.is_cut(whole, faults, 4, "obix: write fault\n"),
             Part::Errors => self.is_untold(whole),
             Part::Clock => self.is_cut(whole, faults, 10, "obix: clock fault\n"),
             Part::Twin(_) => self.is_ended(whole, 10, "obix: clock fault\n"),
-            Part::Port => self.is_cut(whole, faults, 9, "obix: port fault\n"),
+            Part::Port => self.is_cut(whole, faults, 9, "obix: port fault: not allowed\n"),
             Part::Door(_) => self.is_ended(whole, 9, "obix: port fault\n"),
-            Part::Record | Part::New => self.is_cut(whole, faults, 14, "obix: record fault\n"),
+            Part::Record | Part::New => match failing.call {
+                0 => self.is_cut(whole, faults, 14, "obix: record fault: locked\n"),
+                _ => self.is_cut(whole, faults, 14, "obix: record fault: full\n"),
+            },
             Part::Dialer | Part::Link(_) => match faults {
                 LinkFaults::End => self.is_cut(whole, faults, 7, "obix: link fault\n"),
                 LinkFaults::Cut => self.is_unanswered(whole),

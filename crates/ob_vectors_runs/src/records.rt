@@ -1,11 +1,13 @@
 //! The file of a record, in memory.
 ghost use Rattle.std.specs.Prelude.{◌≡◌, None, IfOk, IfSome};
 
+use ob_io::Cause;
 use ob_journal::{Device, DeviceFault, Devices, MemDevice};
 use std::alloc::{AllocError, Global};
 
 /// A file before a run: its bytes, and the number of the call that fails, if one is to. The first opens it; then each byte that is
-/// written counts as a call, as do each read, cut and sync.
+/// written counts as a call, as do each read, cut and sync. A file that can't be opened is locked, and one that fails later is
+/// full.
 #[derive(Drop)]
 pub(crate) struct RecordFile {
     pub(crate) bytes: Vec<u8>,
@@ -23,7 +25,8 @@ impl RecordFile {
             None => u64::MAX,
         };
         let bytes = self.bytes.to_vec(alloc)?;
-        Ok(Some(MemDevice::new(alloc, bytes, left, b'?')))
+        let device = MemDevice::new(alloc, bytes, left, b'?');
+        Ok(Some(device.telling(Cause::Full)))
     }
 }
 
@@ -35,6 +38,7 @@ pub(crate) struct Records {
     new: Option<RecordFile>,
     is_new_open: bool,
     faults: u64,
+    refusal: Cause,
     back: Option<MemDevice>,
 }
 
@@ -47,6 +51,7 @@ impl Records {
             new,
             is_new_open: false,
             faults: 0,
+            refusal: Cause::Untold,
             back: None,
         }
     }
@@ -78,6 +83,8 @@ impl Devices for Records {
 
     ghost faults = { λ s. s.faults };
 
+    ghost refusal = { λ s. s.refusal };
+
     ghost given = { λ s. None };
 
     ghost returned = { λ s. None };
@@ -90,15 +97,21 @@ impl Devices for Records {
             }
             None => {
                 self.faults = self.faults.saturating_add(1);
+                self.refusal = Cause::Locked;
                 Err(DeviceFault::Failed)
             }
         }
+    }
+
+    fn last_cause(&self) -> Cause {
+        self.refusal
     }
 
     fn back(&mut self, device: MemDevice) -> bool {
         let has_failed = device.has_failed();
         if has_failed {
             self.faults = self.faults.saturating_add(1);
+            self.refusal = device.cause();
         }
         if self.is_new_open || self.new.is_none() {
             self.back = Some(device);

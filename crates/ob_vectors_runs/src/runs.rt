@@ -3,7 +3,7 @@ use crate::failing::{Failing, PARTS, Part};
 use crate::inputs::{Inputs, two_parts};
 use crate::outside::{Case, ran};
 use crate::ran::{LinkFaults, Ran};
-use ob_rows::{Tally, asked_of, named_part, push_meant, split_word};
+use ob_rows::{Tally, asked_of, named_part, push_meant, split_word, text_of};
 use std::alloc::{AllocError, Global};
 use std::rt::Files;
 use std::sync::Wait;
@@ -33,13 +33,20 @@ fn expanded(alloc: Global, texts: &str, row: &str) -> Result<String, AllocError>
     Ok(whole)
 }
 
+// A word, with the bytes that its signs stand for.
+fn meant_word(alloc: Global, word: &str) -> Result<String, AllocError> {
+    let mut bytes = Vec::new(alloc);
+    push_meant(&mut bytes, word)?;
+    String::from_str(alloc, text_of(&bytes))
+}
+
 /// The words behind the first one.
 pub(crate) fn words_in(alloc: Global, row: &str) -> Result<Vec<String>, AllocError> {
     let mut words = Vec::new(alloc);
     let (_, rest) = split_word(row);
     for word in rest.split(' ') {
         if !word.is_empty() {
-            words.push(String::from_str(alloc, word)?)?;
+            words.push(meant_word(alloc, word)?)?;
         }
     }
     Ok(words)
@@ -101,11 +108,12 @@ fn count_calls<R: Threads + Wait + Sync + AllocGlobal>(
 ) -> Result<Result<u64, u64>, AllocError> {
     let faults = link_faults(case.inputs);
     for call in 0..CALLS {
-        let ran = ran(rt, case, Some(Failing { part, call }))?;
+        let failing = Failing { part, call };
+        let ran = ran(rt, case, Some(failing))?;
         if ran.is(whole) {
             return Ok(Ok(call));
         }
-        if !ran.is_broken(whole, part, faults) {
+        if !ran.is_broken(whole, failing, faults) {
             return Ok(Err(call));
         }
     }
