@@ -63,17 +63,17 @@ row "a full disk, stdio" 4 "obix: write fault" "$work/request" /dev/full stdio "
 row "a full disk, record" 4 "obix: write fault" "$work/request" /dev/full record "$site"
 row "a full disk, storm" 4 "obix: write fault" /dev/null /dev/full storm 1 1 1
 row "a full disk, serve" 4 "obix: write fault" /dev/null /dev/full serve "$site" 127.0.0.1 "$port"
-row "no such file" 3 "obix: read fault" /dev/null "$work/out" check "$work/none"
-row "a folder as a document" 3 "obix: read fault" /dev/null "$work/out" check "$work"
-row "a folder as a site" 3 "obix: read fault" /dev/null "$work/out" stdio "$work"
-row "a folder as a record" 3 "obix: read fault" /dev/null "$work/out" audit "$site" "$work"
+row "no such file" 3 "obix: read fault: $work/none: no such file" /dev/null "$work/out" check "$work/none"
+row "a folder as a document" 3 "obix: read fault: $work: is a folder" /dev/null "$work/out" check "$work"
+row "a folder as a site" 3 "obix: read fault: $work: is a folder" /dev/null "$work/out" stdio "$work"
+row "a folder as a record" 3 "obix: read fault: $work: is a folder" /dev/null "$work/out" audit "$site" "$work"
 row "a folder as the input" 3 "obix: read fault" "$work" "$work/out" stdio "$site"
-row "an address that isn't ours" 9 "obix: port fault" /dev/null "$work/out" serve "$site" 192.0.2.1 "$port"
+row "an address that isn't ours" 9 "obix: port fault: not this machine's" /dev/null "$work/out" serve "$site" 192.0.2.1 "$port"
 row "a host without an address" 9 "obix: port fault" /dev/null "$work/out" serve "$site" no.such.host.invalid "$port"
 row "nobody listens" 7 "obix: link fault" /dev/null "$work/out" watch "http://127.0.0.1:$port/obix/" n
 "$obix" serve "$site" 127.0.0.1 "$port" >"$work/listening" & server=$!
 until [ -s "$work/listening" ]; do sleep 0.1; done
-row "a port that is taken" 9 "obix: port fault" /dev/null "$work/out" serve "$site" 127.0.0.1 "$port"
+row "a port that is taken" 9 "obix: port fault: in use" /dev/null "$work/out" serve "$site" 127.0.0.1 "$port"
 kill "$server"
 peer close
 row "a peer that closes" 8 "obix: peer: ended" /dev/null "$work/out" watch "http://127.0.0.1:$((port + 1))/obix/" n

@@ -137,9 +137,9 @@ def batches(count, made):
     return b"".join(request("POST", "/obix/batch", "<list>" + "".join(made(k) for k in range(first, min(first + 1_000, count))) + "</list>") for first in range(0, count, 1_000))
 
 
-def asking(part, hrefs, given=""):
-    """A call on the first watch, with these hrefs."""
-    return request("POST", f"/obix/watch/1/{part}", '<obj><list name="hrefs">' + "".join(f'<uri val="{href}">{given}</uri>' for href in hrefs) + "</list></obj>")
+def asking(part, hrefs, given="", watch=1):
+    """A call on a watch, the first one if not said, with these hrefs."""
+    return request("POST", f"/obix/watch/{watch}/{part}", '<obj><list name="hrefs">' + "".join(f'<uri val="{href}">{given}</uri>' for href in hrefs) + "</list></obj>")
 
 
 MAKE = request("POST", "/obix/watchService/make")
@@ -267,6 +267,34 @@ def spent(words, given, used):
         return resources.ru_utime, int(file.read()) / 1024, os.waitstatus_to_exitcode(status)
 
 
+def watching(watches, items, href):
+    """So many watches with a lease of a day, each with so many items of one href, asked by as many hosts."""
+    hrefs = [f"//h{k}{href}" for k in range(items)]
+    lease = '<reltime val="PT86400S"/>'
+    # (a body has at most 1 MiB)
+    parts = [hrefs[at:at + 512] for at in range(0, items, 512)]
+    return b"".join(MAKE + request("PUT", f"/obix/watch/{w}/lease", lease) + b"".join(asking("add", it, "", w) for it in parts) for w in range(1, watches + 1))
+
+
+# What is asked beside watches: the site, what makes the watches, what is asked then, and the most that it may cost beside them, as
+# a multiple of what it costs without them. All watches together have at most 200,000 items, one 2,048.
+WRITES = batches(20_000, lambda k: item("Write", "/obix/p", f'<int name="in" val="{k + 1}"/>'))
+ALARMS = batches(2_000, lambda k: item("Write", "/obix/p", f'<int name="in" val="{20 if k % 2 == 0 else 5}"/>'))
+BESIDE = {
+    "20,000 writes, 97 watches of a feed": (logged(0)[0], watching(97, 2_048, "/obix/r/feed"), WRITES, 2.0),
+    "20,000 writes, 1,000 watches of it": (logged(0)[0], watching(1_000, 200, "/obix/r/feed"), WRITES, 2.0),
+    "2,000 alarms, 97 watches of their feed": (logged(0)[0], watching(97, 2_048, "/obix/a/feed"), ALARMS, 2.0),
+}
+
+# Watches at their bounds: what makes them, and the most memory that they may take beside the site's, in MB.
+LONG = "./" * 492 + "p"
+BOUNDS = {
+    "200,000 items of 97 watches": (logged(0)[0], watching(97, 2_048, "/obix/p"), 60),
+    "16 MiB of hrefs": (logged(0)[0], watching(8, 2_048, "/obix/" + LONG), 60),
+    "both, in 1,000 watches": (logged(0)[0], watching(1_000, 200, "/obix/" + "./" * 35 + "p"), 60),
+}
+
+
 def ratio(once, twice, least):
     return twice / once if once >= least else math.nan
 
@@ -297,6 +325,36 @@ def tried(folder, name, made, counts, words):
     return sizes, least, grows
 
 
+def least_of(folder, opened, given):
+    """The least user seconds of the runs of a site that is asked this, the least memory, and the statuses."""
+    for what, data in (("site", opened), ("in", given)):
+        with open(f"{folder}/{what}", "wb") as file:
+            file.write(data)
+    own = [spent(["stdio", f"{folder}/site", *AT], f"{folder}/in", f"{folder}/used") for _ in range(runs)]
+    return min(it[0] for it in own), min(it[1] for it in own), {it[2] for it in own}
+
+
+def beside(folder):
+    """What requests cost beside watches, and what watches take at their bounds. How many do so otherwise than they may."""
+    bad = 0
+    for name, (opened, watches, asked, most) in BESIDE.items():
+        if part not in name:
+            continue
+        alone, made, both = (least_of(folder, opened, given) for given in (asked, watches, watches + asked))
+        times = ratio(alone[0], both[0] - made[0], 0.05)
+        wrong = times > most or any(it[2] != {0} for it in (alone, made, both))
+        bad += wrong
+        print(f"{name:40} alone {alone[0]:6.2f} s, beside the watches {both[0] - made[0]:6.2f} s: {times:5.2f} times, at most {most}{' BAD' if wrong else ''}", flush=True)
+    for name, (opened, watches, most) in BOUNDS.items():
+        if part not in name:
+            continue
+        bare, made = least_of(folder, opened, b""), least_of(folder, opened, watches)
+        wrong = made[1] - bare[1] > most or made[2] != {0}
+        bad += wrong
+        print(f"{name:40} {made[0]:6.2f} s, {made[1] - bare[1]:5.0f} MB, at most {most}{' BAD' if wrong else ''}", flush=True)
+    return bad
+
+
 def forms():
     """Each form: its name, how many, the site and the input of a count, the words of the program, and the statuses that it may end in."""
     for name, (count, made) in DOCUMENTS.items():
@@ -322,7 +380,8 @@ def main():
             bad += wrong
             told = ",".join(str(it) for it in sorted(status | also))
             print(f"{name:36} {sizes[0] / 1e6:6.1f} {once:7.2f} {twice:7.2f} {grows[0]:6.2f} {held:6.0f} {more:7.0f} {grows[1]:6.2f} {told}{' BAD' if wrong else ''}", flush=True)
-    print(f"{bad} forms grow faster than {MOST} or end otherwise" if bad else f"none grows faster than {MOST}")
+        bad += beside(folder)
+    print(f"{bad} forms grow faster than {MOST} or end otherwise, or cost more than they may" if bad else f"none grows faster than {MOST}")
     sys.exit(bad > 0)
 
 

@@ -27,6 +27,8 @@ from soak import framed
 CLIENTS = 8
 TIME = 300                   # how long a server may take to begin or to end, in seconds
 FAULT = (14, "obix: record fault")
+LOCKED = (14, "obix: record fault: locked")
+FULL = (14, "obix: record fault: full")
 ADDRESSES = 600_000          # kilobytes of address space, as by `ulimit -v`
 NUMBERS_ROOM = 20_000        # bytes that 100,000 makes may add to a record
 FIRST_LINE = b"obix-record 1"
@@ -211,7 +213,7 @@ def shorter(program, given):
     with room_of(points_site(points), given.room) as room:
         with Keep(program, room) as server:
             piped(server, [framed("PUT", f"/obix/p{k % points}", f'<int val="{k + 1}"/>') for k in range(writes)])
-            must(compact(program, room), FAULT, "the end while a server has it")
+            must(compact(program, room), LOCKED, "the end while a server has it")
             values = [server.value(f"p{point}") for point in range(points)]
         must(sorted(os.listdir(room)), ["record", "site.xml"], "what is in the folder")
         began = time.time()
@@ -222,7 +224,7 @@ def shorter(program, given):
         must(bytes_of(f"{room}/short"), data, "the shorter record behind a start")
         must(compact(program, room), (2, "obix: refused: New"), "the end with a new file that is there")
         must(bytes_of(f"{room}/short"), data, "that file")
-        must(compact(program, room, "none", "other"), (3, "obix: read fault"), "the end without a record")
+        must(compact(program, room, "none", "other"), (3, f"obix: read fault: {room}/none: no such file"), "the end without a record")
         must(sorted(os.listdir(room)), ["record", "short", "site.xml"], "what is in the folder then")
         write_to(f"{room}/damaged", b"O" + bytes_of(f"{room}/record")[1:])
         must(compact(program, room, "damaged", "other"), (2, "obix: refused: Record 0"), "the end with a damaged record")
@@ -299,10 +301,10 @@ def until_refused(server, limit):
     return count + 1
 
 
-def ends_at_once(server):
+def ends_at_once(server, fault):
     """After how many seconds the program has ended, though nobody asks it for anything any more."""
     began = time.time()
-    must(server.ended(), FAULT, "the end")
+    must(server.ended(), fault, "the end")
     took = time.time() - began
     assert took <= END, f"it ended after {took:.1f} s"
     return took
@@ -315,13 +317,13 @@ def idle_link(server):
     return link
 
 
-def refused(program, room, workers=4, idle=0, room_again=lambda: None, **how):
+def refused(program, room, workers=4, idle=0, room_again=lambda: None, fault=FULL, **how):
     """A write that the disk doesn't take isn't answered, the program ends with 14 at once, whatever links and workers are idle, and
     no answered write is lost."""
     with Keep(program, room, workers=workers, **how) as server:
         idle_links = [idle_link(server) for _ in range(idle)]
         last = until_refused(server, 20_000)
-        took = ends_at_once(server)
+        took = ends_at_once(server, fault)
         for link in idle_links:
             link.close()
     room_again()
@@ -362,7 +364,7 @@ def no_room_to_grow():
 
 def small_file(program, given):
     with room_of(points_site(1), given.room) as room:
-        return refused(program, room, preexec_fn=no_room_to_grow)
+        return refused(program, room, fault=FAULT, preexec_fn=no_room_to_grow)
 
 
 def disturbed(program, room, call, how):
@@ -417,13 +419,14 @@ def unopened(program, given):
         os.mkdir(f"{room}/folder")
         os.mkfifo(f"{room}/pipe")
         os.chmod(f"{room}/pipe", 0o666)
-        names = ("read-only", "no-rights-to-make", "folder", "no-folder/record", "pipe", "/dev/null")
+        causes = {"read-only": ": not allowed", "no-rights-to-make": ": not allowed", "folder": ": is a folder",
+                  "no-folder/record": ": no such folder", "pipe": "", "/dev/null": ""}
         os.chmod(room, 0o555)
-        for name in names:
-            must(Keep(program, room, record=name, **nobody).ended(), FAULT, f"the end with {name}")
+        for name, cause in causes.items():
+            must(Keep(program, room, record=name, **nobody).ended(), (FAULT[0], FAULT[1] + cause), f"the end with {name}")
         os.chmod(room, 0o755)
         must(sorted(os.listdir(room)), ["folder", "pipe", "read-only", "site.xml"], "what is in the folder")
-    return ", ".join(names)
+    return ", ".join(causes)
 
 
 def second_server(program, given):
@@ -431,7 +434,7 @@ def second_server(program, given):
         link = first.link()
         assert first.put(link, "p0", 7)
         data = bytes_of(first.record)
-        must(Keep(program, room).ended(), FAULT, "the end of the second server")
+        must(Keep(program, room).ended(), LOCKED, "the end of the second server")
         must(bytes_of(first.record), data, "the record behind it")
         assert first.put(link, "p0", 8), "the first server doesn't answer any more"
         link.close()

@@ -20,6 +20,7 @@ def gate(place, wait=True):
 
 def try_gate(place):
     judge("a gate that has ended", gate(place)[0] == 0, place.is_run("proved of one"), place.run("which")[2] == "")
+    judge("--proved says where it is", place.run("--proved") == (0, f"{place.top}/out/bin/obix\n", ""))
     judge("--prove proves nothing a second time", place.run("--prove")[0] == 0, len(place.calls("ci")) == 1)
     place.change("crates/ob_low/proofs/Lib.antt")
     judge("a proof changed after it: the program is dropped", place.is_run("unproved of one", True))

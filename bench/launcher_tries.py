@@ -123,16 +123,21 @@ def try_changes(place):
 
 
 def try_proved(place):
+    status, out, err = place.run("--proved")
+    judge("--proved where nothing is: 70, one line, nothing is built", status == 70, out == "", len(err.splitlines()) == 1,
+          not place.calls("try"), not place.calls("ci"))
     status, out, err = place.run("--prove")
     said = err.splitlines()
     judge("--prove proves, runs nothing, says where", status == 0, out == "", said[-1].endswith(f"{place.top}/out/bin/obix"),
           not place.calls("try"))
     judge("the proved program runs, in silence", place.is_run("proved of one"), place.run("which")[2] == "")
     judge("--prove again proves nothing", place.run("--prove")[0] == 0, len(place.calls("ci")) == 1)
+    judge("--proved says where it is", place.run("--proved") == (0, f"{place.top}/out/bin/obix\n", ""))
     jobs = int(place.calls("ci")[0].split()[1] if place.calls("ci")[0].split()[1:] else 0)
     judge("it proves with as many processors as there are, or as memory allows", 0 <= jobs <= len(os.sched_getaffinity(0)))
     place.change("crates/ob_low/proofs/Lib.antt")
     judge("a proof changed: the proved program is dropped", place.is_run("unproved of one", True))
+    judge("and --proved says that there is none", place.run("--proved")[:2] == (70, ""))
     place.environment["RT_JOBS"] = "7"
     place.run("--prove")
     judge("RT_JOBS is taken where it is set", place.calls("ci")[-1] == "ci 7", place.is_run("proved of one"))

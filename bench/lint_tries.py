@@ -166,7 +166,7 @@ def try_statuses(program):
     judge((run.returncode, run.stdout) == (0, b"/dev/stdin: opens, 0 warnings\n"), "a file through a pipe", f"\ncame out: {run}")
     Path("obix").symlink_to(program.path)
     judge(start(["site.xml"], os.getcwd()) == (0, ""), "the program that is found without --obix")
-    if not (TOP / "out" / "bin" / "obix").is_file():
+    if not any((TOP / "out" / it / "obix").is_file() for it in ("bin", "quick")):
         judge(start(["site.xml"], "/nowhere")[0] == 3, "no program")
 
 

@@ -15,6 +15,7 @@ from pages_room import Room
 PAGES = ("README.md", "examples/README.md", "docs/RUNNING.md", "docs/obix.1")
 NOT_HERE = ((r"rt |RT_JOBS=|\./obix --prove", "needs the kit, for an hour"), (r"cd crates/", "needs the kit"),
             (r"sudoedit ", "needs a person"),
+            (r"dev/package\.sh|sha256sum obix_", "needs the proved program; bench/package.sh tries it"),
             (r".*systemctl (enable|status|daemon-reload)", "needs systemd as the first process"))
 OUTSIDE = re.compile(r"(?<![\w./-])/(?!dev/null|tmp/)[a-z]|\bapt|systemctl (?!(reload nginx|stop obix|start obix)$)")      # of the room
 PRINTED = re.compile(r"(?:listening|served|legal|illegal|compacted|403|obix:) ?\S*.*")
@@ -202,7 +203,7 @@ def look_by(told, what, words):
 
 def look_at_files(told, top, program):
     """The manual page by mandoc; the units by systemd, with this program and these tools in the places that they name."""
-    look_by(told, "docs/obix.1: mandoc", ["mandoc", "-T", "lint", str(top / "docs/obix.1")])
+    look_by(told, "docs/obix.1: mandoc", ["mandoc", "-T", "lint", "-W", "style", str(top / "docs/obix.1")])
     with tempfile.TemporaryDirectory(prefix="obix-pages.") as folder:
         units = [it for it in sorted((top / "examples").iterdir()) if it.suffix in (".service", ".timer", ".socket")]
         for unit in units:

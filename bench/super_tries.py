@@ -10,8 +10,8 @@ import tempfile
 import threading
 import time
 
-# How long a watch lives that nobody asks, and how long a client waits for a server, in seconds.
-LEASE, WAIT = 60, 300
+# How long a watch lives that nobody asks, and how long `super` waits for a server where nothing else is said, in seconds.
+LEASE, WAIT = 60, 10
 GONE = '<err is="obix:BadUriErr" display="no such object"/>'
 UNSUPPORTED = '<err is="obix:UnsupportedErr" display="verb not supported here"/>'
 
@@ -86,10 +86,11 @@ def tree(upstreams):
 class Super:
     """`obix super`, which is asked one request after the other."""
 
-    def __init__(self, program, room, config, rounds=0):
+    def __init__(self, program, room, config, rounds=0, wait_ms=None):
         with open(f"{room}/config.xml", "w") as file:
             file.write(f"<list>{config}</list>")
         words = [program, "super", f"{room}/config.xml", "--rounds", str(rounds)]
+        words += [] if wait_ms is None else [f"--wait={wait_ms}"]
         self.run = subprocess.Popen(words, stdin=subprocess.PIPE, stdout=subprocess.PIPE)
 
     def ask(self, verb, target, body=""):
@@ -196,13 +197,88 @@ def try_silent(program, room, options):
     began = time.time()
     same(run.ask("GET", "/obix/"), tree(ups))
     took = time.time() - began
-    assert WAIT - 5 < took < WAIT + 15, f"answered after {took:.0f} s"
+    assert WAIT - 1 < took < WAIT + 5, f"answered after {took:.1f} s"
     assert len(links) == 1
-    print(f"  answered after {took:.0f} s")
+    print(f"  answered after {took:.1f} s")
     run.run.kill()
     run.run.communicate()
     silent.close()
     server.kill()
+
+
+class Dripping:
+    """A server that takes connections, and sends a byte of a head every tenth of a second, without an end."""
+
+    def __init__(self):
+        self.socket, self.taken = socket.create_server(("127.0.0.1", 0)), 0
+        self.port = self.socket.getsockname()[1]
+        threading.Thread(target=self.take, daemon=True).start()
+
+    def take(self):
+        while True:
+            link = self.socket.accept()[0]
+            self.taken += 1
+            threading.Thread(target=self.drip, args=(link,), daemon=True).start()
+
+    def drip(self, link):
+        try:
+            for byte in b"HTTP/1.1 200 OK\r\nX: " + b"x" * 6_000:
+                link.sendall(bytes([byte]))
+                time.sleep(0.1)
+        except OSError:
+            pass
+
+
+class Full:
+    """A server whose queue of connections is full, so that a dial waits."""
+
+    def __init__(self):
+        self.socket = socket.create_server(("127.0.0.1", 0), backlog=0)
+        self.port = self.socket.getsockname()[1]
+        self.queue = []
+        for _ in range(8):
+            link = socket.socket()
+            link.setblocking(False)
+            link.connect_ex(("127.0.0.1", self.port))
+            self.queue.append(link)
+        time.sleep(0.5)
+
+
+def try_dead(program, room, options):
+    """a server that drips, one whose dial waits, and one that is stopped, beside an honest one"""
+    limit, slack = 1.5, 1.0
+    drips, full = Dripping(), Full()
+    a, b = Server(program, room, 1), Server(program, room, 1)
+    ups = [Upstream("a", a, [0]), Upstream("d", a, [0]), Upstream("f", a, [0]), Upstream("b", b, [0])]
+    ups[1].up = ups[2].up = False
+    run = Super(program, room, ups[0].config() + ups[1].config(drips.port) + ups[2].config(full.port) + ups[3].config(), wait_ms=int(limit * 1000))
+
+    def timed(dead):
+        began = time.time()
+        same(run.ask("GET", "/obix/"), tree(ups))
+        took = time.time() - began
+        assert dead * limit - 0.2 < took < dead * limit + slack, f"answered after {took:.1f} s, with {dead} to wait for"
+        return f"{took:.2f}"
+
+    first = timed(2)
+    further = [timed(1) for _ in range(6)]
+    assert drips.taken == 4, f"dialled {drips.taken} times in seven rounds, of which the first and each second one is its own"
+    b.run.send_signal(signal.SIGSTOP)
+    ups[3].up = False
+    dying = timed(2)
+    later = [timed(1) for _ in range(2)]
+    b.run.send_signal(signal.SIGCONT)
+    came = 0
+    while came < 3 and not ups[3].up:
+        came += 1
+        ups[3].up = 'href="/obix/b/" status="ok"' in run.ask("GET", "/obix/")
+    assert ups[3].up, "not joined within three rounds"
+    print(f"  with --wait {int(limit * 1000)}: the first answer after {first} s, further ones after {', '.join(further)} s,")
+    print(f"  the one in which a server died after {dying} s, those behind it after {', '.join(later)} s; joined anew after {came} rounds")
+    run.run.kill()
+    run.run.communicate()
+    a.kill()
+    b.kill()
 
 
 def try_figures(program, room, options):
@@ -245,7 +321,7 @@ def main():
     words.add_argument("--only", default="")
     options = words.parse_args()
     failed = 0
-    for one in (try_apart, try_pause, try_silent, try_figures):
+    for one in (try_apart, try_pause, try_silent, try_dead, try_figures):
         if options.only not in one.__name__ and options.only not in one.__doc__:
             continue
         room = tempfile.mkdtemp(prefix="obix-super.")

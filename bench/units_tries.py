@@ -1,28 +1,25 @@
 """The tries of bench/units.sh: a folder with the machine's own /usr is the root of a systemd, in which the units are started."""
-import os
 import re
 import shutil
 import subprocess
 import sys
-import tempfile
 import time
 from pathlib import Path
 
+from container import Container, until
+
 ETC = ("passwd", "group", "shadow", "nsswitch.conf", "ld.so.cache", "ld.so.conf", "ld.so.conf.d", "alternatives", "dbus-1", "localtime")
 FOLDERS = ("usr", "etc/systemd/system", "etc/obix", "var/lib", "var/log", "var/tmp", "run", "tmp", "proc", "sys", "dev", "root", "home")
-NOT_WANTED = ("systemd-networkd", "systemd-resolved", "console-getty", "getty@tty1", "systemd-timesyncd")
 FLOW = "http://127.0.0.1:8080/obix/boiler/flow"
-GROUPS = ("/sys/fs/cgroup/systemd", "/sys/fs/cgroup/unified", "/sys/fs/cgroup")
 
 
-class Machine:
-    """The container, until the `with` block ends."""
+class Machine(Container):
+    """The units of a checkout and a program, as docs/RUNNING.md installs them."""
 
     def __init__(self, top, program):
-        self.top, self.room = Path(top), Path(tempfile.mkdtemp(prefix="obix-units."))
-        self.root, self.local = self.room / "root", self.room / "local"
-        self.groups = [] if Path("/run/systemd/system").exists() else [
-            Path(it, self.room.name) for it in GROUPS if Path(it, "cgroup.procs").exists()]
+        super().__init__("obix-units")
+        self.top, self.local = Path(top), self.room / "local"
+        self.mounts = ["--bind-ro=/usr", f"--bind={self.local}:/usr/local"]
         for folder in FOLDERS:
             (self.root / folder).mkdir(parents=True)
         for name in ("bin", "sbin", "lib", "lib64"):
@@ -31,11 +28,8 @@ class Machine:
             subprocess.run(["cp", "-a", f"/etc/{name}", self.root / "etc"], check=False, stderr=subprocess.DEVNULL)
         shutil.copy("/usr/lib/os-release", self.root / "etc/os-release")
         (self.root / "etc/machine-id").touch()
-        units = self.root / "etc/systemd/system"
-        (units / "default.target").symlink_to("/usr/lib/systemd/system/multi-user.target")
-        for name in NOT_WANTED:
-            (units / f"{name}.service").symlink_to("/dev/null")
-        self.install(program, units)
+        self.prepare()
+        self.install(program, self.root / "etc/systemd/system")
 
     def install(self, program, units):
         """What docs/RUNNING.md copies."""
@@ -47,67 +41,6 @@ class Machine:
                 shutil.copy(it, units)
             elif it.name in ("plant-room.xml", "campus.xml"):
                 shutil.copy(it, self.root / "etc/obix")
-
-    def join(self):
-        """Where no systemd of this machine gives the container a control group, it gets one of its own."""
-        for group in self.groups:
-            (group / "cgroup.procs").write_text(str(os.getpid()))
-
-    def __enter__(self):
-        for group in self.groups:
-            group.mkdir()
-        words = ["systemd-nspawn", "-q", "-D", str(self.root), "--bind-ro=/usr", f"--bind={self.local}:/usr/local", "--private-network",
-                 "--register=no", f"--machine={re.sub('[^a-z0-9]', '-', self.room.name)}", "--console=pipe",
-                 *["--keep-unit"] * bool(self.groups), "--boot"]
-        self.log = open(self.room / "log", "w", encoding="utf-8")
-        self.run = subprocess.Popen(words, stdin=subprocess.DEVNULL, stdout=self.log, stderr=self.log, preexec_fn=self.join)
-        try:
-            until(lambda: self.says("systemctl is-system-running")[1].strip() in ("running", "degraded"), "systemd doesn't come up", 60)
-        except BaseException:
-            sys.stderr.write((self.room / "log").read_text(encoding="utf-8"))
-            self.__exit__()
-            raise
-        return self
-
-    def __exit__(self, *fault):
-        self.says("systemctl poweroff")
-        try:
-            self.run.wait(20)
-        except subprocess.TimeoutExpired:
-            self.run.kill()
-            self.run.wait()
-        self.log.close()
-        for group in self.groups:
-            subprocess.run(["find", group, "-depth", "-type", "d", "-exec", "rmdir", "{}", ";"], check=False)
-        shutil.rmtree(self.room)
-
-    def says(self, command):
-        """The status of a command in the container, and its output."""
-        leader = Path(f"/proc/{self.run.pid}/task/{self.run.pid}/children").read_text().split() if self.run.poll() is None else []
-        if not leader:
-            return 1, ""
-        inside = ["nsenter", "-t", leader[0], "-m", "-u", "-i", "-n", "-p", "-C", "env", "-i", "PATH=/usr/local/bin:/usr/bin:/usr/sbin"]
-        done = subprocess.run([*inside, "sh", "-c", command], capture_output=True, text=True)
-        return done.returncode, done.stdout + done.stderr
-
-    def does(self, command):
-        status, said = self.says(command)
-        assert status == 0, (command, status, said)
-        return said
-
-    def put(self, path, body):
-        return self.does(f"curl -sS -m 5 -X PUT -H 'Content-Type: text/xml' -d '{body}' http://127.0.0.1:8080/obix/{path}")
-
-    def number(self, unit):
-        return self.does(f"systemctl show -p MainPID --value {unit}").strip()
-
-
-def until(holds, why, seconds=20):
-    for _ in range(seconds * 5):
-        if holds():
-            return
-        time.sleep(0.2)
-    raise AssertionError(why)
 
 
 def is_up(it, url=FLOW):
